@@ -1,0 +1,12 @@
+-- Refusals in their order.
+use Rattle.std.specs.Prelude.{Bool, List, [], ◌∷◌, Option, Some, None, if◌then◌else◌}
+
+-- a refusal, where its condition holds
+abbrev pub when : {E : Type 0} → Bool → E → Option E
+when holds refusal = if holds then Some refusal else None
+
+-- the first refusal of a list that is one
+abbrev pub first_of : {E : Type 0} → List (Option E) → Option E
+first_of [] = None
+first_of (None ∷ checks) = first_of checks
+first_of (Some refusal ∷ checks) = Some refusal

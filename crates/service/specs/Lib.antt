@@ -1,0 +1,10 @@
+pub mod Reading
+pub mod Members
+pub mod Jobs
+pub mod Steps
+pub mod Scripts
+pub mod Replies
+pub mod Lines
+pub mod Streams
+pub mod Service
+pub mod Status

@@ -1,0 +1,55 @@
+-- What a script says, or why it is refused.
+use Rattle.std.specs.Prelude.{◌≡◌, ℕ, List, [], ◌∷◌, length, nat_le, ⊤, Result, Ok, Err}
+use Rattle.serde_json.specs.Data.{Data}
+use Rattle.service.specs.declared.fault.WrongForm.{WrongForm}
+use Rattle.service.specs.declared.fault.ScriptError.{ScriptError}
+use Rattle.service.specs.declared.fault.ScriptError.TheVariants.{NotArray, NoJob, BadJob, TooManySteps, BadStep}
+use Rattle.service.specs.declared.fault.Fault.{Fault}
+use Rattle.service.specs.declared.fault.Fault.TheVariants as fault
+use Rattle.service.specs.declared.step.Step.{Step}
+use Rattle.service.specs.declared.script.Script.{Script}
+use Rattle.service.specs.Reading.{◌>>=◌, ◌>>◌, check, in_turn}
+use Rattle.service.specs.Members.{array_of}
+use Rattle.service.specs.Jobs.{job_member, job_of}
+use Rattle.service.specs.Steps.{step_of}
+
+-- what is read, or this refusal
+abbrev pub or_refuse : {A : Type 0} → ScriptError → Result A WrongForm → Result A ScriptError
+or_refuse refusal (Ok x) = Ok x
+or_refuse refusal (Err e) = Err refusal
+
+-- the job line, and the elements after it
+abbrev parts_of : List Data → Result (Data × List Data) ScriptError
+parts_of [] = Err NoJob
+parts_of (line ∷ elements) = Ok (line, elements)
+
+-- the step that the element at this place says
+abbrev pub step_at : ℕ → Data → Result Step ScriptError
+step_at place d = or_refuse (BadStep place) (step_of d)
+
+-- the steps that the elements after the job line say, or the first element that says none
+unfoldable pub steps_of : List Data → Result (List Step) ScriptError
+steps_of elements = in_turn step_at 1 elements
+
+-- the script that a JSON value says, or the first refusal of it
+unfoldable pub script_of : Data → Result Script ScriptError
+script_of d = do
+  elements ← or_refuse NotArray (array_of d)
+  parts ← parts_of elements
+  line ← or_refuse NoJob (job_member parts.0)
+  job ← or_refuse BadJob (job_of line)
+  check (nat_le (length parts.1) 4096) TooManySteps
+  steps ← steps_of parts.1
+  Ok (record { job = job; steps = steps })
+
+-- what a function that failed says of what is read: nothing, where memory ran out
+abbrev pub FailsWith : {A : Type 0} → Fault → Result A ScriptError → Type 0
+FailsWith (fault.Script refusal) read = read ≡ Err refusal
+FailsWith fault.Read read = ⊥
+FailsWith fault.Write read = ⊥
+FailsWith fault.Memory read = ⊤
+
+-- what a function returned is what is read, unless memory ran out
+abbrev pub Answers : {A : Type 0} → Result A Fault → Result A ScriptError → Type 0
+Answers (Ok x) read = read ≡ Ok x
+Answers (Err e) read = FailsWith e read

@@ -1,0 +1,151 @@
+//! What a JSON value says, each by one call.
+
+ghost use Rattle.std.specs.Prelude.{◌≡◌, List, Result, map, is_some};
+ghost use Rattle.std.specs.List.{list_all};
+ghost use Rattle.serde_json.specs.Find.{get};
+ghost use Rattle.serde_json.specs.Data.{Data};
+ghost use Rattle.serde_json.specs.View.{view};
+ghost use Rattle.service.specs.declared.fault.WrongForm.{WrongForm};
+ghost use Rattle.service.specs.Reading.{Gives};
+ghost use Rattle.service.specs.Members.{IsRead, count_of, exactly, member_at, number_of, number_at, number_in, text_at, key_at, array_of, pair_of, list_of};
+
+use crate::fault::{Unread, WrongForm};
+use assignment::Listed;
+use serde_json::Value;
+use std::alloc::Global;
+
+/// How many bytes a key has at the most.
+const MOST_KEY_BYTES: usize = 4096;
+
+// How many members an object has.
+#[tactic(auto, using(crate::proofs::Forms::members_len_view))]
+fn count_of(value: &Value) -> Result<usize, WrongForm>
+    ensures { result ≡ count_of (view value.now) }
+{
+    match value.as_object() {
+        Some(members) => Ok(members.len()),
+        None => Err(WrongForm),
+    }
+}
+
+fn has_all(names: &[&str], value: &Value) -> bool
+    ensures { result ≡ list_all (λ name. is_some (get name.now (view value.now))) names.now }
+{
+    names.iter().all(|name| value.get(*name).is_some())
+}
+
+/// Tests that the value is an object with these members and no other. No name stands twice.
+#[tactic(auto, using(crate::proofs::Forms::all_of_names, crate::proofs::Forms::length_of_names))]
+pub fn exactly(names: &[&str], value: &Value) -> Result<(), WrongForm>
+    ensures { result ≡ exactly (map (λ n. n.now) names.now) (view value.now) }
+{
+    if count_of(value)? == names.len() && has_all(names, value) {
+        Ok(())
+    } else {
+        Err(WrongForm)
+    }
+}
+
+/// The member of this name.
+pub fn member_at<'v>(name: &str, value: &'v Value) -> Result<&'v Value, WrongForm>
+    ensures { IsRead (λ v. view v.now) result (member_at name.now (view value.now)) }
+{
+    value.get(name).ok_or(WrongForm)
+}
+
+/// The value as a number below 2^64, written without a sign, a fraction or an exponent.
+pub fn number_of(value: &Value) -> Result<u64, WrongForm>
+    ensures { result ≡ number_of (view value.now) }
+{
+    value.as_u64().ok_or(WrongForm)
+}
+
+/// The member of this name, as a number.
+pub fn number_at(name: &str, value: &Value) -> Result<u64, WrongForm>
+    ensures { result ≡ number_at name.now (view value.now) }
+{
+    number_of(member_at(name, value)?)
+}
+
+/// The member of this name, as a number from `low` to `high`.
+pub fn number_in(low: u64, high: u64, name: &str, value: &Value) -> Result<u64, WrongForm>
+    ensures { result ≡ number_in low high name.now (view value.now) }
+{
+    let number = number_at(name, value)?;
+    if low <= number && number <= high {
+        Ok(number)
+    } else {
+        Err(WrongForm)
+    }
+}
+
+/// The member of this name, as a text.
+pub fn text_at<'v>(name: &str, value: &'v Value) -> Result<&'v str, WrongForm>
+    ensures { IsRead (λ s. s.now) result (text_at name.now (view value.now)) }
+{
+    member_at(name, value)?.as_str().ok_or(WrongForm)
+}
+
+/// The member of this name, as the bytes of a text of at most [`MOST_KEY_BYTES`].
+pub fn key_at(alloc: Global, name: &str, value: &Value) -> Result<Listed<u8>, Unread>
+    ensures { Gives result (key_at name.now (view value.now)) }
+{
+    let text = text_at(name, value)?;
+    if text.len() > MOST_KEY_BYTES {
+        return Err(Unread::WrongForm);
+    }
+    let bytes = Vec::from_slice(alloc, text.as_bytes())?;
+    Ok(Listed::from_vec(bytes))
+}
+
+/// The elements of an array.
+#[tactic(auto, using(crate::proofs::Forms::elements_view))]
+pub fn array_of(value: &Value) -> Result<&[Value], WrongForm>
+    ensures { IsRead (λ vs. map view vs.now) result (array_of (view value.now)) }
+{
+    match value.as_array() {
+        Some(list) => Ok(list.as_slice()),
+        None => Err(WrongForm),
+    }
+}
+
+/// The elements of an array of two.
+pub fn pair_of<'v>(value: &'v Value) -> Result<(&'v Value, &'v Value), WrongForm>
+    ensures { IsRead (λ p. (view p.0.now, view p.1.now)) result (pair_of (view value.now)) }
+{
+    match array_of(value)? {
+        [first, second] => Ok((first, second)),
+        _ => Err(WrongForm),
+    }
+}
+
+/// What can be read of a JSON value.
+pub trait Form: Drop {
+    ghost form: { Data → Result Self WrongForm };
+
+    fn read(alloc: Global, value: &Value) -> Result<Self, Unread>
+    where
+        Self: Sized,
+        ensures { Gives result (form (view value.now)) };
+}
+
+impl Form for u64 {
+    ghost form = { number_of };
+
+    fn read(_alloc: Global, value: &Value) -> Result<u64, Unread> {
+        Ok(number_of(value)?)
+    }
+}
+
+/// The elements of an array, each of them read.
+#[tactic(auto, unfolding(crate::specs::Members::list_of))]
+pub fn list_of<T: Form>(alloc: Global, value: &Value) -> Result<Listed<T>, Unread>
+    ensures { Gives result (list_of T.form (view value.now)) }
+{
+    let elements = array_of(value)?;
+    let mut list = Listed::new(alloc);
+    for element in elements {
+        list.push(T::read(alloc, element)?)?;
+    }
+    Ok(list)
+}
