@@ -1,6 +1,7 @@
 pub mod Reading
 pub mod Members
 pub mod Jobs
+pub mod Judging
 pub mod Steps
 pub mod Scripts
 pub mod Replies

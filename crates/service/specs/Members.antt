@@ -1,10 +1,10 @@
 -- What a JSON value says: each word is what is read of it, or that it has not the form that is wanted.
-use Rattle.std.specs.Prelude.{◌≡◌, ℕ, ◌==◌, ◌&&◌, List, [], ◌∷◌, length, ⊤, Result, Ok, Err, nat_le, is_some, option_and_then, option_map}
+use Rattle.std.specs.Prelude.{◌≡◌, ℕ, ◌==◌, ◌&&◌, Bool, List, [], ◌∷◌, length, ⊤, Result, Ok, Err, nat_le, is_some, option_and_then, option_map}
 use Rattle.std.specs.List.{list_all}
 use Rattle.std.specs.Option.{ok_or}
 use Rattle.serde_json.specs.Data.{Data, Items, no_items, item}
 use Rattle.serde_json.specs.Events.{members_len}
-use Rattle.serde_json.specs.Find.{get, as_number, as_u64, as_str, as_array, as_object}
+use Rattle.serde_json.specs.Find.{get, as_bool, as_number, as_u64, as_str, as_array, as_object}
 use Rattle.service.specs.declared.fault.WrongForm.{WrongForm}
 use Rattle.service.specs.Reading.{◌>>=◌, ◌>>◌, check, in_turn}
 
@@ -45,6 +45,12 @@ number_in low high name d = do
   n ← number_at name d
   check (nat_le low n && nat_le n high) wrong
   Ok n
+
+-- the member of this name, as true or false
+abbrev pub flag_at : List ℕ → Data → Result Bool WrongForm
+flag_at name d = do
+  v ← member_at name d
+  ok_or (as_bool v) wrong
 
 -- the member of this name, as the bytes of a text
 abbrev pub text_at : List ℕ → Data → Result (List ℕ) WrongForm

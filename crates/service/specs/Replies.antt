@@ -10,6 +10,7 @@ use Rattle.service.specs.declared.reply.Reply.{Reply}
 use Rattle.service.specs.declared.reply.Reply.TheVariants as reply
 use Rattle.service.specs.declared.step.Step.{Step}
 use Rattle.service.specs.declared.step.Step.TheVariants as step
+use Rattle.service.specs.Judging.{judge_reply}
 use Rattle.service.specs.declared.session.Session.{Session}
 
 -- the draft after an `assign` of slices with this refusal or none, where there was this one before
@@ -23,6 +24,7 @@ draft_of [] = None
 draft_of (step.Hash key ∷ past) = draft_of past
 draft_of (step.Assign generation slices ∷ past) = draft_with generation slices (refusal_of slices) (draft_of past)
 draft_of (step.Owners key ∷ past) = draft_of past
+draft_of (step.Judge question ∷ past) = draft_of past
 
 -- what an `assign` of so many slices answers, with this refusal or none
 abbrev pub assign_reply : ℕ → ℕ → Option AssignmentError → Reply
@@ -39,6 +41,7 @@ abbrev pub reply_to : List Step → Step → Reply
 reply_to past (step.Hash key) = reply.Key (slice_key key)
 reply_to past (step.Assign generation slices) = assign_reply generation (length slices) (refusal_of slices)
 reply_to past (step.Owners key) = owners_reply (draft_of past) (slice_key key)
+reply_to past (step.Judge question) = judge_reply question (slice_key question.key)
 
 -- what steps answer after this past, each after those before it
 abbrev pub replies_from : List Step → List Step → List Reply

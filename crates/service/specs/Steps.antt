@@ -5,7 +5,8 @@ use Rattle.serde_json.specs.Data.{Data}
 use Rattle.assignment.specs.declared.slice.Slice.{Slice}
 use Rattle.service.specs.declared.fault.WrongForm.{WrongForm}
 use Rattle.service.specs.declared.step.Step.{Step}
-use Rattle.service.specs.declared.step.Step.TheVariants.{Hash, Assign, Owners}
+use Rattle.service.specs.declared.step.Step.TheVariants.{Hash, Assign, Owners, Judge}
+use Rattle.service.specs.Judging.{judge_step}
 use Rattle.service.specs.Reading.{◌>>=◌, ◌>>◌}
 use Rattle.service.specs.Members.{wrong, exactly, member_at, number_at, number_of, list_of, text_at, key_at, pair_of}
 
@@ -39,12 +40,19 @@ owners_step d = do
   key ← key_at (codes "key") d
   Ok (Owners key)
 
+-- a `judge` asks a question
+abbrev pub question_step : Data → Result Step WrongForm
+question_step d = do
+  question ← judge_step d
+  Ok (Judge question)
+
 -- the step of this name
 abbrev step_named : List ℕ → Data → Result Step WrongForm
 step_named name d =
     if bytes_eq name (codes "hash") then hash_step d else
     (if bytes_eq name (codes "assign") then assign_step d else
-    (if bytes_eq name (codes "owners") then owners_step d else Err wrong))
+    (if bytes_eq name (codes "owners") then owners_step d else
+    (if bytes_eq name (codes "judge") then question_step d else Err wrong)))
 
 -- a step, named by its member `do`
 unfoldable pub step_of : Data → Result Step WrongForm

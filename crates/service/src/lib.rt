@@ -3,6 +3,7 @@
 
 mod fault;
 mod job;
+mod judge;
 mod members;
 mod program;
 mod reply;

@@ -7,7 +7,7 @@ ghost use Rattle.serde_json.specs.Data.{Data};
 ghost use Rattle.serde_json.specs.View.{view};
 ghost use Rattle.service.specs.declared.fault.WrongForm.{WrongForm};
 ghost use Rattle.service.specs.Reading.{Gives};
-ghost use Rattle.service.specs.Members.{IsRead, count_of, exactly, member_at, number_of, number_at, number_in, text_at, key_at, array_of, pair_of, list_of};
+ghost use Rattle.service.specs.Members.{IsRead, count_of, exactly, member_at, number_of, number_at, number_in, flag_at, text_at, key_at, array_of, pair_of, list_of};
 
 use crate::fault::{Unread, WrongForm};
 use assignment::Listed;
@@ -77,6 +77,13 @@ pub fn number_in(low: u64, high: u64, name: &str, value: &Value) -> Result<u64, 
     } else {
         Err(WrongForm)
     }
+}
+
+/// The member of this name, as true or false.
+pub fn flag_at(name: &str, value: &Value) -> Result<bool, WrongForm>
+    ensures { result ≡ flag_at name.now (view value.now) }
+{
+    member_at(name, value)?.as_bool().ok_or(WrongForm)
 }
 
 /// The member of this name, as a text.

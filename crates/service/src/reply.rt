@@ -1,11 +1,13 @@
 //! What a step answers, and its words.
 
 ghost use Rattle.std.specs.Prelude.{◌≡◌, Some};
-ghost use Rattle.service.specs.Lines.{hex_16, slices_words, refusal_words, owners_text, reply_text};
+ghost use Rattle.service.specs.Lines.{hex_16, slices_words, ranges_words, refusal_words, kind_word, verdict_words, owners_text, reply_text};
 
 use arrayvec::ArrayVec;
 use assignment::{AssignmentError, TaskId};
 use key_hash::SliceKey;
+use policy_rules::{Ground, Kind, Verdict};
+use slice_ranges::RangesError;
 use std::fmt;
 use std::marker::Model;
 
@@ -14,6 +16,8 @@ use std::marker::Model;
 pub enum Refusal {
     /// The slices make no assignment.
     Slices(AssignmentError),
+    /// The ranges of a lease make no set.
+    Ranges(RangesError),
     /// There is no draft.
     NoDraft,
 }
@@ -36,12 +40,25 @@ fn slices_words(error: AssignmentError) -> &'static str
     }
 }
 
+// The words for pairs that make no set. No reply is for want of memory.
+fn ranges_words(error: RangesError) -> &'static str
+    ensures { result.now ≡ ranges_words error }
+{
+    match error {
+        RangesError::Unsorted => "unsorted",
+        RangesError::Empty => "empty",
+        RangesError::PastEnd => "past-end",
+        RangesError::NoMemory => "no-memory",
+    }
+}
+
 impl fmt::Display for Refusal {
     ghost output = { λ r. Some (refusal_words r) };
 
     fn fmt<W: fmt::Write>(&self, f: &mut fmt::Formatter<W>) -> fmt::Result {
         match *self {
             Refusal::Slices(error) => f.write_str(slices_words(error)),
+            Refusal::Ranges(error) => f.write_str(ranges_words(error)),
             Refusal::NoDraft => f.write_str("no-draft"),
         }
     }
@@ -105,6 +122,39 @@ impl fmt::Display for OwnerList {
     }
 }
 
+fn kind_word(kind: Kind) -> &'static str
+    ensures { result.now ≡ kind_word kind }
+{
+    match kind {
+        Kind::Guard => "guard",
+        Kind::Bridge => "bridge",
+    }
+}
+
+/// The words of a verdict.
+#[derive(Clone, Copy, Debug, PartialEq, Eq)]
+struct VerdictWords(Verdict);
+
+impl fmt::Display for VerdictWords {
+    ghost output = { λ v. Some (verdict_words v.0) };
+
+    fn fmt<W: fmt::Write>(&self, f: &mut fmt::Formatter<W>) -> fmt::Result {
+        match self.0 {
+            Verdict::Allow { kind, generation } => {
+                let kind = kind_word(kind);
+                write!(f, "served {kind} {generation}")
+            }
+            Verdict::Deny(Ground::Down) => f.write_str("denied down"),
+            Verdict::Deny(Ground::ClockBack) => f.write_str("denied clock-back"),
+            Verdict::Deny(Ground::Ended) => f.write_str("denied ended"),
+            Verdict::Deny(Ground::NotOwned { generation }) => {
+                write!(f, "denied not-owned {generation}")
+            }
+            Verdict::Deny(Ground::NoLease) => f.write_str("denied no-lease"),
+        }
+    }
+}
+
 /// What a step answers.
 #[derive(Debug, Drop)]
 pub enum Reply {
@@ -114,6 +164,8 @@ pub enum Reply {
     Assigned { generation: u64, slices: usize },
     /// The owners that were asked for.
     Owners(OwnerList),
+    /// What the rule says.
+    Verdict(Verdict),
     /// The step changed nothing.
     Refused(Refusal),
 }
@@ -131,6 +183,10 @@ impl fmt::Display for Reply {
                 write!(f, "assigned {generation} slices {slices}")
             }
             Reply::Owners(owners) => write!(f, "owners {owners}"),
+            Reply::Verdict(verdict) => {
+                let words = VerdictWords(*verdict);
+                write!(f, "{words}")
+            }
             Reply::Refused(refusal) => write!(f, "refused {refusal}"),
         }
     }

@@ -6,6 +6,7 @@ ghost use Rattle.service.specs.declared.step.Step.{Step};
 ghost use Rattle.service.specs.Replies.{IsAfter, assign_reply, draft_with, owners_reply, reply_to, replies_to};
 ghost use Rattle.service.specs.Lines.{text_of};
 
+use crate::judge::judge;
 use crate::reply::{OwnerList, Refusal, Reply};
 use crate::step::Step;
 use assignment::{Assignment, AssignmentError, Slice};
@@ -37,6 +38,9 @@ impl Session {
                 self.assign(alloc, *generation, slices.as_slice())
             }
             Step::Owners { key } => Ok(self.owners(slice_key(key.as_slice()))),
+            Step::Judge { question } => {
+                judge(alloc, question, slice_key(question.key.as_slice()))
+            }
         }
     }
 

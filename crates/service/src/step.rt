@@ -6,6 +6,7 @@ ghost use Rattle.service.specs.Reading.{Gives};
 ghost use Rattle.service.specs.Steps.{slice_of, hash_step, assign_step, owners_step, step_of};
 
 use crate::fault::Unread;
+use crate::judge::{Question, question_of};
 use crate::members::{
     Form, exactly, key_at, list_of, member_at, number_at, number_of, pair_of, text_at,
 };
@@ -28,6 +29,10 @@ pub enum Step {
     /// The tasks that own a key are asked for, by the draft.
     Owners {
         key: Listed<u8>,
+    },
+    /// The rule is asked, over leases that the script hands in.
+    Judge {
+        question: Question,
     },
 }
 
@@ -84,6 +89,9 @@ pub fn step_of(alloc: Global, step: &Value) -> Result<Step, Unread>
         "hash" => hash_step(alloc, step),
         "assign" => assign_step(alloc, step),
         "owners" => owners_step(alloc, step),
+        "judge" => Ok(Step::Judge {
+            question: question_of(alloc, step)?,
+        }),
         _ => Err(Unread::WrongForm),
     }
 }

@@ -9,16 +9,18 @@ use std::alloc::Global;
 use std::fs;
 use std::rt::Files;
 
-const NAMES: [&str; 21] = [
+const NAMES: [&str; 23] = [
     "hash-of-empty-and-hello",
     "hash-vectors",
     "draft-assignment-and-its-owners",
+    "judge-names-the-first-ground",
     "empty-input",
     "empty-array",
     "script-cut-off-in-its-third-step",
     "job-line-alone",
     "assignment-refusals",
     "four-owners-are-too-many-before-the-range",
+    "judge-guard-then-bridge",
     "object-in-place-of-an-array",
     "number-in-place-of-a-job",
     "job-without-members",

@@ -1,0 +1,60 @@
+//! Leases on slices of keys.
+
+ghost use Rattle.std.specs.Prelude.{◌≡◌, IfOk, nat_lt};
+ghost use Rattle.slice_ranges.specs.Sets.{has};
+
+use key_hash::SliceKey;
+use slice_ranges::Ranges;
+use std::alloc::AllocError;
+
+/// What a lease is for.
+#[derive(Clone, Copy, Debug, PartialEq, Eq)]
+pub enum Kind {
+    /// Its task serves the keys that it owns in a committed assignment.
+    Guard,
+    /// Its task serves, across a change, the keys that it owns before and after it.
+    Bridge,
+}
+
+/// A lease, as the task that holds it knows it.
+#[derive(Debug, Drop)]
+pub struct Lease {
+    /// What the lease is for.
+    pub kind: Kind,
+    /// The generation of the assignment that it was granted for.
+    pub generation: u64,
+    /// The keys that it covers.
+    pub ranges: Ranges,
+    /// The task's deadline: the first reading, in ticks, at which the lease is not live any more.
+    pub ends: u64,
+}
+
+impl Lease {
+    ghost use Rattle.policy_rules.specs.Leases.{is_live};
+
+    /// Whether the lease is live at a reading: it ends above it.
+    pub fn is_live(&self, at: u64) -> bool
+        ensures { result ≡ is_live self.now at }
+    {
+        at < self.ends
+    }
+
+    /// Whether the lease covers a key.
+    pub fn covers(&self, key: SliceKey) -> bool
+        ensures { result ≡ has self.now.ranges key }
+    {
+        self.ranges.contains(key)
+    }
+
+    /// A lease that equals this one.
+    pub fn copy(&self) -> Result<Self, AllocError>
+        ensures { IfOk result (λ lease. lease ≡ self.now) }
+    {
+        Ok(Lease {
+            kind: self.kind,
+            generation: self.generation,
+            ranges: self.ranges.copy()?,
+            ends: self.ends,
+        })
+    }
+}

@@ -1,0 +1,87 @@
+//! Who may serve a key.
+
+ghost use Rattle.std.specs.Prelude.{◌≡◌, ℕ, option_map};
+ghost use Rattle.policy_rules.specs.Leases.{seen_from};
+ghost use Rattle.policy_rules.specs.Rule.{rule, holding_seen_from, serving_generation, is_covered, live_generation, greatest};
+
+use crate::answer::{Ground, Verdict};
+use crate::holding::Holding;
+use crate::lease::{Kind, Lease};
+use key_hash::SliceKey;
+
+/// Whether a task that holds this may serve a key at a reading of its clock, in ticks.
+///
+/// The first case that holds: the task is down; the reading is below its last one; the guard is
+/// live and covers the key; the bridge is live and covers the key; a held lease covers the key, and
+/// so has ended; a held lease is live; else there is no lease.
+pub fn verdict(holding: &Holding, key: SliceKey, at: u64) -> Verdict
+    ensures { result ≡ rule (holding_seen_from holding.now key) at }
+{
+    if !holding.up {
+        return Verdict::Deny(Ground::Down);
+    }
+    if at < holding.last {
+        return Verdict::Deny(Ground::ClockBack);
+    }
+    if let Some(generation) = serving(&holding.guard, key, at) {
+        return Verdict::Allow {
+            kind: Kind::Guard,
+            generation,
+        };
+    }
+    if let Some(generation) = serving(&holding.bridge, key, at) {
+        return Verdict::Allow {
+            kind: Kind::Bridge,
+            generation,
+        };
+    }
+    if covers(&holding.guard, key) || covers(&holding.bridge, key) {
+        return Verdict::Deny(Ground::Ended);
+    }
+    match newest_live(holding, at) {
+        Some(generation) => Verdict::Deny(Ground::NotOwned { generation }),
+        None => Verdict::Deny(Ground::NoLease),
+    }
+}
+
+// The generation of a lease that is held, is live and covers the key.
+fn serving(lease: &Option<Lease>, key: SliceKey, at: u64) -> Option<u64>
+    ensures { result ≡ serving_generation at (option_map (seen_from key) lease.now) }
+{
+    match lease {
+        Some(lease) if lease.is_live(at) && lease.covers(key) => Some(lease.generation),
+        _ => None,
+    }
+}
+
+// Whether a lease is held that covers the key.
+fn covers(lease: &Option<Lease>, key: SliceKey) -> bool
+    ensures { result ≡ is_covered (option_map (seen_from key) lease.now) }
+{
+    match lease {
+        Some(lease) => lease.covers(key),
+        None => false,
+    }
+}
+
+// The greatest generation of a live lease that is held.
+fn newest_live(holding: &Holding, at: u64) -> Option<u64>
+    ensures { (key : ℕ) → result ≡ greatest
+        (live_generation at (option_map (seen_from key) holding.now.guard))
+        (live_generation at (option_map (seen_from key) holding.now.bridge)) }
+{
+    match (live(&holding.guard, at), live(&holding.bridge, at)) {
+        (Some(guard), Some(bridge)) => Some(guard.max(bridge)),
+        (guard, bridge) => guard.or(bridge),
+    }
+}
+
+// The generation of a lease that is held and live.
+fn live(lease: &Option<Lease>, at: u64) -> Option<u64>
+    ensures { (key : ℕ) → result ≡ live_generation at (option_map (seen_from key) lease.now) }
+{
+    match lease {
+        Some(lease) if lease.is_live(at) => Some(lease.generation),
+        _ => None,
+    }
+}

@@ -1,0 +1,102 @@
+-- What joining ranges keeps.
+use Rattle.std.proofs.Common.{◌≡◌, ℕ, ◌+◌, ◌^◌, ◌<◌, ◌≤◌, Bool, true, false, not, ◌&&◌, ◌||◌, List, [], ◌∷◌, ◌++◌, length, Option, Some, None, refl, sym, ap, ◌∙◌, inl, inr, ◌⊎◌, ◌≢◌, arith}
+use Rattle.std.specs.Prelude.{if◌then◌else◌, nat_lt, nat_le}
+use Rattle.std.proofs.lemmas.Bool.{lt-ltb, le-ltb, le-leb, lt-leb, cases_lt, ltb-false, leb-false}
+use Rattle.slice_ranges.specs.declared.error.RangesError.{RangesError}
+use Rattle.slice_ranges.specs.declared.error.RangesError.TheVariants.{Unsorted, Empty, PastEnd}
+use Rattle.slice_ranges.specs.Sets.{inside_after, has, Rises, IsRanges, covered, or_else, refusal_from, refusal_of}
+use Rattle.slice_ranges.specs.Turns.{IsTurned}
+use Rattle.slice_ranges.proofs.Boundaries.{rises_below}
+use Rattle.slice_ranges.specs.Refusals.{when, first_of}
+use Rattle.slice_ranges.proofs.Made.{IsMade, made_turn}
+
+-- a range without a fault
+pub record IsGood (end start stop : ℕ) (ranges : List (ℕ × ℕ)) : Type 0 where
+  pub sorted : end ≤ start
+  pub filled : start < stop
+  pub within : stop ≤ 2 ^ 63
+  pub rest : refusal_from stop ranges ≡ None
+
+pub good : (end start stop : ℕ) (ranges : List (ℕ × ℕ)) → refusal_from end ((start, stop) ∷ ranges) ≡ None → IsGood end start stop ranges
+good end start stop ranges e = tests (nat_lt start end) (nat_le stop start) (nat_lt (2 ^ 63) stop) refl refl refl e
+  where
+    tests : (a b c : Bool) → nat_lt start end ≡ a → nat_le stop start ≡ b → nat_lt (2 ^ 63) stop ≡ c → or_else (first_of (when a Unsorted ∷ when b Empty ∷ when c PastEnd ∷ [])) (refusal_from stop ranges) ≡ None → IsGood end start stop ranges
+    tests true b c p q r e = absurd (cc)
+    tests false true c p q r e = absurd (cc)
+    tests false false true p q r e = absurd (cc)
+    tests false false false p q r e = record { sorted = ltb-false start end p; filled = leb-false stop start q; within = ltb-false (2 ^ 63) stop r; rest = e }
+
+-- no key below its end is in what follows
+covered_below : (end : ℕ) (ranges : List (ℕ × ℕ)) (k : ℕ) → refusal_from end ranges ≡ None → k < end → covered ranges k ≡ false
+covered_below end [] k e l = refl
+covered_below end ((start, stop) ∷ ranges) k e l =
+    let g = good end start stop ranges e in
+    rw (lt-leb start k (omega (arith, g.sorted)), covered_below stop ranges k g.rest (omega (arith, g.sorted, g.filled))) refl
+
+made_until : (out : List ℕ) (inside : Bool) (p m : ℕ) (want : ℕ → Bool) → IsMade out inside p want → p ≤ m → ((k : ℕ) → p ≤ k → k < m → want k ≡ inside) → IsMade out inside m want
+made_until out inside p m want made l between = record {
+  done = λ k g. elim (cases_lt k p) [ inl below ↦ made.done k below | inr above ↦ made.after k above ∙ sym (between k above g) ];
+  after = λ k g. made.after k (omega arith);
+  rises = rises_below 0 out p m made.rises l;
+}
+
+-- ranges joined as far as the rest
+pub record IsJoined (all rest : List (ℕ × ℕ)) (out : List ℕ) (inside : Bool) (end : ℕ) : Type 0 where
+  pub made : IsMade out inside end (covered all)
+  pub same : (k : ℕ) → end ≤ k → covered all k ≡ covered rest k
+  pub sound : refusal_from end rest ≡ None
+  pub within : end ≤ 2 ^ 63
+
+pub joined_start : (all : List (ℕ × ℕ)) (out : List ℕ) → refusal_from 0 all ≡ None → out ≡ [] → IsJoined all all out false 0
+joined_start all out e o = record {
+  made = rw o (record { done = λ k g. absurd (omega arith); after = λ k g. refl; rises = omega arith });
+  same = λ k g. refl;
+  sound = e;
+  within = omega arith;
+}
+
+module _ (all : List (ℕ × ℕ)) (start stop : ℕ) (rest : List (ℕ × ℕ)) (out : List ℕ) (end : ℕ) (sound : refusal_from end ((start, stop) ∷ rest) ≡ None) (same : (k : ℕ) → end ≤ k → covered all k ≡ covered ((start, stop) ∷ rest) k) where
+  g : IsGood end start stop rest
+  g = good end start stop rest sound
+
+  gap : (k : ℕ) → end ≤ k → k < start → covered all k ≡ false
+  gap k l h = same k l ∙ (rw (lt-leb start k h, covered_below stop rest k g.rest (omega (arith, g.filled))) refl)
+
+  range : (k : ℕ) → start ≤ k → k < stop → covered all k ≡ true
+  range k l h = same k (omega (arith, g.sorted)) ∙ (rw (le-leb start k l, lt-ltb k stop h) refl)
+
+  beyond : (k : ℕ) → stop ≤ k → covered all k ≡ covered rest k
+  beyond k l = same k (omega (arith, g.sorted, g.filled)) ∙ (rw (le-leb start k (omega (arith, g.filled)), le-ltb k stop l) refl)
+
+  ended : (new : List ℕ) (p : ℕ) → IsMade new true p (covered all) → start ≤ p → p ≤ stop → IsJoined all rest new true stop
+  ended new p made l h = record { made = made_until new true p stop (covered all) made h (λ k a b. range k (omega arith) b); same = beyond; sound = g.rest; within = g.within }
+
+  from_start : (p : ℕ) (old : List ℕ) → IsMade old false p (covered all) → end ≤ p → p ≤ start → IsJoined all rest (old ++ start ∷ []) true stop
+  from_start p old made l h = ended (old ++ start ∷ []) (start + 1) (made_turn old false p start (covered all) made h (λ k a b. gap k (omega arith) b) (range start (omega arith) g.filled)) (omega arith) (omega (arith, g.filled))
+
+  step : (inside : Bool) (new : List ℕ) → IsMade out inside end (covered all) → IsTurned inside end start out new → IsJoined all rest new true stop
+  step false new made e = rw e (from_start end out made (omega arith) g.sorted)
+  step true new made (inl e) = rw e.1 (ended out end made (omega (arith, e.0)) (omega (arith, g.sorted, g.filled)))
+  step true new made (inr e) =
+      let l : end < start = omega (arith, e.0, g.sorted) in
+      rw e.1 (from_start (end + 1) (out ++ end ∷ []) (made_turn out true end end (covered all) made (omega arith) (λ k a b. absurd (omega arith)) (gap end (omega arith) l)) (omega arith) (omega arith))
+
+pub joined_step : (all : List (ℕ × ℕ)) (r : ℕ × ℕ) (here rest : List (ℕ × ℕ)) (out new : List ℕ) (inside : Bool) (end : ℕ) → IsJoined all here out inside end → here ≡ r ∷ rest → IsTurned inside end r.0 out new → IsJoined all rest new true r.1
+joined_step all r here rest out new inside end j e t =
+    let j' : IsJoined all (r ∷ rest) out inside end = rw e at j in
+    step all r.0 r.1 rest out end j'.sound j'.same inside new j'.made t
+
+pub joined_end : (all here : List (ℕ × ℕ)) (out : List ℕ) (inside : Bool) (end : ℕ) (new : List ℕ) → IsJoined all here out inside end → here ≡ [] → ((inside ≡ false) × (new ≡ out)) ⊎ ((inside ≡ true) × (new ≡ out ++ end ∷ [])) → IsRanges new × ((k : ℕ) → has new k ≡ covered all k)
+joined_end all here out inside end new j h e = last e
+  where
+    none : (k : ℕ) → end ≤ k → covered all k ≡ false
+    none k l = j.same k l ∙ (rw h refl)
+
+    whole : (p : ℕ) (bs : List ℕ) → IsMade bs false p (covered all) → end ≤ p → p ≤ 2 ^ 63 + 1 → IsRanges bs × ((k : ℕ) → has bs k ≡ covered all k)
+    whole p bs made l b =
+        let keys : (k : ℕ) → has bs k ≡ covered all k = λ k. elim (cases_lt k p) [ inl below ↦ made.done k below | inr above ↦ made.after k above ∙ sym (none k (omega arith)) ] in
+        (record { rises = rises_below 0 bs p (2 ^ 63 + 1) made.rises b; ends = keys (2 ^ 63) ∙ none (2 ^ 63) j.within }, keys)
+
+    last : ((inside ≡ false) × (new ≡ out)) ⊎ ((inside ≡ true) × (new ≡ out ++ end ∷ [])) → IsRanges new × ((k : ℕ) → has new k ≡ covered all k)
+    last (inl c) = rw c.1 (whole end out (rw c.0 at j.made) (omega arith) (omega (arith, j.within)))
+    last (inr c) = rw c.1 (whole (end + 1) (out ++ end ∷ []) (made_turn out true end end (covered all) (rw c.0 at j.made) (omega arith) (λ k a b. absurd (omega arith)) (none end (omega arith))) (omega arith) (omega (arith, j.within)))

@@ -1,0 +1,4 @@
+pub mod Boundaries
+pub mod Made
+pub mod Same
+pub mod Joined

@@ -1,0 +1,4 @@
+pub mod Refusals
+pub mod Sets
+pub mod Turns
+pub use Rattle.key_hash.specs.Hash

@@ -1,0 +1,58 @@
+use super::*;
+use key_hash::SliceKey;
+use std::test::Fail;
+
+#[test]
+fn joins_pairs_that_touch(rt: HostRuntime) -> Result<(), Fail> {
+    let alloc = rt.alloc();
+    let joined = Ranges::build(alloc, &[(0, 5), (5, 9)]).map_err(|_| "pairs in order make a set")?;
+    let apart = Ranges::build(alloc, &[(0, 5), (6, 1 << 63)]).map_err(
+        |_| "pairs in order make a set",
+    )?;
+    let none = Ranges::build(alloc, &[]).map_err(|_| "no pairs make a set")?;
+    let last = (1 << 63) - 1;
+    for (number, in_joined, in_apart) in [
+        (0, true, true),
+        (4, true, true),
+        (5, true, false),
+        (6, true, true),
+        (8, true, true),
+        (9, false, true),
+        (last, false, true),
+    ] {
+        let key = SliceKey::new(number).ok_or("a number of 63 bits is a key")?;
+        assert_eq!(rt; joined.contains(key), in_joined, "{number} in [0, 9)");
+        assert_eq!(rt;
+            joined.copy()?.contains(key),
+            in_joined,
+            "{number} in a copy"
+        );
+        assert_eq!(rt;
+            apart.contains(key),
+            in_apart,
+            "{number} in [0, 5) and [6, 2^63)"
+        );
+        assert!(rt; !none.contains(key));
+    }
+    Ok(())
+}
+
+#[test]
+fn refuses_the_first_pair_at_fault(rt: HostRuntime) {
+    let end = 1 << 63;
+    let cases: [(&[(u64, u64)], RangesError); 6] = [
+        (&[(0, 5), (3, 9)], RangesError::Unsorted),
+        (&[(4, 4)], RangesError::Empty),
+        (&[(0, end + 1)], RangesError::PastEnd),
+        (&[(0, 5), (4, 4)], RangesError::Unsorted),
+        (&[(end + 2, end + 2)], RangesError::Empty),
+        (&[(0, 5), (9, 9), (0, 1)], RangesError::Empty),
+    ];
+    for (pairs, refusal) in cases {
+        assert_eq!(rt;
+            Ranges::build(rt.alloc(), pairs).err(),
+            Some(refusal),
+            "{pairs:?}"
+        );
+    }
+}
