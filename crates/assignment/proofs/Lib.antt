@@ -1,3 +1,4 @@
 pub mod Accepted
 pub mod Rising
 pub mod Tasks
+pub mod Owned

@@ -43,6 +43,12 @@ later_above s (u ∷ slices) h =
     let next : s.start < u.start = grind (arith, nat_tests) in
     (next, above_lower s.start u.start slices (omega arith) (later_above u slices p.1))
 
+-- what starts above a key starts at the next one or above it
+pub starts_from : (low : ℕ) (slices : List Slice) → StartsAbove low slices → AllByRecursion (λ s. low + 1 ≤ s.start) slices
+unfolding StartsAbove
+starts_from low [] h = tt
+starts_from low (s ∷ slices) h = (let p : low < s.start = h.0 in omega arith, starts_from low slices h.1)
+
 pub none_at : (key : ℕ) (slices : List Slice) → StartsAbove key slices → slice_at slices key ≡ None
 unfolding StartsAbove
 none_at key [] h = refl

@@ -1,19 +1,22 @@
 //! Which task owns which keys.
 
-ghost use Rattle.std.specs.Prelude.{◌≡◌, ℕ, ◌≤◌, ◌↔◌, Some, None, IfOk, IfErr, OnOk, All, Contains, unwrap_or, length, vec_len, slice_get, IsPermutation};
+ghost use Rattle.std.specs.Prelude.{◌≡◌, ℕ, ◌^◌, ◌<◌, ◌≤◌, ◌↔◌, ◌&&◌, Some, None, IfOk, IfErr, OnOk, All, Contains, unwrap_or, length, vec_len, slice_get, IsPermutation};
 ghost use Rattle.std.specs.List.Sorted.{IsSorted, IsStrictlyIncreasing};
 ghost use Rattle.std.specs.Ordering.{nat_cmp};
+ghost use Rattle.slice_ranges.specs.Sets.{has};
 ghost use Rattle.assignment.specs.declared.error.AssignmentError.TheVariants as refused;
 ghost use Rattle.assignment.specs.declared.slice.Slice.{Slice};
 ghost use Rattle.assignment.specs.Slices.{IsProper, refusal_of};
-ghost use Rattle.assignment.specs.Owners.{IsSliceOf, owners_of, slice_at};
+ghost use Rattle.assignment.specs.Owners.{IsSliceOf, owners_of, owns, slice_at};
 
 use crate::checks::check;
 use crate::error::AssignmentError;
+use crate::ownership::ownership;
 use crate::slice::{OwnedSlice, Slice, few_tasks};
 use crate::task::TaskId;
 use arrayvec::ArrayVec;
 use key_hash::SliceKey;
+use slice_ranges::Ranges;
 use std::alloc::{AllocError, Global};
 use std::marker::Model;
 
@@ -78,6 +81,26 @@ impl Assignment {
         ensures rising { IsStrictlyIncreasing result.items }
     {
         rising(slice_of(&self.slices, key).owners())
+    }
+
+    /// The keys that a task owns.
+    pub fn of_task(&self, task: TaskId) -> Result<Ranges, AllocError>
+        ensures { IfOk result
+            (λ r. (key : ℕ) → key < 2 ^ 63 → has r key ≡ owns self.now.slices key task) }
+    {
+        let alloc = *self.slices.allocator();
+        let steps = ownership(alloc, &self.slices, task)?;
+        Ranges::from_steps(alloc, &steps)
+    }
+
+    /// The keys that a task owns both in this assignment and in the next one.
+    pub fn bridge(&self, next: &Assignment, task: TaskId) -> Result<Ranges, AllocError>
+        ensures { IfOk result (λ r. (key : ℕ) → key < 2 ^ 63 → has r key
+            ≡ (owns self.now.slices key task && owns next.now.slices key task)) }
+    {
+        let before = self.of_task(task)?;
+        let after = next.of_task(task)?;
+        before.intersect(&after)
     }
 
     /// An assignment that equals this one.

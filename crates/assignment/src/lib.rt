@@ -5,6 +5,7 @@ mod assignment;
 mod checks;
 mod error;
 mod listed;
+mod ownership;
 mod slice;
 mod task;
 

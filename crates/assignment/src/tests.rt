@@ -84,3 +84,27 @@ fn keeps_what_it_is_given(rt: HostRuntime) -> Result<(), Fail> {
     }
     Ok(())
 }
+
+#[test]
+fn bridges_two_generations(rt: HostRuntime) -> Result<(), Fail> {
+    let alloc = rt.alloc();
+    let old = Assignment::build(alloc, 1, &slices_of(alloc, &[(0, &[1]), (HALF, &[2])])?).map_err(
+        |_| "two slices make an assignment",
+    )?;
+    let new = Assignment::build(alloc, 2, &slices_of(alloc, &[(0, &[1])])?).map_err(
+        |_| "one slice makes an assignment",
+    )?;
+    let first = TaskId::new(1).ok_or("1 is a task")?;
+    let second = TaskId::new(2).ok_or("2 is a task")?;
+    assert_eq!(rt; new.of_task(second)?.width(), 0);
+    assert_eq!(rt; new.of_task(first)?.width(), 1 << 63);
+    assert_eq!(rt; old.of_task(second)?.width(), HALF);
+    let bridge = old.bridge(&new, first)?;
+    assert_eq!(rt; bridge.width(), HALF);
+    for (number, bridged) in [(0, true), (HALF - 1, true), (HALF, false)] {
+        let key = SliceKey::new(number).ok_or("a number of 63 bits is a key")?;
+        assert_eq!(rt; bridge.contains(key), bridged);
+    }
+    assert_eq!(rt; old.bridge(&new, second)?.width(), 0);
+    Ok(())
+}

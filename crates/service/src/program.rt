@@ -1,14 +1,11 @@
 //! The program that plays one script.
 
-ghost use Rattle.std.specs.Prelude.{◌≡◌, ◌⊎◌};
 ghost use Rattle.std.specs.Process.{exit_status};
-ghost use Rattle.service.specs.Status.{IsStatus};
+ghost use Rattle.service.specs.Status.{Ends};
 
-use crate::fault::Fault;
 use crate::run::run_script;
 use std::env::{Env, FillError};
-use std::io;
-use std::io::{Eprint, Input, Print};
+use std::io::{Eprint, Read, Write};
 use std::process::ExitCode;
 
 // Whether the program was given an argument beside its name.
@@ -16,16 +13,23 @@ fn has_arguments(rt: &impl Env) -> bool {
     !matches!(rt.arg(1, &mut []), Err(FillError::NotPresent))
 }
 
-/// Plays the script of the standard input on the standard output, and says on the standard error
-/// why it was not played. Nothing is read where the program was given arguments.
-pub fn slicer_run<R: Env + Input + Print + Eprint + AllocGlobal>(rt: &R) -> ExitCode
-    ensures { IsStatus (exit_status result) }
+/// Plays the script of a reader on a writer, and says on the standard error why it is not played.
+///
+/// The status is 0 where it was played, 2 where the program was given arguments, or the script is
+/// refused, and 3 at another fault. Nothing is read where there are arguments.
+pub fn slicer_run<R: Read, W: Write>(
+    rt: &(impl Env + Eprint + AllocGlobal),
+    reader: &mut R,
+    writer: &mut W,
+) -> ExitCode
+    ensures { Ends (R.remaining reader.old) (R.remaining reader.new)
+        (W.contents writer.old) (W.contents writer.new) (exit_status result) }
 {
     if has_arguments(rt) {
         let _ = eprintln!(rt; "slicer_run: no arguments taken");
         return ExitCode::from(2);
     }
-    match run_script(rt.alloc(), &mut rt.reader(), &mut io::writer(rt)) {
+    match run_script(rt.alloc(), reader, writer) {
         Ok(()) => ExitCode::SUCCESS,
         Err(fault) => {
             let _ = eprintln!(rt; "slicer_run: {fault}");

@@ -1,13 +1,8 @@
 -- Facts on lists of boundaries.
-use Rattle.std.proofs.Common.{◌≡◌, ℕ, ◌+◌, ◌<◌, ◌≤◌, Bool, true, false, not, List, [], ◌∷◌, ◌++◌, refl, sym, ap, ◌∙◌, inl, inr, ◌⊎◌, arith}
-use Rattle.std.specs.Prelude.{if◌then◌else◌, nat_lt}
-use Rattle.std.proofs.lemmas.Bool.{lt-ltb, le-ltb, cases_lt}
-use Rattle.slice_ranges.specs.Sets.{inside_after, has, Rises}
-
--- no boundary of the list is below m
-abbrev pub StartsAt : ℕ → List ℕ → Type 0
-StartsAt m [] = Unit {0}
-StartsAt m (b ∷ bs) = m ≤ b
+use Rattle.std.proofs.Common.{◌≡◌, ℕ, ◌+◌, ◌<◌, ◌≤◌, Bool, not, List, [], ◌∷◌, ◌++◌, refl, arith}
+use Rattle.std.proofs.lemmas.Bool.{lt-ltb, le-ltb}
+use Rattle.slice_ranges.specs.Sets.{inside_after, Rises}
+use Rattle.slice_ranges.specs.Sweeps.{StartsAt}
 
 -- below its first boundary a list turns nothing
 pub inside_below : (s : Bool) (bs : List ℕ) (m k : ℕ) → StartsAt m bs → k < m → inside_after s bs k ≡ s

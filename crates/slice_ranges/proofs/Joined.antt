@@ -1,10 +1,9 @@
 -- What joining ranges keeps.
-use Rattle.std.proofs.Common.{◌≡◌, ℕ, ◌+◌, ◌^◌, ◌<◌, ◌≤◌, Bool, true, false, not, ◌&&◌, ◌||◌, List, [], ◌∷◌, ◌++◌, length, Option, Some, None, refl, sym, ap, ◌∙◌, inl, inr, ◌⊎◌, ◌≢◌, arith}
-use Rattle.std.specs.Prelude.{if◌then◌else◌, nat_lt, nat_le}
+use Rattle.std.proofs.Common.{◌≡◌, ℕ, ◌+◌, ◌^◌, ◌<◌, ◌≤◌, Bool, true, false, List, [], ◌∷◌, ◌++◌, None, refl, sym, ◌∙◌, inl, inr, ◌⊎◌, arith}
+use Rattle.std.specs.Prelude.{nat_lt, nat_le}
 use Rattle.std.proofs.lemmas.Bool.{lt-ltb, le-ltb, le-leb, lt-leb, cases_lt, ltb-false, leb-false}
-use Rattle.slice_ranges.specs.declared.error.RangesError.{RangesError}
 use Rattle.slice_ranges.specs.declared.error.RangesError.TheVariants.{Unsorted, Empty, PastEnd}
-use Rattle.slice_ranges.specs.Sets.{inside_after, has, Rises, IsRanges, covered, or_else, refusal_from, refusal_of}
+use Rattle.slice_ranges.specs.Sets.{has, IsRanges, covered, or_else, refusal_from}
 use Rattle.slice_ranges.specs.Turns.{IsTurned}
 use Rattle.slice_ranges.proofs.Boundaries.{rises_below}
 use Rattle.slice_ranges.specs.Refusals.{when, first_of}

@@ -1,8 +1,8 @@
 -- Equal sets have equal boundaries.
-use Rattle.std.proofs.Common.{◌≡◌, ℕ, ◌+◌, ◌^◌, ◌<◌, ◌≤◌, Bool, true, false, not, List, [], ◌∷◌, refl, sym, ap, ◌∙◌, inl, inr, ◌⊎◌, arith}
-use Rattle.std.proofs.lemmas.Bool.{lt-ltb, le-ltb, cases_lt, cases_order}
+use Rattle.std.proofs.Common.{◌≡◌, ℕ, ◌+◌, ◌^◌, ◌<◌, ◌≤◌, Bool, true, false, not, List, [], ◌∷◌, refl, sym, ◌∙◌, inl, inr, arith}
+use Rattle.std.proofs.lemmas.Bool.{le-ltb, cases_lt, cases_order}
 use Rattle.slice_ranges.specs.Sets.{inside_after, has, Rises, IsRanges}
-use Rattle.slice_ranges.proofs.Boundaries.{StartsAt, inside_below, rises_starts, rises_bounds}
+use Rattle.slice_ranges.proofs.Boundaries.{inside_below, rises_starts, rises_bounds}
 
 not_itself : (s : Bool) → s ≡ not s → ⊥
 not_itself true e = cc

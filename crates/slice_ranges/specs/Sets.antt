@@ -1,5 +1,5 @@
 -- A set of slice keys as its boundaries: the keys where membership turns, in rising order.
-use Rattle.std.specs.Prelude.{◌≡◌, ℕ, ◌+◌, ◌^◌, ◌≤◌, Bool, false, not, ◌&&◌, List, [], ◌∷◌, if◌then◌else◌, nat_lt, nat_le, Option, Some, None}
+use Rattle.std.specs.Prelude.{◌≡◌, ℕ, zero, suc, ◌+◌, ◌^◌, ◌≤◌, Bool, true, false, not, ◌&&◌, List, [], ◌∷◌, if◌then◌else◌, nat_lt, nat_le, Option, Some, None}
 use Rattle.std.specs.List.{list_any}
 use Rattle.slice_ranges.specs.declared.error.RangesError.{RangesError}
 use Rattle.slice_ranges.specs.declared.error.RangesError.TheVariants.{Unsorted, Empty, PastEnd}
@@ -23,6 +23,11 @@ Rises low (b ∷ bs) high = (low ≤ b) × Rises (b + 1) bs high
 pub record IsRanges (bs : List ℕ) : Type 0 where
   pub rises : Rises 0 bs (2 ^ 63 + 1)
   pub ends : has bs (2 ^ 63) ≡ false
+
+-- how many keys below a bound pass a test
+unfoldable pub count : (ℕ → Bool) → ℕ → ℕ
+count test zero = 0
+count test (suc bound) = if test bound then count test bound + 1 else count test bound
 
 -- whether a key is in one of the pairs, each a start and an end
 abbrev pub covered : List (ℕ × ℕ) → ℕ → Bool
@@ -48,3 +53,17 @@ refusal_from end (pair ∷ pairs) = or_else (first_of (pair_checks end pair)) (r
 -- why pairs are no set, if they are none: nothing ends before the first
 abbrev pub refusal_of : List (ℕ × ℕ) → Option RangesError
 refusal_of = refusal_from 0
+
+-- whether one holds and not the other
+abbrev pub differ : Bool → Bool → Bool
+differ true b = not b
+differ false b = b
+
+-- the keys from `low` on, of the next so many, at which membership turns, where it was `inside` before
+unfoldable pub turns_from : (ℕ → Bool) → Bool → ℕ → ℕ → List ℕ
+turns_from member inside low zero = if inside then low ∷ [] else []
+turns_from member inside low (suc n) = if differ inside (member low) then low ∷ turns_from member (member low) (low + 1) n else turns_from member inside (low + 1) n
+
+-- the set of the keys that pass a test
+abbrev pub keys_where : (ℕ → Bool) → List ℕ
+keys_where member = turns_from member false 0 (2 ^ 63)

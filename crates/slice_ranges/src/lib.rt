@@ -2,7 +2,10 @@
 #![tactic(auto)]
 
 mod error;
+mod pairs;
 mod ranges;
+mod steps;
+mod sweep;
 
 pub use error::RangesError;
 pub use ranges::Ranges;

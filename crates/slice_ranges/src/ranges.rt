@@ -1,13 +1,16 @@
 //! A set of slice keys, as half-open ranges.
 
-ghost use Rattle.std.specs.Prelude.{◌≡◌, ℕ, ◌^◌, ◌<◌, List, None, IfOk, IfErr, OnOk, unwrap_or};
-ghost use Rattle.std.specs.Result.{result_err};
+ghost use Rattle.std.specs.Prelude.{◌≡◌, ℕ, Bool, ◌^◌, ◌-◌, ◌<◌, ◌≤◌, ◌&&◌, ◌||◌, not, List, [], None, false, IfOk, IfErr, OnOk, unwrap_or, if◌then◌else◌};
 ghost use Rattle.slice_ranges.specs.declared.error.RangesError.TheVariants as refused;
-ghost use Rattle.slice_ranges.specs.Sets.{covered, refusal_of, has, IsRanges};
-ghost use Rattle.slice_ranges.specs.Turns.{IsTurned};
+ghost use Rattle.slice_ranges.specs.Sets.{covered, refusal_of, has, count, keys_where, IsRanges};
+ghost use Rattle.slice_ranges.specs.Steps.{value_after, StepsRise};
+ghost use Rattle.slice_ranges.specs.Sweeps.{apply};
 
 use crate::error::RangesError;
-use key_hash::{KEYS, SliceKey};
+use crate::pairs::{check, joined};
+use crate::steps::turns;
+use crate::sweep::{Operation, sweep};
+use key_hash::SliceKey;
 use std::alloc::{AllocError, Global};
 use std::marker::Model;
 
@@ -30,6 +33,15 @@ impl Model for Ranges {
 }
 
 impl Ranges {
+    /// The set without keys.
+    pub fn empty(alloc: Global) -> Self
+        ensures { result ≡ [] }
+    {
+        Ranges {
+            boundaries: Vec::new(alloc),
+        }
+    }
+
     /// The keys of the ranges: each pair is a start and the end after its last key, and no pair
     /// starts before the end of the one before it. Pairs that touch are joined, and no pairs make
     /// the empty set.
@@ -46,11 +58,62 @@ impl Ranges {
         Ok(Ranges { boundaries })
     }
 
+    /// The keys at which steps say yes: each step is a key and what holds from there on, up to the
+    /// key of the next step. Below the first step nothing is in the set.
+    pub fn from_steps(alloc: Global, steps: &[(u64, bool)]) -> Result<Self, AllocError>
+        requires { StepsRise 0 steps.now (2 ^ 63) }
+        ensures { IfOk result
+            (λ r. (key : ℕ) → key < 2 ^ 63 → has r key ≡ value_after false steps.now key) }
+    {
+        let boundaries = turns(alloc, steps)?;
+        Ok(Ranges { boundaries })
+    }
+
     /// Whether the set has a key.
     pub fn contains(&self, key: SliceKey) -> bool
         ensures { result ≡ has self.now key }
     {
         is_inside(&self.boundaries, key.value())
+    }
+
+    /// How many keys the set has.
+    pub fn width(&self) -> u64
+        ensures { result ≡ count (has self.now) (2 ^ 63) }
+    {
+        width_of(&self.boundaries)
+    }
+
+    /// The keys of both sets.
+    pub fn intersect(&self, other: &Ranges) -> Result<Self, AllocError>
+        ensures { IfOk result
+            (λ r. (key : ℕ) → has r key ≡ (has self.now key && has other.now key)) }
+    {
+        self.combine(other, Operation::Both)
+    }
+
+    /// The keys of either set.
+    pub fn union(&self, other: &Ranges) -> Result<Self, AllocError>
+        ensures { IfOk result
+            (λ r. (key : ℕ) → has r key ≡ (has self.now key || has other.now key)) }
+    {
+        self.combine(other, Operation::Either)
+    }
+
+    /// The keys of this set that are not in the other one.
+    pub fn without(&self, other: &Ranges) -> Result<Self, AllocError>
+        ensures { IfOk result
+            (λ r. (key : ℕ) → has r key ≡ (has self.now key && not (has other.now key))) }
+    {
+        self.combine(other, Operation::Without)
+    }
+
+    fn combine(&self, other: &Ranges, operation: Operation) -> Result<Self, AllocError>
+        ensures { IfOk result
+            (λ r. (key : ℕ) → has r key ≡ apply operation (has self.now key) (has other.now key)) }
+    {
+        let alloc = *self.boundaries.allocator();
+        let boundaries = sweep(alloc, &self.boundaries, &other.boundaries, operation)?;
+        Ok(Ranges { boundaries })
     }
 
     /// A set that equals this one.
@@ -62,6 +125,16 @@ impl Ranges {
         })
     }
 
+    /// A set is that of the keys that it has, and the set of the keys that pass a test has them.
+    pub fn keys_where_law(set: &Ranges)
+        ensures is { (member : ℕ → Bool) → ((key : ℕ) → key < 2 ^ 63 → has set.now key ≡ member key)
+            → set.now ≡ keys_where member }
+        ensures has { (member : ℕ → Bool) (key : ℕ) → key < 2 ^ 63
+            → has (keys_where member) key ≡ member key }
+    {
+        let _ = &set.boundaries;
+    }
+
     /// Two sets of the same keys are equal.
     pub fn same_keys_law(first: &Ranges, second: &Ranges)
         ensures { ((key : ℕ) → key < 2 ^ 63 → has first.now key ≡ has second.now key)
@@ -70,59 +143,6 @@ impl Ranges {
         let _ = &first.boundaries;
         let _ = &second.boundaries;
     }
-}
-
-// Why pairs make no set, if they make none.
-fn check(pairs: &[(u64, u64)]) -> Result<(), RangesError>
-    ensures { result_err result ≡ refusal_of pairs.now }
-{
-    let mut end = 0;
-    for pair in pairs {
-        if pair.0 < end {
-            return Err(RangesError::Unsorted);
-        }
-        if pair.1 <= pair.0 {
-            return Err(RangesError::Empty);
-        }
-        if pair.1 > KEYS {
-            return Err(RangesError::PastEnd);
-        }
-        end = pair.1;
-    }
-    Ok(())
-}
-
-// The boundaries of pairs in order.
-fn joined(alloc: Global, pairs: &[(u64, u64)]) -> Result<Vec<u64>, AllocError>
-    requires { refusal_of pairs.now ≡ None }
-    ensures ranges { IfOk result (λ v. IsRanges v.items) }
-    ensures keys { IfOk result (λ v. (key : ℕ) → has v.items key ≡ covered pairs.now key) }
-{
-    let mut boundaries = Vec::new(alloc);
-    let mut inside = false;
-    let mut end = 0;
-    for pair in pairs {
-        turn(&mut boundaries, inside, end, pair.0)?;
-        inside = true;
-        end = pair.1;
-    }
-    if inside {
-        boundaries.push(end)?;
-    }
-    Ok(boundaries)
-}
-
-// Adds the boundaries between a range that ends at `end`, if there is one, and one from `start`.
-fn turn(boundaries: &mut Vec<u64>, inside: bool, end: u64, start: u64) -> Result<(), AllocError>
-    ensures { OnOk result (IsTurned inside end start boundaries.old.items boundaries.new.items) }
-{
-    if !inside {
-        boundaries.push(start)?;
-    } else if start != end {
-        boundaries.push(end)?;
-        boundaries.push(start)?;
-    }
-    Ok(())
 }
 
 fn is_inside(boundaries: &[u64], key: u64) -> bool
@@ -136,4 +156,27 @@ fn is_inside(boundaries: &[u64], key: u64) -> bool
         inside = !inside;
     }
     inside
+}
+
+// How many keys lie inside the boundaries.
+fn width_of(boundaries: &[u64]) -> u64
+    requires { IsRanges boundaries.now }
+    ensures { result ≡ count (has boundaries.now) (2 ^ 63) }
+{
+    let mut total = 0;
+    let mut last = 0;
+    let mut inside = false;
+    for boundary in boundaries {
+        total += width_between(inside, last, *boundary);
+        inside = !inside;
+        last = *boundary;
+    }
+    total
+}
+
+fn width_between(inside: bool, start: u64, end: u64) -> u64
+    requires { start ≤ end }
+    ensures { result ≡ (if inside then end - start else 0) }
+{
+    if inside { end - start } else { 0 }
 }

@@ -56,3 +56,44 @@ fn refuses_the_first_pair_at_fault(rt: HostRuntime) {
         );
     }
 }
+
+// Whether a set has each of these keys and no other one below 14.
+fn has_only(set: &Ranges, keys: &[u64]) -> Result<bool, Fail> {
+    for number in 0..14 {
+        let key = SliceKey::new(number).ok_or("a number of 63 bits is a key")?;
+        if set.contains(key) != keys.contains(&number) {
+            return Ok(false);
+        }
+    }
+    Ok(true)
+}
+
+#[test]
+fn combines_two_sets(rt: HostRuntime) -> Result<(), Fail> {
+    let alloc = rt.alloc();
+    let first = Ranges::build(alloc, &[(0, 5), (5, 9)]).map_err(|_| "pairs in order make a set")?;
+    let second = Ranges::build(alloc, &[(3, 4), (8, 12)]).map_err(|_| "pairs in order make a set")?;
+    assert_eq!(rt; first.width(), 9);
+    let both = first.intersect(&second)?;
+    assert!(rt; has_only(&both, &[3, 8])?);
+    assert_eq!(rt; both.width(), 2);
+    let either = first.union(&second)?;
+    assert!(rt; has_only(&either, &[0, 1, 2, 3, 4, 5, 6, 7, 8, 9, 10, 11])?);
+    assert_eq!(rt; either.width(), 12);
+    let first_alone = first.without(&second)?;
+    assert!(rt; has_only(&first_alone, &[0, 1, 2, 4, 5, 6, 7])?);
+    assert_eq!(rt; first_alone.width(), 7);
+    Ok(())
+}
+
+#[test]
+fn takes_the_keys_of_steps(rt: HostRuntime) -> Result<(), Fail> {
+    let alloc = rt.alloc();
+    let steps = [(2, true), (3, true), (5, false), (7, false), (9, true)];
+    let set = Ranges::from_steps(alloc, &steps)?;
+    assert!(rt; has_only(&set, &[2, 3, 4, 9, 10, 11, 12, 13])?);
+    assert_eq!(rt; set.width(), (1 << 63) - 6);
+    assert_eq!(rt; Ranges::from_steps(alloc, &[(0, true)])?.width(), 1 << 63);
+    assert_eq!(rt; Ranges::from_steps(alloc, &[])?.width(), 0);
+    Ok(())
+}

@@ -5,5 +5,5 @@ use service::slicer_run;
 use std::process::ExitCode;
 
 fn main(rt: HostRuntime) -> ExitCode {
-    slicer_run(&rt)
+    slicer_run(&rt, &mut rt.stdin(), &mut rt.stdout())
 }

@@ -1,8 +1,8 @@
-use Rattle.std.proofs.Common.{◌≡◌, ◌+◌, ◌<◌, ◌++◌, ◌∷◌, [], ◌⊎◌, true, false, length, drop, refl, inl, inr, arith, add-one, drop-cons, ◌∙◌}
+use Rattle.std.proofs.Common.{◌≡◌, ◌<◌, ◌++◌, ◌∷◌, [], ◌⊎◌, true, false, length, refl, inl, inr, arith, add-one, drop-cons}
 use Rattle.std.proofs.lemmas.List.{drop_all}
-use Rattle.slice_ranges.proofs.Joined.{IsJoined, joined_start, joined_step, joined_end}
-use Rattle.slice_ranges.proofs.ranges.joined.Goals as goal
-use Rattle.slice_ranges.proofs.ranges.joined.Goals.{Joined-inside, then-inside+in_ok-push, else-inside}
+use Rattle.slice_ranges.proofs.Joined.{joined_step, joined_end}
+use Rattle.slice_ranges.proofs.pairs.joined.Goals as goal
+use Rattle.slice_ranges.proofs.pairs.joined.Goals.{Joined-inside, then-inside+in_ok-push, else-inside}
 
 pub loop-pair-preserved : goal.loop-pair-preserved
 loop-pair-preserved c =

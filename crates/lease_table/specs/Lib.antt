@@ -1,0 +1,12 @@
+pub mod Policies
+pub mod Tables
+pub mod Rows
+pub mod Steps
+pub mod Calls
+pub mod Keyed
+pub mod Kept
+pub use Rattle.slice_ranges.specs.Refusals
+pub use Rattle.slice_ranges.specs.Sets
+pub use Rattle.policy_rules.specs.Leases
+pub use Rattle.assignment.specs.Slices
+pub use Rattle.assignment.specs.Owners

@@ -1,0 +1,179 @@
+-- What each call answers and leaves, from what the table stands at.
+use Rattle.std.specs.Prelude.{◌≡◌, ℕ, ◌==◌, ◌+◌, ◌-◌, ◌^◌, Bool, false, not, ◌&&◌, nat_lt, nat_le, List, [], ◌∷◌, ◌++◌, length, filter, Option, Some, None, is_some, is_none, is_ok, true, option_map, Result, Ok, Err}
+use Rattle.std.specs.List.{list_any}
+use Rattle.slice_ranges.specs.Refusals.{when, first_of}
+use Rattle.slice_ranges.specs.Sets.{keys_where}
+use Rattle.policy_rules.specs.declared.lease.Kind.{Kind}
+use Rattle.policy_rules.specs.declared.lease.Kind.TheVariants.{Guard, Bridge}
+use Rattle.assignment.specs.Slices.{Slicing}
+use Rattle.assignment.specs.Owners.{owns}
+use Rattle.history_lock.specs.declared.machine.Trouble.{Trouble}
+use Rattle.history_lock.specs.declared.machine.Trouble.TheVariants as trouble
+use Rattle.lease_table.specs.declared.error.TableError.{TableError}
+use Rattle.lease_table.specs.declared.error.TableError.TheVariants.{ReadingRange, ClockBack, JobHeld, NotHolder, StaleBase, Pending, NothingPending, TooManyOwnersForJob, Held, NoRow, NoAssignment, NumbersSpent}
+use Rattle.lease_table.specs.declared.values.JobTerm.{JobTerm}
+use Rattle.lease_table.specs.declared.values.Grant.{Grant}
+use Rattle.lease_table.specs.declared.values.ReleaseNote.{ReleaseNote}
+use Rattle.lease_table.specs.declared.values.Row.{Row}
+use Rattle.lease_table.specs.Rows.{running, closes, left_open, first_up_to}
+use Rattle.lease_table.specs.Tables.{Standing, generation_of, slices_of, last_number}
+
+-- the first refusal of a list, or else the value
+abbrev pub unless_refused : {A : Type 0} → Option TableError → A → Result A TableError
+unless_refused None value = Ok value
+unless_refused (Some refusal) value = Err refusal
+
+abbrev pub answer : {A : Type 0} → List (Option TableError) → A → Result A TableError
+answer checks value = unless_refused (first_of checks) value
+
+-- the refusals of a reading
+abbrev pub out_of_range : ℕ → Option TableError
+out_of_range at = when (nat_le (2 ^ 62) at) ReadingRange
+
+abbrev pub back : Standing → ℕ → Option TableError
+back t at = when (nat_lt at t.last) ClockBack
+
+-- the last term has not ended
+abbrev pub job_held : ℕ → Option JobTerm → Option TableError
+job_held at None = None
+job_held at (Some term) = when (nat_lt at term.until) (JobHeld term.until)
+
+-- the number is that of the last term given, which has not ended
+abbrev pub is_holder : ℕ → ℕ → Option JobTerm → Bool
+is_holder number at None = false
+is_holder number at (Some term) = term.number == number && nat_lt at term.until
+
+abbrev pub not_holder : Standing → ℕ → ℕ → Option TableError
+not_holder t number at = when (not (is_holder number at t.term)) (NotHolder (last_number t.term))
+
+-- a row of the committed generation or an older one runs at the reading; the first is named
+abbrev pub held_up : Standing → ℕ → Option TableError
+held_up t at = option_map (λ row. Held row.task row.kind row.number) (first_up_to (generation_of t.committed) at t.rows)
+
+-- what stands after an accepted reading: rows that have ended are gone
+abbrev pub advanced : Standing → ℕ → Standing
+advanced t at = record t { last = at; rows = running at t.rows }
+
+-- `job_take`
+abbrev pub take_checks : Standing → ℕ → List (Option TableError)
+take_checks t at = out_of_range at ∷ back t at ∷ job_held at t.term ∷ []
+
+abbrev pub term_taken : Standing → ℕ → ℕ → JobTerm
+term_taken t assigner at = record { number = last_number t.term + 1; assigner = assigner; until = at + t.policy.job }
+
+abbrev pub take_step : Standing → ℕ → ℕ → Result (Standing × JobTerm) TableError
+take_step t assigner at = answer (take_checks t at) (record (advanced t at) { term = Some (term_taken t assigner at) }, term_taken t assigner at)
+
+-- `job_renew`
+abbrev pub renew_checks : Standing → ℕ → ℕ → List (Option TableError)
+renew_checks t number at = out_of_range at ∷ back t at ∷ not_holder t number at ∷ []
+
+-- the same term with a new end
+abbrev pub renewed : ℕ → Option JobTerm → JobTerm
+renewed until None = record { number = 0; assigner = 0; until = until }
+renewed until (Some term) = record term { until = until }
+
+abbrev pub renew_step : Standing → ℕ → ℕ → Result (Standing × JobTerm) TableError
+renew_step t number at =
+    let term = renewed (at + t.policy.job) t.term in
+    answer (renew_checks t number at) (record (advanced t at) { term = Some term }, term)
+
+-- `propose`
+abbrev pub propose_checks : Standing → ℕ → Slicing → ℕ → List (Option TableError)
+propose_checks t number slicing at =
+    out_of_range at ∷ back t at ∷ not_holder t number at ∷
+    when (not (slicing.generation == generation_of t.committed + 1)) (StaleBase (generation_of t.committed)) ∷
+    when (is_some t.pending) Pending ∷
+    when (list_any (λ s. nat_lt t.policy.redundancy (length s.owners)) slicing.slices) TooManyOwnersForJob ∷ []
+
+abbrev pub propose_step : Standing → ℕ → Slicing → ℕ → Result (Standing × Unit {0}) TableError
+propose_step t number slicing at = answer (propose_checks t number slicing at) (record (advanced t at) { pending = Some slicing }, tt)
+
+-- `commit`
+abbrev pub commit_checks : Standing → ℕ → ℕ → List (Option TableError)
+commit_checks t number at =
+    out_of_range at ∷ back t at ∷ not_holder t number at ∷ when (is_none t.pending) NothingPending ∷ held_up t at ∷ []
+
+abbrev pub commit_step : Standing → ℕ → ℕ → Result (Standing × ℕ) TableError
+commit_step t number at =
+    answer (commit_checks t number at) (record (advanced t at) { committed = t.pending; pending = None }, generation_of t.pending)
+
+-- `grant`
+abbrev pub grant_checks : Standing → ℕ → List (Option TableError)
+grant_checks t at =
+    out_of_range at ∷ back t at ∷
+    when (is_none t.committed && is_none t.pending) NoAssignment ∷
+    when (nat_le t.policy.numbers t.granted) NumbersSpent ∷ []
+
+-- a guard lease of the committed assignment has the keys that the task owns in it
+abbrev pub guard_of : Standing → ℕ → ℕ → ℕ → Grant
+guard_of t task life at = record {
+  number = t.granted + 1;
+  task = task;
+  life = life;
+  lease = record {
+    kind = Guard;
+    generation = generation_of t.committed;
+    ranges = keys_where (λ key. owns (slices_of t.committed) key task);
+    ends = at + t.policy.guard - t.policy.skew;
+  };
+  table_ends = at + t.policy.guard;
+}
+
+-- a bridge lease has the keys that the task owns in the committed assignment and in the next
+abbrev pub bridge_of : Standing → Slicing → ℕ → ℕ → ℕ → Grant
+bridge_of t next task life at = record {
+  number = t.granted + 1;
+  task = task;
+  life = life;
+  lease = record {
+    kind = Bridge;
+    generation = next.generation;
+    ranges = keys_where (λ key. owns (slices_of t.committed) key task && owns next.slices key task);
+    ends = at + t.policy.bridge - t.policy.skew;
+  };
+  table_ends = at + t.policy.bridge;
+}
+
+-- the grant of the phase
+abbrev pub grant_with : Standing → Option Slicing → ℕ → ℕ → ℕ → Grant
+grant_with t None task life at = guard_of t task life at
+grant_with t (Some next) task life at = bridge_of t next task life at
+
+-- the row of a grant
+abbrev pub row_of : Grant → Row
+row_of grant = record {
+  number = grant.number;
+  task = grant.task;
+  life = grant.life;
+  kind = grant.lease.kind;
+  generation = grant.lease.generation;
+  table_ends = grant.table_ends;
+}
+
+abbrev pub with_row : Standing → ℕ → Row → Standing
+with_row t at row = record (advanced t at) { granted = t.granted + 1; rows = running at t.rows ++ row ∷ [] }
+
+abbrev pub grant_step : Standing → ℕ → ℕ → ℕ → Result (Standing × Grant) TableError
+grant_step t task life at =
+    let grant = grant_with t t.pending task life at in
+    answer (grant_checks t at) (with_row t at (row_of grant), grant)
+
+-- `free`
+abbrev pub free_checks : Standing → ReleaseNote → ℕ → List (Option TableError)
+free_checks t note at = out_of_range at ∷ back t at ∷ when (length (filter (closes note) (running at t.rows)) == 0) NoRow ∷ []
+
+abbrev pub free_step : Standing → ReleaseNote → ℕ → Result (Standing × ℕ) TableError
+free_step t note at =
+    answer (free_checks t note at) (record (advanced t at) { rows = left_open note (running at t.rows) }, length (filter (closes note) (running at t.rows)))
+
+-- a call that takes no memory answers its step, and changes nothing where it is refused
+abbrev pub Answers : {R : Type 0} → Result (Standing × R) TableError → Standing → Result R TableError → Standing → Type 0
+Answers step old (Ok reply) new = step ≡ Ok (new, reply)
+Answers step old (Err refusal) new = (step ≡ Err refusal) × (new ≡ old)
+
+-- a call that takes memory does the same, unless there is none where it would not be refused: then it changes nothing
+abbrev pub Takes : {R : Type 0} → Result (Standing × R) TableError → Standing → Result R (Trouble TableError) → Standing → Type 0
+Takes step old (Ok reply) new = step ≡ Ok (new, reply)
+Takes step old (Err (trouble.Refused refusal)) new = (step ≡ Err refusal) × (new ≡ old)
+Takes step old (Err trouble.NoMemory) new = (is_ok step ≡ true) × (new ≡ old)

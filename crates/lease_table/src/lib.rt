@@ -1,0 +1,18 @@
+//! The lease table: who may propose and commit assignments, and when.
+#![tactic(auto)]
+
+mod call;
+mod error;
+mod policy;
+mod rows;
+mod table;
+mod values;
+
+pub use call::{TableCall, TableReply, every_list_law};
+pub use error::TableError;
+pub use policy::Policy;
+pub use table::LeaseTable;
+pub use values::{Grant, JobTerm, Phase, ReleaseNote, Row};
+
+#[cfg(test)]
+mod tests;

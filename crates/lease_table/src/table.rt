@@ -1,0 +1,471 @@
+//! The lease table.
+
+ghost use Rattle.std.specs.Prelude.{◌≡◌, ◌≤◌, ◌<◌, ◌^◌, ◌∷◌, [], ◌+◌, ◌&&◌, IfOk, OnOk, OnErr, option_map, length, filter, nat_lt};
+ghost use Rattle.std.specs.List.{list_any};
+ghost use Rattle.std.specs.Result.{result_err};
+ghost use Rattle.slice_ranges.specs.Refusals.{first_of};
+ghost use Rattle.slice_ranges.specs.Sets.{keys_where};
+ghost use Rattle.assignment.specs.Owners.{owns};
+ghost use Rattle.lease_table.specs.Rows.{first_up_to, running, closes};
+ghost use Rattle.lease_table.specs.Tables.{opening, phase_of, generation_of, slices_of, last_number};
+ghost use Rattle.lease_table.specs.Steps.{Answers, Takes, out_of_range, back, advanced, take_checks, renew_checks, propose_checks, commit_checks, grant_checks, free_checks, grant_with, with_row, take_step, renew_step, propose_step, commit_step, grant_step, free_step};
+
+use crate::error::TableError;
+use crate::policy::Policy;
+use crate::rows::Rows;
+use crate::values::{Grant, JobTerm, Phase, ReleaseNote, Row};
+use assignment::{Assignment, OwnedSlice, TaskId};
+use history_lock::Trouble;
+use policy_rules::{Kind, Lease};
+use slice_ranges::Ranges;
+use std::alloc::{AllocError, Global};
+use std::marker::Model;
+
+/// Readings are below this.
+const READINGS: u64 = 1 << 62;
+
+/// Who may propose and commit assignments, which is committed and which is proposed, and the leases
+/// that are out.
+#[derive(Drop)]
+pub struct LeaseTable {
+    policy: Policy,
+    last: u64,
+    term: Option<JobTerm>,
+    committed: Option<Assignment>,
+    pending: Option<Assignment>,
+    granted: u64,
+    rows: Rows,
+}
+
+impl Model for LeaseTable {
+    ghost use Rattle.lease_table.specs.Tables.{Standing};
+
+    ghost Value = { Standing };
+
+    ghost use Rattle.lease_table.specs.Rows.{running};
+    ghost use Rattle.lease_table.specs.Kept.{IsKept};
+
+    ghost view = { λ t. record {
+      policy = t.policy;
+      last = t.last;
+      term = t.term;
+      committed = t.committed;
+      pending = t.pending;
+      granted = t.granted;
+      rows = running t.last t.rows;
+    } };
+
+    ghost invariant = { λ t. IsKept t.last t.policy.job t.granted t.term t.rows };
+}
+
+impl LeaseTable {
+    /// A table before its first call.
+    pub fn new(alloc: Global, policy: Policy) -> Self
+        ensures { result ≡ opening policy }
+    {
+        LeaseTable {
+            policy,
+            last: 0,
+            term: None,
+            committed: None,
+            pending: None,
+            granted: 0,
+            rows: Rows::new(alloc),
+        }
+    }
+
+    /// The committed assignment.
+    pub fn committed(&self) -> Option<&Assignment>
+        ensures { option_map (λ a. a.now) result ≡ self.now.committed }
+    {
+        self.committed.as_ref()
+    }
+
+    /// Whether an assignment is proposed, and the generations.
+    pub fn phase(&self) -> Phase
+        ensures { result ≡ phase_of self.now }
+    {
+        match &self.pending {
+            Some(next) => Phase::Bridging(self.generation(), next.generation()),
+            None => Phase::Steady(self.generation()),
+        }
+    }
+
+    /// The last term given.
+    pub fn job(&self) -> Option<JobTerm>
+        ensures { result ≡ self.now.term }
+    {
+        self.term
+    }
+
+    /// The rows that are neither freed nor ended at the last accepted reading, in grant order.
+    pub fn rows(&self) -> Result<Vec<Row>, AllocError>
+        ensures { IfOk result (λ rows. rows.items ≡ self.now.rows) }
+    {
+        self.rows.running(self.last)
+    }
+
+    /// Gives the job lease to an assigner, for the job's term from the reading on, in ticks.
+    ///
+    /// Refused by `ReadingRange`, `ClockBack` and `JobHeld`, in this order.
+    pub fn job_take(&mut self, assigner: u64, at: u64) -> Result<JobTerm, TableError>
+        ensures { Answers (take_step self.old assigner at) self.old result self.new }
+    {
+        self.check_take(at)?;
+        let term = JobTerm {
+            number: self.last_number() + 1,
+            assigner,
+            until: at + self.policy.job(),
+        };
+        self.advance(at);
+        self.term = Some(term);
+        Ok(term)
+    }
+
+    /// Renews the last term given, for the job's term from the reading on, in ticks.
+    ///
+    /// Refused by `ReadingRange`, `ClockBack` and `NotHolder`, in this order.
+    pub fn job_renew(&mut self, number: u64, at: u64) -> Result<JobTerm, TableError>
+        ensures { Answers (renew_step self.old number at) self.old result self.new }
+    {
+        let mut term = self.check_holder(number, at)?;
+        term.until = at + self.policy.job();
+        self.advance(at);
+        self.term = Some(term);
+        Ok(term)
+    }
+
+    /// Proposes the assignment of the next generation.
+    ///
+    /// Refused by `ReadingRange`, `ClockBack`, `NotHolder`, `StaleBase`, `Pending` and
+    /// `TooManyOwnersForJob`, in this order; want of memory comes last, and changes nothing.
+    pub fn propose(
+        &mut self,
+        number: u64,
+        assignment: &Assignment,
+        at: u64,
+    ) -> Result<(), Trouble<TableError>>
+        ensures { Takes (propose_step self.old number assignment.now at) self.old result self.new }
+    {
+        self.check_propose(number, assignment, at)
+            .map_err(Trouble::Refused)?;
+        let next = assignment.copy()?;
+        self.advance(at);
+        self.pending = Some(next);
+        Ok(())
+    }
+
+    /// Commits the assignment that is proposed, and answers its generation.
+    ///
+    /// Refused by `ReadingRange`, `ClockBack`, `NotHolder`, `NothingPending` and `Held`, in this
+    /// order.
+    pub fn commit(&mut self, number: u64, at: u64) -> Result<u64, TableError>
+        ensures { Answers (commit_step self.old number at) self.old result self.new }
+    {
+        let generation = self.check_commit(number, at)?;
+        self.advance(at);
+        self.committed = self.pending.take();
+        Ok(generation)
+    }
+
+    /// Grants a task a lease for one of its lives: in a steady phase a guard lease of the committed
+    /// assignment with the keys that the task owns in it, in a bridging one a bridge lease of the
+    /// proposed assignment with the keys that it owns in both. It may have no key.
+    ///
+    /// Refused by `ReadingRange`, `ClockBack`, `NoAssignment` and `NumbersSpent`, in this order; want
+    /// of memory comes last, and changes nothing.
+    pub fn grant(&mut self, task: TaskId, life: u32, at: u64) -> Result<Grant, Trouble<TableError>>
+        ensures { Takes (grant_step self.old task life at) self.old result self.new }
+    {
+        self.check_grant(at).map_err(Trouble::Refused)?;
+        let grant = self.next_grant(task, life, at)?;
+        self.add_row(grant.row(), at)?;
+        Ok(grant)
+    }
+
+    /// Frees the rows that a note closes and that have not ended, and answers how many they are.
+    ///
+    /// Refused by `ReadingRange`, `ClockBack` and `NoRow`, in this order.
+    pub fn free(&mut self, note: &ReleaseNote, at: u64) -> Result<u64, TableError>
+        ensures { Answers (free_step self.old note.now at) self.old result self.new }
+    {
+        let count = self.check_free(note, at)?;
+        self.advance(at);
+        self.rows.keep_open(note);
+        Ok(count)
+    }
+
+    /// A table that equals this one.
+    pub fn copy(&self) -> Result<Self, AllocError>
+        ensures { IfOk result (λ table. table ≡ self.now) }
+    {
+        Ok(LeaseTable {
+            policy: self.policy,
+            last: self.last,
+            term: self.term,
+            committed: copy_of(&self.committed)?,
+            pending: copy_of(&self.pending)?,
+            granted: self.granted,
+            rows: self.rows.copy()?,
+        })
+    }
+
+    // The committed generation, 0 for none.
+    fn generation(&self) -> u64
+        ensures { result ≡ generation_of self.now.committed }
+    {
+        match &self.committed {
+            Some(assignment) => assignment.generation(),
+            None => 0,
+        }
+    }
+
+    // The number of the last term given, 0 for none.
+    fn last_number(&self) -> u64
+        ensures { result ≡ last_number self.now.term }
+    {
+        match &self.term {
+            Some(term) => term.number,
+            None => 0,
+        }
+    }
+
+    // What every call asks of its reading.
+    fn check_reading(&self, at: u64) -> Result<(), TableError>
+        ensures refusal { result_err result ≡ first_of (out_of_range at ∷ back self.now at ∷ []) }
+        ensures reading { OnOk result ((self.now.last ≤ at) × (at < 2 ^ 62)) }
+    {
+        if at >= READINGS {
+            return Err(TableError::ReadingRange);
+        }
+        if at < self.last {
+            return Err(TableError::ClockBack);
+        }
+        Ok(())
+    }
+
+    fn check_take(&self, at: u64) -> Result<(), TableError>
+        ensures { result_err result ≡ first_of (take_checks self.now at) }
+    {
+        self.check_reading(at)?;
+        match &self.term {
+            Some(term) if at < term.until => Err(TableError::JobHeld { until: term.until }),
+            _ => Ok(()),
+        }
+    }
+
+    // The last term given, where it is of this number and has not ended.
+    fn check_holder(&self, number: u64, at: u64) -> Result<JobTerm, TableError>
+        ensures refusal { result_err result ≡ first_of (renew_checks self.now number at) }
+        ensures term { IfOk result (λ term. self.now.term ≡ Some term) }
+        ensures reading { OnOk result ((self.now.last ≤ at) × (at < 2 ^ 62)) }
+    {
+        self.check_reading(at)?;
+        match &self.term {
+            Some(term) if term.number == number && at < term.until => Ok(*term),
+            _ => Err(TableError::NotHolder {
+                term: self.last_number(),
+            }),
+        }
+    }
+
+    fn check_propose(&self, number: u64, assignment: &Assignment, at: u64) -> Result<(), TableError>
+        ensures refusal { result_err result ≡ first_of (propose_checks self.now number assignment.now at) }
+        ensures reading { OnOk result ((self.now.last ≤ at) × (at < 2 ^ 62)) }
+    {
+        self.check_holder(number, at)?;
+        let generation = self.generation();
+        if generation.checked_add(1) != Some(assignment.generation()) {
+            return Err(TableError::StaleBase { generation });
+        }
+        if self.pending.is_some() {
+            return Err(TableError::Pending);
+        }
+        if any_has_more_owners(assignment.slices(), self.policy.redundancy()) {
+            return Err(TableError::TooManyOwnersForJob);
+        }
+        Ok(())
+    }
+
+    // The generation that is proposed, where it may be committed.
+    fn check_commit(&self, number: u64, at: u64) -> Result<u64, TableError>
+        ensures refusal { result_err result ≡ first_of (commit_checks self.now number at) }
+        ensures generation { IfOk result (λ generation. generation ≡ generation_of self.now.pending) }
+        ensures reading { OnOk result ((self.now.last ≤ at) × (at < 2 ^ 62)) }
+    {
+        self.check_holder(number, at)?;
+        let Some(next) = &self.pending else {
+            return Err(TableError::NothingPending);
+        };
+        if let Some(row) = self.first_held(at) {
+            return Err(TableError::Held {
+                task: row.task,
+                kind: row.kind,
+                number: row.number,
+            });
+        }
+        Ok(next.generation())
+    }
+
+    // The first row of the committed generation or an older one that has not ended.
+    fn first_held(&self, at: u64) -> Option<Row>
+        requires { self.now.last ≤ at }
+        ensures { result ≡ first_up_to (generation_of self.now.committed) at self.now.rows }
+    {
+        self.rows.first_up_to(self.generation(), at)
+    }
+
+    // How many rows a note frees.
+    fn check_free(&self, note: &ReleaseNote, at: u64) -> Result<u64, TableError>
+        ensures refusal { result_err result ≡ first_of (free_checks self.now note.now at) }
+        ensures count { IfOk result (λ count. count ≡ length (filter (closes note.now) (running at self.now.rows))) }
+        ensures reading { OnOk result ((self.now.last ≤ at) × (at < 2 ^ 62)) }
+    {
+        self.check_reading(at)?;
+        match self.count_closed(note, at) {
+            0 => Err(TableError::NoRow),
+            count => Ok(count as u64),
+        }
+    }
+
+    // How many rows that have not ended a note closes.
+    fn count_closed(&self, note: &ReleaseNote, at: u64) -> usize
+        requires { self.now.last ≤ at }
+        ensures { result ≡ length (filter (closes note.now) (running at self.now.rows)) }
+    {
+        self.rows.count_closed(note, at)
+    }
+
+    fn check_grant(&self, at: u64) -> Result<(), TableError>
+        ensures refusal { result_err result ≡ first_of (grant_checks self.now at) }
+        ensures reading { OnOk result ((self.now.last ≤ at) × (at < 2 ^ 62)) }
+        ensures number { OnOk result (self.now.granted < 2 ^ 32) }
+    {
+        self.check_reading(at)?;
+        if self.committed.is_none() && self.pending.is_none() {
+            return Err(TableError::NoAssignment);
+        }
+        if self.granted >= self.policy.numbers() {
+            return Err(TableError::NumbersSpent);
+        }
+        Ok(())
+    }
+
+    // The grant of the phase.
+    fn next_grant(&self, task: TaskId, life: u32, at: u64) -> Result<Grant, AllocError>
+        requires reading { at < 2 ^ 62 }
+        requires number { self.now.granted < 2 ^ 32 }
+        ensures grant { IfOk result (λ grant. grant ≡ grant_with self.now self.now.pending task life at) }
+        ensures runs { IfOk result (λ grant. at < grant.table_ends) }
+    {
+        let alloc = self.rows.allocator();
+        let number = self.granted + 1;
+        match &self.pending {
+            None => {
+                let table_ends = at + self.policy.guard();
+                Ok(Grant {
+                    number,
+                    task,
+                    life,
+                    lease: Lease {
+                        kind: Kind::Guard,
+                        generation: self.generation(),
+                        ranges: owned(alloc, &self.committed, task)?,
+                        ends: table_ends - self.policy.skew(),
+                    },
+                    table_ends,
+                })
+            }
+            Some(next) => {
+                let table_ends = at + self.policy.bridge();
+                Ok(Grant {
+                    number,
+                    task,
+                    life,
+                    lease: Lease {
+                        kind: Kind::Bridge,
+                        generation: next.generation(),
+                        ranges: kept(alloc, &self.committed, next, task)?,
+                        ends: table_ends - self.policy.skew(),
+                    },
+                    table_ends,
+                })
+            }
+        }
+    }
+
+    // Counts one more grant, and keeps its row.
+    fn add_row(&mut self, row: Row, at: u64) -> Result<(), AllocError>
+        requires low { self.old.last ≤ at }
+        requires high { at < 2 ^ 62 }
+        requires number { row.number ≡ self.old.granted + 1 }
+        requires spare { self.old.granted < 2 ^ 32 }
+        requires runs { at < row.table_ends }
+        ensures ok { OnOk result (self.new ≡ with_row self.old at row) }
+        ensures err { OnErr result (self.new ≡ self.old) }
+    {
+        self.rows.push(row)?;
+        self.rows.keep_running(at);
+        self.granted += 1;
+        self.last = at;
+        Ok(())
+    }
+
+    // An accepted reading: rows that have ended do not count from then on.
+    fn advance(&mut self, at: u64)
+        requires low { self.old.last ≤ at }
+        requires high { at < 2 ^ 62 }
+        ensures { self.new ≡ advanced self.old at }
+    {
+        self.last = at;
+    }
+}
+
+// Whether a slice has more owners than this.
+fn any_has_more_owners(slices: &[OwnedSlice], most: u64) -> bool
+    ensures { result ≡ list_any (λ s. nat_lt most (length s.owners)) slices.now }
+{
+    slices
+        .iter()
+        .any(|slice| slice.owners().len() as u64 > most)
+}
+
+// The keys that a task owns in an assignment, none where there is none.
+fn owned(alloc: Global, assignment: &Option<Assignment>, task: TaskId) -> Result<Ranges, AllocError>
+    ensures { IfOk result
+        (λ r. r ≡ keys_where (λ key. owns (slices_of assignment.now) key task)) }
+{
+    let keys = match assignment {
+        Some(assignment) => assignment.of_task(task)?,
+        None => Ranges::empty(alloc),
+    };
+    Ranges::keys_where_law(&keys);
+    Ok(keys)
+}
+
+// The keys that a task owns in an assignment and in the next one.
+fn kept(
+    alloc: Global,
+    assignment: &Option<Assignment>,
+    next: &Assignment,
+    task: TaskId,
+) -> Result<Ranges, AllocError>
+    ensures { IfOk result (λ r. r ≡ keys_where
+        (λ key. owns (slices_of assignment.now) key task && owns next.now.slices key task)) }
+{
+    let keys = match assignment {
+        Some(assignment) => assignment.bridge(next, task)?,
+        None => Ranges::empty(alloc),
+    };
+    Ranges::keys_where_law(&keys);
+    Ok(keys)
+}
+
+fn copy_of(assignment: &Option<Assignment>) -> Result<Option<Assignment>, AllocError>
+    ensures { IfOk result (λ copied. copied ≡ assignment.now) }
+{
+    match assignment {
+        Some(assignment) => Ok(Some(assignment.copy()?)),
+        None => Ok(None),
+    }
+}

@@ -1,0 +1,63 @@
+//! Pairs of a start and an end, and the boundaries of their keys.
+
+ghost use Rattle.std.specs.Prelude.{◌≡◌, ℕ, None, IfOk, OnOk};
+ghost use Rattle.std.specs.Result.{result_err};
+ghost use Rattle.slice_ranges.specs.Sets.{covered, refusal_of, has, IsRanges};
+ghost use Rattle.slice_ranges.specs.Turns.{IsTurned};
+
+use crate::error::RangesError;
+use key_hash::KEYS;
+use std::alloc::{AllocError, Global};
+
+/// Why pairs make no set, if they make none.
+pub fn check(pairs: &[(u64, u64)]) -> Result<(), RangesError>
+    ensures { result_err result ≡ refusal_of pairs.now }
+{
+    let mut end = 0;
+    for pair in pairs {
+        if pair.0 < end {
+            return Err(RangesError::Unsorted);
+        }
+        if pair.1 <= pair.0 {
+            return Err(RangesError::Empty);
+        }
+        if pair.1 > KEYS {
+            return Err(RangesError::PastEnd);
+        }
+        end = pair.1;
+    }
+    Ok(())
+}
+
+/// The boundaries of pairs in order.
+pub fn joined(alloc: Global, pairs: &[(u64, u64)]) -> Result<Vec<u64>, AllocError>
+    requires { refusal_of pairs.now ≡ None }
+    ensures ranges { IfOk result (λ v. IsRanges v.items) }
+    ensures keys { IfOk result (λ v. (key : ℕ) → has v.items key ≡ covered pairs.now key) }
+{
+    let mut boundaries = Vec::new(alloc);
+    let mut inside = false;
+    let mut end = 0;
+    for pair in pairs {
+        turn(&mut boundaries, inside, end, pair.0)?;
+        inside = true;
+        end = pair.1;
+    }
+    if inside {
+        boundaries.push(end)?;
+    }
+    Ok(boundaries)
+}
+
+// Adds the boundaries between a range that ends at `end`, if there is one, and one from `start`.
+fn turn(boundaries: &mut Vec<u64>, inside: bool, end: u64, start: u64) -> Result<(), AllocError>
+    ensures { OnOk result (IsTurned inside end start boundaries.old.items boundaries.new.items) }
+{
+    if !inside {
+        boundaries.push(start)?;
+    } else if start != end {
+        boundaries.push(end)?;
+        boundaries.push(start)?;
+    }
+    Ok(())
+}
