@@ -23,7 +23,7 @@ use Rattle.lease_table.specs.Calls.{TableEvent, event, last_reading, last_term, 
 use Rattle.lease_table.proofs.Running.{running-running, running-push, filter-filter}
 
 -- an accepted reading is not below the last one
-not_back : (t : Standing) (at : ℕ) (checks : List (Option TableError)) → first_of (out_of_range at ∷ back t at ∷ checks) ≡ None → t.last ≤ at
+pub not_back : (t : Standing) (at : ℕ) (checks : List (Option TableError)) → first_of (out_of_range at ∷ back t at ∷ checks) ≡ None → t.last ≤ at
 not_back t at checks h = by_range (nat_le (2 ^ 62) at) h
   where
     by_back : (b : Bool) → b ≡ nat_lt at t.last → first_of (when b ClockBack ∷ checks) ≡ None → t.last ≤ at
@@ -82,7 +82,7 @@ module _ (policy : Terms) (past : List TableEvent) where
       ap (λ (rs : List Row). let s : Standing = record (described policy past) { last = at; rows = rs } in s) (swapped ∙ ap (left_open note) rows))
 
   -- a grant's row runs at its reading: terms are positive
-  row_runs : (task life at : ℕ) → is_policy policy ≡ true → runs_at at (Steps.row_of (Steps.grant_with (described policy past) (pending_in past) task life at)) ≡ true
+  pub row_runs : (task life at : ℕ) → is_policy policy ≡ true → runs_at at (Steps.row_of (Steps.grant_with (described policy past) (pending_in past) task life at)) ≡ true
   row_runs task life at p = by_phase (pending_in past)
     where
       guard : 1 ≤ policy.guard

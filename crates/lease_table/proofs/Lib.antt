@@ -1,3 +1,4 @@
 pub mod RowLemmas
 pub mod Running
 pub mod Leading
+pub mod Settling

@@ -3,6 +3,7 @@ pub mod Tables
 pub mod Rows
 pub mod Steps
 pub mod Calls
+pub mod Runs
 pub mod Keyed
 pub mod Kept
 pub use Rattle.slice_ranges.specs.Refusals

@@ -8,7 +8,9 @@ mod rows;
 mod table;
 mod values;
 
-pub use call::{TableCall, TableReply, every_list_law};
+pub use call::{
+    TableCall, TableReply, assignments_law, bound_law, covers_law, every_list_law, settled_law,
+};
 pub use error::TableError;
 pub use policy::Policy;
 pub use table::LeaseTable;
