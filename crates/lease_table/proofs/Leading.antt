@@ -1,6 +1,6 @@
 -- Each step leads where the definitions over the calls say.
 use Rattle.std.proofs.Common.{◌≡◌, ◌∙◌, ℕ, ◌+◌, ◌<◌, ◌≤◌, ◌^◌, Bool, true, false, List, [], ◌∷◌, ◌++◌, length, refl, sym, ap, arith, length-append}
-use Rattle.std.specs.Prelude.{Option, Some, None, Result, Ok, Err, nat_lt, nat_le, is_none, ◌&&◌, not, ◌==◌, filter}
+use Rattle.std.specs.Prelude.{Option, Some, None, Ok, Err, nat_lt, nat_le, not}
 use Rattle.std.proofs.lemmas.Bool.Decides.{nat_tests}
 use Rattle.slice_ranges.specs.Refusals.{when, first_of}
 use Rattle.assignment.specs.Slices.{Slicing}
@@ -10,7 +10,6 @@ use Rattle.lease_table.specs.declared.call.TableReply.{TableReply}
 use Rattle.lease_table.specs.declared.call.TableReply.TheVariants.{Term, Proposed, Committed, Granted, Freed}
 use Rattle.lease_table.specs.declared.error.TableError.{TableError}
 use Rattle.lease_table.specs.declared.error.TableError.TheVariants.{ReadingRange, ClockBack}
-use Rattle.lease_table.specs.declared.values.JobTerm.{JobTerm}
 use Rattle.lease_table.specs.declared.values.Grant.{Grant}
 use Rattle.lease_table.specs.declared.values.ReleaseNote.{ReleaseNote}
 use Rattle.lease_table.specs.declared.values.Row.{Row}
@@ -19,7 +18,7 @@ use Rattle.lease_table.specs.Rows.{runs_at, running, closes, left_open}
 use Rattle.lease_table.specs.Tables.{Standing}
 use Rattle.lease_table.specs.Steps
 use Rattle.lease_table.specs.Steps.{unless_refused, answer, out_of_range, back}
-use Rattle.lease_table.specs.Calls.{TableEvent, event, last_reading, last_term, committed_in, pending_in, grants_sent, unfreed_rows, described, replied, table_step, Leads}
+use Rattle.lease_table.specs.Calls.{TableEvent, event, last_reading, last_term, pending_in, grants_sent, unfreed_rows, described, replied, table_step, Leads}
 use Rattle.lease_table.proofs.Running.{running-running, running-push, filter-filter}
 
 -- an accepted reading is not below the last one

@@ -1,6 +1,6 @@
 -- What holds after every list of calls.
-use Rattle.std.proofs.Common.{◌≡◌, ◌∙◌, ℕ, ◌+◌, ◌-◌, ◌<◌, ◌≤◌, ◌^◌, Bool, true, false, List, [], ◌∷◌, ◌++◌, length, refl, sym, ap, subst, arith}
-use Rattle.std.specs.Prelude.{Option, Some, None, Result, Ok, Err, nat_lt, nat_le, max, is_none, is_some, ◌&&◌, not, ◌==◌, filter, option_map, ⊤, if◌then◌else◌}
+use Rattle.std.proofs.Common.{◌≡◌, ◌∙◌, ℕ, ◌+◌, ◌<◌, ◌≤◌, Bool, true, false, List, [], ◌∷◌, ◌++◌, length, refl, sym, ap, subst, arith}
+use Rattle.std.specs.Prelude.{Option, Some, None, Result, Ok, Err, nat_lt, nat_le, is_none, is_some, ◌&&◌, not, ◌==◌, filter, option_map, if◌then◌else◌}
 use Rattle.std.specs.List.{AllByRecursion}
 use Rattle.std.proofs.lemmas.Bool.Decides.{nat_tests}
 use Rattle.slice_ranges.specs.Refusals.{when, first_of}
@@ -15,12 +15,12 @@ use Rattle.lease_table.specs.declared.values.Grant.{Grant}
 use Rattle.lease_table.specs.declared.values.ReleaseNote.{ReleaseNote}
 use Rattle.lease_table.specs.declared.values.Row.{Row}
 use Rattle.lease_table.specs.Policies.{Terms, is_policy}
-use Rattle.lease_table.specs.Rows.{runs_at, running, closes, left_open, first_up_to}
+use Rattle.lease_table.specs.Rows.{runs_at, running, closes, first_up_to}
 use Rattle.lease_table.specs.Tables.{Standing, generation_of}
 use Rattle.lease_table.specs.Steps
 use Rattle.lease_table.specs.Steps.{unless_refused}
 use Rattle.lease_table.specs.Calls.{TableEvent, event, last_reading, last_term, committed_in, pending_in, grants_sent, unfreed_rows, described, replied, table_step}
-use Rattle.lease_table.specs.Runs.{answer_of, IsRun, Known, known, IsNext, IsWaiting, IsSettled, newest, longest, proposed_at, assignment_in, IsTied}
+use Rattle.lease_table.specs.Runs.{answer_of, IsRun, known, IsNext, IsWaiting, IsSettled, newest, longest, proposed_at, assignment_in, IsTied}
 use Rattle.lease_table.proofs.Running.{running-running, running-push, filter-filter, all_of_filter}
 use Rattle.lease_table.proofs.Leading.{not_back, row_runs}
 

@@ -1,5 +1,5 @@
 -- Rows of grants.
-use Rattle.std.specs.Prelude.{◌≡◌, ℕ, ◌==◌, ◌&&◌, Bool, not, nat_lt, nat_le, List, filter, find, Option}
+use Rattle.std.specs.Prelude.{ℕ, ◌==◌, ◌&&◌, Bool, not, nat_lt, nat_le, List, filter, find, Option}
 use Rattle.policy_rules.specs.Leases.{same_kind}
 use Rattle.lease_table.specs.declared.values.Row.{Row}
 use Rattle.lease_table.specs.declared.values.ReleaseNote.{ReleaseNote}

@@ -2,7 +2,6 @@ use Rattle.std.proofs.Common.{◌≡◌, ◌∙◌, ap, filter, rules}
 use Rattle.std.specs.Prelude.{not}
 use Rattle.indexmap.proofs.CallerLemmas.{filter-RetainsPairs}
 use Rattle.lease_table.specs.Rows.{closes, left_open}
-use Rattle.lease_table.specs.Keyed.{IsKeyed}
 use Rattle.lease_table.proofs.RowLemmas.{keyed-filter, values-filter}
 use Rattle.lease_table.proofs.rows.Rows.keep_open.Goals as goal
 

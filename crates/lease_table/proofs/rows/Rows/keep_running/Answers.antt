@@ -1,7 +1,6 @@
 use Rattle.std.proofs.Common.{◌≡◌, ◌∙◌, ap, filter, rules}
 use Rattle.indexmap.proofs.CallerLemmas.{filter-RetainsPairs}
 use Rattle.lease_table.specs.Rows.{runs_at, running}
-use Rattle.lease_table.specs.Keyed.{IsKeyed}
 use Rattle.lease_table.proofs.RowLemmas.{keyed-filter, values-filter}
 use Rattle.lease_table.proofs.rows.Rows.keep_running.Goals as goal
 

@@ -1,7 +1,7 @@
-use Rattle.std.proofs.Common.{◌≡◌, ◌≤◌, ◌<◌, ◌+◌, ◌^◌, ◌∙◌, ℕ, List, true, arith, ap, sym}
+use Rattle.std.proofs.Common.{◌≡◌, ◌≤◌, ◌<◌, ◌+◌, ◌^◌, List, true, arith, ap}
 use Rattle.std.proofs.lemmas.Bool.Decides.{nat_tests}
 use Rattle.lease_table.specs.declared.values.Row.{Row}
-use Rattle.lease_table.specs.Rows.{runs_at, running}
+use Rattle.lease_table.specs.Rows.{runs_at}
 use Rattle.lease_table.specs.Tables.{Standing}
 use Rattle.lease_table.proofs.Running.{small_later, all_of_filter, running-added, numbered_push}
 use Rattle.lease_table.proofs.table.LeaseTable.add_row.Goals as goal

@@ -1,4 +1,4 @@
-use Rattle.std.proofs.Common.{◌≡◌, ◌≤◌, List, sym, ap}
+use Rattle.std.proofs.Common.{◌≤◌, List, sym, ap}
 use Rattle.lease_table.specs.declared.values.Row.{Row}
 use Rattle.lease_table.specs.Tables.{Standing}
 use Rattle.lease_table.proofs.Running.{running-running, small_later}

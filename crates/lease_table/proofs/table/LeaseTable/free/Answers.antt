@@ -1,9 +1,9 @@
-use Rattle.std.proofs.Common.{◌≡◌, ◌∙◌, ℕ, List, filter, length, sym, ap}
+use Rattle.std.proofs.Common.{◌≡◌, ◌∙◌, List, filter, length, sym, ap}
 use Rattle.std.specs.Prelude.{Ok, not}
 use Rattle.lease_table.specs.declared.values.Row.{Row}
 use Rattle.lease_table.specs.Rows.{closes, runs_at, running, left_open}
 use Rattle.lease_table.specs.Tables.{Standing}
-use Rattle.lease_table.specs.Steps.{advanced, free_checks, free_step}
+use Rattle.lease_table.specs.Steps.{advanced, free_checks}
 use Rattle.lease_table.proofs.Running.{filter-filter, all_of_filter, answered}
 use Rattle.lease_table.proofs.table.LeaseTable.free.Goals as goal
 
