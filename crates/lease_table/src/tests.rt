@@ -8,19 +8,26 @@ use std::test::Fail;
 // The half of the key space.
 const HALF: u64 = 1 << 62;
 
+// Built anew where one allocation is refused, and so none when asked again.
+fn built(alloc: Global, generation: u64, listed: &[(u64, &[u64])]) -> Option<Assignment> {
+    let mut slices = Vec::new(alloc);
+    for (start, owners) in listed {
+        slices
+            .push(Slice {
+                start: *start,
+                owners: Listed::from_vec(Vec::from_slice(alloc, owners).ok()?),
+            })
+            .ok()?;
+    }
+    Assignment::build(alloc, generation, &slices).ok()
+}
+
 fn assignment_of(
     alloc: Global,
     generation: u64,
     listed: &[(u64, &[u64])],
 ) -> Result<Assignment, Fail> {
-    let mut slices = Vec::new(alloc);
-    for (start, owners) in listed {
-        slices.push(Slice {
-            start: *start,
-            owners: Listed::from_vec(Vec::from_slice(alloc, owners)?),
-        })?;
-    }
-    Ok(Assignment::build(alloc, generation, &slices).map_err(|_| "slices make an assignment")?)
+    Ok(built(alloc, generation, listed).ok_or("slices make an assignment")?)
 }
 
 // A table with terms of 1000, 100 and 100 ticks, a skew of 10, and so many numbers of grants.
@@ -247,5 +254,45 @@ fn lists_rows_and_grants_bridges(rt: HostRuntime) -> Result<(), Fail> {
     assert_eq!(rt; grant.copy()?.lease.ranges.width(), 5);
     assert_eq!(rt; table.rows()?.as_slice(), [grant.row()].as_slice());
     assert_eq!(rt; table.commit(1, 107), Ok(2));
+    Ok(())
+}
+
+// Where one allocation is refused (`rt try --test --fail-alloc N`), the call that wanted it leaves
+// the table as it was, and answers the next time as with ample memory.
+#[test]
+fn stays_as_it_was_without_memory(rt: HostRuntime) -> Result<(), Fail> {
+    let alloc = rt.alloc();
+    let listed: &[(u64, &[u64])] = &[(0, &[1]), (HALF, &[2])];
+    let first = match built(alloc, 1, listed) {
+        Some(first) => first,
+        None => assignment_of(alloc, 1, listed)?,
+    };
+    let mut table = table_of(alloc, 1000)?;
+    table.job_take(1, 0).map_err(|_| "nobody holds the job")?;
+    if let Err(trouble) = table.propose(1, &first, 1) {
+        assert!(rt; matches!(trouble, Trouble::NoMemory));
+        assert_eq!(rt; table.phase(), Phase::Steady(0));
+        assert!(rt; table.propose(1, &first, 1).is_ok());
+    }
+    assert_eq!(rt; table.commit(1, 2), Ok(1));
+    let mut answer = table.grant(task_of(1)?, 1, 5);
+    if let Err(trouble) = answer {
+        assert!(rt; matches!(trouble, Trouble::NoMemory));
+        assert!(rt; table.rows()?.is_empty());
+        answer = table.grant(task_of(1)?, 1, 5);
+    }
+    let Ok(grant) = answer else {
+        return Err("numbers are left".into());
+    };
+    assert_eq!(rt;
+        (grant.number, grant.table_ends, grant.lease.ends),
+        (1, 105, 95)
+    );
+    let copied = grant.copy().or_else(|_| grant.copy())?;
+    assert_eq!(rt; copied.lease.ranges.width(), HALF);
+    let twin = table.copy().or_else(|_| table.copy())?;
+    let rows = twin.rows().or_else(|_| twin.rows())?;
+    assert_eq!(rt; rows.as_slice(), [grant.row()].as_slice());
+    assert_eq!(rt; twin.phase(), Phase::Steady(1));
     Ok(())
 }
