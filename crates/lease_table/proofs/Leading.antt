@@ -2,7 +2,7 @@
 use Rattle.std.proofs.Common.{◌≡◌, ◌∙◌, ℕ, ◌+◌, ◌<◌, ◌≤◌, ◌^◌, Bool, true, false, List, [], ◌∷◌, ◌++◌, length, refl, sym, ap, arith, length-append}
 use Rattle.std.specs.Prelude.{Option, Some, None, Ok, Err, nat_lt, nat_le, not}
 use Rattle.std.proofs.lemmas.Bool.Decides.{nat_tests}
-use Rattle.slice_ranges.specs.Refusals.{when, first_of}
+use Rattle.slice_ranges.specs.Refusals.{when, first_of, unless_refused}
 use Rattle.assignment.specs.Slices.{Slicing}
 use Rattle.lease_table.specs.declared.call.TableCall.{TableCall}
 use Rattle.lease_table.specs.declared.call.TableCall.TheVariants as call
@@ -17,8 +17,9 @@ use Rattle.lease_table.specs.Policies.{Terms, is_policy}
 use Rattle.lease_table.specs.Rows.{runs_at, running, closes, left_open}
 use Rattle.lease_table.specs.Tables.{Standing}
 use Rattle.lease_table.specs.Steps
-use Rattle.lease_table.specs.Steps.{unless_refused, answer, out_of_range, back}
-use Rattle.lease_table.specs.Calls.{TableEvent, event, last_reading, last_term, pending_in, grants_sent, unfreed_rows, described, replied, table_step, Leads}
+use Rattle.lease_table.specs.Steps.{out_of_range, back}
+use Rattle.history_lock.specs.Steps.{replied}
+use Rattle.lease_table.specs.Calls.{AnsweredCall, answered, last_reading, last_term, pending_in, grants_sent, unfreed_rows, described, table_step, Leads}
 use Rattle.lease_table.proofs.Running.{running-running, running-push, filter-filter}
 
 -- an accepted reading is not below the last one
@@ -34,14 +35,14 @@ not_back t at checks h = by_range (nat_le (2 ^ 62) at) h
     by_range false h = by_back (nat_lt at t.last) refl h
 
 -- a step is refused, or its checks find nothing
-by_checks : {R : Type 0} (reply : R → TableReply) (policy : Terms) (past : List TableEvent) (c : TableCall) (o : Option TableError) (new : Standing) (r : R)
-    → ((refusal : TableError) → described policy (event c (Err refusal) ∷ past) ≡ described policy past)
-    → (o ≡ None → described policy (event c (Ok (reply r)) ∷ past) ≡ new)
+by_checks : {R : Type 0} (reply : R → TableReply) (policy : Terms) (past : List AnsweredCall) (c : TableCall) (o : Option TableError) (new : Standing) (r : R)
+    → ((refusal : TableError) → described policy (answered c (Err refusal) ∷ past) ≡ described policy past)
+    → (o ≡ None → described policy (answered c (Ok (reply r)) ∷ past) ≡ new)
     → Leads policy past c (replied reply (unless_refused o (new, r)))
 by_checks reply policy past c None new r refused accepted = accepted refl
 by_checks reply policy past c (Some refusal) new r refused accepted = refused refusal
 
-module _ (policy : Terms) (past : List TableEvent) where
+module _ (policy : Terms) (past : List AnsweredCall) where
   now : Standing
   now = described policy past
 

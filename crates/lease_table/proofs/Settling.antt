@@ -3,7 +3,7 @@ use Rattle.std.proofs.Common.{◌≡◌, ◌∙◌, ℕ, ◌+◌, ◌<◌, ◌�
 use Rattle.std.specs.Prelude.{Option, Some, None, Result, Ok, Err, nat_lt, nat_le, is_none, is_some, ◌&&◌, not, ◌==◌, filter, option_map, if◌then◌else◌}
 use Rattle.std.specs.List.{AllByRecursion}
 use Rattle.std.proofs.lemmas.Bool.Decides.{nat_tests}
-use Rattle.slice_ranges.specs.Refusals.{when, first_of}
+use Rattle.slice_ranges.specs.Refusals.{first_of, unless_refused}
 use Rattle.assignment.specs.Slices.{Slicing}
 use Rattle.lease_table.specs.declared.call.TableCall.{TableCall}
 use Rattle.lease_table.specs.declared.call.TableCall.TheVariants as call
@@ -18,9 +18,10 @@ use Rattle.lease_table.specs.Policies.{Terms, is_policy}
 use Rattle.lease_table.specs.Rows.{runs_at, running, closes, first_up_to}
 use Rattle.lease_table.specs.Tables.{Standing, generation_of}
 use Rattle.lease_table.specs.Steps
-use Rattle.lease_table.specs.Steps.{unless_refused}
-use Rattle.lease_table.specs.Calls.{TableEvent, event, last_reading, last_term, committed_in, pending_in, grants_sent, unfreed_rows, described, replied, table_step}
+use Rattle.history_lock.specs.Steps.{replied}
+use Rattle.lease_table.specs.Calls.{AnsweredCall, answered, last_reading, last_term, committed_in, pending_in, grants_sent, unfreed_rows, described, table_step}
 use Rattle.lease_table.specs.Runs.{answer_of, IsRun, known, IsNext, IsWaiting, IsSettled, newest, longest, proposed_at, assignment_in, IsTied}
+use Rattle.slice_ranges.proofs.Refused.{all_none, not_when}
 use Rattle.lease_table.proofs.Running.{running-running, running-push, filter-filter, all_of_filter}
 use Rattle.lease_table.proofs.Leading.{not_back, row_runs}
 
@@ -29,16 +30,6 @@ accepted : {R : Type 0} (reply : R → TableReply) (o : Option TableError) (new 
     → Ok given ≡ answer_of (replied reply (unless_refused o (new, r))) → (o ≡ None) × (given ≡ reply r)
 accepted reply None new r given e = (refl, cc)
 accepted reply (Some refusal) new r given e = absurd (cc)
-
--- no check of an answered call holds
-all_none : {E : Type 0} (checks : List (Option E)) → first_of checks ≡ None → AllByRecursion (λ (c : Option E). c ≡ None) checks
-all_none [] h = tt
-all_none (None ∷ checks) h = (refl, all_none checks h)
-all_none (Some refusal ∷ checks) h = absurd (cc)
-
-not_when : {E : Type 0} (b : Bool) (e : E) → when b e ≡ None → b ≡ false
-not_when true e h = absurd (cc)
-not_when false e h = refl
 
 all_push : {X : Type 0} (P : X → Type 0) (xs : List X) (x : X) → AllByRecursion P xs → P x → AllByRecursion P (xs ++ x ∷ [])
 all_push P [] x h p = (p, tt)
@@ -92,7 +83,7 @@ waiting_filter : (c end : ℕ) (p : Option Slicing) (test : Row → Bool) (rows 
 waiting_filter c end None test rows h = tt
 waiting_filter c end (Some slicing) test rows h = all_of_filter (λ row. row.generation ≤ c → row.table_ends ≤ end) test rows h
 
-module _ (policy : Terms) (within : is_policy policy ≡ true) (past : List TableEvent) (s : IsSettled (known policy past)) where
+module _ (policy : Terms) (within : is_policy policy ≡ true) (past : List AnsweredCall) (s : IsSettled (known policy past)) where
   committed : ℕ
   committed = generation_of (committed_in past)
 
@@ -103,19 +94,19 @@ module _ (policy : Terms) (within : is_policy policy ≡ true) (past : List Tabl
   ends_later at l = all_weaker _ (λ row. row.table_ends ≤ at + longest policy) (unfreed_rows past) (λ row h. omega arith) s.ends
 
   settle_take : (assigner at : ℕ) → first_of (Steps.take_checks (described policy past) at) ≡ None
-      → IsSettled (known policy (event (call.JobTake assigner at) (Ok (Term (Steps.term_taken (described policy past) assigner at))) ∷ past))
+      → IsSettled (known policy (answered (call.JobTake assigner at) (Ok (Term (Steps.term_taken (described policy past) assigner at))) ∷ past))
   settle_take assigner at h =
       let l = not_back (described policy past) at _ h in
       record { counted = s.counted; few = s.few; next = s.next; young = later _ at l s.young; grants = s.grants; skewed = s.skewed; ends = ends_later at l; waiting = s.waiting }
 
   settle_renew : (number at : ℕ) → first_of (Steps.renew_checks (described policy past) number at) ≡ None
-      → IsSettled (known policy (event (call.JobRenew number at) (Ok (Term (Steps.renewed (at + policy.job) (last_term past)))) ∷ past))
+      → IsSettled (known policy (answered (call.JobRenew number at) (Ok (Term (Steps.renewed (at + policy.job) (last_term past)))) ∷ past))
   settle_renew number at h =
       let l = not_back (described policy past) at _ h in
       record { counted = s.counted; few = s.few; next = s.next; young = later _ at l s.young; grants = s.grants; skewed = s.skewed; ends = ends_later at l; waiting = s.waiting }
 
   settle_propose : (number : ℕ) (slicing : Slicing) (at : ℕ) → first_of (Steps.propose_checks (described policy past) number slicing at) ≡ None
-      → IsSettled (known policy (event (call.Propose number slicing at) (Ok Proposed) ∷ past))
+      → IsSettled (known policy (answered (call.Propose number slicing at) (Ok Proposed) ∷ past))
   settle_propose number slicing at h =
       let l = not_back (described policy past) at _ h in
       let none = all_none (Steps.propose_checks (described policy past) number slicing at) h in
@@ -134,7 +125,7 @@ module _ (policy : Terms) (within : is_policy policy ≡ true) (past : List Tabl
       }
 
   settle_commit : (number at : ℕ) → first_of (Steps.commit_checks (described policy past) number at) ≡ None
-      → IsSettled (known policy (event (call.Commit number at) (Ok (Committed (generation_of (pending_in past)))) ∷ past))
+      → IsSettled (known policy (answered (call.Commit number at) (Ok (Committed (generation_of (pending_in past)))) ∷ past))
   settle_commit number at h =
       let l = not_back (described policy past) at _ h in
       let none = all_none (Steps.commit_checks (described policy past) number at) h in
@@ -160,7 +151,7 @@ module _ (policy : Terms) (within : is_policy policy ≡ true) (past : List Tabl
       not_held (Some row) e = absurd (cc)
 
   settle_free : (note : ReleaseNote) (at : ℕ) (count : ℕ) → first_of (Steps.free_checks (described policy past) note at) ≡ None
-      → IsSettled (known policy (event (call.Free note at) (Ok (Freed count)) ∷ past))
+      → IsSettled (known policy (answered (call.Free note at) (Ok (Freed count)) ∷ past))
   settle_free note at count h =
       let l = not_back (described policy past) at _ h in
       let left : Row → Bool = λ row. not (closes note row) in
@@ -203,7 +194,7 @@ module _ (policy : Terms) (within : is_policy policy ≡ true) (past : List Tabl
   granted_waiting task life at end (Some other) next slicing e old = absurd (let n : other.generation ≡ generation_of (committed_in past) + 1 = next in omega (arith, n, old))
 
   settle_grant : (task life at : ℕ) → first_of (Steps.grant_checks (described policy past) at) ≡ None
-      → IsSettled (known policy (event (call.Grant task life at) (Ok (Granted (Steps.grant_with (described policy past) (pending_in past) task life at))) ∷ past))
+      → IsSettled (known policy (answered (call.Grant task life at) (Ok (Granted (Steps.grant_with (described policy past) (pending_in past) task life at))) ∷ past))
   settle_grant task life at h =
       let l = not_back (described policy past) at _ h in
       let grant : Grant = Steps.grant_with (described policy past) (pending_in past) task life at in
@@ -222,7 +213,7 @@ module _ (policy : Terms) (within : is_policy policy ≡ true) (past : List Tabl
       }
 
   -- a refused call changes nothing that is known
-  refused_same : (c : TableCall) (refusal : TableError) → known policy (event c (Err refusal) ∷ past) ≡ known policy past
+  refused_same : (c : TableCall) (refusal : TableError) → known policy (answered c (Err refusal) ∷ past) ≡ known policy past
   refused_same (call.JobTake assigner at) refusal = refl
   refused_same (call.JobRenew number at) refusal = refl
   refused_same (call.Propose number slicing at) refusal = refl
@@ -230,10 +221,10 @@ module _ (policy : Terms) (within : is_policy policy ≡ true) (past : List Tabl
   refused_same (call.Grant task life at) refusal = refl
   refused_same (call.Free note at) refusal = refl
 
-  given : (c : TableCall) {r : TableReply} (reply : TableReply) → reply ≡ r → IsSettled (known policy (event c (Ok r) ∷ past)) → IsSettled (known policy (event c (Ok reply) ∷ past))
-  given c reply e h = let P : TableReply → Type 0 = λ x. IsSettled (known policy (event c (Ok x) ∷ past)) in subst P (sym e) h
+  given : (c : TableCall) {r : TableReply} (reply : TableReply) → reply ≡ r → IsSettled (known policy (answered c (Ok r) ∷ past)) → IsSettled (known policy (answered c (Ok reply) ∷ past))
+  given c reply e h = let P : TableReply → Type 0 = λ x. IsSettled (known policy (answered c (Ok x) ∷ past)) in subst P (sym e) h
 
-  settle_call : (c : TableCall) (reply : TableReply) → Ok reply ≡ answer_of (table_step (described policy past) c) → IsSettled (known policy (event c (Ok reply) ∷ past))
+  settle_call : (c : TableCall) (reply : TableReply) → Ok reply ≡ answer_of (table_step (described policy past) c) → IsSettled (known policy (answered c (Ok reply) ∷ past))
   settle_call (call.JobTake assigner at) reply e = let a = accepted Term (first_of (Steps.take_checks (described policy past) at)) _ _ reply e in given (call.JobTake assigner at) reply a.1 (settle_take assigner at a.0)
   settle_call (call.JobRenew number at) reply e = let a = accepted Term (first_of (Steps.renew_checks (described policy past) number at)) _ _ reply e in given (call.JobRenew number at) reply a.1 (settle_renew number at a.0)
   settle_call (call.Propose number slicing at) reply e = let a = accepted (λ _. Proposed) (first_of (Steps.propose_checks (described policy past) number slicing at)) _ _ reply e in given (call.Propose number slicing at) reply a.1 (settle_propose number slicing at a.0)
@@ -241,16 +232,16 @@ module _ (policy : Terms) (within : is_policy policy ≡ true) (past : List Tabl
   settle_call (call.Grant task life at) reply e = let a = accepted Granted (first_of (Steps.grant_checks (described policy past) at)) _ _ reply e in given (call.Grant task life at) reply a.1 (settle_grant task life at a.0)
   settle_call (call.Free note at) reply e = let a = accepted Freed (first_of (Steps.free_checks (described policy past) note at)) _ _ reply e in given (call.Free note at) reply a.1 (settle_free note at (length (filter (closes note) (running at (running (last_reading past) (unfreed_rows past))))) a.0)
 
-  settle_event : (c : TableCall) (given : Result TableReply TableError) → given ≡ answer_of (table_step (described policy past) c) → IsSettled (known policy (event c given ∷ past))
+  settle_event : (c : TableCall) (given : Result TableReply TableError) → given ≡ answer_of (table_step (described policy past) c) → IsSettled (known policy (answered c given ∷ past))
   settle_event c (Ok reply) e = settle_call c reply e
   settle_event c (Err refusal) e = subst IsSettled (sym (refused_same c refusal)) s
 
-pub settled : (policy : Terms) → is_policy policy ≡ true → (past : List TableEvent) → IsRun policy past → IsSettled (known policy past)
+pub settled : (policy : Terms) → is_policy policy ≡ true → (past : List AnsweredCall) → IsRun policy past → IsSettled (known policy past)
 settled policy within [] run = record { counted = refl; few = (refl, refl); next = tt; young = tt; grants = tt; skewed = tt; ends = tt; waiting = tt }
 settled policy within (e ∷ past) run = settle_event policy within past (settled policy within past run.1) e.call e.answer run.0
 
 -- a commit is held up no longer than the longest lease lasts
-pub never_held : (policy : Terms) (past : List TableEvent) (slicing : Slicing) (at : ℕ) → IsSettled (known policy past) → pending_in past ≡ Some slicing → proposed_at past + longest policy ≤ at → Steps.held_up (described policy past) at ≡ None
+pub never_held : (policy : Terms) (past : List AnsweredCall) (slicing : Slicing) (at : ℕ) → IsSettled (known policy past) → pending_in past ≡ Some slicing → proposed_at past + longest policy ≤ at → Steps.held_up (described policy past) at ≡ None
 never_held policy past slicing at s e l =
     let waiting : IsWaiting (generation_of (committed_in past)) (proposed_at past + longest policy) (Some slicing) (unfreed_rows past) =
     let P : Option Slicing → Type 0 = λ p. IsWaiting (generation_of (committed_in past)) (proposed_at past + longest policy) p (unfreed_rows past) in subst P e s.waiting in
@@ -258,7 +249,7 @@ never_held policy past slicing at s e l =
     ap (λ (o : Option Row). option_map (λ row. Held row.task row.kind row.number) o) (none_waits (generation_of (committed_in past)) at (proposed_at past + longest policy) (running (last_reading past) (unfreed_rows past)) old l)
 
 -- an accepted proposal is of a generation that was not known
-fresh : (policy : Terms) (past : List TableEvent) (number : ℕ) (slicing : Slicing) (at g : ℕ) → first_of (Steps.propose_checks (described policy past) number slicing at) ≡ None
+fresh : (policy : Terms) (past : List AnsweredCall) (number : ℕ) (slicing : Slicing) (at g : ℕ) → first_of (Steps.propose_checks (described policy past) number slicing at) ≡ None
     → g ≤ newest (generation_of (committed_in past)) (pending_in past) → (slicing.generation == g) ≡ false
 fresh policy past number slicing at g h l =
     let none = all_none (Steps.propose_checks (described policy past) number slicing at) h in
@@ -271,8 +262,8 @@ fresh policy past number slicing at g h l =
     below None e l = l
     below (Some slicing) e l = absurd (cc)
 
-keeps_call : (policy : Terms) (past : List TableEvent) (c : TableCall) (reply : TableReply) (g : ℕ) → Ok reply ≡ answer_of (table_step (described policy past) c)
-    → g ≤ newest (generation_of (committed_in past)) (pending_in past) → assignment_in g (event c (Ok reply) ∷ past) ≡ assignment_in g past
+keeps_call : (policy : Terms) (past : List AnsweredCall) (c : TableCall) (reply : TableReply) (g : ℕ) → Ok reply ≡ answer_of (table_step (described policy past) c)
+    → g ≤ newest (generation_of (committed_in past)) (pending_in past) → assignment_in g (answered c (Ok reply) ∷ past) ≡ assignment_in g past
 keeps_call policy past (call.JobTake assigner at) reply g e l = refl
 keeps_call policy past (call.JobRenew number at) reply g e l = refl
 keeps_call policy past (call.Propose number slicing at) reply g e l =
@@ -282,7 +273,7 @@ keeps_call policy past (call.Commit number at) reply g e l = refl
 keeps_call policy past (call.Grant task life at) reply g e l = refl
 keeps_call policy past (call.Free note at) reply g e l = refl
 
-keeps_refused : (past : List TableEvent) (c : TableCall) (refusal : TableError) (g : ℕ) → assignment_in g (event c (Err refusal) ∷ past) ≡ assignment_in g past
+keeps_refused : (past : List AnsweredCall) (c : TableCall) (refusal : TableError) (g : ℕ) → assignment_in g (answered c (Err refusal) ∷ past) ≡ assignment_in g past
 keeps_refused past (call.JobTake assigner at) refusal g = refl
 keeps_refused past (call.JobRenew number at) refusal g = refl
 keeps_refused past (call.Propose number slicing at) refusal g = refl
@@ -290,17 +281,17 @@ keeps_refused past (call.Commit number at) refusal g = refl
 keeps_refused past (call.Grant task life at) refusal g = refl
 keeps_refused past (call.Free note at) refusal g = refl
 
-keeps_event : (policy : Terms) (past : List TableEvent) (c : TableCall) (given : Result TableReply TableError) (g : ℕ) → given ≡ answer_of (table_step (described policy past) c)
-    → g ≤ newest (generation_of (committed_in past)) (pending_in past) → assignment_in g (event c given ∷ past) ≡ assignment_in g past
+keeps_event : (policy : Terms) (past : List AnsweredCall) (c : TableCall) (given : Result TableReply TableError) (g : ℕ) → given ≡ answer_of (table_step (described policy past) c)
+    → g ≤ newest (generation_of (committed_in past)) (pending_in past) → assignment_in g (answered c given ∷ past) ≡ assignment_in g past
 keeps_event policy past c (Ok reply) g e l = keeps_call policy past c reply g e l
 keeps_event policy past c (Err refusal) g e l = keeps_refused past c refusal g
 
 -- the assignment of a known generation stays
-pub keeps : (policy : Terms) (past : List TableEvent) (e : TableEvent) (g : ℕ) → IsRun policy (e ∷ past) → g ≤ newest (generation_of (committed_in past)) (pending_in past) → assignment_in g (e ∷ past) ≡ assignment_in g past
+pub keeps : (policy : Terms) (past : List AnsweredCall) (e : AnsweredCall) (g : ℕ) → IsRun policy (e ∷ past) → g ≤ newest (generation_of (committed_in past)) (pending_in past) → assignment_in g (e ∷ past) ≡ assignment_in g past
 keeps policy past e g run l = keeps_event policy past e.call e.answer g run.0 l
 
 -- the committed generation is known
-known_generation : (policy : Terms) (past : List TableEvent) (slicing : Slicing) → IsSettled (known policy past) → committed_in past ≡ Some slicing → slicing.generation ≤ newest (generation_of (committed_in past)) (pending_in past)
+known_generation : (policy : Terms) (past : List AnsweredCall) (slicing : Slicing) → IsSettled (known policy past) → committed_in past ≡ Some slicing → slicing.generation ≤ newest (generation_of (committed_in past)) (pending_in past)
 known_generation policy past slicing s e = by_pending (pending_in past) s.next
   where
     generation : generation_of (committed_in past) ≡ slicing.generation
@@ -310,8 +301,8 @@ known_generation policy past slicing s e = by_pending (pending_in past) s.next
     by_pending None next = omega (arith, generation)
     by_pending (Some other) next = let n : other.generation ≡ generation_of (committed_in past) + 1 = next in omega (arith, generation, n)
 
-module _ (policy : Terms) (past : List TableEvent) (s : IsSettled (known policy past)) (t : IsTied past) where
-  tied_propose : (number : ℕ) (slicing : Slicing) (at : ℕ) → first_of (Steps.propose_checks (described policy past) number slicing at) ≡ None → IsTied (event (call.Propose number slicing at) (Ok Proposed) ∷ past)
+module _ (policy : Terms) (past : List AnsweredCall) (s : IsSettled (known policy past)) (t : IsTied past) where
+  tied_propose : (number : ℕ) (slicing : Slicing) (at : ℕ) → first_of (Steps.propose_checks (described policy past) number slicing at) ≡ None → IsTied (answered (call.Propose number slicing at) (Ok Proposed) ∷ past)
   tied_propose number slicing at h = record {
     committed = λ other e. rw (fresh policy past number slicing at other.generation h (known_generation policy past other s e)) (t.committed other e);
     pending = λ other e.
@@ -320,17 +311,17 @@ module _ (policy : Terms) (past : List TableEvent) (s : IsSettled (known policy 
         rw same e;
   }
 
-  tied_call : (c : TableCall) (reply : TableReply) → Ok reply ≡ answer_of (table_step (described policy past) c) → IsTied (event c (Ok reply) ∷ past)
+  tied_call : (c : TableCall) (reply : TableReply) → Ok reply ≡ answer_of (table_step (described policy past) c) → IsTied (answered c (Ok reply) ∷ past)
   tied_call (call.JobTake assigner at) reply e = record { committed = t.committed; pending = t.pending }
   tied_call (call.JobRenew number at) reply e = record { committed = t.committed; pending = t.pending }
   tied_call (call.Propose number slicing at) reply e =
       let a = accepted (λ _. Proposed) (first_of (Steps.propose_checks (described policy past) number slicing at)) _ _ reply e in
-      let P : TableReply → Type 0 = λ x. IsTied (event (call.Propose number slicing at) (Ok x) ∷ past) in subst P (sym a.1) (tied_propose number slicing at a.0)
+      let P : TableReply → Type 0 = λ x. IsTied (answered (call.Propose number slicing at) (Ok x) ∷ past) in subst P (sym a.1) (tied_propose number slicing at a.0)
   tied_call (call.Commit number at) reply e = record { committed = t.pending; pending = λ slicing q. absurd (let none : None ≡ Some slicing = q in cc) }
   tied_call (call.Grant task life at) reply e = record { committed = t.committed; pending = t.pending }
   tied_call (call.Free note at) reply e = record { committed = t.committed; pending = t.pending }
 
-  tied_refused : (c : TableCall) (refusal : TableError) → IsTied (event c (Err refusal) ∷ past)
+  tied_refused : (c : TableCall) (refusal : TableError) → IsTied (answered c (Err refusal) ∷ past)
   tied_refused (call.JobTake assigner at) refusal = record { committed = t.committed; pending = t.pending }
   tied_refused (call.JobRenew number at) refusal = record { committed = t.committed; pending = t.pending }
   tied_refused (call.Propose number slicing at) refusal = record { committed = t.committed; pending = t.pending }
@@ -338,10 +329,10 @@ module _ (policy : Terms) (past : List TableEvent) (s : IsSettled (known policy 
   tied_refused (call.Grant task life at) refusal = record { committed = t.committed; pending = t.pending }
   tied_refused (call.Free note at) refusal = record { committed = t.committed; pending = t.pending }
 
-  tied_event : (c : TableCall) (given : Result TableReply TableError) → given ≡ answer_of (table_step (described policy past) c) → IsTied (event c given ∷ past)
+  tied_event : (c : TableCall) (given : Result TableReply TableError) → given ≡ answer_of (table_step (described policy past) c) → IsTied (answered c given ∷ past)
   tied_event c (Ok reply) e = tied_call c reply e
   tied_event c (Err refusal) e = tied_refused c refusal
 
-pub tied : (policy : Terms) → is_policy policy ≡ true → (past : List TableEvent) → IsRun policy past → IsTied past
+pub tied : (policy : Terms) → is_policy policy ≡ true → (past : List AnsweredCall) → IsRun policy past → IsTied past
 tied policy within [] run = record { committed = λ slicing e. absurd (cc); pending = λ slicing e. absurd (cc) }
 tied policy within (e ∷ past) run = tied_event policy past (settled policy within past run.1) (tied policy within past run.1) e.call e.answer run.0

@@ -6,21 +6,23 @@ use Rattle.lease_table.specs.declared.call.TableCall.TheVariants as call
 use Rattle.lease_table.specs.declared.call.TableReply.{TableReply}
 use Rattle.lease_table.specs.declared.call.TableReply.TheVariants.{Term, Proposed, Committed, Granted, Freed}
 use Rattle.lease_table.specs.declared.error.TableError.{TableError}
+use Rattle.lease_table.specs.declared.machine.TableEvent.{TableEvent}
 use Rattle.lease_table.specs.declared.values.JobTerm.{JobTerm}
 use Rattle.lease_table.specs.declared.values.Grant.{Grant}
 use Rattle.lease_table.specs.declared.values.Row.{Row}
 use Rattle.lease_table.specs.Policies.{Terms}
 use Rattle.lease_table.specs.Rows.{running, left_open}
 use Rattle.lease_table.specs.Tables.{Standing}
+use Rattle.history_lock.specs.Steps.{replied}
 use Rattle.lease_table.specs.Steps.{row_of, take_step, renew_step, propose_step, commit_step, grant_step, free_step}
 
 -- a call with its answer; want of memory is no answer, and changes nothing
-pub record TableEvent : Type 0 where
+pub record AnsweredCall : Type 0 where
   pub call : TableCall
   pub answer : Result TableReply TableError
 
-abbrev pub event : TableCall → Result TableReply TableError → TableEvent
-event c answer = record { call = c; answer = answer }
+abbrev pub answered : TableCall → Result TableReply TableError → AnsweredCall
+answered c answer = record { call = c; answer = answer }
 
 -- the reading of a call
 abbrev pub reading_of : TableCall → ℕ
@@ -32,7 +34,7 @@ reading_of (call.Grant task life at) = at
 reading_of (call.Free note at) = at
 
 -- the last accepted reading
-abbrev pub last_reading : List TableEvent → ℕ
+abbrev pub last_reading : List AnsweredCall → ℕ
 last_reading [] = 0
 last_reading (e ∷ past) = if is_ok e.answer then reading_of e.call else last_reading past
 
@@ -41,7 +43,7 @@ abbrev pub term_after : Result TableReply TableError → Option JobTerm → Opti
 term_after (Ok (Term term)) before = Some term
 term_after _ before = before
 
-abbrev pub last_term : List TableEvent → Option JobTerm
+abbrev pub last_term : List AnsweredCall → Option JobTerm
 last_term [] = None
 last_term (e ∷ past) = term_after e.answer (last_term past)
 
@@ -51,7 +53,7 @@ pending_after (call.Propose number slicing at) accepted before = if accepted the
 pending_after (call.Commit number at) accepted before = if accepted then None else before
 pending_after _ accepted before = before
 
-abbrev pub pending_in : List TableEvent → Option Slicing
+abbrev pub pending_in : List AnsweredCall → Option Slicing
 pending_in [] = None
 pending_in (e ∷ past) = pending_after e.call (is_ok e.answer) (pending_in past)
 
@@ -60,7 +62,7 @@ abbrev pub committed_after : TableCall → Bool → Option Slicing → Option Sl
 committed_after (call.Commit number at) accepted pending before = if accepted then pending else before
 committed_after _ accepted pending before = before
 
-abbrev pub committed_in : List TableEvent → Option Slicing
+abbrev pub committed_in : List AnsweredCall → Option Slicing
 committed_in [] = None
 committed_in (e ∷ past) = committed_after e.call (is_ok e.answer) (pending_in past) (committed_in past)
 
@@ -69,7 +71,7 @@ abbrev pub grants_after : Result TableReply TableError → List Grant → List G
 grants_after (Ok (Granted grant)) before = before ++ grant ∷ []
 grants_after _ before = before
 
-abbrev pub grants_sent : List TableEvent → List Grant
+abbrev pub grants_sent : List AnsweredCall → List Grant
 grants_sent [] = []
 grants_sent (e ∷ past) = grants_after e.answer (grants_sent past)
 
@@ -82,12 +84,12 @@ abbrev pub rows_freed : TableCall → Bool → List Row → List Row
 rows_freed (call.Free note at) accepted before = if accepted then left_open note before else before
 rows_freed _ accepted before = before
 
-abbrev pub unfreed_rows : List TableEvent → List Row
+abbrev pub unfreed_rows : List AnsweredCall → List Row
 unfreed_rows [] = []
 unfreed_rows (e ∷ past) = rows_granted e.answer (rows_freed e.call (is_ok e.answer) (unfreed_rows past))
 
 -- where a table stands after these calls
-abbrev pub described : Terms → List TableEvent → Standing
+abbrev pub described : Terms → List AnsweredCall → Standing
 described policy past = record {
   policy = policy;
   last = last_reading past;
@@ -99,10 +101,6 @@ described policy past = record {
 }
 
 -- what a call answers and leaves, by its step
-abbrev pub replied : {R : Type 0} → (R → TableReply) → Result (Standing × R) TableError → Result (Standing × TableReply) TableError
-replied reply (Ok p) = Ok (p.0, reply p.1)
-replied reply (Err refusal) = Err refusal
-
 abbrev pub table_step : Standing → TableCall → Result (Standing × TableReply) TableError
 table_step t (call.JobTake assigner at) = replied Term (take_step t assigner at)
 table_step t (call.JobRenew number at) = replied Term (renew_step t number at)
@@ -111,7 +109,11 @@ table_step t (call.Commit number at) = replied Committed (commit_step t number a
 table_step t (call.Grant task life at) = replied Granted (grant_step t task life at)
 table_step t (call.Free note at) = replied Freed (free_step t note at)
 
+-- an event is its call, whatever its ticket
+abbrev pub event_step : Standing → TableEvent → Result (Standing × TableReply) TableError
+event_step t event = table_step t event.call
+
 -- a step from where these calls lead leads where the calls with this one lead, and a refused one nowhere else
-abbrev pub Leads : Terms → List TableEvent → TableCall → Result (Standing × TableReply) TableError → Type 0
-Leads policy past c (Ok p) = described policy (event c (Ok p.1) ∷ past) ≡ p.0
-Leads policy past c (Err refusal) = described policy (event c (Err refusal) ∷ past) ≡ described policy past
+abbrev pub Leads : Terms → List AnsweredCall → TableCall → Result (Standing × TableReply) TableError → Type 0
+Leads policy past c (Ok p) = described policy (answered c (Ok p.1) ∷ past) ≡ p.0
+Leads policy past c (Err refusal) = described policy (answered c (Err refusal) ∷ past) ≡ described policy past

@@ -1,13 +1,11 @@
 -- What each call answers and leaves, from what the table stands at.
-use Rattle.std.specs.Prelude.{◌≡◌, ℕ, ◌==◌, ◌+◌, ◌-◌, ◌^◌, Bool, false, not, ◌&&◌, nat_lt, nat_le, List, [], ◌∷◌, ◌++◌, length, filter, Option, Some, None, is_some, is_none, is_ok, true, option_map, Result, Ok, Err}
+use Rattle.std.specs.Prelude.{ℕ, ◌==◌, ◌+◌, ◌-◌, ◌^◌, Bool, false, not, ◌&&◌, nat_lt, nat_le, List, [], ◌∷◌, ◌++◌, length, filter, Option, Some, None, is_some, is_none, option_map, Result}
 use Rattle.std.specs.List.{list_any}
-use Rattle.slice_ranges.specs.Refusals.{when, first_of}
+use Rattle.slice_ranges.specs.Refusals.{when, answer}
 use Rattle.slice_ranges.specs.Sets.{keys_where}
 use Rattle.policy_rules.specs.declared.lease.Kind.TheVariants.{Guard, Bridge}
 use Rattle.assignment.specs.Slices.{Slicing}
 use Rattle.assignment.specs.Owners.{owns}
-use Rattle.history_lock.specs.declared.machine.Trouble.{Trouble}
-use Rattle.history_lock.specs.declared.machine.Trouble.TheVariants as trouble
 use Rattle.lease_table.specs.declared.error.TableError.{TableError}
 use Rattle.lease_table.specs.declared.error.TableError.TheVariants.{ReadingRange, ClockBack, JobHeld, NotHolder, StaleBase, Pending, NothingPending, TooManyOwnersForJob, Held, NoRow, NoAssignment, NumbersSpent}
 use Rattle.lease_table.specs.declared.values.JobTerm.{JobTerm}
@@ -16,14 +14,6 @@ use Rattle.lease_table.specs.declared.values.ReleaseNote.{ReleaseNote}
 use Rattle.lease_table.specs.declared.values.Row.{Row}
 use Rattle.lease_table.specs.Rows.{running, closes, left_open, first_up_to}
 use Rattle.lease_table.specs.Tables.{Standing, generation_of, slices_of, last_number}
-
--- the first refusal of a list, or else the value
-abbrev pub unless_refused : {A : Type 0} → Option TableError → A → Result A TableError
-unless_refused None value = Ok value
-unless_refused (Some refusal) value = Err refusal
-
-abbrev pub answer : {A : Type 0} → List (Option TableError) → A → Result A TableError
-answer checks value = unless_refused (first_of checks) value
 
 -- the refusals of a reading
 abbrev pub out_of_range : ℕ → Option TableError
@@ -165,14 +155,3 @@ free_checks t note at = out_of_range at ∷ back t at ∷ when (length (filter (
 abbrev pub free_step : Standing → ReleaseNote → ℕ → Result (Standing × ℕ) TableError
 free_step t note at =
     answer (free_checks t note at) (record (advanced t at) { rows = left_open note (running at t.rows) }, length (filter (closes note) (running at t.rows)))
-
--- a call that takes no memory answers its step, and changes nothing where it is refused
-abbrev pub Answers : {R : Type 0} → Result (Standing × R) TableError → Standing → Result R TableError → Standing → Type 0
-Answers step old (Ok reply) new = step ≡ Ok (new, reply)
-Answers step old (Err refusal) new = (step ≡ Err refusal) × (new ≡ old)
-
--- a call that takes memory does the same, unless there is none where it would not be refused: then it changes nothing
-abbrev pub Takes : {R : Type 0} → Result (Standing × R) TableError → Standing → Result R (Trouble TableError) → Standing → Type 0
-Takes step old (Ok reply) new = step ≡ Ok (new, reply)
-Takes step old (Err (trouble.Refused refusal)) new = (step ≡ Err refusal) × (new ≡ old)
-Takes step old (Err trouble.NoMemory) new = (is_ok step ≡ true) × (new ≡ old)

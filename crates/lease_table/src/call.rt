@@ -1,10 +1,10 @@
 //! Calls of the table, and what they answer.
 
-ghost use Rattle.std.specs.Prelude.{◌≡◌, ℕ, ◌+◌, ◌≤◌, ◌<◌, ◌^◌, ◌&&◌, List, [], ◌∷◌, None, true};
+ghost use Rattle.std.specs.Prelude.{◌≡◌, ℕ, ◌+◌, ◌≤◌, ◌<◌, ◌^◌, ◌&&◌, List, [], ◌∷◌, None, true, IfOk};
 ghost use Rattle.lease_table.specs.declared.call.TableCall.{TableCall};
 ghost use Rattle.lease_table.specs.Policies.{Terms, is_policy};
 ghost use Rattle.lease_table.specs.Tables.{Standing, opening, generation_of, slices_of};
-ghost use Rattle.lease_table.specs.Calls.{TableEvent, table_step, described, Leads, committed_in, pending_in};
+ghost use Rattle.lease_table.specs.Calls.{AnsweredCall, table_step, described, Leads, committed_in, pending_in};
 ghost use Rattle.lease_table.specs.Runs.{IsRun, IsSettled, known, longest, newest, proposed_at, assignment_in, IsTied};
 ghost use Rattle.lease_table.specs.Steps.{held_up, guard_of, bridge_of};
 ghost use Rattle.slice_ranges.specs.Sets.{has};
@@ -14,6 +14,7 @@ ghost use Rattle.assignment.specs.Slices.{Slicing};
 use crate::values::{Grant, JobTerm, ReleaseNote};
 use assignment::{Assignment, TaskId};
 use slice_ranges::Ranges;
+use std::alloc::AllocError;
 
 /// A call that may change the table.
 #[derive(Debug, Drop)]
@@ -52,6 +53,46 @@ pub enum TableCall {
     },
 }
 
+impl TableCall {
+    /// A call that equals this one.
+    pub fn copy(&self) -> Result<Self, AllocError>
+        ensures { IfOk result (λ call. call ≡ self.now) }
+    {
+        Ok(match self {
+            TableCall::JobTake { assigner, at } => TableCall::JobTake {
+                assigner: *assigner,
+                at: *at,
+            },
+            TableCall::JobRenew { number, at } => TableCall::JobRenew {
+                number: *number,
+                at: *at,
+            },
+            TableCall::Propose {
+                number,
+                assignment,
+                at,
+            } => TableCall::Propose {
+                number: *number,
+                assignment: assignment.copy()?,
+                at: *at,
+            },
+            TableCall::Commit { number, at } => TableCall::Commit {
+                number: *number,
+                at: *at,
+            },
+            TableCall::Grant { task, life, at } => TableCall::Grant {
+                task: *task,
+                life: *life,
+                at: *at,
+            },
+            TableCall::Free { note, at } => TableCall::Free {
+                note: *note,
+                at: *at,
+            },
+        })
+    }
+}
+
 /// What an accepted call answers.
 #[derive(Debug, Drop)]
 pub enum TableReply {
@@ -71,20 +112,20 @@ pub enum TableReply {
 /// answers are those of its steps from there.
 pub fn every_list_law()
     ensures start { (policy : Terms) → described policy [] ≡ opening policy }
-    ensures next { (policy : Terms) (past : List TableEvent) (call : TableCall) → is_policy policy ≡ true
+    ensures next { (policy : Terms) (past : List AnsweredCall) (call : TableCall) → is_policy policy ≡ true
         → Leads policy past call (table_step (described policy past) call) }
 {}
 
 /// What holds after every list of calls that a table answered.
 pub fn settled_law()
-    ensures { (policy : Terms) (past : List TableEvent) → is_policy policy ≡ true → IsRun policy past
+    ensures { (policy : Terms) (past : List AnsweredCall) → is_policy policy ≡ true → IsRun policy past
         → IsSettled (known policy past) }
 {}
 
 /// A commit at a reading that is by the longest term of a task lease above that of the proposal is
 /// not held up.
 pub fn bound_law()
-    ensures { (policy : Terms) (past : List TableEvent) (next : Slicing) (at : ℕ)
+    ensures { (policy : Terms) (past : List AnsweredCall) (next : Slicing) (at : ℕ)
         → is_policy policy ≡ true → IsRun policy past → pending_in past ≡ Some next
         → proposed_at past + longest policy ≤ at → held_up (described policy past) at ≡ None }
 {}
@@ -92,9 +133,9 @@ pub fn bound_law()
 /// The assignment of a generation that is known, committed or proposed, never changes; the committed
 /// assignment and the proposed one are those of their generations.
 pub fn assignments_law()
-    ensures tied { (policy : Terms) (past : List TableEvent) → is_policy policy ≡ true → IsRun policy past
+    ensures tied { (policy : Terms) (past : List AnsweredCall) → is_policy policy ≡ true → IsRun policy past
         → IsTied past }
-    ensures stays { (policy : Terms) (past : List TableEvent) (e : TableEvent) (generation : ℕ)
+    ensures stays { (policy : Terms) (past : List AnsweredCall) (e : AnsweredCall) (generation : ℕ)
         → IsRun policy (e ∷ past) → generation ≤ newest (generation_of (committed_in past)) (pending_in past)
         → assignment_in generation (e ∷ past) ≡ assignment_in generation past }
 {}

@@ -3,6 +3,7 @@
 
 mod call;
 mod error;
+mod machine;
 mod policy;
 mod rows;
 mod table;
@@ -12,6 +13,7 @@ pub use call::{
     TableCall, TableReply, assignments_law, bound_law, covers_law, every_list_law, settled_law,
 };
 pub use error::TableError;
+pub use machine::TableEvent;
 pub use policy::Policy;
 pub use table::LeaseTable;
 pub use values::{Grant, JobTerm, Phase, ReleaseNote, Row};

@@ -8,7 +8,8 @@ ghost use Rattle.slice_ranges.specs.Sets.{keys_where};
 ghost use Rattle.assignment.specs.Owners.{owns};
 ghost use Rattle.lease_table.specs.Rows.{first_up_to, running, closes};
 ghost use Rattle.lease_table.specs.Tables.{opening, phase_of, generation_of, slices_of, last_number};
-ghost use Rattle.lease_table.specs.Steps.{Answers, Takes, out_of_range, back, advanced, take_checks, renew_checks, propose_checks, commit_checks, grant_checks, free_checks, grant_with, with_row, take_step, renew_step, propose_step, commit_step, grant_step, free_step};
+ghost use Rattle.history_lock.specs.Steps.{Answers, Takes};
+ghost use Rattle.lease_table.specs.Steps.{out_of_range, back, advanced, take_checks, renew_checks, propose_checks, commit_checks, grant_checks, free_checks, grant_with, with_row, take_step, renew_step, propose_step, commit_step, grant_step, free_step};
 
 use crate::error::TableError;
 use crate::policy::Policy;

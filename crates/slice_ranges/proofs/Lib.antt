@@ -6,3 +6,4 @@ pub mod Where
 pub mod Swept
 pub mod Told
 pub mod Widths
+pub mod Refused
