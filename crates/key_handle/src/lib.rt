@@ -1,0 +1,9 @@
+//! Handles on keys that tasks hold.
+#![tactic(auto)]
+
+mod handle;
+
+pub use handle::KeyHandle;
+
+#[cfg(test)]
+mod tests;
