@@ -1,0 +1,5 @@
+pub mod Settling
+pub mod Keeping
+pub mod Seeing
+pub mod Walking
+pub mod Between

@@ -1,0 +1,11 @@
+pub mod Histories
+pub mod Rules
+pub mod Steps
+pub mod Accepted
+pub mod Continuity
+pub mod Kept
+pub mod Sights
+pub use Rattle.slice_ranges.specs.Refusals
+pub use Rattle.slice_ranges.specs.Sets
+pub use Rattle.policy_rules.specs.Leases
+pub use Rattle.policy_rules.specs.Rule

@@ -1,0 +1,53 @@
+//! The calls that change a slicelet.
+
+ghost use Rattle.std.specs.Prelude.{◌≡◌, IfOk};
+
+use lease_table::Grant;
+use policy_rules::Kind;
+use std::alloc::AllocError;
+
+/// A call that may change a slicelet, with its reading in ticks.
+#[derive(Debug, Drop)]
+pub enum SliceletCall {
+    /// The task starts a life.
+    Start { life: u32, at: u64 },
+    /// The task hears a grant.
+    Hear { grant: Grant, at: u64 },
+    /// The task gives up its lease of a kind.
+    Release { kind: Kind, at: u64 },
+}
+
+impl SliceletCall {
+    ghost use Rattle.slicelet.specs.Histories.{reading_of};
+
+    /// The reading of the call, in ticks.
+    pub fn reading(&self) -> u64
+        ensures { result ≡ reading_of self.now }
+    {
+        match self {
+            SliceletCall::Start { life: _, at } => *at,
+            SliceletCall::Hear { grant: _, at } => *at,
+            SliceletCall::Release { kind: _, at } => *at,
+        }
+    }
+
+    /// A call that equals this one.
+    pub fn copy(&self) -> Result<Self, AllocError>
+        ensures { IfOk result (λ call. call ≡ self.now) }
+    {
+        match self {
+            SliceletCall::Start { life, at } => Ok(SliceletCall::Start {
+                life: *life,
+                at: *at,
+            }),
+            SliceletCall::Hear { grant, at } => Ok(SliceletCall::Hear {
+                grant: grant.copy()?,
+                at: *at,
+            }),
+            SliceletCall::Release { kind, at } => Ok(SliceletCall::Release {
+                kind: *kind,
+                at: *at,
+            }),
+        }
+    }
+}

@@ -1,0 +1,67 @@
+//! A slicelet as a machine.
+
+ghost use Rattle.slicelet.specs.Steps.{event_step};
+
+use crate::call::SliceletCall;
+use crate::error::SliceletError;
+use crate::slicelet::Slicelet;
+use history_lock::{Machine, Trouble};
+use lease_table::ReleaseNote;
+use std::alloc::AllocError;
+
+/// A call of a slicelet, and when it was made.
+#[derive(Debug, Drop)]
+pub struct SliceletEvent {
+    /// The place of the call among all calls that drew a ticket. The slicelet does not look at it.
+    pub ticket: u64,
+    /// The call.
+    pub call: SliceletCall,
+}
+
+/// What an accepted call answers.
+#[derive(Clone, Copy, Debug, PartialEq, Eq)]
+pub enum SliceletReply {
+    /// The life is started.
+    Started,
+    /// The grant is heard.
+    Heard,
+    /// The lease is released, and this is the note of it.
+    Released(ReleaseNote),
+}
+
+impl Machine for Slicelet {
+    type Event = SliceletEvent;
+
+    type Reply = SliceletReply;
+
+    type Fault = SliceletError;
+
+    ghost step = { event_step };
+
+    fn apply(&mut self, event: &SliceletEvent) -> Result<SliceletReply, Trouble<SliceletError>> {
+        match &event.call {
+            SliceletCall::Start { life, at } => {
+                self.start(*life, *at)?;
+                Ok(SliceletReply::Started)
+            }
+            SliceletCall::Hear { grant, at } => {
+                self.hear(grant, *at)?;
+                Ok(SliceletReply::Heard)
+            }
+            SliceletCall::Release { kind, at } => {
+                Ok(SliceletReply::Released(self.release(*kind, *at)?))
+            }
+        }
+    }
+
+    fn copy(&self) -> Result<Self, AllocError> {
+        Slicelet::copy(self)
+    }
+
+    fn copy_event(event: &SliceletEvent) -> Result<SliceletEvent, AllocError> {
+        Ok(SliceletEvent {
+            ticket: event.ticket,
+            call: event.call.copy()?,
+        })
+    }
+}

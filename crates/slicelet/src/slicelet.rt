@@ -1,0 +1,296 @@
+//! Slicelets.
+
+ghost use Rattle.std.specs.Prelude.{◌≡◌, None, option_map, IfOk, OnOk};
+ghost use Rattle.std.specs.Result.{result_err};
+ghost use Rattle.slice_ranges.specs.Refusals.{first_of};
+ghost use Rattle.history_lock.specs.Steps.{Takes};
+ghost use Rattle.slicelet.specs.Histories.{held};
+ghost use Rattle.slicelet.specs.Rules.{rule_after, covers_key, is_permitted};
+ghost use Rattle.slicelet.specs.Continuity.{handle_on, held_by, is_strange, IsChecked};
+ghost use Rattle.slicelet.specs.Accepted.{AreAccepted};
+ghost use Rattle.slicelet.specs.Steps.{opening, not_started, back, full, number_of, start_checks, hear_checks, release_checks, start_step, hear_step, release_step};
+
+use crate::call::SliceletCall;
+use crate::error::{SliceletError, Stranger};
+use crate::heard::{Heard, holds, nothing, put};
+use crate::sight::is_kept_since;
+use assignment::TaskId;
+use history_lock::Trouble;
+use key_handle::KeyHandle;
+use key_hash::SliceKey;
+use lease_table::{Grant, ReleaseNote};
+use policy_rules::{Ground, Holding, Kind, Verdict, verdict};
+use std::alloc::{AllocError, Global};
+use std::marker::Model;
+
+/// How many calls a slicelet accepts, over all lives.
+pub const CALLS: usize = 65_536;
+
+/// What a task heard of its leases. Contracts see the task and the calls that were accepted.
+#[derive(Drop)]
+pub struct Slicelet {
+    task: TaskId,
+    calls: Vec<SliceletCall>,
+    life: u32,
+    holding: Holding,
+    heard: Heard,
+}
+
+impl Model for Slicelet {
+    ghost use Rattle.slicelet.specs.Steps.{History};
+
+    ghost Value = { History };
+
+    ghost use Rattle.std.specs.Prelude.{reverse};
+    ghost use Rattle.slicelet.specs.Kept.{IsKept};
+
+    ghost view = { λ s. record { task = s.task; calls = reverse s.calls.items } };
+
+    ghost invariant = { λ s. IsKept s.task (reverse s.calls.items) s.life s.holding s.heard };
+}
+
+impl Slicelet {
+    /// The slicelet of a task before its first call.
+    pub fn new(alloc: Global, task: TaskId) -> Self
+        ensures { result ≡ opening task }
+    {
+        Slicelet {
+            task,
+            calls: Vec::new(alloc),
+            life: 0,
+            holding: nothing(false, 0),
+            heard: Heard::nothing(),
+        }
+    }
+
+    /// Starts a life of the task, which holds nothing and has heard no number yet.
+    ///
+    /// Refused by `OldLife`, `ClockBack` and `HistoryFull`, in this order; want of memory comes last,
+    /// and changes nothing.
+    pub fn start(&mut self, life: u32, at: u64) -> Result<(), Trouble<SliceletError>>
+        ensures { Takes (start_step self.old life at) self.old result self.new }
+    {
+        self.check_start(life, at).map_err(Trouble::Refused)?;
+        self.calls.reserve(1)?;
+        self.calls.push_reserved(SliceletCall::Start { life, at });
+        self.life = life;
+        self.holding = nothing(true, at);
+        self.heard = Heard::nothing();
+        Ok(())
+    }
+
+    /// Hears a grant: its lease takes the place of the one of its kind.
+    ///
+    /// Refused by `NotStarted`, `ClockBack`, `OtherTask`, `OtherLife`, `Old`, `TooLate` and
+    /// `HistoryFull`, in this order; want of memory comes last, and changes nothing.
+    pub fn hear(&mut self, grant: &Grant, at: u64) -> Result<(), Trouble<SliceletError>>
+        ensures { Takes (hear_step self.old grant.now at) self.old result self.new }
+    {
+        self.check_hear(grant, at).map_err(Trouble::Refused)?;
+        let call = SliceletCall::Hear {
+            grant: grant.copy()?,
+            at,
+        };
+        let lease = grant.lease.copy()?;
+        self.calls.reserve(1)?;
+        self.calls.push_reserved(call);
+        self.holding.last = at;
+        put(&mut self.holding, grant.lease.kind, Some(lease));
+        self.heard = self.heard.with(grant.lease.kind, grant.number);
+        Ok(())
+    }
+
+    /// Gives up the lease of a kind, which may have ended, and answers the note of it. The greatest
+    /// number heard of the kind stays.
+    ///
+    /// Refused by `NotStarted`, `ClockBack`, `NothingHeld` and `HistoryFull`, in this order; want of
+    /// memory comes last, and changes nothing.
+    pub fn release(&mut self, kind: Kind, at: u64) -> Result<ReleaseNote, Trouble<SliceletError>>
+        ensures { Takes (release_step self.old kind at) self.old result self.new }
+    {
+        let number = self.check_release(kind, at).map_err(Trouble::Refused)?;
+        self.calls.reserve(1)?;
+        self.calls.push_reserved(SliceletCall::Release { kind, at });
+        self.holding.last = at;
+        put(&mut self.holding, kind, None);
+        Ok(ReleaseNote {
+            task: self.task,
+            life: self.life,
+            kind,
+            number,
+        })
+    }
+
+    /// Whether the task may serve a key at a reading of its clock, in ticks, by the written rule
+    /// over its calls.
+    pub fn serve(&self, key: SliceKey, at: u64) -> Verdict
+        ensures { result ≡ rule_after (covers_key key) self.now.calls at }
+    {
+        verdict(&self.holding, key, at)
+    }
+
+    /// A handle on a key, where the task may serve it at a reading of its clock, in ticks; else the
+    /// reason why it may not.
+    pub fn hold(&self, key: SliceKey, at: u64) -> Result<KeyHandle, Ground>
+        ensures { result ≡ held_by (rule_after (covers_key key) self.now.calls at) (handle_on key self.now) }
+    {
+        match self.serve(key, at) {
+            Verdict::Allow { .. } => Ok(KeyHandle::new(
+                self.task,
+                self.life,
+                key,
+                self.calls.len() as u64,
+            )),
+            Verdict::Deny(why) => Err(why),
+        }
+    }
+
+    /// Whether a handle is continuous at a reading of the task's clock, in ticks: it is of the current
+    /// life, each call since it was taken found its key permitted at its own reading, both just before
+    /// it and just after it, and the key is permitted at this reading.
+    ///
+    /// Refused where the slicelet cannot have given the handle.
+    pub fn continuous(&self, handle: &KeyHandle, at: u64) -> Result<bool, Stranger>
+        ensures { IsChecked self.now handle.now at result }
+    {
+        if self.is_strange(handle) {
+            return Err(Stranger);
+        }
+        let is_kept = handle.life == self.life
+            && is_kept_since(self.calls.as_slice(), handle.key, handle.position);
+        Ok(is_kept && self.permits(handle.key, at))
+    }
+
+    /// The calls that a slicelet keeps were accepted, one after another.
+    pub fn accepted_law(&self)
+        ensures { AreAccepted self.now.task self.now.calls }
+    {
+        let _ = &self.task;
+    }
+
+    /// A slicelet that equals this one.
+    pub fn copy(&self) -> Result<Self, AllocError>
+        ensures { IfOk result (λ slicelet. slicelet ≡ self.now) }
+    {
+        Ok(Slicelet {
+            task: self.task,
+            calls: copies(*self.calls.allocator(), self.calls.as_slice())?,
+            life: self.life,
+            holding: self.holding.copy()?,
+            heard: self.heard,
+        })
+    }
+
+    fn is_strange(&self, handle: &KeyHandle) -> bool
+        ensures { result ≡ is_strange self.now handle.now }
+    {
+        handle.task != self.task
+            || handle.life > self.life
+            || handle.life == self.life && handle.position > self.calls.len() as u64
+    }
+
+    // Whether the task may serve a key.
+    fn permits(&self, key: SliceKey, at: u64) -> bool
+        ensures { result ≡ is_permitted (covers_key key) self.now.calls at }
+    {
+        matches!(self.serve(key, at), Verdict::Allow { .. })
+    }
+
+    // The number of the held lease of a kind: the greatest heard of it.
+    fn held_number(&self, kind: Kind) -> Option<u64>
+        ensures { result ≡ option_map (λ grant. grant.number) (held kind self.now.calls) }
+    {
+        if holds(&self.holding, kind) {
+            self.heard.of(kind)
+        } else {
+            None
+        }
+    }
+
+    fn check_started(&self) -> Result<(), SliceletError>
+        ensures { result_err result ≡ not_started self.now.calls }
+    {
+        if self.holding.up {
+            Ok(())
+        } else {
+            Err(SliceletError::NotStarted)
+        }
+    }
+
+    fn check_reading(&self, at: u64) -> Result<(), SliceletError>
+        ensures { result_err result ≡ back self.now.calls at }
+    {
+        if at < self.holding.last {
+            Err(SliceletError::ClockBack)
+        } else {
+            Ok(())
+        }
+    }
+
+    fn check_room(&self) -> Result<(), SliceletError>
+        ensures { result_err result ≡ full self.now.calls }
+    {
+        if self.calls.len() >= CALLS {
+            Err(SliceletError::HistoryFull)
+        } else {
+            Ok(())
+        }
+    }
+
+    fn check_start(&self, life: u32, at: u64) -> Result<(), SliceletError>
+        ensures refusal { result_err result ≡ first_of (start_checks self.now.calls life at) }
+        ensures accepted { OnOk result (first_of (start_checks self.now.calls life at) ≡ None) }
+    {
+        if life <= self.life {
+            return Err(SliceletError::OldLife);
+        }
+        self.check_reading(at)?;
+        self.check_room()
+    }
+
+    fn check_hear(&self, grant: &Grant, at: u64) -> Result<(), SliceletError>
+        ensures refusal { result_err result ≡ first_of (hear_checks self.now grant.now at) }
+        ensures accepted { OnOk result (first_of (hear_checks self.now grant.now at) ≡ None) }
+    {
+        self.check_started()?;
+        self.check_reading(at)?;
+        if grant.task != self.task {
+            return Err(SliceletError::OtherTask);
+        }
+        if grant.life != self.life {
+            return Err(SliceletError::OtherLife);
+        }
+        if let Some(heard) = self.heard.of(grant.lease.kind)
+            && grant.number <= heard
+        {
+            return Err(SliceletError::Old { heard });
+        }
+        if !grant.lease.is_live(at) {
+            return Err(SliceletError::TooLate);
+        }
+        self.check_room()
+    }
+
+    // The number of the held lease of a kind, where it may be released.
+    fn check_release(&self, kind: Kind, at: u64) -> Result<u64, SliceletError>
+        ensures refusal { result_err result ≡ first_of (release_checks self.now.calls kind at) }
+        ensures accepted { OnOk result (first_of (release_checks self.now.calls kind at) ≡ None) }
+        ensures number { IfOk result (λ number. number ≡ number_of (held kind self.now.calls)) }
+    {
+        self.check_started()?;
+        self.check_reading(at)?;
+        let number = self.held_number(kind).ok_or(SliceletError::NothingHeld)?;
+        self.check_room()?;
+        Ok(number)
+    }
+}
+
+fn copies(alloc: Global, calls: &[SliceletCall]) -> Result<Vec<SliceletCall>, AllocError>
+    ensures { IfOk result (λ copied. copied.items ≡ calls.now) }
+{
+    let mut copied = Vec::with_capacity(alloc, calls.len())?;
+    for call in calls {
+        copied.push(call.copy()?)?;
+    }
+    Ok(copied)
+}
