@@ -1,0 +1,4 @@
+pub mod Steps
+pub use Rattle.slice_ranges.specs.Refusals
+pub use Rattle.assignment.specs.Slices
+pub use Rattle.assignment.specs.Owners

@@ -1,0 +1,96 @@
+//! A clerk.
+
+ghost use Rattle.std.specs.Prelude.{◌≡◌, None, IfOk};
+ghost use Rattle.clerk.specs.Steps.{Takes, learn_step, look_at};
+
+use crate::error::{ClerkError, Unknown};
+use arrayvec::ArrayVec;
+use assignment::{Assignment, TaskId};
+use history_lock::Trouble;
+use key_hash::SliceKey;
+use std::alloc::AllocError;
+use std::marker::Model;
+
+/// What a client knows of who owns a key: the newest assignment that it has learnt since it last
+/// forgot.
+#[derive(Drop)]
+pub struct Clerk {
+    newest: Option<Assignment>,
+}
+
+impl Model for Clerk {
+    ghost use Rattle.std.specs.Prelude.{Option};
+    ghost use Rattle.assignment.specs.Slices.{Slicing};
+
+    ghost Value = { Option Slicing };
+
+    ghost view = { λ c. c.newest };
+}
+
+/// Who owns a key.
+#[derive(Debug, Drop)]
+pub struct Found {
+    /// The generation of the assignment that says so.
+    pub generation: u64,
+    /// The tasks that own the key in it, in rising order.
+    pub owners: ArrayVec<TaskId, 3>,
+}
+
+impl Clerk {
+    /// A clerk that has learnt nothing.
+    pub fn new() -> Self
+        ensures { result ≡ None }
+    {
+        Clerk { newest: None }
+    }
+
+    /// Keeps an assignment in place of the one that is kept.
+    ///
+    /// Refused by `Old`; want of memory comes last, and changes nothing.
+    pub fn learn(&mut self, assignment: &Assignment) -> Result<(), Trouble<ClerkError>>
+        ensures { Takes (learn_step self.old assignment.now) self.old result self.new }
+    {
+        if let Some(kept) = &self.newest
+            && assignment.generation() <= kept.generation()
+        {
+            return Err(Trouble::Refused(ClerkError::Old {
+                generation: kept.generation(),
+            }));
+        }
+        self.newest = Some(assignment.copy()?);
+        Ok(())
+    }
+
+    /// The tasks that own a key in the assignment that is kept, and its generation; `Unknown` where
+    /// none is kept.
+    pub fn look(&self, key: SliceKey) -> Result<Found, Unknown>
+        ensures { result ≡ look_at self.now key }
+    {
+        match &self.newest {
+            Some(kept) => Ok(Found {
+                generation: kept.generation(),
+                owners: kept.owners(key),
+            }),
+            None => Err(Unknown),
+        }
+    }
+
+    /// Keeps no assignment from now on, until the next one is learnt.
+    pub fn forget(&mut self)
+        ensures { self.new ≡ None }
+    {
+        self.newest = None;
+    }
+
+    /// A clerk that equals this one.
+    pub fn copy(&self) -> Result<Self, AllocError>
+        ensures { IfOk result (λ clerk. clerk ≡ self.now) }
+    {
+        match &self.newest {
+            Some(kept) => Ok(Clerk {
+                newest: Some(kept.copy()?),
+            }),
+            None => Ok(Clerk::new()),
+        }
+    }
+}
