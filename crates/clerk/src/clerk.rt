@@ -36,6 +36,22 @@ pub struct Found {
     pub owners: ArrayVec<TaskId, 3>,
 }
 
+impl Found {
+    /// An answer that equals this one.
+    pub fn copy(&self) -> Self
+        ensures { result ≡ self.now }
+    {
+        let mut owners = ArrayVec::new();
+        owners
+            .try_extend_from_slice(self.owners.as_slice())
+            .unwrap();
+        Found {
+            generation: self.generation,
+            owners,
+        }
+    }
+}
+
 impl Clerk {
     /// A clerk that has learnt nothing.
     pub fn new() -> Self
@@ -46,7 +62,8 @@ impl Clerk {
 
     /// Keeps an assignment in place of the one that is kept.
     ///
-    /// Refused by `Old`; want of memory comes last, and changes nothing.
+    /// Refused by `Old` where its generation is not above that of the one that is kept; want of
+    /// memory comes last, and changes nothing.
     pub fn learn(&mut self, assignment: &Assignment) -> Result<(), Trouble<ClerkError>>
         ensures { Takes (learn_step self.old assignment.now) self.old result self.new }
     {

@@ -1,0 +1,141 @@
+-- The last assignment that a clerk accepted is the greatest.
+use Rattle.std.proofs.Common.{◌≡◌, ◌∙◌, ℕ, zero, suc, ◌<◌, ◌≤◌, Bool, true, false, List, [], ◌∷◌, length, get_or, refl, sym, ap, subst, arith}
+use Rattle.std.specs.Prelude.{Option, Some, None, Result, Ok, Err, is_ok, if◌then◌else◌, nat_le, nat_lt}
+use Rattle.std.specs.List.{AllByRecursion}
+use Rattle.std.proofs.lemmas.Bool.Decides.{nat_tests}
+use Rattle.std.proofs.lemmas.List.Elements.{All-from_recursion}
+use Rattle.slice_ranges.specs.Refusals.{when, first_of}
+use Rattle.assignment.specs.Slices.{Slicing}
+use Rattle.clerk.specs.declared.call.ClerkCall.{ClerkCall}
+use Rattle.clerk.specs.declared.call.ClerkCall.TheVariants.{Learn, Forget}
+use Rattle.clerk.specs.declared.call.ClerkReply.{ClerkReply}
+use Rattle.clerk.specs.declared.call.ClerkReply.TheVariants.{Learnt, Forgotten}
+use Rattle.clerk.specs.declared.error.ClerkError.{ClerkError}
+use Rattle.clerk.specs.declared.error.ClerkError.TheVariants.{Old}
+use Rattle.clerk.specs.Steps.{unless_refused}
+use Rattle.clerk.specs.Calls.{AnsweredCall, Answers, LeadsTo, clerk_step, replied}
+use Rattle.clerk.specs.Learnt.{IsGreatest, accepted_since_forget, accepted_with, greater, greatest_of}
+
+-- these are of generations below this one
+AllBelow : ℕ → List Slicing → Type 0
+AllBelow generation slicings = AllByRecursion (λ s. s.generation < generation) slicings
+
+-- what is kept is the first of these, and the others are below it
+pub IsFirst : List Slicing → Option Slicing → Type 0
+IsFirst [] kept = kept ≡ None
+IsFirst (s ∷ slicings) kept = (kept ≡ Some s) × AllBelow s.generation slicings
+
+below_more : (low high : ℕ) (slicings : List Slicing) → low ≤ high → AllBelow low slicings → AllBelow high slicings
+unfolding AllBelow
+below_more low high [] l h = tt
+below_more low high (s ∷ slicings) l h = (let p : s.generation < low = h.0 in omega arith, below_more low high slicings l h.1)
+
+some_is : {A : Type 0} {x y : A} → Some x ≡ Some y → x ≡ y
+some_is e = cc
+
+-- what a call leaves
+abbrev left_by : Result (Option Slicing × ClerkReply) ClerkError → Option Slicing
+left_by (Ok p) = p.0
+left_by (Err refusal) = None
+
+left_is : (step : Result (Option Slicing × ClerkReply) ClerkError) (kept : Option Slicing) (reply : ClerkReply) → step ≡ Ok (kept, reply) → kept ≡ left_by step
+left_is step kept reply e = sym (ap left_by e)
+
+-- what is kept is of a greater generation than all others
+all_below : (kept : Slicing) (slicings : List Slicing) (generation : ℕ) → IsFirst slicings (Some kept) → kept.generation < generation → AllBelow generation slicings
+unfolding IsFirst AllBelow
+all_below kept [] generation first l = tt
+all_below kept (s ∷ slicings) generation first l =
+    let same : kept ≡ s = some_is first.0 in
+    let below : s.generation < generation = let P : Slicing → Type 0 = λ x. x.generation < generation in subst P same l in
+    (below, below_more s.generation generation slicings (omega arith) first.1)
+
+-- an accepted assignment is above all that were accepted before it
+learnt : (slicing : Slicing) (before kept : Option Slicing) (reply : ClerkReply) (slicings : List Slicing) → IsFirst slicings before
+    → clerk_step before (Learn slicing) ≡ Ok (kept, reply) → IsFirst (slicing ∷ slicings) kept
+unfolding IsFirst AllBelow
+learnt slicing None kept reply [] first e = (left_is (Ok (Some slicing, Learnt)) kept reply e, tt)
+learnt slicing None kept reply (s ∷ slicings) first e = absurd (cc)
+learnt slicing (Some last) kept reply slicings first e = by_test (nat_le slicing.generation last.generation) refl e
+  where
+    by_test : (b : Bool) → b ≡ nat_le slicing.generation last.generation
+        → (let left : Option Slicing × Unit {0} = (Some slicing, tt) in replied Learnt (unless_refused (first_of (when b (Old last.generation) ∷ [])) left)) ≡ Ok (kept, reply) → IsFirst (slicing ∷ slicings) kept
+    by_test true test e = absurd (cc)
+    by_test false test e = (left_is (Ok (Some slicing, Learnt)) kept reply e, all_below last slicings slicing.generation first (grind (arith, nat_tests)))
+
+answered : (call : ClerkCall) (answer : Result ClerkReply ClerkError) (before kept : Option Slicing) (slicings : List Slicing) → IsFirst slicings before
+    → Answers (clerk_step before call) before answer kept → IsFirst (if is_ok answer then accepted_with call slicings else slicings) kept
+unfolding IsFirst
+answered call (Err refusal) before kept slicings first a = rw a.1 first
+answered (Learn slicing) (Ok reply) before kept slicings first a = learnt slicing before kept reply slicings first a
+answered Forget (Ok reply) before kept slicings first a = left_is (Ok (None, Forgotten)) kept reply a
+
+-- a clerk keeps the last assignment that it accepted since it last forgot
+pub leads_to_first : (past : List AnsweredCall) (kept : Option Slicing) → LeadsTo past kept → IsFirst (accepted_since_forget past) kept
+unfolding IsFirst
+leads_to_first [] kept h = h
+leads_to_first (e ∷ past) kept h = answered e.call e.answer h.0 kept (accepted_since_forget past) (leads_to_first past h.0 h.1) h.2
+
+-- the greatest of some that are below a generation is below it
+greatest_below : (generation : ℕ) (s : Slicing) (slicings : List Slicing) → s.generation < generation → AllBelow generation slicings → (greater s (greatest_of slicings)).generation < generation
+unfolding AllBelow
+greatest_below generation s [] l h = l
+greatest_below generation s (t ∷ slicings) l h = by_test (nat_lt s.generation (greater t (greatest_of slicings)).generation) (greatest_below generation t slicings h.0 h.1)
+  where
+    by_test : (b : Bool) → (greater t (greatest_of slicings)).generation < generation → (if b then greater t (greatest_of slicings) else s).generation < generation
+    by_test true r = r
+    by_test false r = l
+
+-- what is above all of these is greater than their greatest
+greater_is : (s : Slicing) (slicings : List Slicing) → AllBelow s.generation slicings → greater s (greatest_of slicings) ≡ s
+unfolding AllBelow
+greater_is s [] h = refl
+greater_is s (t ∷ slicings) h =
+    let below : (greater t (greatest_of slicings)).generation < s.generation = greatest_below s.generation t slicings h.0 h.1 in
+    let test : nat_lt s.generation (greater t (greatest_of slicings)).generation ≡ false = grind (arith, nat_tests) in
+    rw test refl
+
+pub first_is_greatest_of : (slicings : List Slicing) (kept : Option Slicing) → IsFirst slicings kept → kept ≡ greatest_of slicings
+unfolding IsFirst
+first_is_greatest_of [] kept first = first
+first_is_greatest_of (s ∷ slicings) kept first = first.0 ∙ sym (ap Some (greater_is s slicings first.1))
+
+at_most : (generation : ℕ) (slicings : List Slicing) → AllBelow generation slicings → AllByRecursion (λ s. s.generation ≤ generation) slicings
+unfolding AllBelow
+at_most generation [] h = tt
+at_most generation (s ∷ slicings) h = (let p : s.generation < generation = h.0 in omega arith, at_most generation slicings h.1)
+
+pub first_is_greatest : (slicings : List Slicing) (kept : Option Slicing) (slicing : Slicing) → IsFirst slicings kept → kept ≡ Some slicing → IsGreatest slicings slicing
+unfolding IsFirst AllBelow
+first_is_greatest [] kept slicing first e = absurd (cc)
+first_is_greatest (s ∷ slicings) kept slicing first e =
+    let here : IsGreatest (s ∷ slicings) s = record {
+      listed = (0, omega arith, refl);
+      greatest = All-from_recursion (λ o. o.generation ≤ s.generation) (s ∷ slicings) (omega arith, at_most s.generation slicings first.1);
+    } in
+    subst (IsGreatest (s ∷ slicings)) (some_is (sym first.0 ∙ e)) here
+
+-- the first is the only one that is not below it
+first_at : (s slicing : Slicing) (slicings : List Slicing) (k : ℕ) → AllBelow s.generation slicings → s.generation ≤ slicing.generation → k < length (s ∷ slicings) → get_or (s ∷ slicings) k slicing ≡ slicing → s ≡ slicing
+unfolding AllBelow
+first_at s slicing slicings zero h most l e = e
+first_at s slicing slicings (suc k) h most l e =
+    let below : (get_or slicings k slicing).generation < s.generation = All-from_recursion (λ o. o.generation < s.generation) slicings h k slicing (omega arith) in
+    let P : Slicing → Type 0 = λ x. x.generation < s.generation in
+    absurd (let b : slicing.generation < s.generation = subst P e below in omega arith)
+
+pub greatest_is_first : (slicings : List Slicing) (kept : Option Slicing) (slicing : Slicing) → IsFirst slicings kept → IsGreatest slicings slicing → kept ≡ Some slicing
+unfolding IsFirst AllBelow
+greatest_is_first [] kept slicing first g = absurd (let l : g.listed.0 < 0 = g.listed.1 in omega arith)
+greatest_is_first (s ∷ slicings) kept slicing first g =
+    first.0 ∙ ap Some (first_at s slicing slicings g.listed.0 first.1 (g.greatest 0 s (omega arith)) g.listed.1 g.listed.2)
+
+pub nothing_accepted : (slicings : List Slicing) (kept : Option Slicing) → IsFirst slicings kept → kept ≡ None → slicings ≡ []
+unfolding IsFirst
+nothing_accepted [] kept first e = refl
+nothing_accepted (s ∷ slicings) kept first e = absurd (cc)
+
+pub nothing_kept : (slicings : List Slicing) (kept : Option Slicing) → IsFirst slicings kept → slicings ≡ [] → kept ≡ None
+unfolding IsFirst
+nothing_kept [] kept first e = first
+nothing_kept (s ∷ slicings) kept first e = absurd (cc)

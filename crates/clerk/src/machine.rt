@@ -1,0 +1,52 @@
+//! A clerk as a machine.
+
+ghost use Rattle.clerk.specs.Calls.{event_step};
+
+use crate::call::{ClerkCall, ClerkReply};
+use crate::clerk::Clerk;
+use crate::error::ClerkError;
+use history_lock::{Machine, Trouble};
+use std::alloc::AllocError;
+
+/// A call of a clerk, and when it was made.
+#[derive(Debug, Drop)]
+pub struct ClerkEvent {
+    /// The place of the call among all calls that drew a ticket. The clerk does not look at it.
+    pub ticket: u64,
+    /// The call.
+    pub call: ClerkCall,
+}
+
+impl Machine for Clerk {
+    type Event = ClerkEvent;
+
+    type Reply = ClerkReply;
+
+    type Fault = ClerkError;
+
+    ghost step = { event_step };
+
+    fn apply(&mut self, event: &ClerkEvent) -> Result<ClerkReply, Trouble<ClerkError>> {
+        match &event.call {
+            ClerkCall::Learn(assignment) => {
+                self.learn(assignment)?;
+                Ok(ClerkReply::Learnt)
+            }
+            ClerkCall::Forget => {
+                self.forget();
+                Ok(ClerkReply::Forgotten)
+            }
+        }
+    }
+
+    fn copy(&self) -> Result<Self, AllocError> {
+        Clerk::copy(self)
+    }
+
+    fn copy_event(event: &ClerkEvent) -> Result<ClerkEvent, AllocError> {
+        Ok(ClerkEvent {
+            ticket: event.ticket,
+            call: event.call.copy()?,
+        })
+    }
+}
