@@ -13,8 +13,13 @@ use Rattle.clerk.specs.declared.call.ClerkReply.TheVariants.{Learnt, Forgotten}
 use Rattle.clerk.specs.declared.error.ClerkError.{ClerkError}
 use Rattle.clerk.specs.declared.error.ClerkError.TheVariants.{Old}
 use Rattle.clerk.specs.Steps.{unless_refused}
-use Rattle.clerk.specs.Calls.{AnsweredCall, Answers, LeadsTo, clerk_step, replied}
+use Rattle.clerk.specs.Calls.{AnsweredCall, Answers, Leads, LeadsTo, clerk_step, replied}
 use Rattle.clerk.specs.Learnt.{IsGreatest, accepted_since_forget, accepted_with, greater, greatest_of}
+
+-- the step of a call leads on
+pub leads_on : (past : List AnsweredCall) (kept : Option Slicing) (call : ClerkCall) (step : Result (Option Slicing × ClerkReply) ClerkError) → clerk_step kept call ≡ step → LeadsTo past kept → Leads past kept call step
+leads_on past kept call (Ok p) e h = (kept, h, e)
+leads_on past kept call (Err refusal) e h = (kept, h, (e, refl))
 
 -- these are of generations below this one
 AllBelow : ℕ → List Slicing → Type 0
@@ -25,11 +30,13 @@ pub IsFirst : List Slicing → Option Slicing → Type 0
 IsFirst [] kept = kept ≡ None
 IsFirst (s ∷ slicings) kept = (kept ≡ Some s) × AllBelow s.generation slicings
 
+-- what is below a generation is below a greater one
 below_more : (low high : ℕ) (slicings : List Slicing) → low ≤ high → AllBelow low slicings → AllBelow high slicings
 unfolding AllBelow
 below_more low high [] l h = tt
 below_more low high (s ∷ slicings) l h = (let p : s.generation < low = h.0 in omega arith, below_more low high slicings l h.1)
 
+-- values under `Some`
 some_is : {A : Type 0} {x y : A} → Some x ≡ Some y → x ≡ y
 some_is e = cc
 
@@ -38,6 +45,7 @@ abbrev left_by : Result (Option Slicing × ClerkReply) ClerkError → Option Sli
 left_by (Ok p) = p.0
 left_by (Err refusal) = None
 
+-- an answered call leaves what its step leaves
 left_is : (step : Result (Option Slicing × ClerkReply) ClerkError) (kept : Option Slicing) (reply : ClerkReply) → step ≡ Ok (kept, reply) → kept ≡ left_by step
 left_is step kept reply e = sym (ap left_by e)
 
@@ -51,30 +59,31 @@ all_below kept (s ∷ slicings) generation first l =
     (below, below_more s.generation generation slicings (omega arith) first.1)
 
 -- an accepted assignment is above all that were accepted before it
-learnt : (slicing : Slicing) (before kept : Option Slicing) (reply : ClerkReply) (slicings : List Slicing) → IsFirst slicings before
+first_after_learn : (slicing : Slicing) (before kept : Option Slicing) (reply : ClerkReply) (slicings : List Slicing) → IsFirst slicings before
     → clerk_step before (Learn slicing) ≡ Ok (kept, reply) → IsFirst (slicing ∷ slicings) kept
 unfolding IsFirst AllBelow
-learnt slicing None kept reply [] first e = (left_is (Ok (Some slicing, Learnt)) kept reply e, tt)
-learnt slicing None kept reply (s ∷ slicings) first e = absurd (cc)
-learnt slicing (Some last) kept reply slicings first e = by_test (nat_le slicing.generation last.generation) refl e
+first_after_learn slicing None kept reply [] first e = (left_is (Ok (Some slicing, Learnt)) kept reply e, tt)
+first_after_learn slicing None kept reply (s ∷ slicings) first e = absurd (cc)
+first_after_learn slicing (Some last) kept reply slicings first e = by_test (nat_le slicing.generation last.generation) refl e
   where
     by_test : (b : Bool) → b ≡ nat_le slicing.generation last.generation
         → (let left : Option Slicing × Unit {0} = (Some slicing, tt) in replied Learnt (unless_refused (first_of (when b (Old last.generation) ∷ [])) left)) ≡ Ok (kept, reply) → IsFirst (slicing ∷ slicings) kept
     by_test true test e = absurd (cc)
     by_test false test e = (left_is (Ok (Some slicing, Learnt)) kept reply e, all_below last slicings slicing.generation first (grind (arith, nat_tests)))
 
-answered : (call : ClerkCall) (answer : Result ClerkReply ClerkError) (before kept : Option Slicing) (slicings : List Slicing) → IsFirst slicings before
+-- each call keeps the last accepted assignment the first
+first_after : (call : ClerkCall) (answer : Result ClerkReply ClerkError) (before kept : Option Slicing) (slicings : List Slicing) → IsFirst slicings before
     → Answers (clerk_step before call) before answer kept → IsFirst (if is_ok answer then accepted_with call slicings else slicings) kept
 unfolding IsFirst
-answered call (Err refusal) before kept slicings first a = rw a.1 first
-answered (Learn slicing) (Ok reply) before kept slicings first a = learnt slicing before kept reply slicings first a
-answered Forget (Ok reply) before kept slicings first a = left_is (Ok (None, Forgotten)) kept reply a
+first_after call (Err refusal) before kept slicings first a = rw a.1 first
+first_after (Learn slicing) (Ok reply) before kept slicings first a = first_after_learn slicing before kept reply slicings first a
+first_after Forget (Ok reply) before kept slicings first a = left_is (Ok (None, Forgotten)) kept reply a
 
 -- a clerk keeps the last assignment that it accepted since it last forgot
 pub leads_to_first : (past : List AnsweredCall) (kept : Option Slicing) → LeadsTo past kept → IsFirst (accepted_since_forget past) kept
 unfolding IsFirst
 leads_to_first [] kept h = h
-leads_to_first (e ∷ past) kept h = answered e.call e.answer h.0 kept (accepted_since_forget past) (leads_to_first past h.0 h.1) h.2
+leads_to_first (e ∷ past) kept h = first_after e.call e.answer h.0 kept (accepted_since_forget past) (leads_to_first past h.0 h.1) h.2
 
 -- the greatest of some that are below a generation is below it
 greatest_below : (generation : ℕ) (s : Slicing) (slicings : List Slicing) → s.generation < generation → AllBelow generation slicings → (greater s (greatest_of slicings)).generation < generation
@@ -95,16 +104,19 @@ greater_is s (t ∷ slicings) h =
     let test : nat_lt s.generation (greater t (greatest_of slicings)).generation ≡ false = grind (arith, nat_tests) in
     rw test refl
 
+-- the first is what `greatest_of` finds
 pub first_is_greatest_of : (slicings : List Slicing) (kept : Option Slicing) → IsFirst slicings kept → kept ≡ greatest_of slicings
 unfolding IsFirst
 first_is_greatest_of [] kept first = first
 first_is_greatest_of (s ∷ slicings) kept first = first.0 ∙ sym (ap Some (greater_is s slicings first.1))
 
+-- what is below a generation is not above it
 at_most : (generation : ℕ) (slicings : List Slicing) → AllBelow generation slicings → AllByRecursion (λ s. s.generation ≤ generation) slicings
 unfolding AllBelow
 at_most generation [] h = tt
 at_most generation (s ∷ slicings) h = (let p : s.generation < generation = h.0 in omega arith, at_most generation slicings h.1)
 
+-- what is kept is the greatest
 pub first_is_greatest : (slicings : List Slicing) (kept : Option Slicing) (slicing : Slicing) → IsFirst slicings kept → kept ≡ Some slicing → IsGreatest slicings slicing
 unfolding IsFirst AllBelow
 first_is_greatest [] kept slicing first e = absurd (cc)
@@ -124,12 +136,14 @@ first_at s slicing slicings (suc k) h most l e =
     let P : Slicing → Type 0 = λ x. x.generation < s.generation in
     absurd (let b : slicing.generation < s.generation = subst P e below in omega arith)
 
+-- the greatest is what is kept
 pub greatest_is_first : (slicings : List Slicing) (kept : Option Slicing) (slicing : Slicing) → IsFirst slicings kept → IsGreatest slicings slicing → kept ≡ Some slicing
 unfolding IsFirst AllBelow
 greatest_is_first [] kept slicing first g = absurd (let l : g.listed.0 < 0 = g.listed.1 in omega arith)
 greatest_is_first (s ∷ slicings) kept slicing first g =
     first.0 ∙ ap Some (first_at s slicing slicings g.listed.0 first.1 (g.greatest 0 s (omega arith)) g.listed.1 g.listed.2)
 
+-- nothing is kept exactly where nothing was accepted
 pub nothing_accepted : (slicings : List Slicing) (kept : Option Slicing) → IsFirst slicings kept → kept ≡ None → slicings ≡ []
 unfolding IsFirst
 nothing_accepted [] kept first e = refl

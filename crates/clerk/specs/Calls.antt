@@ -27,6 +27,9 @@ pub record AnsweredCall : Type 0 where
   pub call : ClerkCall
   pub answer : Result ClerkReply ClerkError
 
+abbrev pub answered : ClerkCall → Result ClerkReply ClerkError → AnsweredCall
+answered call answer = record { call = call; answer = answer }
+
 -- a call was answered by its step, and changed nothing where it was refused
 abbrev pub Answers : Result (Option Slicing × ClerkReply) ClerkError → Option Slicing → Result ClerkReply ClerkError → Option Slicing → Type 0
 Answers step old (Ok reply) new = step ≡ Ok (new, reply)
@@ -36,3 +39,8 @@ Answers step old (Err refusal) new = (step ≡ Err refusal) × (new ≡ old)
 abbrev pub LeadsTo : List AnsweredCall → Option Slicing → Type 0
 LeadsTo [] kept = kept ≡ None
 LeadsTo (e ∷ past) kept = (before : Option Slicing) × LeadsTo past before × Answers (clerk_step before e.call) before e.answer kept
+
+-- a step from where these calls lead leads where they lead with this call and its answer, and a refused one nowhere else
+abbrev pub Leads : List AnsweredCall → Option Slicing → ClerkCall → Result (Option Slicing × ClerkReply) ClerkError → Type 0
+Leads past kept call (Ok p) = LeadsTo (answered call (Ok p.1) ∷ past) p.0
+Leads past kept call (Err refusal) = LeadsTo (answered call (Err refusal) ∷ past) kept

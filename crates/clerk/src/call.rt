@@ -2,8 +2,9 @@
 
 ghost use Rattle.std.specs.Prelude.{◌≡◌, ◌↔◌, ℕ, List, [], Option, Some, None, IfOk};
 ghost use Rattle.assignment.specs.Slices.{Slicing};
+ghost use Rattle.clerk.specs.declared.call.ClerkCall.{ClerkCall};
 ghost use Rattle.clerk.specs.Steps.{look_at};
-ghost use Rattle.clerk.specs.Calls.{AnsweredCall, LeadsTo};
+ghost use Rattle.clerk.specs.Calls.{AnsweredCall, Leads, LeadsTo, clerk_step};
 ghost use Rattle.clerk.specs.Learnt.{IsGreatest, accepted_since_forget, clerk_answer, greatest_of};
 
 use assignment::Assignment;
@@ -41,8 +42,11 @@ impl ClerkCall {
 
 /// After every list of calls that a clerk answered it keeps the assignment of greatest generation
 /// that it accepted since the last `forget`, of which there is one at the most, and it answers the
-/// generation and the owners of a key in it, or that it knows none.
+/// generation and the owners of a key in it, or that it knows none. Its steps lead on from there.
 pub fn every_list_law()
+    ensures start { LeadsTo [] None }
+    ensures next { (past : List AnsweredCall) (kept : Option Slicing) (call : ClerkCall) → LeadsTo past kept
+        → Leads past kept call (clerk_step kept call) }
     ensures value { (past : List AnsweredCall) (kept : Option Slicing) → LeadsTo past kept
         → kept ≡ greatest_of (accepted_since_forget past) }
     ensures greatest { (past : List AnsweredCall) (kept : Option Slicing) (slicing : Slicing) → LeadsTo past kept

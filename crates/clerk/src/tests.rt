@@ -87,6 +87,14 @@ fn answers_with_the_newest_it_learnt(rt: HostRuntime) -> Result<(), Fail> {
     Ok(())
 }
 
+// What a machine would become, and its reply.
+fn tried<M: Machine>(machine: &M, event: &M::Event) -> Result<(M, M::Reply), Trouble<M::Fault>> {
+    let event = M::copy_event(event)?;
+    let mut machine = machine.copy()?;
+    let reply = machine.apply(&event)?;
+    Ok((machine, reply))
+}
+
 #[test]
 fn takes_its_calls_as_events(rt: HostRuntime) -> Result<(), Fail> {
     let alloc = rt.alloc();
@@ -111,6 +119,10 @@ fn takes_its_calls_as_events(rt: HostRuntime) -> Result<(), Fail> {
     );
     assert_eq!(rt; answer(&clerk, hello)?, Some((2, 2)));
     let before = clerk.copy()?;
+    let (after, reply) = tried(&clerk, &forget).map_err(|_| "a clerk forgets")?;
+    assert_eq!(rt; reply, ClerkReply::Forgotten);
+    assert_eq!(rt; answer(&after, hello)?, None);
+    assert!(rt; tried(&clerk, &first).is_err());
     assert!(rt; matches!(clerk.apply(&forget), Ok(ClerkReply::Forgotten)));
     assert_eq!(rt; answer(&clerk, hello)?, None);
     let again = Clerk::copy_event(&first)?;
