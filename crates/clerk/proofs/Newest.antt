@@ -4,7 +4,7 @@ use Rattle.std.specs.Prelude.{Option, Some, None, Result, Ok, Err, is_ok, if◌t
 use Rattle.std.specs.List.{AllByRecursion}
 use Rattle.std.proofs.lemmas.Bool.Decides.{nat_tests}
 use Rattle.std.proofs.lemmas.List.Elements.{All-from_recursion}
-use Rattle.slice_ranges.specs.Refusals.{when, first_of}
+use Rattle.slice_ranges.specs.Refusals.{when, first_of, unless_refused}
 use Rattle.assignment.specs.Slices.{Slicing}
 use Rattle.clerk.specs.declared.call.ClerkCall.{ClerkCall}
 use Rattle.clerk.specs.declared.call.ClerkCall.TheVariants.{Learn, Forget}
@@ -12,8 +12,8 @@ use Rattle.clerk.specs.declared.call.ClerkReply.{ClerkReply}
 use Rattle.clerk.specs.declared.call.ClerkReply.TheVariants.{Learnt, Forgotten}
 use Rattle.clerk.specs.declared.error.ClerkError.{ClerkError}
 use Rattle.clerk.specs.declared.error.ClerkError.TheVariants.{Old}
-use Rattle.clerk.specs.Steps.{unless_refused}
-use Rattle.clerk.specs.Calls.{AnsweredCall, Answers, Leads, LeadsTo, clerk_step, replied}
+use Rattle.history_lock.specs.Steps.{Answers, replied}
+use Rattle.clerk.specs.Calls.{AnsweredCall, Leads, LeadsTo, clerk_step}
 use Rattle.clerk.specs.Learnt.{IsGreatest, accepted_since_forget, accepted_with, greater, greatest_of}
 
 -- the step of a call leads on
@@ -67,7 +67,7 @@ first_after_learn slicing None kept reply (s ∷ slicings) first e = absurd (cc)
 first_after_learn slicing (Some last) kept reply slicings first e = by_test (nat_le slicing.generation last.generation) refl e
   where
     by_test : (b : Bool) → b ≡ nat_le slicing.generation last.generation
-        → (let left : Option Slicing × Unit {0} = (Some slicing, tt) in replied Learnt (unless_refused (first_of (when b (Old last.generation) ∷ [])) left)) ≡ Ok (kept, reply) → IsFirst (slicing ∷ slicings) kept
+        → (let left : Option Slicing × Unit {0} = (Some slicing, tt) in let named : Unit {0} → ClerkReply = λ _. Learnt in replied named (unless_refused (first_of (when b (Old last.generation) ∷ [])) left)) ≡ Ok (kept, reply) → IsFirst (slicing ∷ slicings) kept
     by_test true test e = absurd (cc)
     by_test false test e = (left_is (Ok (Some slicing, Learnt)) kept reply e, all_below last slicings slicing.generation first (grind (arith, nat_tests)))
 

@@ -7,15 +7,12 @@ use Rattle.clerk.specs.declared.call.ClerkReply.{ClerkReply}
 use Rattle.clerk.specs.declared.call.ClerkReply.TheVariants.{Learnt, Forgotten}
 use Rattle.clerk.specs.declared.error.ClerkError.{ClerkError}
 use Rattle.clerk.specs.declared.machine.ClerkEvent.{ClerkEvent}
+use Rattle.history_lock.specs.Steps.{Answers, replied}
 use Rattle.clerk.specs.Steps.{learn_step}
 
 -- what a call answers and leaves, by its step
-abbrev pub replied : {R : Type 0} → ClerkReply → Result (Option Slicing × R) ClerkError → Result (Option Slicing × ClerkReply) ClerkError
-replied reply (Ok p) = Ok (p.0, reply)
-replied reply (Err refusal) = Err refusal
-
 abbrev pub clerk_step : Option Slicing → ClerkCall → Result (Option Slicing × ClerkReply) ClerkError
-clerk_step kept (Learn slicing) = replied Learnt (learn_step kept slicing)
+clerk_step kept (Learn slicing) = replied (λ _. Learnt) (learn_step kept slicing)
 clerk_step kept Forget = Ok (None, Forgotten)
 
 -- an event is its call, whatever its ticket
@@ -29,11 +26,6 @@ pub record AnsweredCall : Type 0 where
 
 abbrev pub answered : ClerkCall → Result ClerkReply ClerkError → AnsweredCall
 answered call answer = record { call = call; answer = answer }
-
--- a call was answered by its step, and changed nothing where it was refused
-abbrev pub Answers : Result (Option Slicing × ClerkReply) ClerkError → Option Slicing → Result ClerkReply ClerkError → Option Slicing → Type 0
-Answers step old (Ok reply) new = step ≡ Ok (new, reply)
-Answers step old (Err refusal) new = (step ≡ Err refusal) × (new ≡ old)
 
 -- a new clerk that was asked these calls and gave these answers keeps this assignment
 abbrev pub LeadsTo : List AnsweredCall → Option Slicing → Type 0

@@ -1,22 +1,12 @@
 -- What each call answers and leaves, from the assignment that a clerk keeps.
-use Rattle.std.specs.Prelude.{◌≡◌, true, ℕ, nat_le, List, [], ◌∷◌, Option, Some, None, Result, Ok, Err, is_ok}
-use Rattle.slice_ranges.specs.Refusals.{when, first_of}
+use Rattle.std.specs.Prelude.{ℕ, nat_le, List, [], ◌∷◌, Option, Some, None, Result, Ok, Err}
+use Rattle.slice_ranges.specs.Refusals.{when, answer}
 use Rattle.assignment.specs.Slices.{Slicing}
 use Rattle.assignment.specs.Owners.{owners_of}
-use Rattle.history_lock.specs.declared.machine.Trouble.{Trouble}
-use Rattle.history_lock.specs.declared.machine.Trouble.TheVariants as trouble
 use Rattle.clerk.specs.declared.clerk.Found.{Found}
 use Rattle.clerk.specs.declared.error.Unknown.{Unknown}
 use Rattle.clerk.specs.declared.error.ClerkError.{ClerkError}
 use Rattle.clerk.specs.declared.error.ClerkError.TheVariants.{Old}
-
--- the first refusal of a list, or else the value
-abbrev pub unless_refused : {A : Type 0} → Option ClerkError → A → Result A ClerkError
-unless_refused None value = Ok value
-unless_refused (Some refusal) value = Err refusal
-
-abbrev pub answer : {A : Type 0} → List (Option ClerkError) → A → Result A ClerkError
-answer checks value = unless_refused (first_of checks) value
 
 -- an assignment is not above the one that is kept, whose generation is told
 abbrev pub not_above : Option Slicing → Slicing → Option ClerkError
@@ -37,10 +27,3 @@ found_in slicing key = record { generation = slicing.generation; owners = record
 abbrev pub look_at : Option Slicing → ℕ → Result Found Unknown
 look_at None key = Err record {}
 look_at (Some kept) key = Ok (found_in kept key)
-
--- a call that takes memory answers its step, and changes nothing where it is refused, nor where there is no memory for
--- what would not be refused
-abbrev pub Takes : {R : Type 0} → Result (Option Slicing × R) ClerkError → Option Slicing → Result R (Trouble ClerkError) → Option Slicing → Type 0
-Takes step old (Ok reply) new = step ≡ Ok (new, reply)
-Takes step old (Err (trouble.Refused refusal)) new = (step ≡ Err refusal) × (new ≡ old)
-Takes step old (Err trouble.NoMemory) new = (is_ok step ≡ true) × (new ≡ old)

@@ -1,7 +1,8 @@
 //! A clerk.
 
 ghost use Rattle.std.specs.Prelude.{◌≡◌, None, IfOk};
-ghost use Rattle.clerk.specs.Steps.{Takes, learn_step, look_at};
+ghost use Rattle.history_lock.specs.Steps.{Takes};
+ghost use Rattle.clerk.specs.Steps.{learn_step, look_at};
 
 use crate::error::{ClerkError, Unknown};
 use arrayvec::ArrayVec;
