@@ -1,0 +1,7 @@
+pub mod Histories
+pub mod Lists
+pub mod Keeps
+pub mod Deals
+pub mod Dealt
+pub mod Told
+pub mod Waits

@@ -1,0 +1,82 @@
+-- What a call tells, of what its steps told.
+use Rattle.std.proofs.Common.{◌≡◌, ◌⊎◌, ℕ, ◌+◌, ◌<◌, ◌≤◌, List, [], ◌∷◌, ◌++◌, length, length-append, refl, sym, ap, ◌∙◌, subst, arith, Option, Some, Result, Ok, Err}
+use Rattle.atomic_table.specs.Seated.{TableId}
+use Rattle.atomic_table.specs.Table.{Me}
+use Rattle.history_lock.specs.declared.entry.Entry.{Entry}
+use Rattle.history_lock.specs.declared.error.WriteError.{WriteError}
+use Rattle.history_lock.specs.declared.error.WriteError.TheVariants.{HistoryFull, Refused, NoMemory}
+use Rattle.history_lock.specs.declared.view.Opened.{Opened}
+use Rattle.history_lock.specs.declared.view.Role.{Role}
+use Rattle.history_lock.specs.declared.view.Role.TheVariants.{Lane}
+use Rattle.history_lock.specs.declared.view.View.{View}
+use Rattle.history_lock.specs.declared.view.Book.{Book}
+use Rattle.history_lock.specs.Histories.{replay, entry, of_lane, StartsWith, GrowsBy}
+use Rattle.history_lock.specs.Passes.{Lock, lock_at, Sight, sight}
+use Rattle.history_lock.specs.Rule.{IsTaken, mine_of, taken, wrote, gave_back}
+use Rattle.history_lock.specs.Answers.{IsShown, IsWritten, IsRefused, Wrote}
+use Rattle.history_lock.specs.Turns.{Turn, Stays}
+use Rattle.history_lock.proofs.Histories.{of_lane_snoc, grows_snoc, replay_snoc}
+
+-- a pass is seen as its place shows it
+sight_at : {M E : Type 0} (z z' : TableId) (lane : ℕ) (v w : View M E) → z' ≡ z → v ≡ w → sight z lane w ≡ sight z' lane v
+sight_at z z' lane v w e is = λ i. sight (sym e i) lane (sym is i)
+
+-- a book came out at a lane
+module _ {M E R F : Type 0} (step : M → E → Result (M × R) F) (opened : Opened M) (lane : ℕ) (v : View M E) (b : Book M E) (knows : v.opened ≡ Some opened) (out : IsTaken step v b) where
+  abbrev history : List (Entry E)
+  history = b.history.items
+
+  legal : replay step opened.machine history ≡ Some b.machine
+  legal = out.legal opened knows
+
+  module _ (limit : ℕ) (most : opened.limit ≡ limit) (made : E → Type 0) (unmade : Type 0) (b' : Book M E) where
+    pub stays : (error : WriteError F) → Turn step lane limit made unmade b (Err error) b' → Stays b b'
+    stays HistoryFull t = t.2
+    stays (Refused fault) t = t.4
+    stays NoMemory t = t.2
+
+    module _ (reply : R) (t : Turn step lane limit made unmade b (Ok reply) b') where
+      pub new_legal : replay step opened.machine b'.history.items ≡ Some b'.machine
+      new_legal = subst (λ x. replay step opened.machine x ≡ Some b'.machine) (sym t.4) (replay_snoc step opened.machine b.machine b'.machine reply history lane t.0 legal t.3)
+
+      pub new_short : length b'.history.items ≤ opened.limit
+      new_short = let room = t.2 in let e = ap length t.4 in let n = length-append history (entry lane t.0 ∷ []) in omega arith
+
+      pub new_grows : GrowsBy lane history b'.history.items
+      new_grows = subst (GrowsBy lane history) (sym t.4) (grows_snoc lane history t.0)
+
+      new_mine : v.role ≡ Lane lane → mine_of v.role v.mine b'.history.items ≡ v.mine ++ t.0 ∷ []
+      new_mine role = ap (mine_of v.role v.mine) t.4 ∙ (ap (λ (x : Role). mine_of x v.mine (history ++ entry lane t.0 ∷ [])) role
+          ∙ (of_lane_snoc lane history t.0 ∙ ap (λ (l : List E). l ++ t.0 ∷ []) (sym (ap (λ (x : Role). mine_of x v.mine history) role) ∙ out.mine)))
+
+  -- the lane shows this word; the places are those after the claim, and after the book was given back
+  module _ (home z z' : TableId) (same : z' ≡ z) (word : ℕ) (m m' : Me (Option (Book M E)) (View M E)) (c c' : List (ℕ × Option (Book M E))) (took : m ≡ (taken v 0 word history, c)) where
+    abbrev lock : Lock M
+    lock = lock_at home opened
+
+    pub shown : m' ≡ (gave_back m.0 0, c') → IsShown step lock (sight z lane v) b.machine (sight z' lane m'.0)
+    shown gave = subst (IsShown step lock (sight z lane v) b.machine) (sight_at z z' lane m'.0 (gave_back (taken v 0 word history) 0) same (ap (λ x. x.0) gave ∙ ap (λ x. gave_back x.0 0) took))
+        record { begins = out.begins; legal = legal; only = refl }
+
+    module _ (limit : ℕ) (most : opened.limit ≡ limit) (made : E → Type 0) (unmade : Type 0) (b' : Book M E) where
+      short_of : (gave : m' ≡ (gave_back m.0 0, c')) → length m'.0.seen ≡ length history
+      short_of gave = ap (λ x. length x.0.seen) gave ∙ ap (λ x. length x.0.seen) took
+
+      pub unwritten : (error : WriteError F) → Turn step lane limit made unmade b (Err error) b' → m' ≡ (gave_back m.0 0, c') → Wrote step lock made unmade (sight z lane v) (Err error) (sight z' lane m'.0)
+      unwritten HistoryFull t gave = let few = out.short opened knows in let least = t.1 in let e = short_of gave in (t.0, (b.machine, shown gave), omega arith)
+      unwritten (Refused fault) t gave = record { event = t.0; machine = b.machine; calls = t.1; shows = shown gave; room = (let room = t.2 in let e = short_of gave in omega arith); refuses = t.3 }
+      unwritten NoMemory t gave = let room = t.1 in let e = short_of gave in (t.0, (b.machine, shown gave), omega arith)
+
+      pub written : (reply : R) → v.role ≡ Lane lane → Turn step lane limit made unmade b (Ok reply) b' → m' ≡ (wrote m.0 0 b'.history.items, c') → IsWritten step lock made unmade (sight z lane v) reply (sight z' lane m'.0)
+      written reply role t gave = subst (IsWritten step lock made unmade (sight z lane v) reply) (sight_at z z' lane m'.0 (wrote (taken v 0 word history) 0 b'.history.items) same (ap (λ x. x.0) gave ∙ ap (λ x. wrote x.0 0 b'.history.items) took)) record {
+        event = t.0;
+        before = b.machine;
+        after = b'.machine;
+        shown = sight z lane (taken v 0 word history);
+        calls = t.1;
+        shows = record { begins = out.begins; legal = legal; only = refl };
+        room = (let room = t.2 in omega arith);
+        takes = t.3;
+        adds = λ i. record { table = z; opened = v.opened; lane = lane; seen = t.4 i; mine = new_mine limit most made unmade b' reply t role i; turned = v.turned };
+        legal = new_legal limit most made unmade b' reply t;
+      }

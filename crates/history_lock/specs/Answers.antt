@@ -1,0 +1,95 @@
+-- What the calls of a lock answer, and what the pass has seen and done afterwards.
+use Rattle.std.specs.Prelude.{◌≡◌, ◌⊎◌, ◌<◌, List, [], ◌∷◌, ◌++◌, length, Some, Result, Ok, Err}
+use Rattle.history_lock.specs.declared.error.Busy.{Busy}
+use Rattle.history_lock.specs.declared.error.WriteError.{WriteError}
+use Rattle.history_lock.specs.declared.error.WriteError.TheVariants.{HistoryFull, Refused, NoMemory}
+use Rattle.history_lock.specs.declared.error.LockError.{LockError}
+use Rattle.history_lock.specs.declared.error.LockError.TheVariants.{Busy as BusyLane, Write}
+use Rattle.history_lock.specs.declared.machine.Trouble.{Trouble}
+use Rattle.history_lock.specs.declared.machine.Trouble.TheVariants as trouble
+use Rattle.history_lock.specs.Histories.{replay, entry, StartsWith}
+use Rattle.history_lock.specs.Passes.{Lock, Sight}
+
+-- why a machine's trouble keeps an event out of the history
+abbrev pub write_error_of : {F : Type 0} → Trouble F → WriteError F
+write_error_of (trouble.Refused fault) = Refused fault
+write_error_of trouble.NoMemory = NoMemory
+
+module _ {M E : Type 0} where
+  -- a claim was refused
+  pub record IsTurnedAway (old : Sight M E) (busy : Busy) (new : Sight M E) : Type 0 where
+    pub begins : StartsWith new.seen old.seen
+    pub only : new ≡ record old { seen = new.seen; turned = old.turned ++ busy ∷ [] }
+
+  -- claims were refused, any number of them
+  pub record HasWaited (old new : Sight M E) : Type 0 where
+    pub begins : StartsWith new.seen old.seen
+    pub longer : StartsWith new.turned old.turned
+    pub only : new ≡ record old { seen = new.seen; turned = new.turned }
+
+  -- the first pass has now seen all that it had seen, and all that the second had
+  pub record HasMet (first second new : Sight M E) : Type 0 where
+    pub begins : StartsWith new.seen first.seen
+    pub learns : StartsWith new.seen second.seen
+    pub only : new ≡ record first { seen = new.seen }
+
+module _ {M E R F : Type 0} (step : M → E → Result (M × R) F) (lock : Lock M) where
+  -- the pass has seen the history as it was at its turn: it begins with all that was seen before, it is legal, and this is the machine after it
+  pub record IsShown (old : Sight M E) (machine : M) (new : Sight M E) : Type 0 where
+    pub begins : StartsWith new.seen old.seen
+    pub legal : replay step lock.opened.machine new.seen ≡ Some machine
+    pub only : new ≡ record old { seen = new.seen }
+
+  -- `made event`: `make` was called once, and answered this event; `unmade`: it was not called
+  module _ (made : E → Type 0) (unmade : Type 0) where
+    -- there was room for the event, the machine took it, and it was added to the history that the pass was shown
+    pub record IsWritten (old : Sight M E) (reply : R) (new : Sight M E) : Type 0 where
+      pub event : E
+      pub before : M
+      pub after : M
+      pub shown : Sight M E
+      pub calls : made event
+      pub shows : IsShown old before shown
+      pub room : length shown.seen < lock.opened.limit
+      pub takes : step before event ≡ Ok (after, reply)
+      pub adds : new ≡ record shown { seen = shown.seen ++ entry old.lane event ∷ []; mine = old.mine ++ event ∷ [] }
+      pub legal : replay step lock.opened.machine new.seen ≡ Some after
+
+    -- there was room for the event, and the machine refuses it
+    pub record IsRefused (old : Sight M E) (fault : F) (new : Sight M E) : Type 0 where
+      pub event : E
+      pub machine : M
+      pub calls : made event
+      pub shows : IsShown old machine new
+      pub room : length new.seen < lock.opened.limit
+      pub refuses : step machine event ≡ Err fault
+
+    -- a write, once the lock was free
+    abbrev pub Wrote : Sight M E → Result R (WriteError F) → Sight M E → Type 0
+    Wrote old (Ok reply) new = IsWritten old reply new
+    Wrote old (Err HistoryFull) new = unmade × ((machine : M) × IsShown old machine new) × (length new.seen ≡ lock.opened.limit)
+    Wrote old (Err (Refused fault)) new = IsRefused old fault new
+    Wrote old (Err NoMemory) new = (unmade ⊎ ((event : E) × made event)) × ((machine : M) × IsShown old machine new) × (length new.seen < lock.opened.limit)
+
+    -- a write that does not wait
+    abbrev pub TriedToWrite : Sight M E → Result R (LockError F) → Sight M E → Type 0
+    TriedToWrite old (Ok reply) new = Wrote old (Ok reply) new
+    TriedToWrite old (Err (BusyLane busy)) new = unmade × IsTurnedAway old busy new
+    TriedToWrite old (Err (Write error)) new = Wrote old (Err error) new
+
+  -- `called machine answer`: the closure was called once, on this machine, and answered this; `uncalled`: it was not called
+  module _ {T : Type 0} (called : M → T → Type 0) (uncalled : Type 0) where
+    -- a shared call, once the lock was free
+    abbrev pub Shared : Sight M E → T → Sight M E → Type 0
+    Shared old answer new = (machine : M) × called machine answer × IsShown old machine new
+
+    -- a shared call that does not wait
+    abbrev pub TriedToShare : Sight M E → Result T Busy → Sight M E → Type 0
+    TriedToShare old (Ok answer) new = Shared old answer new
+    TriedToShare old (Err busy) new = uncalled × IsTurnedAway old busy new
+
+module _ {M E : Type 0} where
+  -- a meeting that does not wait
+  abbrev pub TriedToMeet : Sight M E → Sight M E → Result (Unit {0}) Busy → Sight M E → Type 0
+  TriedToMeet first second (Ok _) new = HasMet first second new
+  TriedToMeet first second (Err busy) new = IsTurnedAway first busy new

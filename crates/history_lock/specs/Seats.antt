@@ -1,0 +1,41 @@
+-- Seats between two calls.
+use Rattle.std.specs.Prelude.{◌≡◌, ℕ, ◌<◌, ◌≤◌, List, [], Option, Some}
+use Rattle.atomic_table.specs.Seated.{TableId}
+use Rattle.atomic_table.specs.Table.{Me}
+use Rattle.history_lock.specs.declared.view.Opened.{Opened}
+use Rattle.history_lock.specs.declared.view.Role.TheVariants.{Lane, Dealer}
+use Rattle.history_lock.specs.declared.view.Gone.{Gone}
+use Rattle.history_lock.specs.declared.view.View.{View}
+use Rattle.history_lock.specs.declared.view.Book.{Book}
+
+-- the seat of a lane holds nothing, and has taken in these passes
+pub record IsTaking {M E : Type 0} (me : Me (Option (Book M E)) (View M E)) (lane : ℕ) (gone : List (Gone E)) : Type 0 where
+  pub idle : me.0.to ≤ me.0.from
+  pub role : me.0.role ≡ Lane lane
+  pub has : me.0.gone ≡ gone
+  pub bare : me.1 ≡ []
+
+-- the seat of a lane between two calls
+pub record IsResting {M E : Type 0} (me : Me (Option (Book M E)) (View M E)) (lane : ℕ) : Type 0 where
+  pub idle : me.0.to ≤ me.0.from
+  pub role : me.0.role ≡ Lane lane
+  pub small : lane < 8
+  pub alone : me.0.gone ≡ []
+  pub bare : me.1 ≡ []
+
+-- the seat that deals has dealt the lanes below this one
+pub record IsDealing {M E : Type 0} (me : Me (Option (Book M E)) (View M E)) (opened : Opened M) (lane : ℕ) : Type 0 where
+  pub idle : me.0.to ≤ me.0.from
+  pub role : me.0.role ≡ Dealer lane
+  pub alone : me.0.gone ≡ []
+  pub bare : me.1 ≡ []
+  pub knows : me.0.opened ≡ Some opened
+
+-- a lock of one word, with these numbers of passes and of entries at the most
+pub record IsOfOneWord {M : Type 0} (table : TableId) (opened : Opened M) (lanes limit : ℕ) : Type 0 where
+  pub words : table.words ≡ 1
+  pub slots : table.slots ≡ 1
+  pub lanes_are : opened.lanes ≡ lanes
+  pub limit_is : opened.limit ≡ limit
+  pub some : 0 < lanes
+  pub few : lanes ≤ 8

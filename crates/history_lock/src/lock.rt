@@ -1,0 +1,117 @@
+//! What callers do with a lock.
+
+ghost use Rattle.std.specs.Prelude.{◌≡◌, Ok, MatchResult};
+ghost use Rattle.std.specs.Fn.{CalledAt, TakesAt};
+ghost use Rattle.history_lock.specs.Passes.{Sight, IsPassOf};
+ghost use Rattle.history_lock.specs.Answers.{HasWaited, IsTurnedAway, Wrote, TriedToWrite, Shared, TriedToShare, TriedToMeet};
+
+use crate::error::{Busy, LockError, WriteError};
+use crate::machine::Machine;
+use crate::pass::{LaneLock, Pass};
+use crate::turn::{meet_at, share_at, write_at};
+use std::sync::Wait;
+
+impl<M: Machine> LaneLock<M> {
+    // A write, or the refusal of its claim.
+    fn attempt<F: FnMut() -> M::Event>(
+        &self,
+        pass: &mut Pass<M>,
+        make: &mut F,
+    ) -> Result<Result<M::Reply, WriteError<M::Fault>>, Busy>
+        requires own { IsPassOf self.now pass.old }
+        requires may { F.pre make.old }
+        ensures { MatchResult result
+            (λ answer. Wrote M.step self.now (λ event. F.step make.old event make.new) (make.new ≡ make.old) pass.old answer pass.new)
+            (λ busy. (make.new ≡ make.old) × IsTurnedAway pass.old busy pass.new) }
+    {
+        write_at(
+            &self.board.shared,
+            &mut pass.place,
+            pass.lane,
+            self.limit,
+            make,
+        )
+    }
+
+    /// Adds the event that `make` answers to the history, and gives the machine's reply.
+    ///
+    /// `make` is called once, while the lock is held; on `Busy` and `HistoryFull` it is not called.
+    /// In the order of the refusals: the lock is held ([`LockError::Busy`]), the history is full, the
+    /// machine refuses the event; want of memory may come in place of the last, or of a reply.
+    pub fn try_write<F: FnMut() -> M::Event>(
+        &self,
+        pass: &mut Pass<M>,
+        make: &mut F,
+    ) -> Result<M::Reply, LockError<M::Fault>>
+        requires own { IsPassOf self.now pass.old }
+        requires may { F.pre make.old }
+        ensures { TriedToWrite M.step self.now (λ event. F.step make.old event make.new) (make.new ≡ make.old) pass.old result pass.new }
+    {
+        match self.attempt(pass, make) {
+            Ok(answer) => answer.map_err(LockError::Write),
+            Err(busy) => Err(LockError::Busy(busy)),
+        }
+    }
+
+    /// [`Self::try_write`] that waits until the lock is free.
+    #[tactic(auto, using(crate::proofs::Waits::waits_not, crate::proofs::Waits::waits_once_more, crate::proofs::Waits::still_of))]
+    pub fn write<R: Wait, F: FnMut() -> M::Event>(
+        &self,
+        rt: &R,
+        pass: &mut Pass<M>,
+        make: &mut F,
+    ) -> Result<M::Reply, WriteError<M::Fault>>
+        requires own { IsPassOf self.now pass.old }
+        requires may { F.pre make.old }
+        ensures { (late : Sight M M.Event) × HasWaited pass.old late
+            × Wrote M.step self.now (λ event. F.step make.old event make.new) (make.new ≡ make.old) late result pass.new }
+    {
+        for _ in rt.forever() {
+            if let Ok(answer) = self.attempt(pass, make) {
+                return answer;
+            }
+        }
+        unreachable!()
+    }
+
+    /// Lends the machine to `f`, once, and gives its answer. Where the lock is held, `f` is not called.
+    pub fn try_shared<T, F: FnMut(&M) -> T>(&self, pass: &mut Pass<M>, f: &mut F) -> Result<T, Busy>
+        requires own { IsPassOf self.now pass.old }
+        requires may { (machine : M) → TakesAt F.FnMut f.old machine }
+        ensures { TriedToShare M.step self.now (λ machine answer. CalledAt F.FnMut f.old machine answer f.new) (f.new ≡ f.old) pass.old result pass.new }
+    {
+        share_at(&self.board.shared, &mut pass.place, pass.lane, f)
+    }
+
+    /// [`Self::try_shared`] that waits until the lock is free.
+    #[tactic(auto, using(crate::proofs::Waits::waits_not, crate::proofs::Waits::waits_once_more, crate::proofs::Waits::still_of))]
+    pub fn shared<R: Wait, T, F: FnMut(&M) -> T>(&self, rt: &R, pass: &mut Pass<M>, f: &mut F) -> T
+        requires own { IsPassOf self.now pass.old }
+        requires may { (machine : M) → TakesAt F.FnMut f.old machine }
+        ensures { (late : Sight M M.Event) × HasWaited pass.old late
+            × Shared M.step self.now (λ machine answer. CalledAt F.FnMut f.old machine answer f.new) (f.new ≡ f.old) late result pass.new }
+    {
+        for _ in rt.forever() {
+            if let Ok(answer) = self.try_shared(pass, f) {
+                return answer;
+            }
+        }
+        unreachable!()
+    }
+
+    /// Afterwards the first pass has seen all that the second had. The lock may be held instead.
+    pub fn try_meet(&self, first: &mut Pass<M>, second: &mut Pass<M>) -> Result<(), Busy>
+        requires own { IsPassOf self.now first.old }
+        requires other { IsPassOf self.now second.old }
+        ensures first { TriedToMeet first.old second.old result first.new }
+        ensures second { second.new ≡ second.old }
+    {
+        meet_at(
+            &self.board.shared,
+            &mut first.place,
+            first.lane,
+            &mut second.place,
+            second.lane,
+        )
+    }
+}

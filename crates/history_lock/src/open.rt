@@ -1,0 +1,130 @@
+//! How a lock is made.
+
+ghost use Rattle.std.specs.Prelude.{◌≡◌, ◌+◌, ◌<◌, ◌≤◌, [], ◌∷◌, true, Some, IfOk, OnOk, IfErr, if◌then◌else◌, vec_len, vec_capacity};
+ghost use Rattle.history_lock.specs.declared.error.NewLockError.TheVariants as new_lock_error;
+ghost use Rattle.history_lock.specs.Passes.{lock_at, new_pass, AreNewFrom, is_allowed};
+ghost use Rattle.history_lock.specs.Rule.{first_view};
+ghost use Rattle.history_lock.specs.Seats.{IsDealing};
+
+use crate::error::NewLockError;
+use crate::machine::Machine;
+use crate::pass::{LaneLock, Pass};
+use crate::rule::{Board, Common, Deal, Place};
+use crate::view::{Book, Opened};
+use atomic_table::{Refused, Table};
+use std::alloc::{AllocError, Global};
+use std::snapshot::Snapshot;
+
+/// How many lanes a lock has at the most.
+pub const MOST_LANES: u64 = 8;
+
+/// How many entries a history has at the most.
+pub const MOST_ENTRIES: usize = 65_536;
+
+impl<M: Machine> LaneLock<M> {
+    /// A lock round a machine, and a pass for each of its lanes, of lane 0 first.
+    ///
+    /// The history is to have `limit` entries at the most. It is refused with [`NewLockError::Lanes`]
+    /// where `lanes` is not 1 to 8 or `limit` not 1 to 65,536, and then for want of memory. Where it is
+    /// refused, the machine is dropped.
+    pub fn new(
+        alloc: Global,
+        machine: M,
+        lanes: u64,
+        limit: usize,
+    ) -> Result<(LaneLock<M>, Vec<Pass<M>>), NewLockError>
+        ensures opened { IfOk result (λ made. (made.0.opened ≡ record { machine = machine; lanes = lanes; limit = limit })
+            × (vec_len made.1 ≡ lanes) × AreNewFrom 0 made.0 made.1.items) }
+        ensures accepted { OnOk result (is_allowed lanes limit ≡ true) }
+        ensures refused { IfErr result (λ e. e ≡ (if is_allowed lanes limit then new_lock_error.NoMemory else new_lock_error.Lanes)) }
+    {
+        if lanes == 0 || lanes > MOST_LANES || limit == 0 || limit > MOST_ENTRIES {
+            return Err(NewLockError::Lanes);
+        }
+        open(alloc, machine, lanes, limit).map_err(|_| NewLockError::NoMemory)
+    }
+}
+
+// The lock and its passes.
+fn open<M: Machine>(
+    alloc: Global,
+    machine: M,
+    lanes: u64,
+    limit: usize,
+) -> Result<(LaneLock<M>, Vec<Pass<M>>), AllocError>
+    requires { is_allowed lanes limit ≡ true }
+    ensures { IfOk result (λ made. (made.0.opened ≡ record { machine = machine; lanes = lanes; limit = limit })
+        × (vec_len made.1 ≡ lanes) × AreNewFrom 0 made.0 made.1.items) }
+{
+    let opened = Opened {
+        machine,
+        lanes,
+        limit,
+    };
+    let (board, mut dealer) = lay(alloc, opened)?;
+    let passes = deal(alloc, &board.shared, &mut dealer, lanes)?;
+    let lock = LaneLock {
+        board,
+        lanes,
+        limit,
+    };
+    Ok((lock, passes))
+}
+
+// The table with one word and one book, and the seat that deals the lanes.
+fn lay<M: Machine>(
+    alloc: Global,
+    opened: Opened<M>,
+) -> Result<(Board<M, M::Event>, Place<M, M::Event>), AllocError>
+    ensures { IfOk result (λ t. (t.0.shared.table_id.words ≡ 1) × (t.0.shared.table_id.slots ≡ 1)
+        × (t.1.table_id ≡ t.0.shared.table_id) × (t.0.shared.key.value ≡ opened) × (t.1.me ≡ (first_view opened, []))) }
+{
+    let key = Snapshot::of(&opened);
+    let mut slots = Vec::with_capacity(alloc, 1)?;
+    slots.push_reserved(Some(Book {
+        machine: opened.machine,
+        history: Vec::new(alloc),
+    }));
+    match Table::new(alloc, &[0], slots, &key) {
+        Ok(made) => Ok(made),
+        Err(Refused { slots: _ }) => Err(AllocError),
+    }
+}
+
+// The passes of all lanes.
+fn deal<M: Machine>(
+    alloc: Global,
+    common: &Common<M, M::Event>,
+    dealer: &mut Place<M, M::Event>,
+    lanes: u64,
+) -> Result<Vec<Pass<M>>, AllocError>
+    requires table { (dealer.old.table_id ≡ common.now.table_id) × (common.now.table_id.words ≡ 1) }
+    requires first { dealer.old.me ≡ (first_view common.now.key.value, []) }
+    requires few { (lanes ≤ 8) × (lanes ≡ common.now.key.value.lanes) }
+    ensures { IfOk result (λ passes. (vec_len passes ≡ lanes)
+        × AreNewFrom 0 (lock_at common.now.table_id common.now.key.value) passes.items) }
+{
+    let mut passes = Vec::new(alloc);
+    for lane in 0..lanes {
+        passes.reserve(1)?;
+        passes.push_reserved(deal_one(common, dealer, lane));
+    }
+    Ok(passes)
+}
+
+// The pass of the next lane.
+fn deal_one<M: Machine>(
+    common: &Common<M, M::Event>,
+    dealer: &mut Place<M, M::Event>,
+    lane: u64,
+) -> Pass<M>
+    requires table { (dealer.old.table_id ≡ common.now.table_id) × (common.now.table_id.words ≡ 1) }
+    requires dealer { IsDealing dealer.old.me common.now.key.value lane }
+    requires few { (lane < 8) × (lane < common.now.key.value.lanes) }
+    ensures table { dealer.new.table_id ≡ dealer.old.table_id }
+    ensures dealer { IsDealing dealer.new.me common.now.key.value (lane + 1) }
+    ensures pass { result ≡ new_pass (lock_at common.now.table_id common.now.key.value) lane }
+{
+    let place = common.split_seat::<Deal>(dealer);
+    Pass { place, lane }
+}

@@ -1,0 +1,59 @@
+//! The lock and its passes, as types.
+
+ghost use Rattle.std.specs.Prelude.{◌≡◌};
+
+use crate::machine::Machine;
+use crate::rule::{Board, Place};
+use std::marker::Model;
+
+/// A lock round a machine, which keeps the history of the events that the machine took.
+///
+/// Contracts see which lock it is, and the machine, the number of passes and the limit of the history
+/// that it was opened with.
+#[derive(Drop)]
+pub struct LaneLock<M: Machine> {
+    pub(crate) board: Board<M, M::Event>,
+    pub(crate) lanes: u64,
+    pub(crate) limit: usize,
+}
+
+impl<M: Machine> Model for LaneLock<M> {
+    ghost use Rattle.history_lock.specs.Passes.{Lock, lock_at};
+    ghost use Rattle.history_lock.specs.Seats.{IsOfOneWord};
+
+    ghost Value = { Lock M };
+
+    ghost view = { λ l. lock_at l.board.shared.table_id l.board.shared.key.value };
+
+    ghost invariant = { λ l. IsOfOneWord l.board.shared.table_id l.board.shared.key.value l.lanes l.limit };
+}
+
+/// The right to call a lock as the pass of one lane.
+///
+/// Contracts see what the pass has seen of the history, its own events, and its refused claims.
+/// None of them is kept when the program runs.
+#[derive(Drop)]
+pub struct Pass<M: Machine> {
+    pub(crate) place: Place<M, M::Event>,
+    pub(crate) lane: u64,
+}
+
+impl<M: Machine> Model for Pass<M> {
+    ghost use Rattle.history_lock.specs.Passes.{Sight, sight};
+    ghost use Rattle.history_lock.specs.Seats.{IsResting};
+
+    ghost Value = { Sight M M.Event };
+
+    ghost view = { λ p. sight p.place.table_id p.lane p.place.me.0 };
+
+    ghost invariant = { λ p. IsResting p.place.me p.lane };
+}
+
+impl<M: Machine> Pass<M> {
+    /// The lane of the pass, from 0 on.
+    pub fn lane(&self) -> u64
+        ensures { result ≡ self.now.lane }
+    {
+        self.lane
+    }
+}

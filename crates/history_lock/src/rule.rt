@@ -1,0 +1,100 @@
+//! The rule of a lock over lanes, and what each step tells.
+//!
+//! A lane is a word and a slot with a book. The word is 0 while the book is at home, 1 while a pass
+//! reads, and `n + 2` while the pass of lane n writes. `specs/Rule.antt` has the rule, for any number of
+//! lanes that have a word; so far all passes share the word and the book of lane 0.
+
+use crate::machine::Machine;
+use crate::view::{Book, Opened, View};
+use atomic_table::{Join, Play, Seat, Shared, Split, Table, TableRule};
+use std::alloc::Global;
+use std::snapshot::Snapshot;
+
+pub type Board<M, E> = Table<Option<Book<M, E>>, View<M, E>, Snapshot<Opened<M>>, Lanes, Global>;
+
+pub type Common<M, E> = Shared<Option<Book<M, E>>, View<M, E>, Snapshot<Opened<M>>, Lanes>;
+
+pub type Place<M, E> = Seat<Option<Book<M, E>>, View<M, E>>;
+
+/// What holds of the words, the books and all seats between any two steps.
+pub struct Lanes;
+
+impl<M: Machine> TableRule<Option<Book<M, M::Event>>, View<M, M::Event>, Snapshot<Opened<M>>>
+    for Lanes {
+    ghost use Rattle.history_lock.specs.Rule.{Kept, first_view};
+
+    ghost holds = { λ key. Kept M.step key.value };
+
+    ghost first = { λ key. first_view key.value };
+}
+
+/// A claim of a lane: its book comes out, or its word shows who holds it.
+pub struct Claim;
+
+impl<M: Machine> Play<Option<Book<M, M::Event>>, View<M, M::Event>> for Claim {
+    ghost use Rattle.history_lock.specs.Rule.{claimed};
+
+    ghost then = { claimed M.step };
+}
+
+/// A writer gives back a lane with a new book. This is when its event happens.
+pub struct Publish;
+
+impl<M: Machine> Play<Option<Book<M, M::Event>>, View<M, M::Event>> for Publish {
+    ghost use Rattle.history_lock.specs.Rule.{published};
+
+    ghost then = { published };
+}
+
+/// A lane is given back with the book as it was.
+pub struct GiveBack;
+
+impl<M: Machine> Play<Option<Book<M, M::Event>>, View<M, M::Event>> for GiveBack {
+    ghost use Rattle.history_lock.specs.Rule.{given_back};
+
+    ghost then = { given_back };
+}
+
+/// A lane is dealt.
+pub struct Deal;
+
+impl<M: Machine> Split<View<M, M::Event>> for Deal {
+    ghost use Rattle.history_lock.specs.Rule.{dealer_after, dealt};
+
+    ghost left = { dealer_after };
+
+    ghost right = { dealt };
+}
+
+/// A pass tells what it has seen.
+pub struct Tell;
+
+impl<M: Machine> Split<View<M, M::Event>> for Tell {
+    ghost use Rattle.history_lock.specs.Rule.{telling};
+
+    ghost left = { λ v. v };
+
+    ghost right = { telling };
+}
+
+/// A pass is told what another has seen.
+pub struct Meet;
+
+impl<M: Machine> Join<View<M, M::Event>> for Meet {
+    ghost use Rattle.history_lock.specs.Rule.{met, spent};
+
+    ghost both = { met };
+
+    ghost spent = { spent };
+}
+
+/// A pass is taken in, when the lock closes.
+pub struct Gather;
+
+impl<M: Machine> Join<View<M, M::Event>> for Gather {
+    ghost use Rattle.history_lock.specs.Rule.{gathered, spent};
+
+    ghost both = { gathered };
+
+    ghost spent = { spent };
+}
