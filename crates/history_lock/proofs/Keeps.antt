@@ -1,5 +1,5 @@
 -- Each atomic step on a lane keeps the rule.
-use Rattle.std.proofs.Common.{◌≡◌, ◌≢◌, ◌⊎◌, ℕ, ◌+◌, ◌<◌, ◌≤◌, eqb, List, [], ◌∷◌, ◌++◌, length, get_or, set, sym, refl, ap, ◌∙◌, subst, ⊎_elim, arith, Option, Some, None, Result, eq-eqb, ne_eqb, length-set, get_or-set_other, get_or-set_same}
+use Rattle.std.proofs.Common.{◌≡◌, ◌≢◌, ℕ, ◌+◌, ◌<◌, ◌≤◌, eqb, List, [], ◌∷◌, length, get_or, set, sym, refl, ap, ◌∙◌, subst, ⊎_elim, arith, Some, Result, eq-eqb, ne_eqb, length-set, get_or-set_other, get_or-set_same}
 use Rattle.std.proofs.lemmas.List.{set-get_or}
 use mathlib.Core.Logic.{dite}
 use mathlib.Core.Option.{none, some, some-injective}
@@ -16,7 +16,7 @@ use Rattle.history_lock.specs.declared.view.Gone.{Gone}
 use Rattle.history_lock.specs.declared.view.View.{View}
 use Rattle.history_lock.specs.declared.view.Book.{Book}
 use Rattle.history_lock.specs.Histories.{replay, of_lane, StartsWith, GrowsBy}
-use Rattle.history_lock.specs.Rule.{Books, Sat, IsWordOf, HasLane, KnowsRole, KnowsGone, Holds, Knows, IsAtHome, IsAway, Kept, mine_of, taken, turned_away, wrote, gave_back, IsTaken, claimed, published, given_back}
+use Rattle.history_lock.specs.Rule.{Books, Sat, IsWordOf, HasLane, KnowsRole, KnowsGone, Holds, Knows, IsAway, Kept, mine_of, taken, turned_away, wrote, gave_back, claimed, published, given_back}
 use Rattle.history_lock.proofs.Histories.{starts_itself, starts_through}
 use Rattle.history_lock.proofs.Lists.{put, put_here, put_else, inside, each_set}
 

@@ -5,3 +5,4 @@ pub mod Deals
 pub mod Dealt
 pub mod Told
 pub mod Waits
+pub mod Ends

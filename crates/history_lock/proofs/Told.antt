@@ -1,5 +1,5 @@
 -- What a call tells, of what its steps told.
-use Rattle.std.proofs.Common.{◌≡◌, ◌⊎◌, ℕ, ◌+◌, ◌<◌, ◌≤◌, List, [], ◌∷◌, ◌++◌, length, length-append, refl, sym, ap, ◌∙◌, subst, arith, Option, Some, Result, Ok, Err}
+use Rattle.std.proofs.Common.{◌≡◌, ℕ, ◌≤◌, List, [], ◌∷◌, ◌++◌, length, length-append, refl, sym, ap, ◌∙◌, subst, arith, Option, Some, Result, Ok, Err}
 use Rattle.atomic_table.specs.Seated.{TableId}
 use Rattle.atomic_table.specs.Table.{Me}
 use Rattle.history_lock.specs.declared.entry.Entry.{Entry}
@@ -10,10 +10,10 @@ use Rattle.history_lock.specs.declared.view.Role.{Role}
 use Rattle.history_lock.specs.declared.view.Role.TheVariants.{Lane}
 use Rattle.history_lock.specs.declared.view.View.{View}
 use Rattle.history_lock.specs.declared.view.Book.{Book}
-use Rattle.history_lock.specs.Histories.{replay, entry, of_lane, StartsWith, GrowsBy}
-use Rattle.history_lock.specs.Passes.{Lock, lock_at, Sight, sight}
+use Rattle.history_lock.specs.Histories.{replay, entry, GrowsBy}
+use Rattle.history_lock.specs.Passes.{Lock, lock_at, sight}
 use Rattle.history_lock.specs.Rule.{IsTaken, mine_of, taken, wrote, gave_back}
-use Rattle.history_lock.specs.Answers.{IsShown, IsWritten, IsRefused, Wrote}
+use Rattle.history_lock.specs.Answers.{IsShown, IsWritten, Wrote}
 use Rattle.history_lock.specs.Turns.{Turn, Stays}
 use Rattle.history_lock.proofs.Histories.{of_lane_snoc, grows_snoc, replay_snoc}
 

@@ -1,8 +1,6 @@
 -- Refused claims, one after another.
-use Rattle.std.proofs.Common.{◌≡◌, List, [], ◌∷◌, ◌++◌, refl, sym, ap, ◌∙◌, subst, append_assoc, Some}
+use Rattle.std.proofs.Common.{◌≡◌, [], ◌∷◌, ◌++◌, refl, sym, ap, ◌∙◌}
 use Rattle.history_lock.specs.declared.error.Busy.{Busy}
-use Rattle.history_lock.specs.declared.view.Opened.{Opened}
-use Rattle.history_lock.specs.Histories.{StartsWith}
 use Rattle.history_lock.specs.Passes.{Lock, Sight, IsPassOf}
 use Rattle.history_lock.specs.Answers.{IsTurnedAway, HasWaited}
 use Rattle.history_lock.proofs.Histories.{starts_itself, starts_through}

@@ -1,5 +1,5 @@
 -- What a pass does while it holds the lane.
-use Rattle.std.specs.Prelude.{◌≡◌, ◌⊎◌, ℕ, ◌<◌, ◌≤◌, List, [], ◌∷◌, ◌++◌, length, Result, Ok, Err}
+use Rattle.std.specs.Prelude.{◌≡◌, ◌⊎◌, ℕ, ◌<◌, ◌≤◌, [], ◌∷◌, ◌++◌, length, Result, Ok, Err}
 use Rattle.history_lock.specs.declared.error.WriteError.{WriteError}
 use Rattle.history_lock.specs.declared.error.WriteError.TheVariants.{HistoryFull, Refused, NoMemory}
 use Rattle.history_lock.specs.declared.view.Book.{Book}

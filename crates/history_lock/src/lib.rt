@@ -1,6 +1,7 @@
 //! A lock that keeps the history of what it protects.
 #![tactic(auto)]
 
+mod close;
 mod entry;
 mod error;
 mod lock;
@@ -12,6 +13,7 @@ mod steps;
 mod turn;
 mod view;
 
+pub use close::{Closed, PassesMissing};
 pub use entry::{Entry, History};
 pub use error::{Busy, Holder, LockError, NewLockError, WriteError};
 pub use machine::{Machine, Trouble};

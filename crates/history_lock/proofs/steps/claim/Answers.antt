@@ -1,4 +1,4 @@
-use Rattle.std.proofs.Common.{rules, arith, ◌≡◌, ◌∷◌, Some, None, ap, sym, ◌∙◌}
+use Rattle.std.proofs.Common.{rules, arith, ◌∷◌, Some, ap, sym, ◌∙◌}
 use Rattle.atomic_table.specs.Table.{rest}
 use Rattle.history_lock.proofs.Keeps.{claims}
 use Rattle.history_lock.proofs.steps.claim.Goals as goal

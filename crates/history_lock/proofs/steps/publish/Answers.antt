@@ -1,4 +1,4 @@
-use Rattle.std.proofs.Common.{rules, arith, ◌≡◌, [], ◌∷◌, Some, None, ap, sym, refl, ◌∙◌, subst}
+use Rattle.std.proofs.Common.{rules, ◌∷◌, Some, None, ap, sym, ◌∙◌, subst}
 use mathlib.Core.Option.{none}
 use Rattle.atomic_table.specs.Table.{rest, Allows, step as one_step}
 use Rattle.history_lock.specs.Rule.{Kept, published}

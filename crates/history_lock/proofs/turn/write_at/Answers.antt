@@ -1,6 +1,6 @@
 use Rattle.std.proofs.Common.{rules, ap, sym, ◌∙◌, subst}
 use Rattle.history_lock.specs.Histories.{GrowsBy}
-use Rattle.history_lock.proofs.Told.{stays, unwritten, new_legal, new_short, new_grows, written}
+use Rattle.history_lock.proofs.Told.{unwritten, new_legal, new_grows, written}
 use Rattle.history_lock.proofs.turn.write_at.Goals as goal
 
 pub publish-requires-clause-grows : goal.publish-requires-clause-grows

@@ -1,0 +1,99 @@
+-- What the last state of a table shows, once all passes are taken in.
+use Rattle.std.proofs.Common.{◌≡◌, ◌⊎◌, ℕ, ◌<◌, ◌≤◌, Bool, true, false, ◌||◌, List, [], ◌∷◌, ◌++◌, map, length, get_or, refl, sym, ap, ◌∙◌, subst, ⊎_elim, inl, inr, arith, Option, Some, Result}
+use Rattle.std.proofs.lemmas.Bool.{eqb-true}
+use Rattle.std.specs.List.{AllByRecursion}
+use mathlib.Core.Logic.{dite}
+use mathlib.Core.Option.{some, some-injective}
+use native.Mathlib.Decide.{ℕ_discrete}
+use lib.ListN.{get_elem?}
+use Rattle.atomic_table.specs.Seated.{TableId}
+use Rattle.atomic_table.specs.Table.{Final, Seen}
+use Rattle.history_lock.specs.declared.entry.Entry.{Entry}
+use Rattle.history_lock.specs.declared.view.Opened.{Opened}
+use Rattle.history_lock.specs.declared.view.Role.{Role}
+use Rattle.history_lock.specs.declared.view.Role.TheVariants.{Lane}
+use Rattle.history_lock.specs.declared.view.Gone.{Gone}
+use Rattle.history_lock.specs.declared.view.View.{View}
+use Rattle.history_lock.specs.declared.view.Book.{Book}
+use Rattle.history_lock.specs.Histories.{replay, of_lane, StartsWith}
+use Rattle.history_lock.specs.Passes.{Lock, Sight, ArePassesOf}
+use Rattle.history_lock.specs.Rule.{HasLane, KnowsRole, KnowsGone, Kept}
+use Rattle.history_lock.specs.Closing.{has_lane, Agrees, IsWhole, AreAt, gone, gone_pass, IsGone, IsEnd}
+
+module _ {E : Type 0} (log : List (Entry E)) (next dealer : ℕ) (owner : ℕ → ℕ) (id : ℕ) where
+  owned : (n : ℕ) (gs : List (Gone E)) → KnowsGone log next dealer owner id gs → IsGone n gs → owner n ≡ id
+  owned n [] h g = absurd g
+  owned n (x ∷ gs) h g = ⊎_elim (λ (e : x.lane ≡ n). ap owner (sym e) ∙ h.0.0.0) (λ (r : IsGone n gs). owned n gs h.1 r) g
+
+  agree : (items : List (Entry E)) (gs : List (Gone E)) → items ≡ log → KnowsGone log next dealer owner id gs → AllByRecursion (λ (g : Gone E). StartsWith items g.seen × (of_lane g.lane items ≡ g.mine)) gs
+  agree items [] e h = tt
+  agree items (x ∷ gs) e h = ((subst (λ (l : List (Entry E)). StartsWith l x.seen) (sym e) h.0.1, ap (of_lane x.lane) e ∙ h.0.0.2), agree items gs e h.1)
+
+module _ {M E R F : Type 0} (step : M → E → Result (M × R) F) (opened : Opened M) where
+  -- a seat that has all lanes, and holds none, knows that the book is at home
+  pub ends : (id k : ℕ) (v : View M E) (words : List ℕ) (slots : List (Option (Book M E))) → v.role ≡ Lane k → v.to ≤ v.from → ((n : ℕ) → n < opened.lanes → (n ≡ k) ⊎ IsGone n v.gone) → length slots ≡ 1
+      → Final (Seen (Kept step opened) id v) words slots → (b : Book M E) × (get_elem? slots 0 ≡ some (Some b)) × IsEnd step opened (gone k v.seen v.mine ∷ v.gone) b
+  ends id k v words slots role idle all one f =
+      let s = f.0 in let r = f.1.0 in let at = f.1.1 in let q = r.each id v at in let wide = r.wide in let deep = f.3 in
+      let mine : HasLane r.log r.next r.dealer r.owner id k v.mine = subst (λ (x : Role). KnowsRole r.log r.next r.dealer r.owner id x v.mine) role q.role in
+      let few = r.few in
+      dite (ℕ_discrete (get_or s.words 0 0) 0)
+      (λ hit. let h = r.home 0 (omega arith) hit in let b : Book M E = h.0 in let same : b.history.items ≡ r.log = h.2 in (
+        b,
+        f.4 0 (Some b) h.1,
+        record {
+          legal = subst (λ l. replay step opened.machine l ≡ Some b.machine) (sym same) h.3;
+          agrees = ((subst (λ l. StartsWith l v.seen) (sym same) q.before, ap (of_lane k) same ∙ mine.2), agree r.log r.next r.dealer r.owner id b.history.items v.gone same q.gone);
+          others = λ n later. ap (of_lane n) same ∙ r.undealt n (omega arith);
+          short = subst (λ l. length l ≤ opened.limit) (sym same) r.short;
+        },
+      ))
+      (λ miss. let t = (r.away 0 (omega arith) miss).1 in let u : View M E = t.0 in let z = r.each (r.holder 0) u t.1 in
+      let out = z.out 0 t.2 t.3 in let n : ℕ = out.word.0 in
+      let has : HasLane r.log r.next r.dealer r.owner (r.holder 0) n u.mine = subst (λ (x : Role). KnowsRole r.log r.next r.dealer r.owner (r.holder 0) x u.mine) out.word.1 z.role in
+      let below : n < opened.lanes = (let x : n < r.next = has.1 in omega arith) in
+      let same : r.holder 0 ≡ id = sym has.0 ∙ ⊎_elim (λ (e : n ≡ k). ap r.owner e ∙ mine.0) (λ (e : IsGone n v.gone). owned r.log r.next r.dealer r.owner id n v.gone q.gone e) (all n below) in
+      let one : u ≡ v = some-injective u v (sym t.1 ∙ (ap (get_elem? s.views) same ∙ at)) in
+      let low : v.from ≤ 0 = subst (λ (x : View M E). x.from ≤ 0) one t.2 in let high : 0 < v.to = subst (λ (x : View M E). 0 < x.to) one t.3 in absurd (omega arith))
+
+either_true : (b c : Bool) → (b || c) ≡ true → (b ≡ true) ⊎ (c ≡ true)
+either_true true c h = inl refl
+either_true false c h = inr h
+
+no_false : false ≡ true → ⊥
+no_false h = cc
+
+module _ {M E : Type 0} where
+  pub are_at : (lock : Lock M) (ps : List (Sight M E)) → ArePassesOf lock ps → AreAt lock.table ps
+  are_at lock [] h = tt
+  are_at lock (p ∷ ps) h = (h.0.0, are_at lock ps h.1)
+
+  pub last_at : (z : TableId) (ps : List (Sight M E)) (p : Sight M E) → AreAt z (ps ++ p ∷ []) → AreAt z ps × (p.table ≡ z)
+  last_at z [] p h = (tt, h.0)
+  last_at z (q ∷ ps) p h = let t = last_at z ps p h.1 in ((h.0, t.0), t.1)
+
+  pub gone_snoc : (ps : List (Sight M E)) (p : Sight M E) (gs : List (Gone E)) → map gone_pass (ps ++ p ∷ []) ++ gs ≡ map gone_pass ps ++ gone_pass p ∷ gs
+  gone_snoc [] p gs = refl
+  gone_snoc (q ∷ ps) p gs = ap (λ l. gone_pass q ∷ l) (gone_snoc ps p gs)
+
+  pub here_or_gone : (n : ℕ) (ps : List (Sight M E)) (p : Sight M E) → has_lane n (ps ++ p ∷ []) ≡ true → (n ≡ p.lane) ⊎ IsGone n (map gone_pass ps)
+  here_or_gone n [] p h = ⊎_elim (λ e. inl (sym (eqb-true p.lane n e))) (λ e. absurd (no_false e)) (either_true _ _ h)
+  here_or_gone n (q ∷ ps) p h = ⊎_elim (λ e. inr (inl (eqb-true q.lane n e))) (λ e. ⊎_elim (λ (x : n ≡ p.lane). inl x) (λ (x : IsGone n (map gone_pass ps)). inr (inr x)) (here_or_gone n ps p e)) (either_true _ _ h)
+
+  pub agrees_snoc : (log : List (Entry E)) (ps : List (Sight M E)) (p : Sight M E) → AllByRecursion (λ (g : Gone E). StartsWith log g.seen × (of_lane g.lane log ≡ g.mine)) (gone_pass p ∷ map gone_pass ps)
+      → AllByRecursion (Agrees log) (ps ++ p ∷ [])
+  agrees_snoc log [] p h = (h.0, tt)
+  agrees_snoc log (q ∷ ps) p h = (h.1.0, agrees_snoc log ps p (h.0, h.1.1))
+
+module _ {M E R F : Type 0} (step : M → E → Result (M × R) F) where
+  pub whole_of : (lock : Lock M) (opened : Opened M) (passes ps : List (Sight M E)) (p : Sight M E) (gs : List (Gone E)) (b : Book M E) (history : List (Entry E))
+      → opened ≡ lock.opened → passes ≡ ps ++ p ∷ [] → gs ≡ gone_pass p ∷ map gone_pass ps → history ≡ b.history.items → IsEnd step opened gs b → IsWhole step lock passes b.machine history
+  whole_of lock opened passes ps p gs b history same is taken items e =
+      let fits : List (Entry E) → Gone E → Type 0 = λ l g. StartsWith l g.seen × (of_lane g.lane l ≡ g.mine) in
+      let all : AllByRecursion (Agrees b.history.items) passes = subst (AllByRecursion (Agrees b.history.items)) (sym is) (agrees_snoc b.history.items ps p (subst (AllByRecursion (fits b.history.items)) taken e.agrees)) in
+      subst (IsWhole step lock passes b.machine) (sym items) record {
+        legal = subst (λ (o : Opened M). replay step o.machine b.history.items ≡ Some b.machine) same e.legal;
+        agrees = all;
+        others = λ n later. e.others n (subst (λ (o : Opened M). o.lanes ≤ n) (sym same) later);
+        short = subst (λ (o : Opened M). length b.history.items ≤ o.limit) same e.short;
+      }

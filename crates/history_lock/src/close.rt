@@ -1,0 +1,162 @@
+//! How a lock ends.
+
+ghost use Rattle.std.specs.Prelude.{◌≡◌, ◌⊎◌, ℕ, ◌<◌, [], ◌∷◌, true, false, IfOk, OnOk, IfErr, MatchBool, map};
+ghost use Rattle.history_lock.specs.Passes.{ArePassesOf};
+ghost use Rattle.history_lock.specs.Seats.{IsTaking};
+ghost use Rattle.history_lock.specs.Closing.{has_lane, IsWhole, AreAt, IsGone, IsEnd, gone, gone_pass};
+
+use crate::entry::History;
+use crate::machine::Machine;
+use crate::pass::{LaneLock, Pass};
+use crate::rule::{Board, Common, Gather, Place};
+use crate::view::Book;
+use std::marker::Model;
+
+/// What a lock leaves.
+#[derive(Drop)]
+pub struct Closed<M: Machine> {
+    /// The machine after the whole history.
+    pub machine: M,
+    /// The history, which is legal from the machine that the lock was opened with.
+    pub history: History<M::Event>,
+}
+
+/// A lock was not closed, since one of its passes is missing.
+#[derive(Drop)]
+pub struct PassesMissing<M: Machine> {
+    lock: LaneLock<M>,
+    passes: Vec<Pass<M>>,
+}
+
+impl<M: Machine> Model for PassesMissing<M> {
+    ghost use Rattle.history_lock.specs.Passes.{HandedBack};
+
+    ghost Value = { HandedBack M M.Event };
+
+    ghost view = { λ p. record { lock = p.lock; passes = p.passes.items } };
+}
+
+impl<M: Machine> PassesMissing<M> {
+    /// The lock, and the passes that were to close it, as they were.
+    pub fn into_parts(self) -> (LaneLock<M>, Vec<Pass<M>>)
+        ensures { (result.0 ≡ self.lock) × (result.1.items ≡ self.passes) }
+    {
+        let PassesMissing { lock, passes } = self;
+        (lock, passes)
+    }
+}
+
+impl<M: Machine> LaneLock<M> {
+    /// Gives back the machine and the history, if the passes of all lanes are there.
+    ///
+    /// [`PassesMissing`] hands the lock and the passes back.
+    pub fn close(self, passes: Vec<Pass<M>>) -> Result<Closed<M>, PassesMissing<M>>
+        requires { ArePassesOf self passes.items }
+        ensures closed { IfOk result (λ closed. IsWhole M.step self passes.items closed.machine closed.history) }
+        ensures accepted { OnOk result ((lane : ℕ) → lane < self.opened.lanes → has_lane lane passes.items ≡ true) }
+        ensures missing { IfErr result (λ back. (back ≡ record { lock = self; passes = passes.items })
+            × ((lane : ℕ) × (lane < self.opened.lanes) × (has_lane lane passes.items ≡ false))) }
+    {
+        if has_all(passes.as_slice(), self.lanes) {
+            Ok(self.finish(passes))
+        } else {
+            Err(PassesMissing { lock: self, passes })
+        }
+    }
+
+    // Takes all passes in, the first ones into the last, and ends the table.
+    fn finish(self, mut passes: Vec<Pass<M>>) -> Closed<M>
+        requires own { ArePassesOf self passes.items }
+        requires all { (lane : ℕ) → lane < self.opened.lanes → has_lane lane passes.items ≡ true }
+        ensures { IsWhole M.step self passes.items result.machine result.history }
+    {
+        let LaneLock {
+            board,
+            lanes: _,
+            limit: _,
+        } = self;
+        let Pass { mut place, lane } = passes.pop().unwrap();
+        take_in(&board.shared, &mut place, lane, passes);
+        let book = end(board, place, lane);
+        Closed {
+            machine: book.machine,
+            history: History::of(book.history),
+        }
+    }
+}
+
+// Whether there is a pass of each lane below `lanes`.
+fn has_all<M: Machine>(passes: &[Pass<M>], lanes: u64) -> bool
+    ensures { MatchBool result ((lane : ℕ) → lane < lanes → has_lane lane passes.now ≡ true)
+        ((lane : ℕ) × (lane < lanes) × (has_lane lane passes.now ≡ false)) }
+{
+    for lane in 0..lanes {
+        if !has_pass(passes, lane) {
+            return false;
+        }
+    }
+    true
+}
+
+// Whether there is a pass of this lane.
+fn has_pass<M: Machine>(passes: &[Pass<M>], lane: u64) -> bool
+    ensures { result ≡ has_lane lane passes.now }
+{
+    passes.iter().any(|pass| pass.lane() == lane)
+}
+
+// Takes all passes in.
+fn take_in<M: Machine>(
+    common: &Common<M, M::Event>,
+    place: &mut Place<M, M::Event>,
+    lane: u64,
+    mut passes: Vec<Pass<M>>,
+)
+    requires table { (place.old.table_id ≡ common.now.table_id) × (common.now.table_id.words ≡ 1) }
+    requires own { AreAt common.now.table_id passes.items }
+    requires place { IsTaking place.old.me lane [] }
+    ensures table { place.new.table_id ≡ place.old.table_id }
+    ensures taken { IsTaking place.new.me lane (map gone_pass passes.items) }
+    ensures same { (place.new.me.0.seen ≡ place.old.me.0.seen) × (place.new.me.0.mine ≡ place.old.me.0.mine) }
+{
+    while let Some(pass) = passes.pop() {
+        take_one(common, place, lane, pass);
+    }
+}
+
+// Takes one pass in.
+fn take_one<M: Machine>(
+    common: &Common<M, M::Event>,
+    place: &mut Place<M, M::Event>,
+    _lane: u64,
+    pass: Pass<M>,
+)
+    requires table { (place.old.table_id ≡ common.now.table_id) × (common.now.table_id.words ≡ 1) × (pass.table ≡ common.now.table_id) }
+    requires place { IsTaking place.old.me _lane place.old.me.0.gone }
+    ensures table { place.new.table_id ≡ place.old.table_id }
+    ensures taken { IsTaking place.new.me _lane (gone_pass pass ∷ place.old.me.0.gone) }
+    ensures same { (place.new.me.0.seen ≡ place.old.me.0.seen) × (place.new.me.0.mine ≡ place.old.me.0.mine) }
+{
+    let Pass {
+        place: other,
+        lane: _,
+    } = pass;
+    common.join_seat::<Gather>(place, other);
+}
+
+// The book of a table at which no seat but this one holds a lane.
+fn end<M: Machine>(
+    board: Board<M, M::Event>,
+    place: Place<M, M::Event>,
+    _lane: u64,
+) -> Book<M, M::Event>
+    requires table { (place.table_id ≡ board.shared.table_id) × (board.shared.table_id.slots ≡ 1) }
+    requires place { IsTaking place.me _lane place.me.0.gone }
+    requires all { (n : ℕ) → n < board.shared.key.value.lanes → (n ≡ _lane) ⊎ IsGone n place.me.0.gone }
+    ensures { IsEnd M.step board.shared.key.value (gone _lane place.me.0.seen place.me.0.mine ∷ place.me.0.gone) result }
+{
+    let mut closed = board.close_with(place);
+    let book = closed.take(0).unwrap();
+    closed.free();
+    book
+}
