@@ -20,7 +20,8 @@ impl<M: Machine> LaneLock<M> {
     ) -> Result<Result<M::Reply, WriteError<M::Fault>>, Busy>
         requires own { IsPassOf self.now pass.old }
         requires may { F.pre make.old }
-        ensures { MatchResult result
+        ensures own { IsPassOf self.now pass.new }
+        ensures answer { MatchResult result
             (λ answer. Wrote M.step self.now (λ event. F.step make.old event make.new) (make.new ≡ make.old) pass.old answer pass.new)
             (λ busy. (make.new ≡ make.old) × IsTurnedAway pass.old busy pass.new) }
     {
@@ -45,7 +46,8 @@ impl<M: Machine> LaneLock<M> {
     ) -> Result<M::Reply, LockError<M::Fault>>
         requires own { IsPassOf self.now pass.old }
         requires may { F.pre make.old }
-        ensures { TriedToWrite M.step self.now (λ event. F.step make.old event make.new) (make.new ≡ make.old) pass.old result pass.new }
+        ensures own { IsPassOf self.now pass.new }
+        ensures answer { TriedToWrite M.step self.now (λ event. F.step make.old event make.new) (make.new ≡ make.old) pass.old result pass.new }
     {
         match self.attempt(pass, make) {
             Ok(answer) => answer.map_err(LockError::Write),
@@ -54,7 +56,7 @@ impl<M: Machine> LaneLock<M> {
     }
 
     /// [`Self::try_write`] that waits until the lock is free.
-    #[tactic(auto, using(crate::proofs::Waits::waits_not, crate::proofs::Waits::waits_once_more, crate::proofs::Waits::still_of))]
+    #[tactic(auto, using(crate::proofs::Waits::waits_not, crate::proofs::Waits::waits_once_more))]
     pub fn write<R: Wait, F: FnMut() -> M::Event>(
         &self,
         rt: &R,
@@ -63,7 +65,8 @@ impl<M: Machine> LaneLock<M> {
     ) -> Result<M::Reply, WriteError<M::Fault>>
         requires own { IsPassOf self.now pass.old }
         requires may { F.pre make.old }
-        ensures { (late : Sight M M.Event) × HasWaited pass.old late
+        ensures own { IsPassOf self.now pass.new }
+        ensures answer { (late : Sight M M.Event) × HasWaited pass.old late
             × Wrote M.step self.now (λ event. F.step make.old event make.new) (make.new ≡ make.old) late result pass.new }
     {
         for _ in rt.forever() {
@@ -78,17 +81,19 @@ impl<M: Machine> LaneLock<M> {
     pub fn try_shared<T, F: FnMut(&M) -> T>(&self, pass: &mut Pass<M>, f: &mut F) -> Result<T, Busy>
         requires own { IsPassOf self.now pass.old }
         requires may { (machine : M) → TakesAt F.FnMut f.old machine }
-        ensures { TriedToShare M.step self.now (λ machine answer. CalledAt F.FnMut f.old machine answer f.new) (f.new ≡ f.old) pass.old result pass.new }
+        ensures own { IsPassOf self.now pass.new }
+        ensures answer { TriedToShare M.step self.now (λ machine answer. CalledAt F.FnMut f.old machine answer f.new) (f.new ≡ f.old) pass.old result pass.new }
     {
         share_at(&self.board.shared, &mut pass.place, pass.lane, f)
     }
 
     /// [`Self::try_shared`] that waits until the lock is free.
-    #[tactic(auto, using(crate::proofs::Waits::waits_not, crate::proofs::Waits::waits_once_more, crate::proofs::Waits::still_of))]
+    #[tactic(auto, using(crate::proofs::Waits::waits_not, crate::proofs::Waits::waits_once_more))]
     pub fn shared<R: Wait, T, F: FnMut(&M) -> T>(&self, rt: &R, pass: &mut Pass<M>, f: &mut F) -> T
         requires own { IsPassOf self.now pass.old }
         requires may { (machine : M) → TakesAt F.FnMut f.old machine }
-        ensures { (late : Sight M M.Event) × HasWaited pass.old late
+        ensures own { IsPassOf self.now pass.new }
+        ensures answer { (late : Sight M M.Event) × HasWaited pass.old late
             × Shared M.step self.now (λ machine answer. CalledAt F.FnMut f.old machine answer f.new) (f.new ≡ f.old) late result pass.new }
     {
         for _ in rt.forever() {
@@ -103,6 +108,7 @@ impl<M: Machine> LaneLock<M> {
     pub fn try_meet(&self, first: &mut Pass<M>, second: &mut Pass<M>) -> Result<(), Busy>
         requires own { IsPassOf self.now first.old }
         requires other { IsPassOf self.now second.old }
+        ensures own { IsPassOf self.now first.new }
         ensures first { TriedToMeet first.old second.old result first.new }
         ensures second { second.new ≡ second.old }
     {

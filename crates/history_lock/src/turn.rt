@@ -50,6 +50,7 @@ pub(crate) fn write_at<M: Machine, F: FnMut() -> M::Event>(
     requires may { F.pre make.old }
     ensures table { place.new.table_id ≡ place.old.table_id }
     ensures rests { IsResting place.new.me lane }
+    ensures opened { place.new.me.0.opened ≡ place.old.me.0.opened }
     ensures answer { MatchResult result
         (λ answer. Wrote M.step (lock_at common.now.table_id common.now.key.value) (λ event. F.step make.old event make.new) (make.new ≡ make.old)
         (sight place.old.table_id lane place.old.me.0) answer (sight place.new.table_id lane place.new.me.0))
@@ -82,6 +83,7 @@ pub(crate) fn share_at<M: Machine, T, F: FnMut(&M) -> T>(
     requires may { (machine : M) → TakesAt F.FnMut f.old machine }
     ensures table { place.new.table_id ≡ place.old.table_id }
     ensures rests { IsResting place.new.me _lane }
+    ensures opened { place.new.me.0.opened ≡ place.old.me.0.opened }
     ensures answer { TriedToShare M.step (lock_at common.now.table_id common.now.key.value) (λ machine answer. CalledAt F.FnMut f.old machine answer f.new) (f.new ≡ f.old)
         (sight place.old.table_id _lane place.old.me.0) result (sight place.new.table_id _lane place.new.me.0) }
 {
@@ -105,6 +107,7 @@ pub(crate) fn meet_at<M: Machine>(
     requires opened { first.old.me.0.opened ≡ Some common.now.key.value }
     ensures table { first.new.table_id ≡ first.old.table_id }
     ensures rests { IsResting first.new.me _lane }
+    ensures opened { first.new.me.0.opened ≡ first.old.me.0.opened }
     ensures other { (second.new.table_id ≡ second.old.table_id) × (second.new.me ≡ second.old.me) }
     ensures answer { TriedToMeet (sight first.old.table_id _lane first.old.me.0) (sight second.old.table_id _other second.old.me.0)
         result (sight first.new.table_id _lane first.new.me.0) }
