@@ -13,3 +13,5 @@ pub use machine::ClerkEvent;
 
 #[cfg(test)]
 mod tests;
+#[cfg(test)]
+mod thread_tests;

@@ -19,4 +19,6 @@ pub use table::LeaseTable;
 pub use values::{Grant, JobTerm, Phase, ReleaseNote, Row};
 
 #[cfg(test)]
+mod lock_tests;
+#[cfg(test)]
 mod tests;
