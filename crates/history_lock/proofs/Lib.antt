@@ -4,5 +4,6 @@ pub mod Keeps
 pub mod Deals
 pub mod Dealt
 pub mod Told
+pub mod Legal
 pub mod Waits
 pub mod Ends

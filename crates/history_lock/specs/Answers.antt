@@ -77,16 +77,16 @@ module _ {M E R F : Type 0} (step : M → E → Result (M × R) F) (lock : Lock 
     TriedToWrite old (Err (BusyLane busy)) new = unmade × IsTurnedAway old busy new
     TriedToWrite old (Err (Write error)) new = Wrote old (Err error) new
 
-  -- `called machine answer`: the closure was called once, on this machine, and answered this; `uncalled`: it was not called
-  module _ {T : Type 0} (called : M → T → Type 0) (uncalled : Type 0) where
+  -- `called machine answer`: the closure was called once, on this machine, and answered this
+  module _ {T : Type 0} (called : M → T → Type 0) where
     -- a shared call, once the lock was free
     abbrev pub Shared : Sight M E → T → Sight M E → Type 0
     Shared old answer new = (machine : M) × called machine answer × IsShown old machine new
 
-    -- a shared call that does not wait
-    abbrev pub TriedToShare : Sight M E → Result T Busy → Sight M E → Type 0
-    TriedToShare old (Ok answer) new = Shared old answer new
-    TriedToShare old (Err busy) new = uncalled × IsTurnedAway old busy new
+    -- a shared call that does not wait; `uncalled`: the closure was not called
+    abbrev pub TriedToShare : Type 0 → Sight M E → Result T Busy → Sight M E → Type 0
+    TriedToShare uncalled old (Ok answer) new = Shared old answer new
+    TriedToShare uncalled old (Err busy) new = uncalled × IsTurnedAway old busy new
 
 module _ {M E : Type 0} where
   -- a meeting that does not wait

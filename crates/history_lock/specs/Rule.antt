@@ -1,5 +1,8 @@
 -- The rule of a lock over lanes, and what each of its steps tells.
 -- A lane is a word and a slot. The word is 0 while its book is at home, 1 while a pass reads, and n + 2 while the pass of lane n writes.
+-- The history grows at one kind of step alone, where a writer that holds all lanes gives the first of them back with a new book (`published`).
+-- At all others it stays: a lane is claimed, or the claim refused (`claimed`); a lane is given back with its book as it was (`given_back`); a lane is dealt,
+-- a pass tells another what it has seen, or is taken in at the end.
 use Rattle.std.specs.Prelude.{◌≡◌, ◌≢◌, ◌⊎◌, ℕ, ◌+◌, ◌-◌, ◌<◌, ◌≤◌, ◌==◌, if◌then◌else◌, List, [], ◌∷◌, ◌++◌, length, slice_index, Option, Some, None, Result}
 use mathlib.Core.Option.{some, none}
 use lib.ListN.{get_elem?}
@@ -39,7 +42,7 @@ holder_of word = if word == 1 then Reader else Writer (word - 2)
 abbrev pub busy : ℕ → ℕ → Busy
 busy lane word = record { lane = lane; holder = holder_of word }
 
--- What no seat can change of the others' knowledge: the history, how many lanes are dealt, the seat that deals them and the seat that has each lane
+-- What a seat knows of its lanes, by the history, the number of lanes that are dealt, the seat that deals them, and the seat that has each lane
 module _ {E : Type 0} (log : List (Entry E)) (next dealer : ℕ) (owner : ℕ → ℕ) (seat : ℕ) where
   -- the seat has this lane, and these are all events of the lane
   abbrev pub HasLane : ℕ → List E → Type 0

@@ -1,5 +1,5 @@
 -- Seats between two calls.
-use Rattle.std.specs.Prelude.{◌≡◌, ℕ, ◌<◌, ◌≤◌, List, [], Option, Some}
+use Rattle.std.specs.Prelude.{◌≡◌, ℕ, ◌<◌, ◌≤◌, List, [], Option, Some, Result}
 use Rattle.atomic_table.specs.Seated.{TableId}
 use Rattle.atomic_table.specs.Table.{Me}
 use Rattle.history_lock.specs.declared.view.Opened.{Opened}
@@ -7,6 +7,7 @@ use Rattle.history_lock.specs.declared.view.Role.TheVariants.{Lane, Dealer}
 use Rattle.history_lock.specs.declared.view.Gone.{Gone}
 use Rattle.history_lock.specs.declared.view.View.{View}
 use Rattle.history_lock.specs.declared.view.Book.{Book}
+use Rattle.history_lock.specs.Histories.{IsLegal}
 
 -- the seat of a lane holds nothing, and has taken in these passes
 pub record IsTaking {M E : Type 0} (me : Me (Option (Book M E)) (View M E)) (lane : ℕ) (gone : List (Gone E)) : Type 0 where
@@ -22,6 +23,10 @@ pub record IsResting {M E : Type 0} (me : Me (Option (Book M E)) (View M E)) (la
   pub small : lane < 8
   pub alone : me.0.gone ≡ []
   pub bare : me.1 ≡ []
+
+-- what a seat has seen is legal
+abbrev pub SeesLegal : {M E R F : Type 0} → (M → E → Result (M × R) F) → View M E → Type 0
+SeesLegal step v = (o : Opened _) → v.opened ≡ Some o → IsLegal step o.machine v.seen
 
 -- the seat that deals has dealt the lanes below this one
 pub record IsDealing {M E : Type 0} (me : Me (Option (Book M E)) (View M E)) (opened : Opened M) (lane : ℕ) : Type 0 where

@@ -2,6 +2,7 @@
 
 ghost use Rattle.std.specs.Prelude.{◌≡◌, Ok, MatchResult};
 ghost use Rattle.std.specs.Fn.{CalledAt, TakesAt};
+ghost use Rattle.history_lock.specs.Histories.{IsLegal};
 ghost use Rattle.history_lock.specs.Passes.{Sight, IsPassOf};
 ghost use Rattle.history_lock.specs.Answers.{HasWaited, IsTurnedAway, Wrote, TriedToWrite, Shared, TriedToShare, TriedToMeet};
 
@@ -21,6 +22,7 @@ impl<M: Machine> LaneLock<M> {
         requires own { IsPassOf self.now pass.old }
         requires may { F.pre make.old }
         ensures own { IsPassOf self.now pass.new }
+        ensures legal { IsLegal M.step self.now.opened.machine pass.new.seen }
         ensures answer { MatchResult result
             (λ answer. Wrote M.step self.now (λ event. F.step make.old event make.new) (make.new ≡ make.old) pass.old answer pass.new)
             (λ busy. (make.new ≡ make.old) × IsTurnedAway pass.old busy pass.new) }
@@ -47,6 +49,7 @@ impl<M: Machine> LaneLock<M> {
         requires own { IsPassOf self.now pass.old }
         requires may { F.pre make.old }
         ensures own { IsPassOf self.now pass.new }
+        ensures legal { IsLegal M.step self.now.opened.machine pass.new.seen }
         ensures answer { TriedToWrite M.step self.now (λ event. F.step make.old event make.new) (make.new ≡ make.old) pass.old result pass.new }
     {
         match self.attempt(pass, make) {
@@ -66,6 +69,7 @@ impl<M: Machine> LaneLock<M> {
         requires own { IsPassOf self.now pass.old }
         requires may { F.pre make.old }
         ensures own { IsPassOf self.now pass.new }
+        ensures legal { IsLegal M.step self.now.opened.machine pass.new.seen }
         ensures answer { (late : Sight M M.Event) × HasWaited pass.old late
             × Wrote M.step self.now (λ event. F.step make.old event make.new) (make.new ≡ make.old) late result pass.new }
     {
@@ -82,6 +86,7 @@ impl<M: Machine> LaneLock<M> {
         requires own { IsPassOf self.now pass.old }
         requires may { (machine : M) → TakesAt F.FnMut f.old machine }
         ensures own { IsPassOf self.now pass.new }
+        ensures legal { IsLegal M.step self.now.opened.machine pass.new.seen }
         ensures answer { TriedToShare M.step self.now (λ machine answer. CalledAt F.FnMut f.old machine answer f.new) (f.new ≡ f.old) pass.old result pass.new }
     {
         share_at(&self.board.shared, &mut pass.place, pass.lane, f)
@@ -93,8 +98,9 @@ impl<M: Machine> LaneLock<M> {
         requires own { IsPassOf self.now pass.old }
         requires may { (machine : M) → TakesAt F.FnMut f.old machine }
         ensures own { IsPassOf self.now pass.new }
+        ensures legal { IsLegal M.step self.now.opened.machine pass.new.seen }
         ensures answer { (late : Sight M M.Event) × HasWaited pass.old late
-            × Shared M.step self.now (λ machine answer. CalledAt F.FnMut f.old machine answer f.new) (f.new ≡ f.old) late result pass.new }
+            × Shared M.step self.now (λ machine answer. CalledAt F.FnMut f.old machine answer f.new) late result pass.new }
     {
         for _ in rt.forever() {
             if let Ok(answer) = self.try_shared(pass, f) {
@@ -109,6 +115,7 @@ impl<M: Machine> LaneLock<M> {
         requires own { IsPassOf self.now first.old }
         requires other { IsPassOf self.now second.old }
         ensures own { IsPassOf self.now first.new }
+        ensures legal { IsLegal M.step self.now.opened.machine first.new.seen }
         ensures first { TriedToMeet first.old second.old result first.new }
         ensures second { second.new ≡ second.old }
     {

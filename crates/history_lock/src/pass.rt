@@ -40,13 +40,13 @@ pub struct Pass<M: Machine> {
 
 impl<M: Machine> Model for Pass<M> {
     ghost use Rattle.history_lock.specs.Passes.{Sight, sight};
-    ghost use Rattle.history_lock.specs.Seats.{IsResting};
+    ghost use Rattle.history_lock.specs.Seats.{IsResting, SeesLegal};
 
     ghost Value = { Sight M M.Event };
 
     ghost view = { λ p. sight p.place.table_id p.lane p.place.me.0 };
 
-    ghost invariant = { λ p. IsResting p.place.me p.lane };
+    ghost invariant = { λ p. IsResting p.place.me p.lane × SeesLegal M.step p.place.me.0 };
 }
 
 impl<M: Machine> Pass<M> {

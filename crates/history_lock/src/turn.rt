@@ -5,7 +5,7 @@ ghost use Rattle.std.specs.Fn.{CalledAt, TakesAt};
 ghost use Rattle.history_lock.specs.Passes.{lock_at, sight};
 ghost use Rattle.history_lock.specs.Answers.{Wrote, Shared, IsTurnedAway, TriedToShare, TriedToMeet};
 ghost use Rattle.history_lock.specs.Turns.{Turn};
-ghost use Rattle.history_lock.specs.Seats.{IsResting};
+ghost use Rattle.history_lock.specs.Seats.{IsResting, SeesLegal};
 
 use crate::entry::Entry;
 use crate::error::{Busy, WriteError};
@@ -46,10 +46,12 @@ pub(crate) fn write_at<M: Machine, F: FnMut() -> M::Event>(
 ) -> Result<Result<M::Reply, WriteError<M::Fault>>, Busy>
     requires table { (place.old.table_id ≡ common.now.table_id) × (common.now.table_id.words ≡ 1) × (common.now.table_id.slots ≡ 1) }
     requires rests { IsResting place.old.me lane }
+    requires legal { SeesLegal M.step place.old.me.0 }
     requires opened { (place.old.me.0.opened ≡ Some common.now.key.value) × (common.now.key.value.limit ≡ limit) }
     requires may { F.pre make.old }
     ensures table { place.new.table_id ≡ place.old.table_id }
     ensures rests { IsResting place.new.me lane }
+    ensures legal { SeesLegal M.step place.new.me.0 }
     ensures opened { place.new.me.0.opened ≡ place.old.me.0.opened }
     ensures answer { MatchResult result
         (λ answer. Wrote M.step (lock_at common.now.table_id common.now.key.value) (λ event. F.step make.old event make.new) (make.new ≡ make.old)
@@ -79,10 +81,12 @@ pub(crate) fn share_at<M: Machine, T, F: FnMut(&M) -> T>(
 ) -> Result<T, Busy>
     requires table { (place.old.table_id ≡ common.now.table_id) × (common.now.table_id.words ≡ 1) × (common.now.table_id.slots ≡ 1) }
     requires rests { IsResting place.old.me _lane }
+    requires legal { SeesLegal M.step place.old.me.0 }
     requires opened { place.old.me.0.opened ≡ Some common.now.key.value }
     requires may { (machine : M) → TakesAt F.FnMut f.old machine }
     ensures table { place.new.table_id ≡ place.old.table_id }
     ensures rests { IsResting place.new.me _lane }
+    ensures legal { SeesLegal M.step place.new.me.0 }
     ensures opened { place.new.me.0.opened ≡ place.old.me.0.opened }
     ensures answer { TriedToShare M.step (lock_at common.now.table_id common.now.key.value) (λ machine answer. CalledAt F.FnMut f.old machine answer f.new) (f.new ≡ f.old)
         (sight place.old.table_id _lane place.old.me.0) result (sight place.new.table_id _lane place.new.me.0) }
@@ -104,9 +108,11 @@ pub(crate) fn meet_at<M: Machine>(
     requires table { (first.old.table_id ≡ common.now.table_id) × (common.now.table_id.words ≡ 1) × (common.now.table_id.slots ≡ 1) }
     requires other { second.old.table_id ≡ common.now.table_id }
     requires rests { IsResting first.old.me _lane }
+    requires legal { SeesLegal M.step first.old.me.0 }
     requires opened { first.old.me.0.opened ≡ Some common.now.key.value }
     ensures table { first.new.table_id ≡ first.old.table_id }
     ensures rests { IsResting first.new.me _lane }
+    ensures legal { SeesLegal M.step first.new.me.0 }
     ensures opened { first.new.me.0.opened ≡ first.old.me.0.opened }
     ensures other { (second.new.table_id ≡ second.old.table_id) × (second.new.me ≡ second.old.me) }
     ensures answer { TriedToMeet (sight first.old.table_id _lane first.old.me.0) (sight second.old.table_id _other second.old.me.0)

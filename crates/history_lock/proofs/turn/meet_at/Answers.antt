@@ -1,5 +1,6 @@
 use Rattle.std.proofs.Common.{rules, arith, refl, ap, ◌∙◌, inl}
 use Rattle.history_lock.proofs.Deals.{tells, meets}
+use Rattle.history_lock.proofs.Legal.{legal_back}
 use Rattle.history_lock.proofs.turn.meet_at.Goals as goal
 
 pub split_seat-news-requires : goal.split_seat-news-requires
@@ -11,3 +12,6 @@ join_seat-requires g c = let s = c.split_seat-news.ensures in
 
 pub claim-requires-clause-word : goal.claim-requires-clause-word
 claim-requires-clause-word g c = (c.args._lane, ap (λ m. m.0.role) c.join_seat.ensures.2 ∙ c.requires.rests.role, inl refl)
+
+pub returns-clause-legal : goal.returns-clause-legal
+returns-clause-legal g c = let k = c.in_ok-book.ensures.answer in legal_back g.M.Machine.step c.join_seat.new.seat.me.0 c.in_ok-book.book _ _ _ _ _ k.1 k.0 c.give_back.ensures.back

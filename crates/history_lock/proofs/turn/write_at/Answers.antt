@@ -1,5 +1,6 @@
 use Rattle.std.proofs.Common.{rules, ap, sym, ◌∙◌, subst}
 use Rattle.history_lock.specs.Histories.{GrowsBy}
+use Rattle.history_lock.proofs.Legal.{legal_back, legal_new}
 use Rattle.history_lock.proofs.Told.{unwritten, new_legal, new_grows, written}
 use Rattle.history_lock.proofs.turn.write_at.Goals as goal
 
@@ -21,3 +22,11 @@ returns-in-Ok-clause-answer g c = let k = c.in_ok-book.ensures.answer in
 pub returns-in-Err-clause-answer : goal.returns-in-Err-clause-answer
 returns-in-Err-clause-answer g c = let k = c.in_ok-book.ensures.answer in
     unwritten g.M.Machine.step _ c.args.lane c.args.place.now.me.0 _ c.requires.opened.0 k.1 _ _ _ (search rules) _ _ _ _ _ k.0 _ c.requires.opened.1 _ _ c.take_event.new.book c.in-Err.error c.in-Err.ensures c.give_back.ensures.back
+
+pub returns-in-Ok-clause-legal : goal.returns-in-Ok-clause-legal
+returns-in-Ok-clause-legal g c = let k = c.in_ok-book.ensures.answer in let v = c.args.place.now.me.0 in
+    let legal = new_legal g.M.Machine.step _ c.args.lane v _ c.requires.opened.0 k.1 _ c.requires.opened.1 _ (Unit {0}) c.take_event.new.book c.in-Ok.reply c.in-Ok.ensures in
+    legal_new g.M.Machine.step _ v c.in_ok-book.book c.take_event.new.book _ _ _ _ _ c.requires.opened.0 legal k.0 c.publish.ensures.back
+
+pub returns-in-Err-clause-legal : goal.returns-in-Err-clause-legal
+returns-in-Err-clause-legal g c = let k = c.in_ok-book.ensures.answer in legal_back g.M.Machine.step c.args.place.now.me.0 c.in_ok-book.book _ _ _ _ _ k.1 k.0 c.give_back.ensures.back
