@@ -3,7 +3,7 @@
 ghost use Rattle.history_lock.specs.Passes.{IsPassOf};
 
 use super::*;
-use history_lock::{Busy, Holder, LaneLock, LockError, NewLockError, Pass, WriteError};
+use history_lock::{Busy, Holder, LaneLock, LockError, NewLockError};
 use std::alloc::Global;
 use std::test::Fail;
 
@@ -20,56 +20,8 @@ fn take(assigner: u64, at: u64) -> TableEvent {
     event(at, TableCall::JobTake { assigner, at })
 }
 
-fn renew(at: u64) -> TableEvent {
-    event(at, TableCall::JobRenew { number: 1, at })
-}
-
-fn until(reply: &TableReply) -> Option<u64> {
-    match reply {
-        TableReply::Term(term) => Some(term.until),
-        _ => None,
-    }
-}
-
 fn term_in(table: &LeaseTable) -> Option<u64> {
     table.job().map(|term| term.number)
-}
-
-#[test]
-fn takes_calls_of_two_passes_under_a_lock(rt: HostRuntime) -> Result<(), Fail> {
-    let made = LaneLock::new(rt.alloc(), table_of(rt.alloc())?, 2, 2);
-    let (lock, mut passes) = made.map_err(|_| "two lanes and two entries")?;
-    let mut p1 = passes.pop().expect(&rt, "the pass of lane 1");
-    let mut p0 = passes.pop().expect(&rt, "the pass of lane 0");
-
-    let taken = lock.write(&rt, &mut p0, &mut || take(1, 0));
-    assert!(rt; matches!(taken, Ok(reply) if until(&reply) == Some(1000)));
-    assert!(rt; lock.try_meet(&mut p1, &mut p0).is_ok());
-    assert_eq!(rt; lock.try_shared(&mut p1, &mut term_in), Ok(Some(1)));
-    let refused = lock.write(&rt, &mut p1, &mut || take(2, 5));
-    assert!(rt;
-        matches!(
-            refused,
-            Err(WriteError::Refused(TableError::JobHeld { until: 1000 }))
-        )
-    );
-    let renewed = lock.write(&rt, &mut p1, &mut || renew(6));
-    assert!(rt; matches!(renewed, Ok(reply) if until(&reply) == Some(1006)));
-    let full = lock.write(&rt, &mut p0, &mut || renew(7));
-    assert!(rt; matches!(full, Err(WriteError::HistoryFull)));
-
-    passes.push(p0)?;
-    let missing = lock
-        .close(passes)
-        .err()
-        .expect(&rt, "the pass of lane 1 is missing");
-    let (lock, mut passes) = missing.into_parts();
-    passes.push(p1)?;
-    let closed = lock.close(passes).ok().expect(&rt, "all passes are there");
-    let lanes = closed.history.entries().iter().map(|entry| entry.lane);
-    assert!(rt; lanes.eq([0, 1]));
-    assert_eq!(rt; closed.machine.job().map(|term| term.until), Some(1006));
-    Ok(())
 }
 
 #[test]
