@@ -6,6 +6,7 @@ use Rattle.std.specs.List.{AllByRecursion}
 use Rattle.std.proofs.lemmas.Bool.Decides.{nat_tests}
 use Rattle.std.proofs.lemmas.Bool.{cases_lt}
 use Rattle.std.proofs.lemmas.List.Elements.{recursion_from_All}
+use Rattle.slice_ranges.proofs.Every.{all_weaker}
 use Rattle.assignment.specs.declared.slice.Slice.{Slice}
 use Rattle.assignment.specs.Slices.{first_starts_at, is_rising}
 use Rattle.assignment.specs.Owners.{IsSliceOf, greater, slice_at}
@@ -31,8 +32,7 @@ rising_rest s (u ∷ slices) h = (both (nat_lt s.start u.start) (is_rising (u �
 
 above_lower : (low high : ℕ) (slices : List Slice) → low ≤ high → StartsAbove high slices → StartsAbove low slices
 unfolding StartsAbove
-above_lower low high [] l h = tt
-above_lower low high (s ∷ slices) l h = (let p : high < s.start = h.0 in omega arith, above_lower low high slices l h.1)
+above_lower low high slices l h = all_weaker (λ s. high < s.start) (λ s. low < s.start) slices (λ s above. omega arith) h
 
 pub later_above : (s : Slice) (slices : List Slice) → is_rising (s ∷ slices) ≡ true → StartsAbove s.start slices
 unfolding StartsAbove
@@ -46,8 +46,7 @@ later_above s (u ∷ slices) h =
 -- what starts above a key starts at the next one or above it
 pub starts_from : (low : ℕ) (slices : List Slice) → StartsAbove low slices → AllByRecursion (λ s. low + 1 ≤ s.start) slices
 unfolding StartsAbove
-starts_from low [] h = tt
-starts_from low (s ∷ slices) h = (let p : low < s.start = h.0 in omega arith, starts_from low slices h.1)
+starts_from low slices h = all_weaker (λ s. low < s.start) (λ s. low + 1 ≤ s.start) slices (λ s above. omega arith) h
 
 pub none_at : (key : ℕ) (slices : List Slice) → StartsAbove key slices → slice_at slices key ≡ None
 unfolding StartsAbove

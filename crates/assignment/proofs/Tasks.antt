@@ -12,6 +12,7 @@ use Rattle.std.proofs.lemmas.Bool.{cases_lt}
 use Rattle.std.proofs.lemmas.List.Elements.{recursion_from_All}
 use Rattle.std.proofs.lemmas.List.Sorted.{IsNonDecreasingBy-from_sort, list_any-IsPermutation, All-permutation, Contains-permutation, IsPermutation-sym}
 use Rattle.std.proofs.lemmas.Map.Keys.{IsDistinct-IsPermutation, IsStrictlyIncreasing-from_distinct, sorted_from_strictly_increasing}
+use Rattle.slice_ranges.proofs.Every.{all_weaker}
 use Rattle.assignment.specs.declared.slice.Slice.{Slice}
 use Rattle.assignment.specs.Slices.{is_among, is_task, has_twice, IsProper}
 use Rattle.assignment.specs.Owners.{IsSliceOf, slice_at, owns, owners_of, tasks}
@@ -98,11 +99,9 @@ increasing owners sorted same order differ =
 rises : (xs : List ℕ) (low high : ℕ) → IsStrictlySortedBy nat_cmp xs → AllByRecursion (λ x. low ≤ x) xs → AllByRecursion (λ x. x < high) xs → Rises low xs high
 unfolding Rises IsStrictlySortedBy
 rises [] low high sorted lows highs = tt
-rises (x ∷ xs) low high sorted lows highs = (lows.0, highs.0, rises xs (x + 1) high sorted.1 (above xs sorted.0) highs.1)
-  where
-    above : (ys : List ℕ) → AllByRecursion (λ y. nat_cmp x y ≡ Less) ys → AllByRecursion (λ y. x + 1 ≤ y) ys
-    above [] h = tt
-    above (y ∷ ys) h = (let e : nat_cmp x y ≡ Less = h.0 in grind (arith, nat_tests), above ys h.1)
+rises (x ∷ xs) low high sorted lows highs =
+    let above = all_weaker (λ y. nat_cmp x y ≡ Less) (λ y. x + 1 ≤ y) xs (λ y less. grind (arith, nat_tests)) sorted.0 in
+    (lows.0, highs.0, rises xs (x + 1) high sorted.1 above highs.1)
 
 -- sorted owners are the tasks that are among the owners
 pub owners_rise : (owners sorted : List ℕ) (test : ℕ → Bool) → IsPermutation owners sorted → IsSorted nat_cmp sorted → has_twice owners ≡ false → All (λ o. is_task o ≡ true) owners

@@ -5,6 +5,7 @@ use Rattle.std.specs.List.{AllByRecursion}
 use Rattle.std.proofs.lemmas.Bool.Decides.{nat_tests}
 use Rattle.std.proofs.lemmas.List.Elements.{All-from_recursion}
 use Rattle.slice_ranges.specs.Refusals.{when, first_of, unless_refused}
+use Rattle.slice_ranges.proofs.Every.{all_weaker}
 use Rattle.assignment.specs.Slices.{Slicing}
 use Rattle.clerk.specs.declared.call.ClerkCall.{ClerkCall}
 use Rattle.clerk.specs.declared.call.ClerkCall.TheVariants.{Learn, Forget}
@@ -110,12 +111,6 @@ unfolding IsFirst
 first_is_greatest_of [] kept first = first
 first_is_greatest_of (s ∷ slicings) kept first = first.0 ∙ sym (ap Some (greater_is s slicings first.1))
 
--- what is below a generation is not above it
-at_most : (generation : ℕ) (slicings : List Slicing) → AllBelow generation slicings → AllByRecursion (λ s. s.generation ≤ generation) slicings
-unfolding AllBelow
-at_most generation [] h = tt
-at_most generation (s ∷ slicings) h = (let p : s.generation < generation = h.0 in omega arith, at_most generation slicings h.1)
-
 -- what is kept is the greatest
 pub first_is_greatest : (slicings : List Slicing) (kept : Option Slicing) (slicing : Slicing) → IsFirst slicings kept → kept ≡ Some slicing → IsGreatest slicings slicing
 unfolding IsFirst AllBelow
@@ -123,7 +118,7 @@ first_is_greatest [] kept slicing first e = absurd (cc)
 first_is_greatest (s ∷ slicings) kept slicing first e =
     let here : IsGreatest (s ∷ slicings) s = record {
       listed = (0, omega arith, refl);
-      greatest = All-from_recursion (λ o. o.generation ≤ s.generation) (s ∷ slicings) (omega arith, at_most s.generation slicings first.1);
+      greatest = All-from_recursion (λ o. o.generation ≤ s.generation) (s ∷ slicings) (omega arith, all_weaker (λ o. o.generation < s.generation) (λ o. o.generation ≤ s.generation) slicings (λ o below. omega arith) first.1);
     } in
     subst (IsGreatest (s ∷ slicings)) (some_is (sym first.0 ∙ e)) here
 

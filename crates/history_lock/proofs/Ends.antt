@@ -6,7 +6,6 @@ use mathlib.Core.Logic.{dite}
 use mathlib.Core.Option.{some, some-injective}
 use native.Mathlib.Decide.{ℕ_discrete}
 use lib.ListN.{get_elem?}
-use Rattle.atomic_table.specs.Seated.{TableId}
 use Rattle.atomic_table.specs.Table.{Final, Seen}
 use Rattle.history_lock.specs.declared.entry.Entry.{Entry}
 use Rattle.history_lock.specs.declared.view.Opened.{Opened}
@@ -16,9 +15,9 @@ use Rattle.history_lock.specs.declared.view.Gone.{Gone}
 use Rattle.history_lock.specs.declared.view.View.{View}
 use Rattle.history_lock.specs.declared.view.Book.{Book}
 use Rattle.history_lock.specs.Histories.{replay, of_lane, StartsWith}
-use Rattle.history_lock.specs.Passes.{Lock, Sight, ArePassesOf}
+use Rattle.history_lock.specs.Passes.{Lock, Sight}
 use Rattle.history_lock.specs.Rule.{HasLane, KnowsRole, KnowsGone, Kept}
-use Rattle.history_lock.specs.Closing.{has_lane, Agrees, IsWhole, AreAt, gone, gone_pass, IsGone, IsEnd}
+use Rattle.history_lock.specs.Closing.{has_lane, Agrees, IsWhole, gone, gone_pass, IsGone, IsEnd}
 
 module _ {E : Type 0} (log : List (Entry E)) (next dealer : ℕ) (owner : ℕ → ℕ) (id : ℕ) where
   owned : (n : ℕ) (gs : List (Gone E)) → KnowsGone log next dealer owner id gs → IsGone n gs → owner n ≡ id
@@ -64,18 +63,6 @@ no_false : false ≡ true → ⊥
 no_false h = cc
 
 module _ {M E : Type 0} where
-  pub are_at : (lock : Lock M) (ps : List (Sight M E)) → ArePassesOf lock ps → AreAt lock.table ps
-  are_at lock [] h = tt
-  are_at lock (p ∷ ps) h = (h.0.0, are_at lock ps h.1)
-
-  pub last_at : (z : TableId) (ps : List (Sight M E)) (p : Sight M E) → AreAt z (ps ++ p ∷ []) → AreAt z ps × (p.table ≡ z)
-  last_at z [] p h = (tt, h.0)
-  last_at z (q ∷ ps) p h = let t = last_at z ps p h.1 in ((h.0, t.0), t.1)
-
-  pub gone_snoc : (ps : List (Sight M E)) (p : Sight M E) (gs : List (Gone E)) → map gone_pass (ps ++ p ∷ []) ++ gs ≡ map gone_pass ps ++ gone_pass p ∷ gs
-  gone_snoc [] p gs = refl
-  gone_snoc (q ∷ ps) p gs = ap (λ l. gone_pass q ∷ l) (gone_snoc ps p gs)
-
   pub here_or_gone : (n : ℕ) (ps : List (Sight M E)) (p : Sight M E) → has_lane n (ps ++ p ∷ []) ≡ true → (n ≡ p.lane) ⊎ IsGone n (map gone_pass ps)
   here_or_gone n [] p h = ⊎_elim (λ e. inl (sym (eqb-true p.lane n e))) (λ e. absurd (no_false e)) (either_true _ _ h)
   here_or_gone n (q ∷ ps) p h = ⊎_elim (λ e. inr (inl (eqb-true q.lane n e))) (λ e. ⊎_elim (λ (x : n ≡ p.lane). inl x) (λ (x : IsGone n (map gone_pass ps)). inr (inr x)) (here_or_gone n ps p e)) (either_true _ _ h)

@@ -1,5 +1,5 @@
 -- What a call tells, of what its steps told.
-use Rattle.std.proofs.Common.{◌≡◌, ℕ, ◌≤◌, List, [], ◌∷◌, ◌++◌, length, length-append, refl, sym, ap, ◌∙◌, subst, arith, Option, Some, Result, Ok, Err}
+use Rattle.std.proofs.Common.{◌≡◌, ℕ, List, [], ◌∷◌, ◌++◌, length, refl, sym, ap, ◌∙◌, subst, arith, Option, Some, Result, Ok, Err}
 use Rattle.atomic_table.specs.Seated.{TableId}
 use Rattle.atomic_table.specs.Table.{Me}
 use Rattle.history_lock.specs.declared.entry.Entry.{Entry}
@@ -38,9 +38,6 @@ module _ {M E R F : Type 0} (step : M → E → Result (M × R) F) (opened : Ope
     module _ (reply : R) (t : Turn step lane limit made unmade b (Ok reply) b') where
       pub new_legal : replay step opened.machine b'.history.items ≡ Some b'.machine
       new_legal = subst (λ x. replay step opened.machine x ≡ Some b'.machine) (sym t.4) (replay_snoc step opened.machine b.machine b'.machine reply history lane t.0 legal t.3)
-
-      pub new_short : length b'.history.items ≤ opened.limit
-      new_short = let room = t.2 in let e = ap length t.4 in let n = length-append history (entry lane t.0 ∷ []) in omega arith
 
       pub new_grows : GrowsBy lane history b'.history.items
       new_grows = subst (GrowsBy lane history) (sym t.4) (grows_snoc lane history t.0)

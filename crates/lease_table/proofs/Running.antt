@@ -1,19 +1,16 @@
 -- Rows that run at one reading and at a later one.
-use Rattle.std.proofs.Common.{◌≡◌, ◌∙◌, ℕ, ◌+◌, ◌<◌, ◌≤◌, Bool, true, false, List, [], ◌∷◌, ◌++◌, filter, refl, sym, ap, arith}
+use Rattle.std.proofs.Common.{◌≡◌, ◌∙◌, ℕ, ◌+◌, ◌≤◌, Bool, true, false, List, [], ◌∷◌, ◌++◌, filter, refl, sym, ap, arith}
 use Rattle.std.specs.Prelude.{if◌then◌else◌, nat_lt, nat_le, ◌&&◌, Option, Some, None}
 use Rattle.std.specs.Prelude.{Ok}
 use Rattle.std.specs.List.{AllByRecursion}
 use Rattle.std.proofs.lemmas.Bool.Decides.{nat_tests}
 use Rattle.slice_ranges.specs.Refusals.{first_of, unless_refused, answer}
+use Rattle.slice_ranges.proofs.Every.{all_weaker, all_push}
 use Rattle.lease_table.specs.declared.error.TableError.{TableError}
 use Rattle.lease_table.specs.declared.values.Row.{Row}
 use Rattle.lease_table.specs.declared.values.JobTerm.{JobTerm}
 use Rattle.lease_table.specs.Kept.{IsSmall}
 use Rattle.lease_table.specs.Rows.{runs_at, running, first_up_to}
-
--- what runs at a reading ran at every earlier one
-ran_before : (at last : ℕ) (row : Row) → last ≤ at → runs_at at row ≡ true → runs_at last row ≡ true
-ran_before at last row l runs = let later : nat_lt at row.table_ends ≡ true = runs in grind (arith, nat_tests)
 
 module _ (at last : ℕ) (l : last ≤ at) where
   -- a row that did not run before does not run now
@@ -95,11 +92,7 @@ pub running-added : (at last : ℕ) (rows : List Row) (row : Row) → last ≤ a
 running-added at last rows row l runs =
     running-running at at (omega arith) (rows ++ row ∷ []) ∙ running-push at rows row runs ∙ ap (λ (rs : List Row). rs ++ row ∷ []) (sym (running-running at last l rows))
 
--- the number of one more grant is above those of all rows
-pub numbers_below : (granted number : ℕ) (rows : List Row) → number ≡ granted + 1 → AllByRecursion (λ row. row.number ≤ granted) rows → AllByRecursion (λ row. row.number < number) rows
-numbers_below granted number [] e h = tt
-numbers_below granted number (row ∷ rows) e h = (let p : row.number ≤ granted = h.0 in omega arith, numbers_below granted number rows e h.1)
-
+-- the number of one more grant is the greatest
 pub numbered_push : (granted : ℕ) (rows : List Row) (row : Row) → row.number ≡ granted + 1 → AllByRecursion (λ row. row.number ≤ granted) rows → AllByRecursion (λ row. row.number ≤ granted + 1) (rows ++ row ∷ [])
-numbered_push granted [] row e h = (omega arith, tt)
-numbered_push granted (other ∷ rows) row e h = (let p : other.number ≤ granted = h.0 in omega arith, numbered_push granted rows row e h.1)
+numbered_push granted rows row e h =
+    all_push (λ r. r.number ≤ granted + 1) rows row (all_weaker (λ r. r.number ≤ granted) (λ r. r.number ≤ granted + 1) rows (λ r p. omega arith) h) (omega arith)

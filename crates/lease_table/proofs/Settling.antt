@@ -22,6 +22,7 @@ use Rattle.history_lock.specs.Steps.{replied}
 use Rattle.lease_table.specs.Calls.{AnsweredCall, answered, last_reading, last_term, committed_in, pending_in, grants_sent, unfreed_rows, described, table_step}
 use Rattle.lease_table.specs.Runs.{answer_of, IsRun, known, IsNext, IsWaiting, IsSettled, newest, longest, proposed_at, assignment_in, IsTied}
 use Rattle.slice_ranges.proofs.Refused.{all_none, not_when}
+use Rattle.slice_ranges.proofs.Every.{all_weaker, all_push}
 use Rattle.lease_table.proofs.Running.{running-running, running-push, filter-filter, all_of_filter}
 use Rattle.lease_table.proofs.Leading.{not_back, row_runs}
 
@@ -30,14 +31,6 @@ accepted : {R : Type 0} (reply : R → TableReply) (o : Option TableError) (new 
     → Ok given ≡ answer_of (replied reply (unless_refused o (new, r))) → (o ≡ None) × (given ≡ reply r)
 accepted reply None new r given e = (refl, cc)
 accepted reply (Some refusal) new r given e = absurd (cc)
-
-all_push : {X : Type 0} (P : X → Type 0) (xs : List X) (x : X) → AllByRecursion P xs → P x → AllByRecursion P (xs ++ x ∷ [])
-all_push P [] x h p = (p, tt)
-all_push P (y ∷ xs) x h p = (h.0, all_push P xs x h.1 p)
-
-all_weaker : {X : Type 0} (P Q : X → Type 0) (xs : List X) → ((x : X) → P x → Q x) → AllByRecursion P xs → AllByRecursion Q xs
-all_weaker P Q [] w h = tt
-all_weaker P Q (x ∷ xs) w h = (w x h.0, all_weaker P Q xs w h.1)
 
 -- where no row holds a commit up, each that runs is of a later generation
 none_held : (g at : ℕ) (rows : List Row) → first_up_to g at rows ≡ None → AllByRecursion (λ row. g + 1 ≤ row.generation) (running at rows)

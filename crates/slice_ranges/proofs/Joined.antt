@@ -46,14 +46,6 @@ pub record IsJoined (all rest : List (ℕ × ℕ)) (out : List ℕ) (inside : Bo
   pub sound : refusal_from end rest ≡ None
   pub within : end ≤ 2 ^ 63
 
-pub joined_start : (all : List (ℕ × ℕ)) (out : List ℕ) → refusal_from 0 all ≡ None → out ≡ [] → IsJoined all all out false 0
-joined_start all out e o = record {
-  made = rw o (record { done = λ k g. absurd (omega arith); after = λ k g. refl; rises = omega arith });
-  same = λ k g. refl;
-  sound = e;
-  within = omega arith;
-}
-
 module _ (all : List (ℕ × ℕ)) (start stop : ℕ) (rest : List (ℕ × ℕ)) (out : List ℕ) (end : ℕ) (sound : refusal_from end ((start, stop) ∷ rest) ≡ None) (same : (k : ℕ) → end ≤ k → covered all k ≡ covered ((start, stop) ∷ rest) k) where
   g : IsGood end start stop rest
   g = good end start stop rest sound

@@ -7,3 +7,4 @@ pub mod Swept
 pub mod Told
 pub mod Widths
 pub mod Refused
+pub mod Every

@@ -25,13 +25,6 @@ pub record IsTold (all here : Steps Bool) (out : List ℕ) (inside : Bool) (p : 
   pub same : (k : ℕ) → p ≤ k → value_after false all k ≡ value_after inside here k
   pub rises : StepsRise p here (2 ^ 63)
 
-pub told_start : (all : Steps Bool) (out : List ℕ) → StepsRise 0 all (2 ^ 63) → out ≡ [] → IsTold all all out false 0
-told_start all out r e = record {
-  made = rw e (record { done = λ k g. absurd (omega arith); after = λ k g. refl; rises = omega arith });
-  same = λ k g. refl;
-  rises = r;
-}
-
 module _ (all here : Steps Bool) (s : ℕ × Bool) (rest : Steps Bool) (out : List ℕ) (inside : Bool) (p : ℕ) (told : IsTold all here out inside p) (e : here ≡ s ∷ rest) where
   front : IsTold all (s ∷ rest) out inside p
   front = rw e at told

@@ -5,6 +5,7 @@ use Rattle.std.specs.Prelude.{Option, Some, None, is_none, nat_le, ◌==◌, not
 use Rattle.std.specs.List.{AllByRecursion}
 use Rattle.slice_ranges.specs.Refusals.{when, first_of}
 use Rattle.slice_ranges.proofs.Refused.{all_none, not_when}
+use Rattle.slice_ranges.proofs.Every.{all_weaker}
 use Rattle.policy_rules.specs.declared.lease.Kind.{Kind}
 use Rattle.policy_rules.specs.declared.lease.Kind.TheVariants.{Guard, Bridge}
 use Rattle.policy_rules.specs.Leases.{same_kind}
@@ -45,10 +46,6 @@ up_to_greater number None second h = h
 up_to_greater number (Some m) None h = absurd h
 up_to_greater number (Some m) (Some n) h = omega (arith, h)
 
-all_weaker : {X : Type 0} (P Q : X → Type 0) (xs : List X) → ((x : X) → P x → Q x) → AllByRecursion P xs → AllByRecursion Q xs
-all_weaker P Q [] w h = tt
-all_weaker P Q (x ∷ xs) w h = (w x h.0, all_weaker P Q xs w h.1)
-
 same_itself : (kind : Kind) → same_kind kind kind ≡ true
 same_itself Guard = refl
 same_itself Bridge = refl
@@ -62,11 +59,16 @@ held_heard : (task : ℕ) (h : List SliceletCall) (kind : Kind) (o : Option Gran
 held_heard task h kind None q e own = absurd (cc)
 held_heard task h kind (Some grant) q e own = rw ((own grant refl).greatest) (omega arith)
 
+-- lives rise
+pub life_rises : (life at : ℕ) (h : List SliceletCall) → first_of (start_checks h life at) ≡ None → life_of h < life
+life_rises life at h e =
+    let old : nat_le life (life_of h) ≡ false = not_when _ _ (all_none (start_checks h life at) e).0 in
+    grind (arith, nat_tests)
+
 module _ (task : ℕ) (h : List SliceletCall) (s : IsSettled task h) where
   settle_start : (life at : ℕ) → first_of (start_checks h life at) ≡ None → IsSettled task (Start life at ∷ h)
   settle_start life at e =
-      let old : nat_le life (life_of h) ≡ false = not_when _ _ (all_none (start_checks h life at) e).0 in
-      let newer : life_of h < life = grind (arith, nat_tests) in
+      let newer : life_of h < life = life_rises life at h e in
       record {
         own = λ kind grant q. absurd (cc);
         spent = all_weaker (IsSpent h) (IsSpent (Start life at ∷ h)) (notes_sent task h)
@@ -153,17 +155,11 @@ settled task (Start life at ∷ h) a = settle_start task h (settled task h a.1) 
 settled task (Hear grant at ∷ h) a = settle_hear task h (settled task h a.1) grant at a.0
 settled task (Release kind at ∷ h) a = settle_release task h (settled task h a.1) kind at a.0
 
--- lives rise
-pub life_rises : (task life at : ℕ) (h : List SliceletCall) → first_of (start_checks h life at) ≡ None → life_of h < life
-life_rises task life at h e =
-    let old : nat_le life (life_of h) ≡ false = not_when _ _ (all_none (start_checks h life at) e).0 in
-    grind (arith, nat_tests)
-
 pub lives_rise : (task : ℕ) (later h : List SliceletCall) → AreAccepted task (later ++ h) → life_of h ≤ life_of (later ++ h)
 lives_rise task [] h a = omega arith
 lives_rise task (Start life at ∷ later) h a =
     let before = lives_rise task later h a.1 in
-    let rise = life_rises task life at (later ++ h) a.0 in
+    let rise = life_rises life at (later ++ h) a.0 in
     omega arith
 lives_rise task (Hear grant at ∷ later) h a = lives_rise task later h a.1
 lives_rise task (Release kind at ∷ later) h a = lives_rise task later h a.1
