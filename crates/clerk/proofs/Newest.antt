@@ -34,8 +34,7 @@ IsFirst (s ∷ slicings) kept = (kept ≡ Some s) × AllBelow s.generation slici
 -- what is below a generation is below a greater one
 below_more : (low high : ℕ) (slicings : List Slicing) → low ≤ high → AllBelow low slicings → AllBelow high slicings
 unfolding AllBelow
-below_more low high [] l h = tt
-below_more low high (s ∷ slicings) l h = (let p : s.generation < low = h.0 in omega arith, below_more low high slicings l h.1)
+below_more low high slicings l h = all_weaker (λ s. s.generation < low) (λ s. s.generation < high) slicings (λ s below. omega arith) h
 
 -- values under `Some`
 some_is : {A : Type 0} {x y : A} → Some x ≡ Some y → x ≡ y
