@@ -96,12 +96,19 @@ fn takes_policies_within_their_limits(rt: HostRuntime) {
     }
 }
 
-#[test]
-fn holds_a_commit_up_until_the_guard_ends(rt: HostRuntime) -> Result<(), Fail> {
-    let alloc = rt.alloc();
+// The same where generation 2, which gives all to task 2, was proposed at 20.
+fn proposed_of(alloc: Global) -> Result<LeaseTable, Fail> {
     let mut table = base_of(alloc, 1000)?;
     let second = assignment_of(alloc, 2, &[(0, &[2]), (HALF, &[2])])?;
-    assert!(rt; table.propose(1, &second, 20).is_ok());
+    table
+        .propose(1, &second, 20)
+        .map_err(|_| "nothing is proposed")?;
+    Ok(table)
+}
+
+#[test]
+fn holds_a_commit_up_until_the_guard_ends(rt: HostRuntime) -> Result<(), Fail> {
+    let mut table = proposed_of(rt.alloc())?;
     let held = TableError::Held {
         task: task_of(1)?,
         kind: Kind::Guard,
@@ -118,16 +125,13 @@ fn holds_a_commit_up_until_the_guard_ends(rt: HostRuntime) -> Result<(), Fail> {
 
 #[test]
 fn commits_once_the_row_is_freed(rt: HostRuntime) -> Result<(), Fail> {
-    let alloc = rt.alloc();
-    let mut table = base_of(alloc, 1000)?;
-    let second = assignment_of(alloc, 2, &[(0, &[2]), (HALF, &[2])])?;
+    let mut table = proposed_of(rt.alloc())?;
     let note = ReleaseNote {
         task: task_of(1)?,
         life: 1,
         kind: Kind::Guard,
         number: 1,
     };
-    assert!(rt; table.propose(1, &second, 20).is_ok());
     for other in [
         ReleaseNote {
             task: task_of(2)?,
@@ -148,86 +152,113 @@ fn commits_once_the_row_is_freed(rt: HostRuntime) -> Result<(), Fail> {
     Ok(())
 }
 
+// The number and the end of a term.
+fn term(answer: Result<JobTerm, TableError>) -> Result<(u64, u64), TableError> {
+    answer.map(|term| (term.number, term.until))
+}
+
+// Calls about a job lease whose term 1 ends at 1000.
+fn job_answers(table: &mut LeaseTable) -> [Result<(u64, u64), TableError>; 7] {
+    let held = term(table.job_take(2, 10));
+    let taken = term(table.job_take(2, 1000));
+    let old_holder = term(table.job_renew(1, 1001));
+    let renewed = term(table.job_renew(2, 1500));
+    let clock_back = term(table.job_renew(2, 1499));
+    let out_of_range = term(table.job_renew(2, HALF));
+    let ended = term(table.job_renew(2, 2500));
+    [
+        held,
+        taken,
+        old_holder,
+        renewed,
+        clock_back,
+        out_of_range,
+        ended,
+    ]
+}
+
 #[test]
-fn refuses_in_order(rt: HostRuntime) -> Result<(), Fail> {
-    let alloc = rt.alloc();
-    let mut table = base_of(alloc, 1000)?;
+fn gives_the_job_lease_to_one_assigner(rt: HostRuntime) -> Result<(), Fail> {
+    let mut table = base_of(rt.alloc(), 1000)?;
+    let wanted = [
+        Err(TableError::JobHeld { until: 1000 }),
+        Ok((2, 2000)),
+        Err(TableError::NotHolder { term: 2 }),
+        Ok((2, 2500)),
+        Err(TableError::ClockBack),
+        Err(TableError::ReadingRange),
+        Err(TableError::NotHolder { term: 2 }),
+    ];
+    assert_eq!(rt; job_answers(&mut table), wanted);
+    assert_eq!(rt; table.job().map(|term| term.until), Some(2500));
+    Ok(())
+}
+
+fn refusal(answer: Result<(), Trouble<TableError>>) -> Option<TableError> {
+    match answer {
+        Err(Trouble::Refused(error)) => Some(error),
+        _ => None,
+    }
+}
+
+// How proposals are refused: of a generation that is committed, with too many owners, and a second
+// one while the first waits.
+fn refused_proposals(
+    alloc: Global,
+    table: &mut LeaseTable,
+) -> Result<[Option<TableError>; 4], Fail> {
     let again = assignment_of(alloc, 1, &[(0, &[1])])?;
     let shared = assignment_of(alloc, 2, &[(0, &[1, 2])])?;
     let second = assignment_of(alloc, 2, &[(0, &[1])])?;
-    let refused = |error: TableError| Some(error);
-    let why = |trouble: Result<(), Trouble<TableError>>| match trouble {
-        Err(Trouble::Refused(error)) => Some(error),
-        _ => None,
-    };
+    let stale = refusal(table.propose(1, &again, 20));
+    let too_many = refusal(table.propose(1, &shared, 20));
+    let proposed = refusal(table.propose(1, &second, 20));
+    let pending = refusal(table.propose(1, &second, 20));
+    Ok([stale, too_many, proposed, pending])
+}
+
+#[test]
+fn refuses_proposals_in_order(rt: HostRuntime) -> Result<(), Fail> {
+    let mut table = base_of(rt.alloc(), 1000)?;
+    assert_eq!(rt; table.commit(1, 20), Err(TableError::NothingPending));
     assert_eq!(rt;
-        table.job_take(2, 10),
-        Err(TableError::JobHeld { until: 1000 })
+        refused_proposals(rt.alloc(), &mut table)?,
+        [
+            Some(TableError::StaleBase { generation: 1 }),
+            Some(TableError::TooManyOwnersForJob),
+            None,
+            Some(TableError::Pending),
+        ]
     );
-    assert_eq!(rt;
-        table
-            .job_take(2, 1000)
-            .map(|term| (term.number, term.until)),
-        Ok((2, 2000))
-    );
-    assert_eq!(rt;
-        table.job_renew(1, 1001),
-        Err(TableError::NotHolder { term: 2 })
-    );
-    assert_eq!(rt; table.commit(2, 1002), Err(TableError::NothingPending));
-    assert_eq!(rt;
-        why(table.propose(2, &again, 1003)),
-        refused(TableError::StaleBase { generation: 1 })
-    );
-    assert_eq!(rt;
-        why(table.propose(2, &shared, 1003)),
-        refused(TableError::TooManyOwnersForJob)
-    );
-    assert!(rt; table.propose(2, &second, 1003).is_ok());
-    assert_eq!(rt;
-        why(table.propose(2, &second, 1003)),
-        refused(TableError::Pending)
-    );
-    assert_eq!(rt;
-        table
-            .job_renew(2, 1500)
-            .map(|term| (term.number, term.until)),
-        Ok((2, 2500))
-    );
-    assert_eq!(rt; table.job().map(|term| term.until), Some(2500));
-    assert_eq!(rt; table.job_renew(2, 1499), Err(TableError::ClockBack));
-    assert_eq!(rt; table.job_renew(2, HALF), Err(TableError::ReadingRange));
-    assert_eq!(rt;
-        table.job_renew(2, 2500),
-        Err(TableError::NotHolder { term: 2 })
-    );
+    assert_eq!(rt; table.phase(), Phase::Bridging(1, 2));
     Ok(())
 }
 
 #[test]
 fn spends_its_numbers(rt: HostRuntime) -> Result<(), Fail> {
-    let alloc = rt.alloc();
-    let mut fresh = table_of(alloc, 1)?;
-    assert!(rt;
-        matches!(
-            fresh.grant(task_of(1)?, 1, 0),
-            Err(Trouble::Refused(TableError::NoAssignment))
-        )
-    );
-    let mut table = base_of(alloc, 1)?;
-    assert!(rt;
-        matches!(
-            table.grant(task_of(1)?, 1, 6),
-            Err(Trouble::Refused(TableError::NumbersSpent))
-        )
-    );
+    let task = task_of(1)?;
+    let mut fresh = table_of(rt.alloc(), 1)?;
+    let unassigned = refusal(fresh.grant(task, 1, 0).map(drop));
+    assert_eq!(rt; unassigned, Some(TableError::NoAssignment));
+    let mut table = base_of(rt.alloc(), 1)?;
+    let spent = refusal(table.grant(task, 1, 6).map(drop));
+    assert_eq!(rt; spent, Some(TableError::NumbersSpent));
     Ok(())
 }
 
+fn has_just(table: &LeaseTable, row: Row) -> bool {
+    table
+        .rows()
+        .is_ok_and(|rows| rows.as_slice() == [row].as_slice())
+}
+
+fn has_no_row(table: &LeaseTable) -> bool {
+    table.rows().is_ok_and(|rows| rows.is_empty())
+}
+
 #[test]
-fn lists_rows_and_grants_bridges(rt: HostRuntime) -> Result<(), Fail> {
-    let alloc = rt.alloc();
-    let mut table = base_of(alloc, 1000)?;
+fn lists_rows_until_they_end(rt: HostRuntime) -> Result<(), Fail> {
+    let mut table = base_of(rt.alloc(), 1000)?;
     let row = Row {
         number: 1,
         task: task_of(1)?,
@@ -236,54 +267,81 @@ fn lists_rows_and_grants_bridges(rt: HostRuntime) -> Result<(), Fail> {
         generation: 1,
         table_ends: 105,
     };
-    assert_eq!(rt; table.rows()?.as_slice(), [row].as_slice());
-    assert_eq!(rt; table.copy()?.rows()?.as_slice(), [row].as_slice());
+    assert!(rt; has_just(&table, row));
+    assert!(rt; has_just(&table.copy()?, row));
+    assert!(rt; table.job_renew(1, 104).is_ok());
+    assert!(rt; has_just(&table, row));
+    assert!(rt; table.job_renew(1, 105).is_ok());
+    assert!(rt; has_no_row(&table));
+    Ok(())
+}
+
+// Generation 2 leaves task 1 the keys below 5; it was proposed at 105, and task 1 has grant 2 at 106.
+fn bridged_of(alloc: Global) -> Result<(LeaseTable, Grant), Fail> {
+    let mut table = base_of(alloc, 1000)?;
     let second = assignment_of(alloc, 2, &[(0, &[1]), (5, &[2])])?;
-    assert!(rt; table.propose(1, &second, 105).is_ok());
-    assert_eq!(rt; table.phase(), Phase::Bridging(1, 2));
-    assert!(rt; table.rows()?.is_empty());
-    let Ok(grant) = table.grant(task_of(1)?, 1, 106) else {
-        return Err("a bridge lease is granted".into());
-    };
+    table
+        .propose(1, &second, 105)
+        .map_err(|_| "nothing is proposed")?;
+    let grant = table
+        .grant(task_of(1)?, 1, 106)
+        .map_err(|_| "numbers are left")?;
+    Ok((table, grant))
+}
+
+#[test]
+fn grants_bridges_over_what_stays(rt: HostRuntime) -> Result<(), Fail> {
+    let (mut table, grant) = bridged_of(rt.alloc())?;
     assert_eq!(rt;
         (grant.number, grant.lease.kind, grant.lease.generation),
         (2, Kind::Bridge, 2)
     );
     assert_eq!(rt; (grant.table_ends, grant.lease.ends), (206, 196));
     assert_eq!(rt; grant.lease.ranges.width(), 5);
-    assert_eq!(rt; grant.copy()?.lease.ranges.width(), 5);
-    assert_eq!(rt; table.rows()?.as_slice(), [grant.row()].as_slice());
+    assert!(rt; has_just(&table, grant.row()));
     assert_eq!(rt; table.commit(1, 107), Ok(2));
     Ok(())
+}
+
+// Proposes an assignment, a second time where there was no memory, which changed nothing.
+fn propose_at_last(table: &mut LeaseTable, first: &Assignment) -> Result<(), Fail> {
+    match table.propose(1, first, 1) {
+        Err(Trouble::NoMemory) if table.phase() == Phase::Steady(0) => {
+            table.propose(1, first, 1).map_err(|_| "a second time")?;
+        }
+        other => other.map_err(|_| "want of memory changes nothing")?,
+    }
+    Ok(())
+}
+
+// Grants a lease in the same way.
+fn grant_at_last(table: &mut LeaseTable) -> Result<Grant, Fail> {
+    let task = task_of(1)?;
+    let answer = match table.grant(task, 1, 5) {
+        Err(Trouble::NoMemory) if has_no_row(table) => table.grant(task, 1, 5),
+        first => first,
+    };
+    Ok(answer.map_err(|_| "want of memory changes nothing")?)
+}
+
+fn rows_at_last(table: &LeaseTable) -> Result<Vec<Row>, Fail> {
+    Ok(table.rows().or_else(|_| table.rows())?)
 }
 
 // Where one allocation is refused (`rt try --test --fail-alloc N`), the call that wanted it leaves
 // the table as it was, and answers the next time as with ample memory.
 #[test]
 fn stays_as_it_was_without_memory(rt: HostRuntime) -> Result<(), Fail> {
-    let alloc = rt.alloc();
     let listed: &[(u64, &[u64])] = &[(0, &[1]), (HALF, &[2])];
-    let first = match built(alloc, 1, listed) {
+    let first = match built(rt.alloc(), 1, listed) {
         Some(first) => first,
-        None => assignment_of(alloc, 1, listed)?,
+        None => assignment_of(rt.alloc(), 1, listed)?,
     };
-    let mut table = table_of(alloc, 1000)?;
-    table.job_take(1, 0).map_err(|_| "nobody holds the job")?;
-    if let Err(trouble) = table.propose(1, &first, 1) {
-        assert!(rt; matches!(trouble, Trouble::NoMemory));
-        assert_eq!(rt; table.phase(), Phase::Steady(0));
-        assert!(rt; table.propose(1, &first, 1).is_ok());
-    }
+    let mut table = table_of(rt.alloc(), 1000)?;
+    assert!(rt; table.job_take(1, 0).is_ok());
+    propose_at_last(&mut table, &first)?;
     assert_eq!(rt; table.commit(1, 2), Ok(1));
-    let mut answer = table.grant(task_of(1)?, 1, 5);
-    if let Err(trouble) = answer {
-        assert!(rt; matches!(trouble, Trouble::NoMemory));
-        assert!(rt; table.rows()?.is_empty());
-        answer = table.grant(task_of(1)?, 1, 5);
-    }
-    let Ok(grant) = answer else {
-        return Err("numbers are left".into());
-    };
+    let grant = grant_at_last(&mut table)?;
     assert_eq!(rt;
         (grant.number, grant.table_ends, grant.lease.ends),
         (1, 105, 95)
@@ -291,8 +349,7 @@ fn stays_as_it_was_without_memory(rt: HostRuntime) -> Result<(), Fail> {
     let copied = grant.copy().or_else(|_| grant.copy())?;
     assert_eq!(rt; copied.lease.ranges.width(), HALF);
     let twin = table.copy().or_else(|_| table.copy())?;
-    let rows = twin.rows().or_else(|_| twin.rows())?;
-    assert_eq!(rt; rows.as_slice(), [grant.row()].as_slice());
+    assert_eq!(rt; rows_at_last(&twin)?.as_slice(), [grant.row()].as_slice());
     assert_eq!(rt; twin.phase(), Phase::Steady(1));
     Ok(())
 }

@@ -74,96 +74,125 @@ fn base_of(alloc: Global) -> Result<(LeaseTable, Slicelet, Grant), Fail> {
     Ok((table, slicelet, grant))
 }
 
+// What a task may serve that heard grant 1 at 6.
+fn verdicts(slicelet: &Slicelet) -> [Verdict; 6] {
+    [
+        slicelet.serve(hello(), 7),
+        slicelet.serve(abc(), 7),
+        slicelet.serve(hello(), 5),
+        slicelet.serve(hello(), 94),
+        slicelet.serve(hello(), 95),
+        slicelet.serve(abc(), 95),
+    ]
+}
+
 #[test]
 fn serves_its_keys_until_the_deadline(rt: HostRuntime) -> Result<(), Fail> {
-    let alloc = rt.alloc();
-    let (_table, mut slicelet, grant) = base_of(alloc)?;
-    slicelet.hear(&grant, 6).map_err(|_| "grant 1 is new")?;
-    let not_owned = Verdict::Deny(Ground::NotOwned { generation: 1 });
-    assert_eq!(rt; slicelet.serve(hello(), 7), allow(Kind::Guard, 1));
-    assert_eq!(rt; slicelet.serve(abc(), 7), not_owned);
-    assert_eq!(rt;
-        slicelet.serve(hello(), 5),
-        Verdict::Deny(Ground::ClockBack)
-    );
-    assert_eq!(rt; slicelet.serve(hello(), 94), allow(Kind::Guard, 1));
-    assert_eq!(rt; slicelet.serve(hello(), 95), Verdict::Deny(Ground::Ended));
-    assert_eq!(rt; slicelet.serve(abc(), 95), Verdict::Deny(Ground::NoLease));
-    let other = Slicelet::new(alloc, task_of(2)?);
-    assert_eq!(rt; other.serve(abc(), 7), Verdict::Deny(Ground::Down));
-    let copied = slicelet.copy()?;
-    assert_eq!(rt; copied.serve(hello(), 7), allow(Kind::Guard, 1));
+    let (_table, mut slicelet, grant) = base_of(rt.alloc())?;
+    assert!(rt; slicelet.hear(&grant, 6).is_ok());
+    let wanted = [
+        allow(Kind::Guard, 1),
+        Verdict::Deny(Ground::NotOwned { generation: 1 }),
+        Verdict::Deny(Ground::ClockBack),
+        allow(Kind::Guard, 1),
+        Verdict::Deny(Ground::Ended),
+        Verdict::Deny(Ground::NoLease),
+    ];
+    assert_eq!(rt; verdicts(&slicelet), wanted);
+    assert_eq!(rt; verdicts(&slicelet.copy()?), wanted);
     Ok(())
 }
 
 #[test]
+fn serves_nothing_before_its_start(rt: HostRuntime) -> Result<(), Fail> {
+    let slicelet = Slicelet::new(rt.alloc(), task_of(2)?);
+    assert_eq!(rt; slicelet.serve(abc(), 7), Verdict::Deny(Ground::Down));
+    Ok(())
+}
+
+// How calls after the release of grant 1 are refused.
+fn refusals_after_release(slicelet: &mut Slicelet, grant: &Grant) -> [Option<SliceletError>; 5] {
+    let again = refusal(slicelet.hear(grant, 43));
+    let next_life = refusal(slicelet.start(2, 44));
+    let grant_of_old_life = refusal(slicelet.hear(grant, 45));
+    let old_life = refusal(slicelet.start(1, 46));
+    let too_early = refusal(slicelet.start(3, 43));
+    [again, next_life, grant_of_old_life, old_life, too_early]
+}
+
+#[test]
 fn hears_no_released_grant_again(rt: HostRuntime) -> Result<(), Fail> {
-    let alloc = rt.alloc();
-    let (_table, mut slicelet, grant) = base_of(alloc)?;
-    slicelet.hear(&grant, 6).map_err(|_| "grant 1 is new")?;
-    let note = slicelet
-        .release(Kind::Guard, 40)
-        .map_err(|_| "a guard is held")?;
+    let (_table, mut slicelet, grant) = base_of(rt.alloc())?;
+    assert!(rt; slicelet.hear(&grant, 6).is_ok());
     let wanted = ReleaseNote {
         task: task_of(1)?,
         life: 1,
         kind: Kind::Guard,
         number: 1,
     };
-    assert_eq!(rt; note, wanted);
+    assert_eq!(rt; slicelet.release(Kind::Guard, 40).ok(), Some(wanted));
+    assert_eq!(rt; slicelet.serve(hello(), 43), Verdict::Deny(Ground::NoLease));
     assert_eq!(rt;
-        refusal(slicelet.hear(&grant, 43)),
-        Some(SliceletError::Old { heard: 1 })
-    );
-    assert_eq!(rt; slicelet.serve(hello(), 44), Verdict::Deny(Ground::NoLease));
-    assert!(rt; slicelet.start(2, 44).is_ok());
-    assert_eq!(rt;
-        refusal(slicelet.hear(&grant, 45)),
-        Some(SliceletError::OtherLife)
-    );
-    assert_eq!(rt;
-        refusal(slicelet.start(1, 46)),
-        Some(SliceletError::OldLife)
-    );
-    assert_eq!(rt;
-        refusal(slicelet.start(3, 43)),
-        Some(SliceletError::ClockBack)
+        refusals_after_release(&mut slicelet, &grant),
+        [
+            Some(SliceletError::Old { heard: 1 }),
+            None,
+            Some(SliceletError::OtherLife),
+            Some(SliceletError::OldLife),
+            Some(SliceletError::ClockBack),
+        ]
     );
     Ok(())
+}
+
+// How calls of a task are refused that grant 1 is not for.
+fn refusals_of_another_task(slicelet: &mut Slicelet, grant: &Grant) -> [Option<SliceletError>; 4] {
+    let hear_before_start = refusal(slicelet.hear(grant, 6));
+    let release_before_start = refusal(slicelet.release(Kind::Guard, 6));
+    let start = refusal(slicelet.start(1, 7));
+    let grant_of_another = refusal(slicelet.hear(grant, 8));
+    [
+        hear_before_start,
+        release_before_start,
+        start,
+        grant_of_another,
+    ]
+}
+
+// How calls at the end of grant 1 are refused.
+fn refusals_at_the_end(slicelet: &mut Slicelet, grant: &Grant) -> [Option<SliceletError>; 3] {
+    let too_late = refusal(slicelet.hear(grant, 95));
+    let no_bridge = refusal(slicelet.release(Kind::Bridge, 95));
+    let old_life = refusal(slicelet.start(0, 95));
+    [too_late, no_bridge, old_life]
 }
 
 #[test]
 fn refuses_in_order(rt: HostRuntime) -> Result<(), Fail> {
-    let alloc = rt.alloc();
-    let (_table, mut first, grant) = base_of(alloc)?;
-    let mut second = Slicelet::new(alloc, task_of(2)?);
+    let (_table, mut first, grant) = base_of(rt.alloc())?;
+    let mut second = Slicelet::new(rt.alloc(), task_of(2)?);
     assert_eq!(rt;
-        refusal(second.hear(&grant, 6)),
-        Some(SliceletError::NotStarted)
+        refusals_of_another_task(&mut second, &grant),
+        [
+            Some(SliceletError::NotStarted),
+            Some(SliceletError::NotStarted),
+            None,
+            Some(SliceletError::OtherTask),
+        ]
     );
     assert_eq!(rt;
-        refusal(second.release(Kind::Guard, 6)),
-        Some(SliceletError::NotStarted)
+        refusals_at_the_end(&mut first, &grant),
+        [
+            Some(SliceletError::TooLate),
+            Some(SliceletError::NothingHeld),
+            Some(SliceletError::OldLife),
+        ]
     );
-    assert!(rt; second.start(1, 7).is_ok());
-    assert_eq!(rt;
-        refusal(second.hear(&grant, 8)),
-        Some(SliceletError::OtherTask)
-    );
-    assert_eq!(rt;
-        refusal(first.hear(&grant, 95)),
-        Some(SliceletError::TooLate)
-    );
-    assert_eq!(rt;
-        refusal(first.release(Kind::Bridge, 95)),
-        Some(SliceletError::NothingHeld)
-    );
-    assert_eq!(rt; refusal(first.start(0, 95)), Some(SliceletError::OldLife));
     Ok(())
 }
 
-// A grant that no table sent, of one key, where there is memory for it.
-fn made(alloc: Global, task: TaskId, number: u64, kind: Kind, generation: u64) -> Option<Grant> {
+// A grant that no table sent, of one key and of the generation of its number, where there is memory.
+fn made(alloc: Global, task: TaskId, number: u64, kind: Kind) -> Option<Grant> {
     let ranges = Ranges::build(alloc, &[(7, 8)]).ok()?;
     Some(Grant {
         number,
@@ -171,7 +200,7 @@ fn made(alloc: Global, task: TaskId, number: u64, kind: Kind, generation: u64) -
         life: 1,
         lease: Lease {
             kind,
-            generation,
+            generation: number,
             ranges,
             ends: 100,
         },
@@ -179,177 +208,183 @@ fn made(alloc: Global, task: TaskId, number: u64, kind: Kind, generation: u64) -
     })
 }
 
-fn grant_of(alloc: Global, number: u64, kind: Kind, generation: u64) -> Result<Grant, Fail> {
-    Ok(made(alloc, task_of(1)?, number, kind, generation).ok_or("one pair makes a set")?)
+fn grant_of(alloc: Global, number: u64, kind: Kind) -> Result<Grant, Fail> {
+    Ok(made(alloc, task_of(1)?, number, kind).ok_or("one pair makes a set")?)
 }
 
 #[test]
 fn keeps_the_kinds_apart(rt: HostRuntime) -> Result<(), Fail> {
-    let alloc = rt.alloc();
     let key = SliceKey::new(7).ok_or("a number of 63 bits is a key")?;
-    let mut slicelet = Slicelet::new(alloc, task_of(1)?);
+    let mut slicelet = Slicelet::new(rt.alloc(), task_of(1)?);
     assert!(rt; slicelet.start(1, 0).is_ok());
-    assert!(rt;
-        slicelet
-            .hear(&grant_of(alloc, 0, Kind::Guard, 3)?, 1)
-            .is_ok()
-    );
-    assert!(rt;
-        slicelet
-            .hear(&grant_of(alloc, 9, Kind::Bridge, 4)?, 2)
-            .is_ok()
-    );
-    assert_eq!(rt;
-        refusal(slicelet.hear(&grant_of(alloc, 0, Kind::Guard, 3)?, 2)),
-        Some(SliceletError::Old { heard: 0 })
-    );
-    assert!(rt;
-        slicelet
-            .hear(&grant_of(alloc, 5, Kind::Guard, 5)?, 2)
-            .is_ok()
-    );
+    let grants = [
+        (0, Kind::Guard, None),
+        (9, Kind::Bridge, None),
+        (0, Kind::Guard, Some(SliceletError::Old { heard: 0 })),
+        (5, Kind::Guard, None),
+    ];
+    for (number, kind, wanted) in grants {
+        let grant = grant_of(rt.alloc(), number, kind)?;
+        assert_eq!(rt; refusal(slicelet.hear(&grant, 2)), wanted, "grant {number}");
+    }
     assert_eq!(rt; slicelet.serve(key, 2), allow(Kind::Guard, 5));
-    let note = slicelet
-        .release(Kind::Guard, 200)
-        .map_err(|_| "a guard is held")?;
-    assert_eq!(rt; (note.number, note.kind), (5, Kind::Guard));
+    let note = slicelet.release(Kind::Guard, 200).ok();
+    assert_eq!(rt;
+        note.map(|note| (note.number, note.kind)),
+        Some((5, Kind::Guard))
+    );
     assert_eq!(rt; slicelet.serve(key, 200), Verdict::Deny(Ground::Ended));
     assert!(rt; slicelet.start(2, 200).is_ok());
     assert_eq!(rt; slicelet.serve(key, 200), Verdict::Deny(Ground::NoLease));
     Ok(())
 }
 
-// Task 1 has heard grant 1 and took a handle on "hello" at 7.
-fn held_of(alloc: Global) -> Result<(LeaseTable, Slicelet, KeyHandle), Fail> {
-    let (table, mut slicelet, grant) = base_of(alloc)?;
-    slicelet.hear(&grant, 6).map_err(|_| "grant 1 is new")?;
-    let handle = slicelet.hold(hello(), 7).map_err(|_| "its key is served")?;
-    Ok((table, slicelet, handle))
+// Task 1 and its table, and a handle on "hello" that it took at 7, when it had heard grant 1.
+#[derive(Drop)]
+struct Held {
+    table: LeaseTable,
+    slicelet: Slicelet,
+    handle: KeyHandle,
 }
 
-// The table grants task 1 a lease, and the task hears it.
-fn renewed(
-    table: &mut LeaseTable,
-    slicelet: &mut Slicelet,
-    granted: u64,
-    heard: u64,
-) -> Result<(), Fail> {
-    let grant = table
-        .grant(task_of(1)?, 1, granted)
-        .map_err(|_| "numbers are left")?;
-    slicelet
-        .hear(&grant, heard)
-        .map_err(|_| "a number that is new")?;
-    Ok(())
-}
+impl Held {
+    fn new(alloc: Global) -> Result<Self, Fail> {
+        let (table, mut slicelet, grant) = base_of(alloc)?;
+        slicelet.hear(&grant, 6).map_err(|_| "grant 1 is new")?;
+        let handle = slicelet.hold(hello(), 7).map_err(|_| "its key is served")?;
+        Ok(Held {
+            table,
+            slicelet,
+            handle,
+        })
+    }
 
-// Task 1 releases its guard, and the table frees the row.
-fn released(
-    table: &mut LeaseTable,
-    slicelet: &mut Slicelet,
-    released: u64,
-    freed: u64,
-) -> Result<(), Fail> {
-    let note = slicelet
-        .release(Kind::Guard, released)
-        .map_err(|_| "a guard is held")?;
-    table.free(&note, freed).map_err(|_| "the row is open")?;
-    Ok(())
-}
+    // The table grants task 1 a lease, and the task hears it.
+    fn renew(&mut self, granted: u64, heard: u64) -> Result<(), Fail> {
+        let grant = self
+            .table
+            .grant(task_of(1)?, 1, granted)
+            .map_err(|_| "numbers are left")?;
+        self.slicelet
+            .hear(&grant, heard)
+            .map_err(|_| "a number that is new")?;
+        Ok(())
+    }
 
-// From a reading on: the table gives all keys to one task; task 1 releases its guard, and hears the next.
-fn moved(
-    table: &mut LeaseTable,
-    slicelet: &mut Slicelet,
-    next: &Assignment,
-    at: u64,
-) -> Result<(), Fail> {
-    table
-        .propose(1, next, at)
-        .map_err(|_| "nothing is proposed")?;
-    released(table, slicelet, at + 1, at + 2)?;
-    table.commit(1, at + 3).map_err(|_| "no row holds it up")?;
-    renewed(table, slicelet, at + 4, at + 5)
+    // Task 1 releases its guard, and the table frees the row.
+    fn release(&mut self, released: u64, freed: u64) -> Result<(), Fail> {
+        let note = self
+            .slicelet
+            .release(Kind::Guard, released)
+            .map_err(|_| "a guard is held")?;
+        self.table
+            .free(&note, freed)
+            .map_err(|_| "the row is open")?;
+        Ok(())
+    }
+
+    fn propose(&mut self, next: &Assignment, at: u64) -> Result<(), Fail> {
+        self.table
+            .propose(1, next, at)
+            .map_err(|_| "nothing is proposed")?;
+        Ok(())
+    }
+
+    fn commit(&mut self, at: u64) -> Result<(), Fail> {
+        self.table.commit(1, at).map_err(|_| "no row holds it up")?;
+        Ok(())
+    }
+
+    // From a reading on: the table takes an assignment; task 1 releases its guard, and hears the next.
+    fn change(&mut self, next: &Assignment, at: u32) -> Result<(), Fail> {
+        let at = u64::from(at);
+        self.propose(next, at)?;
+        self.release(at + 1, at + 2)?;
+        self.commit(at + 3)?;
+        self.renew(at + 4, at + 5)
+    }
+
+    fn serve(&self, at: u64) -> Verdict {
+        self.slicelet.serve(self.handle.key, at)
+    }
+
+    fn continuous(&self, at: u64) -> Result<bool, Stranger> {
+        self.slicelet.continuous(&self.handle, at)
+    }
 }
 
 #[test]
 fn keeps_a_handle_over_a_renewed_guard(rt: HostRuntime) -> Result<(), Fail> {
-    let (mut table, mut slicelet, handle) = held_of(rt.alloc())?;
-    assert_eq!(rt; (handle.life, handle.position), (1, 2));
-    renewed(&mut table, &mut slicelet, 49, 50)?;
-    assert_eq!(rt; slicelet.continuous(&handle, 51), Ok(true));
-    assert_eq!(rt; slicelet.continuous(&handle, 139), Ok(false));
-    assert_eq!(rt; slicelet.continuous(&handle, 49), Ok(false));
+    let mut held = Held::new(rt.alloc())?;
+    assert_eq!(rt; (held.handle.life, held.handle.position), (1, 2));
+    held.renew(49, 50)?;
+    assert_eq!(rt; held.continuous(51), Ok(true));
+    assert_eq!(rt; held.continuous(139), Ok(false));
+    assert_eq!(rt; held.continuous(49), Ok(false));
     Ok(())
 }
 
 #[test]
 fn breaks_a_handle_where_the_guard_ended_before_the_next(rt: HostRuntime) -> Result<(), Fail> {
-    let (mut table, mut slicelet, handle) = held_of(rt.alloc())?;
-    renewed(&mut table, &mut slicelet, 49, 96)?;
-    assert_eq!(rt; slicelet.continuous(&handle, 97), Ok(false));
-    assert_eq!(rt; slicelet.serve(hello(), 97), allow(Kind::Guard, 1));
+    let mut held = Held::new(rt.alloc())?;
+    held.renew(49, 96)?;
+    assert_eq!(rt; held.continuous(97), Ok(false));
+    assert_eq!(rt; held.serve(97), allow(Kind::Guard, 1));
     Ok(())
 }
 
 #[test]
 fn breaks_a_handle_whose_key_left_and_came_back(rt: HostRuntime) -> Result<(), Fail> {
-    let (mut table, mut slicelet, handle) = held_of(rt.alloc())?;
-    let second = assignment_of(rt.alloc(), 2, &[(0, &[2])])?;
-    moved(&mut table, &mut slicelet, &second, 20)?;
+    let mut held = Held::new(rt.alloc())?;
+    held.change(&assignment_of(rt.alloc(), 2, &[(0, &[2])])?, 20)?;
     let not_owned = Verdict::Deny(Ground::NotOwned { generation: 2 });
-    assert_eq!(rt; slicelet.serve(hello(), 26), not_owned);
-    let third = assignment_of(rt.alloc(), 3, &[(0, &[1])])?;
-    moved(&mut table, &mut slicelet, &third, 27)?;
-    assert_eq!(rt; slicelet.continuous(&handle, 33), Ok(false));
-    assert_eq!(rt; slicelet.serve(hello(), 33), allow(Kind::Guard, 3));
+    assert_eq!(rt; held.serve(26), not_owned);
+    held.change(&assignment_of(rt.alloc(), 3, &[(0, &[1])])?, 27)?;
+    assert_eq!(rt; held.continuous(33), Ok(false));
+    assert_eq!(rt; held.serve(33), allow(Kind::Guard, 3));
     Ok(())
 }
 
 #[test]
 fn carries_a_handle_over_a_change_by_a_bridge(rt: HostRuntime) -> Result<(), Fail> {
-    let (mut table, mut slicelet, handle) = held_of(rt.alloc())?;
+    let mut held = Held::new(rt.alloc())?;
     let next = assignment_of(rt.alloc(), 2, &[(0, &[1]), (HALF, &[1])])?;
-    assert!(rt; table.propose(1, &next, 20).is_ok());
-    renewed(&mut table, &mut slicelet, 24, 25)?;
-    released(&mut table, &mut slicelet, 26, 28)?;
-    assert_eq!(rt; slicelet.serve(hello(), 27), allow(Kind::Bridge, 2));
-    assert_eq!(rt; table.commit(1, 29), Ok(2));
-    renewed(&mut table, &mut slicelet, 30, 31)?;
-    assert_eq!(rt; slicelet.serve(hello(), 32), allow(Kind::Guard, 2));
-    assert_eq!(rt; slicelet.serve(abc(), 32), allow(Kind::Guard, 2));
-    assert_eq!(rt; slicelet.continuous(&handle, 32), Ok(true));
+    held.propose(&next, 20)?;
+    held.renew(24, 25)?;
+    held.release(26, 28)?;
+    assert_eq!(rt; held.serve(27), allow(Kind::Bridge, 2));
+    held.commit(29)?;
+    held.renew(30, 31)?;
+    assert_eq!(rt; held.serve(32), allow(Kind::Guard, 2));
+    assert_eq!(rt; held.slicelet.serve(abc(), 32), allow(Kind::Guard, 2));
+    assert_eq!(rt; held.continuous(32), Ok(true));
     Ok(())
 }
 
 #[test]
 fn knows_strangers_and_older_lives(rt: HostRuntime) -> Result<(), Fail> {
-    let alloc = rt.alloc();
-    let (_table, mut slicelet, handle) = held_of(alloc)?;
-    assert_eq!(rt;
-        slicelet.hold(abc(), 7),
-        Err(Ground::NotOwned { generation: 1 })
-    );
-    assert_eq!(rt; slicelet.continuous(&handle, 8), Ok(true));
-    let second = Slicelet::new(alloc, task_of(2)?);
-    assert_eq!(rt; second.continuous(&handle, 8), Err(Stranger));
+    let mut held = Held::new(rt.alloc())?;
+    let not_owned = Ground::NotOwned { generation: 1 };
+    assert_eq!(rt; held.slicelet.hold(abc(), 7), Err(not_owned));
+    assert_eq!(rt; held.continuous(8), Ok(true));
     let cases = [
-        (1, 2, Ok(true)),
-        (1, 1, Ok(false)),
-        (1, 3, Err(Stranger)),
-        (2, 0, Err(Stranger)),
-        (0, 9, Ok(false)),
+        (1, 1, 2, Ok(true)),
+        (1, 1, 1, Ok(false)),
+        (1, 1, 3, Err(Stranger)),
+        (1, 2, 0, Err(Stranger)),
+        (1, 0, 9, Ok(false)),
+        (2, 1, 2, Err(Stranger)),
     ];
-    for (life, position, answer) in cases {
-        let other = KeyHandle::new(task_of(1)?, life, hello(), position);
+    for (task, life, position, answer) in cases {
+        let handle = KeyHandle::new(task_of(task)?, life, hello(), position);
         assert_eq!(rt;
-            slicelet.continuous(&other, 8),
+            held.slicelet.continuous(&handle, 8),
             answer,
-            "life {life}, position {position}"
+            "task {task}, life {life}, position {position}"
         );
     }
-    assert!(rt; slicelet.start(2, 9).is_ok());
-    assert_eq!(rt; slicelet.continuous(&handle, 10), Ok(false));
+    assert!(rt; held.slicelet.start(2, 9).is_ok());
+    assert_eq!(rt; held.continuous(10), Ok(false));
     Ok(())
 }
 
@@ -404,9 +439,9 @@ fn stays_as_it_was_without_memory(rt: HostRuntime) -> Result<(), Fail> {
         assert_eq!(rt; slicelet.serve(key, 3), Verdict::Deny(Ground::Down));
         slicelet.start(1, 3).map_err(|_| "a second time")?;
     }
-    let grant = match made(alloc, task_of(1)?, 1, Kind::Guard, 1) {
+    let grant = match made(alloc, task_of(1)?, 1, Kind::Guard) {
         Some(grant) => grant,
-        None => grant_of(alloc, 1, Kind::Guard, 1)?,
+        None => grant_of(alloc, 1, Kind::Guard)?,
     };
     heard_at_last(&mut slicelet, &grant, key)?;
     assert_eq!(rt; slicelet.serve(key, 7), allow(Kind::Guard, 1));
