@@ -353,7 +353,7 @@ fn carries_a_handle_over_a_change_by_a_bridge(rt: HostRuntime) -> Result<(), Fai
     held.renew(24, 25)?;
     held.release(26, 28)?;
     assert_eq!(rt; held.serve(27), allow(Kind::Bridge, 2));
-    held.commit(29)?;
+    assert_eq!(rt; held.table.commit(1, 29), Ok(2));
     held.renew(30, 31)?;
     assert_eq!(rt; held.serve(32), allow(Kind::Guard, 2));
     assert_eq!(rt; held.slicelet.serve(abc(), 32), allow(Kind::Guard, 2));
