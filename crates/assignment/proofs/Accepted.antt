@@ -6,7 +6,7 @@ use Rattle.std.proofs.lemmas.Bool.Decides.{nat_tests}
 use Rattle.std.proofs.lemmas.List.Folds.{list_any_at}
 use Rattle.assignment.specs.declared.slice.Slice.{Slice}
 use Rattle.assignment.specs.declared.error.AssignmentError.TheVariants.{NoSlices, FirstNotZero, NotRising, PastEnd, NoOwner, TooManyOwners, OwnerTwice, BadTask}
-use Rattle.slice_ranges.specs.Refusals.{when, first_of}
+use Rattle.machines.specs.Refusals.{when, first_of}
 use Rattle.assignment.specs.Slices.{is_task, has_twice, first_starts_at, is_rising, slice_checks, refusal_of, IsProper}
 
 -- the first check of a list does not hold, nor do the others

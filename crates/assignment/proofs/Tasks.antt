@@ -12,7 +12,7 @@ use Rattle.std.proofs.lemmas.Bool.{cases_lt}
 use Rattle.std.proofs.lemmas.List.Elements.{recursion_from_All}
 use Rattle.std.proofs.lemmas.List.Sorted.{IsNonDecreasingBy-from_sort, list_any-IsPermutation, All-permutation, Contains-permutation, IsPermutation-sym}
 use Rattle.std.proofs.lemmas.Map.Keys.{IsDistinct-IsPermutation, IsStrictlyIncreasing-from_distinct, sorted_from_strictly_increasing}
-use Rattle.slice_ranges.proofs.Every.{all_weaker}
+use Rattle.machines.proofs.Every.{all_weaker}
 use Rattle.assignment.specs.declared.slice.Slice.{Slice}
 use Rattle.assignment.specs.Slices.{is_among, is_task, has_twice, IsProper}
 use Rattle.assignment.specs.Owners.{IsSliceOf, slice_at, owns, owners_of, tasks}

@@ -4,7 +4,7 @@ use Rattle.std.specs.List.{list_all, list_any, zip}
 use Rattle.assignment.specs.declared.slice.Slice.{Slice}
 use Rattle.assignment.specs.declared.error.AssignmentError.{AssignmentError}
 use Rattle.assignment.specs.declared.error.AssignmentError.TheVariants.{NoSlices, FirstNotZero, NotRising, PastEnd, NoOwner, TooManyOwners, OwnerTwice, BadTask, TooManySlices}
-use Rattle.slice_ranges.specs.Refusals.{when, first_of}
+use Rattle.machines.specs.Refusals.{when, first_of}
 
 -- a generation, and the slices of it
 pub record Slicing : Type 0 where

@@ -4,8 +4,8 @@ use Rattle.std.specs.Prelude.{Option, Some, None, Result, Ok, Err, is_ok, if◌t
 use Rattle.std.specs.List.{AllByRecursion}
 use Rattle.std.proofs.lemmas.Bool.Decides.{nat_tests}
 use Rattle.std.proofs.lemmas.List.Elements.{All-from_recursion}
-use Rattle.slice_ranges.specs.Refusals.{when, first_of, unless_refused}
-use Rattle.slice_ranges.proofs.Every.{all_weaker}
+use Rattle.machines.specs.Refusals.{when, first_of, unless_refused}
+use Rattle.machines.proofs.Every.{all_weaker}
 use Rattle.assignment.specs.Slices.{Slicing}
 use Rattle.clerk.specs.declared.call.ClerkCall.{ClerkCall}
 use Rattle.clerk.specs.declared.call.ClerkCall.TheVariants.{Learn, Forget}
@@ -13,12 +13,13 @@ use Rattle.clerk.specs.declared.call.ClerkReply.{ClerkReply}
 use Rattle.clerk.specs.declared.call.ClerkReply.TheVariants.{Learnt, Forgotten}
 use Rattle.clerk.specs.declared.error.ClerkError.{ClerkError}
 use Rattle.clerk.specs.declared.error.ClerkError.TheVariants.{Old}
-use Rattle.history_lock.specs.Steps.{Answers, replied}
-use Rattle.clerk.specs.Calls.{AnsweredCall, Leads, LeadsTo, clerk_step}
+use Rattle.machines.specs.Answers.{Answers, replied}
+use Rattle.machines.specs.Calls.{LeadsOn}
+use Rattle.clerk.specs.Calls.{AnsweredClerkCall, LeadsTo, clerk_step}
 use Rattle.clerk.specs.Learnt.{IsGreatest, accepted_since_forget, accepted_with, greater, greatest_of}
 
 -- the step of a call leads on
-pub leads_on : (past : List AnsweredCall) (kept : Option Slicing) (call : ClerkCall) (step : Result (Option Slicing × ClerkReply) ClerkError) → clerk_step kept call ≡ step → LeadsTo past kept → Leads past kept call step
+pub leads_on : (past : List AnsweredClerkCall) (kept : Option Slicing) (call : ClerkCall) (step : Result (Option Slicing × ClerkReply) ClerkError) → clerk_step kept call ≡ step → LeadsTo past kept → LeadsOn LeadsTo past kept call step
 leads_on past kept call (Ok p) e h = (kept, h, e)
 leads_on past kept call (Err refusal) e h = (kept, h, (e, refl))
 
@@ -80,7 +81,7 @@ first_after (Learn slicing) (Ok reply) before kept slicings first a = first_afte
 first_after Forget (Ok reply) before kept slicings first a = left_is (Ok (None, Forgotten)) kept reply a
 
 -- a clerk keeps the last assignment that it accepted since it last forgot
-pub leads_to_first : (past : List AnsweredCall) (kept : Option Slicing) → LeadsTo past kept → IsFirst (accepted_since_forget past) kept
+pub leads_to_first : (past : List AnsweredClerkCall) (kept : Option Slicing) → LeadsTo past kept → IsFirst (accepted_since_forget past) kept
 unfolding IsFirst
 leads_to_first [] kept h = h
 leads_to_first (e ∷ past) kept h = first_after e.call e.answer h.0 kept (accepted_since_forget past) (leads_to_first past h.0 h.1) h.2

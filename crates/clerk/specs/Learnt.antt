@@ -5,7 +5,7 @@ use Rattle.clerk.specs.declared.call.ClerkCall.{ClerkCall}
 use Rattle.clerk.specs.declared.call.ClerkCall.TheVariants.{Learn, Forget}
 use Rattle.clerk.specs.declared.clerk.Found.{Found}
 use Rattle.clerk.specs.declared.error.Unknown.{Unknown}
-use Rattle.clerk.specs.Calls.{AnsweredCall}
+use Rattle.clerk.specs.Calls.{AnsweredClerkCall}
 use Rattle.clerk.specs.Steps.{look_at}
 
 -- the assignments that were accepted since the last `forget`, the last one first
@@ -13,7 +13,7 @@ abbrev pub accepted_with : ClerkCall → List Slicing → List Slicing
 accepted_with (Learn slicing) before = slicing ∷ before
 accepted_with Forget before = []
 
-abbrev pub accepted_since_forget : List AnsweredCall → List Slicing
+abbrev pub accepted_since_forget : List AnsweredClerkCall → List Slicing
 accepted_since_forget [] = []
 accepted_since_forget (e ∷ past) = if is_ok e.answer then accepted_with e.call (accepted_since_forget past) else accepted_since_forget past
 
@@ -34,5 +34,5 @@ greatest_of (slicing ∷ slicings) = Some (greater slicing (greatest_of slicings
 
 -- a clerk's answer: the generation and the owners of a key in the assignment of greatest generation that it accepted
 -- since its last `forget`, or that there is none
-abbrev pub clerk_answer : List AnsweredCall → ℕ → Result Found Unknown
+abbrev pub clerk_answer : List AnsweredClerkCall → ℕ → Result Found Unknown
 clerk_answer past key = look_at (greatest_of (accepted_since_forget past)) key

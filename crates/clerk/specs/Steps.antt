@@ -1,6 +1,6 @@
 -- What each call answers and leaves, from the assignment that a clerk keeps.
 use Rattle.std.specs.Prelude.{ℕ, nat_le, List, [], ◌∷◌, Option, Some, None, Result, Ok, Err}
-use Rattle.slice_ranges.specs.Refusals.{when, answer}
+use Rattle.machines.specs.Refusals.{when, answer}
 use Rattle.assignment.specs.Slices.{Slicing}
 use Rattle.assignment.specs.Owners.{owners_of}
 use Rattle.clerk.specs.declared.clerk.Found.{Found}

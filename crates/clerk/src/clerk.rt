@@ -1,14 +1,14 @@
 //! A clerk.
 
 ghost use Rattle.std.specs.Prelude.{◌≡◌, None, IfOk};
-ghost use Rattle.history_lock.specs.Steps.{Takes};
+ghost use Rattle.machines.specs.Answers.{Takes};
 ghost use Rattle.clerk.specs.Steps.{learn_step, look_at};
 
 use crate::error::{ClerkError, Unknown};
 use arrayvec::ArrayVec;
 use assignment::{Assignment, TaskId};
-use history_lock::Trouble;
 use key_hash::SliceKey;
+use machines::Trouble;
 use std::alloc::AllocError;
 use std::marker::Model;
 

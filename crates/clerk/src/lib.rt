@@ -7,7 +7,7 @@ mod error;
 mod machine;
 
 pub use crate::clerk::{Clerk, Found};
-pub use call::{ClerkCall, ClerkReply, every_list_law};
+pub use call::{ClerkCall, ClerkReply, learnt_law};
 pub use error::{ClerkError, Unknown};
 pub use machine::ClerkEvent;
 

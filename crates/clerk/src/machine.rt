@@ -5,17 +5,11 @@ ghost use Rattle.clerk.specs.Calls.{event_step};
 use crate::call::{ClerkCall, ClerkReply};
 use crate::clerk::Clerk;
 use crate::error::ClerkError;
-use history_lock::{Machine, Trouble};
+use machines::{Duplicate, Event, Machine, Trouble};
 use std::alloc::AllocError;
 
 /// A call of a clerk, and when it was made.
-#[derive(Debug, Drop)]
-pub struct ClerkEvent {
-    /// The place of the call among all calls that drew a ticket. The clerk does not look at it.
-    pub ticket: u64,
-    /// The call.
-    pub call: ClerkCall,
-}
+pub type ClerkEvent = Event<ClerkCall>;
 
 impl Machine for Clerk {
     type Event = ClerkEvent;
@@ -44,9 +38,6 @@ impl Machine for Clerk {
     }
 
     fn copy_event(event: &ClerkEvent) -> Result<ClerkEvent, AllocError> {
-        Ok(ClerkEvent {
-            ticket: event.ticket,
-            call: event.call.copy()?,
-        })
+        event.copy()
     }
 }

@@ -1,7 +1,7 @@
 use super::*;
 use assignment::{Assignment, AssignmentError, Listed, Slice};
-use history_lock::{Machine, Trouble};
 use key_hash::{SliceKey, slice_key};
+use machines::{Machine, Trouble};
 use std::alloc::Global;
 use std::test::Fail;
 

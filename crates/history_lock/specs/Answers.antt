@@ -5,8 +5,8 @@ use Rattle.history_lock.specs.declared.error.WriteError.{WriteError}
 use Rattle.history_lock.specs.declared.error.WriteError.TheVariants.{HistoryFull, Refused, NoMemory}
 use Rattle.history_lock.specs.declared.error.LockError.{LockError}
 use Rattle.history_lock.specs.declared.error.LockError.TheVariants.{Busy as BusyLane, Write}
-use Rattle.history_lock.specs.declared.machine.Trouble.{Trouble}
-use Rattle.history_lock.specs.declared.machine.Trouble.TheVariants as trouble
+use Rattle.machines.specs.declared.machine.Trouble.{Trouble}
+use Rattle.machines.specs.declared.machine.Trouble.TheVariants as trouble
 use Rattle.history_lock.specs.Histories.{replay, entry, StartsWith}
 use Rattle.history_lock.specs.Passes.{Lock, Sight}
 

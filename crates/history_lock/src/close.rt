@@ -6,10 +6,10 @@ ghost use Rattle.history_lock.specs.Seats.{IsTaking};
 ghost use Rattle.history_lock.specs.Closing.{has_lane, IsWhole, AreAt, IsGone, IsEnd, gone, gone_pass};
 
 use crate::entry::History;
-use crate::machine::Machine;
 use crate::pass::{LaneLock, Pass};
 use crate::rule::{Board, Common, Gather, Place};
 use crate::view::Book;
+use machines::Machine;
 use std::marker::Model;
 
 /// What a lock leaves.

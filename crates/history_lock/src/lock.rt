@@ -7,9 +7,9 @@ ghost use Rattle.history_lock.specs.Passes.{Sight, IsPassOf};
 ghost use Rattle.history_lock.specs.Answers.{HasWaited, IsTurnedAway, Wrote, TriedToWrite, Shared, TriedToShare, TriedToMeet};
 
 use crate::error::{Busy, LockError, WriteError};
-use crate::machine::Machine;
 use crate::pass::{LaneLock, Pass};
 use crate::turn::{meet_at, share_at, write_at};
+use machines::Machine;
 use std::sync::Wait;
 
 impl<M: Machine> LaneLock<M> {

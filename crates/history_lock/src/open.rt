@@ -7,11 +7,11 @@ ghost use Rattle.history_lock.specs.Rule.{first_view};
 ghost use Rattle.history_lock.specs.Seats.{IsDealing};
 
 use crate::error::NewLockError;
-use crate::machine::Machine;
 use crate::pass::{LaneLock, Pass};
 use crate::rule::{Board, Common, Deal, Place};
 use crate::view::{Book, Opened};
 use atomic_table::{Refused, Table};
+use machines::Machine;
 use std::alloc::{AllocError, Global};
 use std::snapshot::Snapshot;
 

@@ -2,8 +2,8 @@
 
 ghost use Rattle.std.specs.Prelude.{◌≡◌};
 
-use crate::machine::Machine;
 use crate::rule::{Board, Place};
+use machines::Machine;
 use std::marker::Model;
 
 /// A lock round a machine, which keeps the history of the events that the machine took.

@@ -4,9 +4,9 @@
 //! reads, and `n + 2` while the pass of lane n writes. `specs/Rule.antt` has the rule, for any number of
 //! lanes that have a word; so far all passes share the word and the book of lane 0.
 
-use crate::machine::Machine;
 use crate::view::{Book, Opened, View};
 use atomic_table::{Join, Play, Seat, Shared, Split, Table, TableRule};
+use machines::Machine;
 use std::alloc::Global;
 use std::snapshot::Snapshot;
 

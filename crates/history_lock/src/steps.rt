@@ -6,9 +6,9 @@ ghost use Rattle.history_lock.specs.Histories.{replay, GrowsBy};
 ghost use Rattle.history_lock.specs.Rule.{IsWordOf, IsTaken, taken, turned_away, wrote, gave_back, holder_of};
 
 use crate::error::{Busy, Holder};
-use crate::machine::Machine;
 use crate::rule::{Claim, Common, GiveBack, Place, Publish};
 use crate::view::Book;
+use machines::Machine;
 
 // Claims the lane for a word: its book comes out, or the lane is busy.
 pub(crate) fn claim<M: Machine>(

@@ -9,10 +9,10 @@ ghost use Rattle.history_lock.specs.Seats.{IsResting, SeesLegal};
 
 use crate::entry::Entry;
 use crate::error::{Busy, WriteError};
-use crate::machine::Machine;
 use crate::rule::{Common, Meet, Place, Tell};
 use crate::steps::{claim, give_back, publish};
 use crate::view::Book;
+use machines::Machine;
 
 // Adds the event that `make` answers to the book, if the machine takes it.
 fn take_event<M: Machine, F: FnMut() -> M::Event>(

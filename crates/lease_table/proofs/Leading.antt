@@ -2,7 +2,7 @@
 use Rattle.std.proofs.Common.{◌≡◌, ◌∙◌, ℕ, ◌+◌, ◌<◌, ◌≤◌, ◌^◌, Bool, true, false, List, [], ◌∷◌, ◌++◌, length, refl, sym, ap, arith, length-append}
 use Rattle.std.specs.Prelude.{Option, Some, None, Ok, Err, nat_lt, nat_le, not}
 use Rattle.std.proofs.lemmas.Bool.Decides.{nat_tests}
-use Rattle.slice_ranges.specs.Refusals.{when, first_of, unless_refused}
+use Rattle.machines.specs.Refusals.{when, first_of, unless_refused}
 use Rattle.assignment.specs.Slices.{Slicing}
 use Rattle.lease_table.specs.declared.call.TableCall.{TableCall}
 use Rattle.lease_table.specs.declared.call.TableCall.TheVariants as call
@@ -18,8 +18,9 @@ use Rattle.lease_table.specs.Rows.{runs_at, running, closes, left_open}
 use Rattle.lease_table.specs.Tables.{Standing}
 use Rattle.lease_table.specs.Steps
 use Rattle.lease_table.specs.Steps.{out_of_range, back}
-use Rattle.history_lock.specs.Steps.{replied}
-use Rattle.lease_table.specs.Calls.{AnsweredCall, answered, last_reading, last_term, pending_in, grants_sent, unfreed_rows, described, table_step, Leads}
+use Rattle.machines.specs.Answers.{replied}
+use Rattle.machines.specs.Calls.{answered, LeadsOn}
+use Rattle.lease_table.specs.Calls.{AnsweredTableCall, last_reading, last_term, pending_in, grants_sent, unfreed_rows, standing_after, table_step, LeadsTo}
 use Rattle.lease_table.proofs.Running.{running-running, running-push, filter-filter}
 
 -- an accepted reading is not below the last one
@@ -35,54 +36,54 @@ not_back t at checks h = by_range (nat_le (2 ^ 62) at) h
     by_range false h = by_back (nat_lt at t.last) refl h
 
 -- a step is refused, or its checks find nothing
-by_checks : {R : Type 0} (reply : R → TableReply) (policy : Terms) (past : List AnsweredCall) (c : TableCall) (o : Option TableError) (new : Standing) (r : R)
-    → ((refusal : TableError) → described policy (answered c (Err refusal) ∷ past) ≡ described policy past)
-    → (o ≡ None → described policy (answered c (Ok (reply r)) ∷ past) ≡ new)
-    → Leads policy past c (replied reply (unless_refused o (new, r)))
+by_checks : {R : Type 0} (reply : R → TableReply) (policy : Terms) (past : List AnsweredTableCall) (c : TableCall) (o : Option TableError) (new : Standing) (r : R)
+    → ((refusal : TableError) → standing_after policy (answered c (Err refusal) ∷ past) ≡ standing_after policy past)
+    → (o ≡ None → standing_after policy (answered c (Ok (reply r)) ∷ past) ≡ new)
+    → LeadsOn (LeadsTo policy) past (standing_after policy past) c (replied reply (unless_refused o (new, r)))
 by_checks reply policy past c None new r refused accepted = accepted refl
 by_checks reply policy past c (Some refusal) new r refused accepted = refused refusal
 
-module _ (policy : Terms) (past : List AnsweredCall) where
+module _ (policy : Terms) (past : List AnsweredTableCall) where
   now : Standing
-  now = described policy past
+  now = standing_after policy past
 
   -- the rows that run at an accepted reading
   later_rows : (at : ℕ) → last_reading past ≤ at → running at (unfreed_rows past) ≡ running at (running (last_reading past) (unfreed_rows past))
   later_rows at l = sym (running-running at (last_reading past) l (unfreed_rows past))
 
-  lead_take : (assigner at : ℕ) → Leads policy past (call.JobTake assigner at) (table_step (described policy past) (call.JobTake assigner at))
+  lead_take : (assigner at : ℕ) → LeadsOn (LeadsTo policy) past (standing_after policy past) (call.JobTake assigner at) (table_step (standing_after policy past) (call.JobTake assigner at))
   lead_take assigner at =
-      by_checks Term policy past (call.JobTake assigner at) (first_of (Steps.take_checks (described policy past) at)) _ _ (λ refusal. refl)
-      (λ h. let rows = later_rows at (not_back (described policy past) at _ h) in
-      ap (λ (rs : List Row). let s : Standing = record (described policy past) { last = at; term = Some (Steps.term_taken (described policy past) assigner at); rows = rs } in s) rows)
+      by_checks Term policy past (call.JobTake assigner at) (first_of (Steps.take_checks (standing_after policy past) at)) _ _ (λ refusal. refl)
+      (λ h. let rows = later_rows at (not_back (standing_after policy past) at _ h) in
+      ap (λ (rs : List Row). let s : Standing = record (standing_after policy past) { last = at; term = Some (Steps.term_taken (standing_after policy past) assigner at); rows = rs } in s) rows)
 
-  lead_renew : (number at : ℕ) → Leads policy past (call.JobRenew number at) (table_step (described policy past) (call.JobRenew number at))
+  lead_renew : (number at : ℕ) → LeadsOn (LeadsTo policy) past (standing_after policy past) (call.JobRenew number at) (table_step (standing_after policy past) (call.JobRenew number at))
   lead_renew number at =
-      by_checks Term policy past (call.JobRenew number at) (first_of (Steps.renew_checks (described policy past) number at)) _ _ (λ refusal. refl)
-      (λ h. let rows = later_rows at (not_back (described policy past) at _ h) in
-      ap (λ (rs : List Row). let s : Standing = record (described policy past) { last = at; term = Some (Steps.renewed (at + policy.job) (last_term past)); rows = rs } in s) rows)
+      by_checks Term policy past (call.JobRenew number at) (first_of (Steps.renew_checks (standing_after policy past) number at)) _ _ (λ refusal. refl)
+      (λ h. let rows = later_rows at (not_back (standing_after policy past) at _ h) in
+      ap (λ (rs : List Row). let s : Standing = record (standing_after policy past) { last = at; term = Some (Steps.renewed (at + policy.job) (last_term past)); rows = rs } in s) rows)
 
-  lead_propose : (number : ℕ) (slicing : Slicing) (at : ℕ) → Leads policy past (call.Propose number slicing at) (table_step (described policy past) (call.Propose number slicing at))
+  lead_propose : (number : ℕ) (slicing : Slicing) (at : ℕ) → LeadsOn (LeadsTo policy) past (standing_after policy past) (call.Propose number slicing at) (table_step (standing_after policy past) (call.Propose number slicing at))
   lead_propose number slicing at =
-      by_checks (λ _. Proposed) policy past (call.Propose number slicing at) (first_of (Steps.propose_checks (described policy past) number slicing at)) _ _ (λ refusal. refl)
-      (λ h. let rows = later_rows at (not_back (described policy past) at _ h) in
-      ap (λ (rs : List Row). let s : Standing = record (described policy past) { last = at; pending = Some slicing; rows = rs } in s) rows)
+      by_checks (λ _. Proposed) policy past (call.Propose number slicing at) (first_of (Steps.propose_checks (standing_after policy past) number slicing at)) _ _ (λ refusal. refl)
+      (λ h. let rows = later_rows at (not_back (standing_after policy past) at _ h) in
+      ap (λ (rs : List Row). let s : Standing = record (standing_after policy past) { last = at; pending = Some slicing; rows = rs } in s) rows)
 
-  lead_commit : (number at : ℕ) → Leads policy past (call.Commit number at) (table_step (described policy past) (call.Commit number at))
+  lead_commit : (number at : ℕ) → LeadsOn (LeadsTo policy) past (standing_after policy past) (call.Commit number at) (table_step (standing_after policy past) (call.Commit number at))
   lead_commit number at =
-      by_checks Committed policy past (call.Commit number at) (first_of (Steps.commit_checks (described policy past) number at)) _ _ (λ refusal. refl)
-      (λ h. let rows = later_rows at (not_back (described policy past) at _ h) in
-      ap (λ (rs : List Row). let s : Standing = record (described policy past) { last = at; committed = pending_in past; pending = None; rows = rs } in s) rows)
+      by_checks Committed policy past (call.Commit number at) (first_of (Steps.commit_checks (standing_after policy past) number at)) _ _ (λ refusal. refl)
+      (λ h. let rows = later_rows at (not_back (standing_after policy past) at _ h) in
+      ap (λ (rs : List Row). let s : Standing = record (standing_after policy past) { last = at; committed = pending_in past; pending = None; rows = rs } in s) rows)
 
-  lead_free : (note : ReleaseNote) (at : ℕ) → Leads policy past (call.Free note at) (table_step (described policy past) (call.Free note at))
+  lead_free : (note : ReleaseNote) (at : ℕ) → LeadsOn (LeadsTo policy) past (standing_after policy past) (call.Free note at) (table_step (standing_after policy past) (call.Free note at))
   lead_free note at =
-      by_checks Freed policy past (call.Free note at) (first_of (Steps.free_checks (described policy past) note at)) _ _ (λ refusal. refl)
-      (λ h. let rows = later_rows at (not_back (described policy past) at _ h) in
+      by_checks Freed policy past (call.Free note at) (first_of (Steps.free_checks (standing_after policy past) note at)) _ _ (λ refusal. refl)
+      (λ h. let rows = later_rows at (not_back (standing_after policy past) at _ h) in
       let swapped : running at (left_open note (unfreed_rows past)) ≡ left_open note (running at (unfreed_rows past)) = filter-filter (runs_at at) (λ row. not (closes note row)) (unfreed_rows past) in
-      ap (λ (rs : List Row). let s : Standing = record (described policy past) { last = at; rows = rs } in s) (swapped ∙ ap (left_open note) rows))
+      ap (λ (rs : List Row). let s : Standing = record (standing_after policy past) { last = at; rows = rs } in s) (swapped ∙ ap (left_open note) rows))
 
   -- a grant's row runs at its reading: terms are positive
-  pub row_runs : (task life at : ℕ) → is_policy policy ≡ true → runs_at at (Steps.row_of (Steps.grant_with (described policy past) (pending_in past) task life at)) ≡ true
+  pub row_runs : (task life at : ℕ) → is_policy policy ≡ true → runs_at at (Steps.row_of (Steps.grant_with (standing_after policy past) (pending_in past) task life at)) ≡ true
   row_runs task life at p = by_phase (pending_in past)
     where
       guard : 1 ≤ policy.guard
@@ -91,24 +92,24 @@ module _ (policy : Terms) (past : List AnsweredCall) where
       bridge : 1 ≤ policy.bridge
       bridge = grind (arith, nat_tests)
 
-      by_phase : (pending : Option Slicing) → runs_at at (Steps.row_of (Steps.grant_with (described policy past) pending task life at)) ≡ true
+      by_phase : (pending : Option Slicing) → runs_at at (Steps.row_of (Steps.grant_with (standing_after policy past) pending task life at)) ≡ true
       by_phase None = let l : at < at + policy.guard = omega (arith, guard) in grind (arith, nat_tests)
       by_phase (Some next) = let l : at < at + policy.bridge = omega (arith, bridge) in grind (arith, nat_tests)
 
-  lead_grant : (task life at : ℕ) → is_policy policy ≡ true → Leads policy past (call.Grant task life at) (table_step (described policy past) (call.Grant task life at))
+  lead_grant : (task life at : ℕ) → is_policy policy ≡ true → LeadsOn (LeadsTo policy) past (standing_after policy past) (call.Grant task life at) (table_step (standing_after policy past) (call.Grant task life at))
   lead_grant task life at p =
-      by_checks Granted policy past (call.Grant task life at) (first_of (Steps.grant_checks (described policy past) at)) _ _ (λ refusal. refl)
+      by_checks Granted policy past (call.Grant task life at) (first_of (Steps.grant_checks (standing_after policy past) at)) _ _ (λ refusal. refl)
       (λ h.
-      let grant : Grant = Steps.grant_with (described policy past) (pending_in past) task life at in
-      let rows = later_rows at (not_back (described policy past) at _ h) in
+      let grant : Grant = Steps.grant_with (standing_after policy past) (pending_in past) task life at in
+      let rows = later_rows at (not_back (standing_after policy past) at _ h) in
       let added : running at (unfreed_rows past ++ Steps.row_of grant ∷ []) ≡ running at (running (last_reading past) (unfreed_rows past)) ++ Steps.row_of grant ∷ [] =
       running-push at (unfreed_rows past) (Steps.row_of grant) (row_runs task life at p) ∙ ap (λ (rs : List Row). rs ++ Steps.row_of grant ∷ []) rows in
       let counted : length (grants_sent past ++ grant ∷ []) ≡ length (grants_sent past) + 1 = length-append (grants_sent past) (grant ∷ []) in
-      let standing : ℕ → List Row → Standing = λ n rs. record (described policy past) { last = at; granted = n; rows = rs } in
+      let standing : ℕ → List Row → Standing = λ n rs. record (standing_after policy past) { last = at; granted = n; rows = rs } in
       λ j. standing (counted j) (added j))
 
   -- each call leads where the calls with it lead
-  pub leads : (c : TableCall) → is_policy policy ≡ true → Leads policy past c (table_step (described policy past) c)
+  pub leads : (c : TableCall) → is_policy policy ≡ true → LeadsOn (LeadsTo policy) past (standing_after policy past) c (table_step (standing_after policy past) c)
   leads (call.JobTake assigner at) p = lead_take assigner at
   leads (call.JobRenew number at) p = lead_renew number at
   leads (call.Propose number slicing at) p = lead_propose number slicing at

@@ -4,8 +4,8 @@ use Rattle.std.specs.Prelude.{if◌then◌else◌, nat_lt, nat_le, ◌&&◌, Opt
 use Rattle.std.specs.Prelude.{Ok}
 use Rattle.std.specs.List.{AllByRecursion}
 use Rattle.std.proofs.lemmas.Bool.Decides.{nat_tests}
-use Rattle.slice_ranges.specs.Refusals.{first_of, unless_refused, answer}
-use Rattle.slice_ranges.proofs.Every.{all_weaker, all_push}
+use Rattle.machines.specs.Refusals.{first_of, unless_refused, answer}
+use Rattle.machines.proofs.Every.{all_weaker, all_push}
 use Rattle.lease_table.specs.declared.error.TableError.{TableError}
 use Rattle.lease_table.specs.declared.values.Row.{Row}
 use Rattle.lease_table.specs.declared.values.JobTerm.{JobTerm}

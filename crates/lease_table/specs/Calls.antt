@@ -6,23 +6,20 @@ use Rattle.lease_table.specs.declared.call.TableCall.TheVariants as call
 use Rattle.lease_table.specs.declared.call.TableReply.{TableReply}
 use Rattle.lease_table.specs.declared.call.TableReply.TheVariants.{Term, Proposed, Committed, Granted, Freed}
 use Rattle.lease_table.specs.declared.error.TableError.{TableError}
-use Rattle.lease_table.specs.declared.machine.TableEvent.{TableEvent}
+use Rattle.machines.specs.declared.event.Event.{Event}
+use Rattle.machines.specs.Calls.{AnsweredCall}
 use Rattle.lease_table.specs.declared.values.JobTerm.{JobTerm}
 use Rattle.lease_table.specs.declared.values.Grant.{Grant}
 use Rattle.lease_table.specs.declared.values.Row.{Row}
 use Rattle.lease_table.specs.Policies.{Terms}
 use Rattle.lease_table.specs.Rows.{running, left_open}
 use Rattle.lease_table.specs.Tables.{Standing}
-use Rattle.history_lock.specs.Steps.{replied}
+use Rattle.machines.specs.Answers.{replied}
 use Rattle.lease_table.specs.Steps.{row_of, take_step, renew_step, propose_step, commit_step, grant_step, free_step}
 
--- a call with its answer; want of memory is no answer, and changes nothing
-pub record AnsweredCall : Type 0 where
-  pub call : TableCall
-  pub answer : Result TableReply TableError
-
-abbrev pub answered : TableCall → Result TableReply TableError → AnsweredCall
-answered c answer = record { call = c; answer = answer }
+-- a call of the table with its answer
+abbrev pub AnsweredTableCall : Type 0
+AnsweredTableCall = AnsweredCall TableCall TableReply TableError
 
 -- the reading of a call
 abbrev pub reading_of : TableCall → ℕ
@@ -34,7 +31,7 @@ reading_of (call.Grant task life at) = at
 reading_of (call.Free note at) = at
 
 -- the last accepted reading
-abbrev pub last_reading : List AnsweredCall → ℕ
+abbrev pub last_reading : List AnsweredTableCall → ℕ
 last_reading [] = 0
 last_reading (e ∷ past) = if is_ok e.answer then reading_of e.call else last_reading past
 
@@ -43,7 +40,7 @@ abbrev pub term_after : Result TableReply TableError → Option JobTerm → Opti
 term_after (Ok (Term term)) before = Some term
 term_after _ before = before
 
-abbrev pub last_term : List AnsweredCall → Option JobTerm
+abbrev pub last_term : List AnsweredTableCall → Option JobTerm
 last_term [] = None
 last_term (e ∷ past) = term_after e.answer (last_term past)
 
@@ -53,7 +50,7 @@ pending_after (call.Propose number slicing at) accepted before = if accepted the
 pending_after (call.Commit number at) accepted before = if accepted then None else before
 pending_after _ accepted before = before
 
-abbrev pub pending_in : List AnsweredCall → Option Slicing
+abbrev pub pending_in : List AnsweredTableCall → Option Slicing
 pending_in [] = None
 pending_in (e ∷ past) = pending_after e.call (is_ok e.answer) (pending_in past)
 
@@ -62,7 +59,7 @@ abbrev pub committed_after : TableCall → Bool → Option Slicing → Option Sl
 committed_after (call.Commit number at) accepted pending before = if accepted then pending else before
 committed_after _ accepted pending before = before
 
-abbrev pub committed_in : List AnsweredCall → Option Slicing
+abbrev pub committed_in : List AnsweredTableCall → Option Slicing
 committed_in [] = None
 committed_in (e ∷ past) = committed_after e.call (is_ok e.answer) (pending_in past) (committed_in past)
 
@@ -71,7 +68,7 @@ abbrev pub grants_after : Result TableReply TableError → List Grant → List G
 grants_after (Ok (Granted grant)) before = before ++ grant ∷ []
 grants_after _ before = before
 
-abbrev pub grants_sent : List AnsweredCall → List Grant
+abbrev pub grants_sent : List AnsweredTableCall → List Grant
 grants_sent [] = []
 grants_sent (e ∷ past) = grants_after e.answer (grants_sent past)
 
@@ -84,13 +81,13 @@ abbrev pub rows_freed : TableCall → Bool → List Row → List Row
 rows_freed (call.Free note at) accepted before = if accepted then left_open note before else before
 rows_freed _ accepted before = before
 
-abbrev pub unfreed_rows : List AnsweredCall → List Row
+abbrev pub unfreed_rows : List AnsweredTableCall → List Row
 unfreed_rows [] = []
 unfreed_rows (e ∷ past) = rows_granted e.answer (rows_freed e.call (is_ok e.answer) (unfreed_rows past))
 
 -- where a table stands after these calls
-abbrev pub described : Terms → List AnsweredCall → Standing
-described policy past = record {
+abbrev pub standing_after : Terms → List AnsweredTableCall → Standing
+standing_after policy past = record {
   policy = policy;
   last = last_reading past;
   term = last_term past;
@@ -110,10 +107,9 @@ table_step t (call.Grant task life at) = replied Granted (grant_step t task life
 table_step t (call.Free note at) = replied Freed (free_step t note at)
 
 -- an event is its call, whatever its ticket
-abbrev pub event_step : Standing → TableEvent → Result (Standing × TableReply) TableError
+abbrev pub event_step : Standing → Event TableCall → Result (Standing × TableReply) TableError
 event_step t event = table_step t event.call
 
--- a step from where these calls lead leads where the calls with this one lead, and a refused one nowhere else
-abbrev pub Leads : Terms → List AnsweredCall → TableCall → Result (Standing × TableReply) TableError → Type 0
-Leads policy past c (Ok p) = described policy (answered c (Ok p.1) ∷ past) ≡ p.0
-Leads policy past c (Err refusal) = described policy (answered c (Err refusal) ∷ past) ≡ described policy past
+-- the calls lead a table of this policy to where the definitions over them say
+abbrev pub LeadsTo : Terms → List AnsweredTableCall → Standing → Type 0
+LeadsTo policy past t = standing_after policy past ≡ t

@@ -6,7 +6,7 @@ pub mod Calls
 pub mod Runs
 pub mod Keyed
 pub mod Kept
-pub use Rattle.slice_ranges.specs.Refusals
+pub use Rattle.machines.specs.Refusals
 pub use Rattle.slice_ranges.specs.Sets
 pub use Rattle.policy_rules.specs.Leases
 pub use Rattle.assignment.specs.Slices

@@ -10,24 +10,20 @@ use Rattle.lease_table.specs.declared.values.Grant.{Grant}
 use Rattle.lease_table.specs.declared.values.Row.{Row}
 use Rattle.lease_table.specs.Policies.{Terms}
 use Rattle.lease_table.specs.Tables.{Standing, generation_of, slices_of}
-use Rattle.lease_table.specs.Calls.{AnsweredCall, described, table_step, committed_in, pending_in, grants_sent, unfreed_rows}
-
--- the answer of a step, without what it leaves
-abbrev pub answer_of : Result (Standing × TableReply) TableError → Result TableReply TableError
-answer_of (Ok p) = Ok p.1
-answer_of (Err refusal) = Err refusal
+use Rattle.machines.specs.Calls.{answer_of}
+use Rattle.lease_table.specs.Calls.{AnsweredTableCall, standing_after, table_step, committed_in, pending_in, grants_sent, unfreed_rows}
 
 -- each call was answered by its step from where the calls before it led
-abbrev pub IsRun : Terms → List AnsweredCall → Type 0
+abbrev pub IsRun : Terms → List AnsweredTableCall → Type 0
 IsRun policy [] = ⊤
-IsRun policy (e ∷ past) = (e.answer ≡ answer_of (table_step (described policy past) e.call)) × IsRun policy past
+IsRun policy (e ∷ past) = (e.answer ≡ answer_of (table_step (standing_after policy past) e.call)) × IsRun policy past
 
 -- the reading of the last accepted `propose`
 abbrev pub proposal_after : TableCall → Bool → ℕ → ℕ
 proposal_after (call.Propose number slicing at) accepted before = if accepted then at else before
 proposal_after _ accepted before = before
 
-abbrev pub proposed_at : List AnsweredCall → ℕ
+abbrev pub proposed_at : List AnsweredTableCall → ℕ
 proposed_at [] = 0
 proposed_at (e ∷ past) = proposal_after e.call (is_ok e.answer) (proposed_at past)
 
@@ -36,7 +32,7 @@ abbrev pub commits_after : TableCall → Bool → ℕ → ℕ
 commits_after (call.Commit number at) accepted before = if accepted then before + 1 else before
 commits_after _ accepted before = before
 
-abbrev pub commits_in : List AnsweredCall → ℕ
+abbrev pub commits_in : List AnsweredTableCall → ℕ
 commits_in [] = 0
 commits_in (e ∷ past) = commits_after e.call (is_ok e.answer) (commits_in past)
 
@@ -52,9 +48,9 @@ pub record Known : Type 0 where
   pub proposal : ℕ
   pub commits : ℕ
 
-abbrev pub known : Terms → List AnsweredCall → Known
+abbrev pub known : Terms → List AnsweredTableCall → Known
 known policy past = record {
-  standing = described policy past;
+  standing = standing_after policy past;
   grants = grants_sent past;
   rows = unfreed_rows past;
   proposal = proposed_at past;
@@ -101,11 +97,11 @@ abbrev pub assignment_after : ℕ → TableCall → Bool → Option Slicing → 
 assignment_after generation (call.Propose number slicing at) accepted before = if accepted && slicing.generation == generation then Some slicing else before
 assignment_after generation _ accepted before = before
 
-abbrev pub assignment_in : ℕ → List AnsweredCall → Option Slicing
+abbrev pub assignment_in : ℕ → List AnsweredTableCall → Option Slicing
 assignment_in generation [] = None
 assignment_in generation (e ∷ past) = assignment_after generation e.call (is_ok e.answer) (assignment_in generation past)
 
 -- the committed assignment and the proposed one are those of their generations
-pub record IsTied (past : List AnsweredCall) : Type 0 where
+pub record IsTied (past : List AnsweredTableCall) : Type 0 where
   pub committed : (slicing : Slicing) → committed_in past ≡ Some slicing → assignment_in slicing.generation past ≡ Some slicing
   pub pending : (slicing : Slicing) → pending_in past ≡ Some slicing → assignment_in slicing.generation past ≡ Some slicing

@@ -1,7 +1,7 @@
 -- What each call answers and leaves, from what the table stands at.
 use Rattle.std.specs.Prelude.{ℕ, ◌==◌, ◌+◌, ◌-◌, ◌^◌, Bool, false, not, ◌&&◌, nat_lt, nat_le, List, [], ◌∷◌, ◌++◌, length, filter, Option, Some, None, is_some, is_none, option_map, Result}
 use Rattle.std.specs.List.{list_any}
-use Rattle.slice_ranges.specs.Refusals.{when, answer}
+use Rattle.machines.specs.Refusals.{when, answer}
 use Rattle.slice_ranges.specs.Sets.{keys_where}
 use Rattle.policy_rules.specs.declared.lease.Kind.TheVariants.{Guard, Bridge}
 use Rattle.assignment.specs.Slices.{Slicing}

@@ -4,7 +4,8 @@ ghost use Rattle.std.specs.Prelude.{◌≡◌, ℕ, ◌+◌, ◌≤◌, ◌<◌,
 ghost use Rattle.lease_table.specs.declared.call.TableCall.{TableCall};
 ghost use Rattle.lease_table.specs.Policies.{Terms, is_policy};
 ghost use Rattle.lease_table.specs.Tables.{Standing, opening, generation_of, slices_of};
-ghost use Rattle.lease_table.specs.Calls.{AnsweredCall, table_step, described, Leads, committed_in, pending_in};
+ghost use Rattle.lease_table.specs.Calls.{AnsweredTableCall, table_step, standing_after, LeadsTo, committed_in, pending_in};
+ghost use Rattle.machines.specs.Calls.{LeadsOn};
 ghost use Rattle.lease_table.specs.Runs.{IsRun, IsSettled, known, longest, newest, proposed_at, assignment_in, IsTied};
 ghost use Rattle.lease_table.specs.Steps.{held_up, guard_of, bridge_of};
 ghost use Rattle.slice_ranges.specs.Sets.{has};
@@ -13,6 +14,7 @@ ghost use Rattle.assignment.specs.Slices.{Slicing};
 
 use crate::values::{Grant, JobTerm, ReleaseNote};
 use assignment::{Assignment, TaskId};
+use machines::Duplicate;
 use slice_ranges::Ranges;
 use std::alloc::AllocError;
 
@@ -53,11 +55,8 @@ pub enum TableCall {
     },
 }
 
-impl TableCall {
-    /// A call that equals this one.
-    pub fn copy(&self) -> Result<Self, AllocError>
-        ensures { IfOk result (λ call. call ≡ self.now) }
-    {
+impl Duplicate for TableCall {
+    fn copy(&self) -> Result<TableCall, AllocError> {
         Ok(match self {
             TableCall::JobTake { assigner, at } => TableCall::JobTake {
                 assigner: *assigner,
@@ -110,32 +109,32 @@ pub enum TableReply {
 
 /// After every list of calls the table stands where the definitions over that list say, and its
 /// answers are those of its steps from there.
-pub fn every_list_law()
-    ensures start { (policy : Terms) → described policy [] ≡ opening policy }
-    ensures next { (policy : Terms) (past : List AnsweredCall) (call : TableCall) → is_policy policy ≡ true
-        → Leads policy past call (table_step (described policy past) call) }
+pub fn standing_law()
+    ensures start { (policy : Terms) → standing_after policy [] ≡ opening policy }
+    ensures next { (policy : Terms) (past : List AnsweredTableCall) (call : TableCall) → is_policy policy ≡ true
+        → LeadsOn (LeadsTo policy) past (standing_after policy past) call (table_step (standing_after policy past) call) }
 {}
 
 /// What holds after every list of calls that a table answered.
 pub fn settled_law()
-    ensures { (policy : Terms) (past : List AnsweredCall) → is_policy policy ≡ true → IsRun policy past
+    ensures { (policy : Terms) (past : List AnsweredTableCall) → is_policy policy ≡ true → IsRun policy past
         → IsSettled (known policy past) }
 {}
 
 /// A commit at a reading that is by the longest term of a task lease above that of the proposal is
 /// not held up.
 pub fn bound_law()
-    ensures { (policy : Terms) (past : List AnsweredCall) (next : Slicing) (at : ℕ)
+    ensures { (policy : Terms) (past : List AnsweredTableCall) (next : Slicing) (at : ℕ)
         → is_policy policy ≡ true → IsRun policy past → pending_in past ≡ Some next
-        → proposed_at past + longest policy ≤ at → held_up (described policy past) at ≡ None }
+        → proposed_at past + longest policy ≤ at → held_up (standing_after policy past) at ≡ None }
 {}
 
 /// The assignment of a generation that is known, committed or proposed, never changes; the committed
 /// assignment and the proposed one are those of their generations.
 pub fn assignments_law()
-    ensures tied { (policy : Terms) (past : List AnsweredCall) → is_policy policy ≡ true → IsRun policy past
+    ensures tied { (policy : Terms) (past : List AnsweredTableCall) → is_policy policy ≡ true → IsRun policy past
         → IsTied past }
-    ensures stays { (policy : Terms) (past : List AnsweredCall) (e : AnsweredCall) (generation : ℕ)
+    ensures stays { (policy : Terms) (past : List AnsweredTableCall) (e : AnsweredTableCall) (generation : ℕ)
         → IsRun policy (e ∷ past) → generation ≤ newest (generation_of (committed_in past)) (pending_in past)
         → assignment_in generation (e ∷ past) ≡ assignment_in generation past }
 {}

@@ -10,7 +10,7 @@ mod table;
 mod values;
 
 pub use call::{
-    TableCall, TableReply, assignments_law, bound_law, covers_law, every_list_law, settled_law,
+    TableCall, TableReply, assignments_law, bound_law, covers_law, settled_law, standing_law,
 };
 pub use error::TableError;
 pub use machine::TableEvent;

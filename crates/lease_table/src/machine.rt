@@ -5,17 +5,11 @@ ghost use Rattle.lease_table.specs.Calls.{event_step};
 use crate::call::{TableCall, TableReply};
 use crate::error::TableError;
 use crate::table::LeaseTable;
-use history_lock::{Machine, Trouble};
+use machines::{Duplicate, Event, Machine, Trouble};
 use std::alloc::AllocError;
 
 /// A call of the table, and when it was made.
-#[derive(Debug, Drop)]
-pub struct TableEvent {
-    /// The place of the call among all calls that drew a ticket. The table does not look at it.
-    pub ticket: u64,
-    /// The call.
-    pub call: TableCall,
-}
+pub type TableEvent = Event<TableCall>;
 
 impl Machine for LeaseTable {
     type Event = TableEvent;
@@ -63,9 +57,6 @@ impl Machine for LeaseTable {
     }
 
     fn copy_event(event: &TableEvent) -> Result<TableEvent, AllocError> {
-        Ok(TableEvent {
-            ticket: event.ticket,
-            call: event.call.copy()?,
-        })
+        event.copy()
     }
 }

@@ -3,12 +3,12 @@
 ghost use Rattle.std.specs.Prelude.{◌≡◌, ◌≤◌, ◌<◌, ◌^◌, ◌∷◌, [], ◌+◌, ◌&&◌, IfOk, OnOk, OnErr, option_map, length, filter, nat_lt};
 ghost use Rattle.std.specs.List.{list_any};
 ghost use Rattle.std.specs.Result.{result_err};
-ghost use Rattle.slice_ranges.specs.Refusals.{first_of};
+ghost use Rattle.machines.specs.Refusals.{first_of};
 ghost use Rattle.slice_ranges.specs.Sets.{keys_where};
 ghost use Rattle.assignment.specs.Owners.{owns};
 ghost use Rattle.lease_table.specs.Rows.{first_up_to, running, closes};
 ghost use Rattle.lease_table.specs.Tables.{opening, phase_of, generation_of, slices_of, last_number};
-ghost use Rattle.history_lock.specs.Steps.{Answers, Takes};
+ghost use Rattle.machines.specs.Answers.{Answers, Takes};
 ghost use Rattle.lease_table.specs.Steps.{out_of_range, back, advanced, take_checks, renew_checks, propose_checks, commit_checks, grant_checks, free_checks, grant_with, with_row, take_step, renew_step, propose_step, commit_step, grant_step, free_step};
 
 use crate::error::TableError;
@@ -16,7 +16,7 @@ use crate::policy::Policy;
 use crate::rows::Rows;
 use crate::values::{Grant, JobTerm, Phase, ReleaseNote, Row};
 use assignment::{Assignment, OwnedSlice, TaskId};
-use history_lock::Trouble;
+use machines::Trouble;
 use policy_rules::{Kind, Lease};
 use slice_ranges::Ranges;
 use std::alloc::{AllocError, Global};

@@ -1,6 +1,6 @@
 use super::*;
 use assignment::{Assignment, Listed, Slice, TaskId};
-use history_lock::Trouble;
+use machines::Trouble;
 use policy_rules::Kind;
 use std::alloc::Global;
 use std::test::Fail;

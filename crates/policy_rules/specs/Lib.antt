@@ -1,4 +1,4 @@
 pub mod Leases
 pub mod Rule
-pub use Rattle.slice_ranges.specs.Refusals
+pub use Rattle.machines.specs.Refusals
 pub use Rattle.slice_ranges.specs.Sets

@@ -6,7 +6,7 @@ use Rattle.policy_rules.specs.declared.holding.Holding.{Holding}
 use Rattle.policy_rules.specs.declared.answer.Ground.TheVariants.{Down, ClockBack, Ended, NotOwned, NoLease}
 use Rattle.policy_rules.specs.declared.answer.Verdict.{Verdict}
 use Rattle.policy_rules.specs.declared.answer.Verdict.TheVariants.{Allow, Deny}
-use Rattle.slice_ranges.specs.Refusals.{when, first_of}
+use Rattle.machines.specs.Refusals.{when, first_of}
 use Rattle.policy_rules.specs.Leases.{SeenLease, seen_from}
 
 -- a holding as it is seen from one key

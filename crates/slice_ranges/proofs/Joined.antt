@@ -6,7 +6,7 @@ use Rattle.slice_ranges.specs.declared.error.RangesError.TheVariants.{Unsorted, 
 use Rattle.slice_ranges.specs.Sets.{has, IsRanges, covered, or_else, refusal_from}
 use Rattle.slice_ranges.specs.Turns.{IsTurned}
 use Rattle.slice_ranges.proofs.Boundaries.{rises_below}
-use Rattle.slice_ranges.specs.Refusals.{when, first_of}
+use Rattle.machines.specs.Refusals.{when, first_of}
 use Rattle.slice_ranges.proofs.Made.{IsMade, made_turn}
 
 -- a range without a fault

@@ -6,5 +6,3 @@ pub mod Where
 pub mod Swept
 pub mod Told
 pub mod Widths
-pub mod Refused
-pub mod Every

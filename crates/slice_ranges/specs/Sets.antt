@@ -3,7 +3,7 @@ use Rattle.std.specs.Prelude.{◌≡◌, ℕ, zero, suc, ◌+◌, ◌^◌, ◌�
 use Rattle.std.specs.List.{list_any}
 use Rattle.slice_ranges.specs.declared.error.RangesError.{RangesError}
 use Rattle.slice_ranges.specs.declared.error.RangesError.TheVariants.{Unsorted, Empty, PastEnd}
-use Rattle.slice_ranges.specs.Refusals.{when, first_of}
+use Rattle.machines.specs.Refusals.{when, first_of}
 
 -- membership of a key, where `inside` holds below the first boundary
 abbrev pub inside_after : Bool → List ℕ → ℕ → Bool

@@ -3,9 +3,9 @@ use Rattle.std.proofs.Common.{◌≡◌, ◌∙◌, ℕ, ◌<◌, ◌≤◌, Boo
 use Rattle.std.proofs.lemmas.Bool.Decides.{nat_tests}
 use Rattle.std.specs.Prelude.{Option, Some, None, is_none, nat_le, ◌==◌, not, max, find, if◌then◌else◌}
 use Rattle.std.specs.List.{AllByRecursion}
-use Rattle.slice_ranges.specs.Refusals.{when, first_of}
-use Rattle.slice_ranges.proofs.Refused.{all_none, not_when}
-use Rattle.slice_ranges.proofs.Every.{all_weaker}
+use Rattle.machines.specs.Refusals.{when, first_of}
+use Rattle.machines.proofs.Refused.{all_none, not_when}
+use Rattle.machines.proofs.Every.{all_weaker}
 use Rattle.policy_rules.specs.declared.lease.Kind.{Kind}
 use Rattle.policy_rules.specs.declared.lease.Kind.TheVariants.{Guard, Bridge}
 use Rattle.policy_rules.specs.Leases.{same_kind}

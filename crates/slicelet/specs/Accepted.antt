@@ -1,7 +1,7 @@
 -- Lists of accepted calls, newest first, and what holds after each of them.
 use Rattle.std.specs.Prelude.{◌≡◌, ℕ, ◌<◌, ◌≤◌, List, [], ◌∷◌, Option, Some, None, ⊤}
 use Rattle.std.specs.List.{AllByRecursion}
-use Rattle.slice_ranges.specs.Refusals.{first_of}
+use Rattle.machines.specs.Refusals.{first_of}
 use Rattle.policy_rules.specs.declared.lease.Kind.{Kind}
 use Rattle.lease_table.specs.declared.values.Grant.{Grant}
 use Rattle.lease_table.specs.declared.values.ReleaseNote.{ReleaseNote}

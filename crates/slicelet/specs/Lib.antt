@@ -5,7 +5,7 @@ pub mod Accepted
 pub mod Continuity
 pub mod Kept
 pub mod Sights
-pub use Rattle.slice_ranges.specs.Refusals
+pub use Rattle.machines.specs.Refusals
 pub use Rattle.slice_ranges.specs.Sets
 pub use Rattle.policy_rules.specs.Leases
 pub use Rattle.policy_rules.specs.Rule

@@ -1,6 +1,6 @@
 -- What calls leave of one key.
 use Rattle.std.specs.Prelude.{ℕ, Bool, false, ◌&&◌, ◌||◌, nat_lt, nat_le, Option, Some, None}
-use Rattle.slice_ranges.specs.Refusals.{when}
+use Rattle.machines.specs.Refusals.{when}
 use Rattle.policy_rules.specs.Leases.{SeenLease}
 use Rattle.policy_rules.specs.Rule.{SeenHolding}
 use Rattle.policy_rules.specs.declared.lease.Kind.{Kind}

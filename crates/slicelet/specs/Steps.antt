@@ -1,13 +1,13 @@
 -- What each call answers and leaves, from what the slicelet heard.
 use Rattle.std.specs.Prelude.{ℕ, ◌==◌, not, nat_lt, nat_le, List, [], ◌∷◌, length, Option, Some, None, is_none, Result}
-use Rattle.slice_ranges.specs.Refusals.{when, answer}
+use Rattle.machines.specs.Refusals.{when, answer}
 use Rattle.policy_rules.specs.declared.lease.Kind.{Kind}
 use Rattle.lease_table.specs.declared.values.Grant.{Grant}
 use Rattle.lease_table.specs.declared.values.ReleaseNote.{ReleaseNote}
 use Rattle.slicelet.specs.declared.error.SliceletError.{SliceletError}
 use Rattle.slicelet.specs.declared.error.SliceletError.TheVariants.{NotStarted, OldLife, ClockBack, OtherTask, OtherLife, Old, TooLate, NothingHeld, HistoryFull}
-use Rattle.history_lock.specs.Steps.{replied}
-use Rattle.slicelet.specs.declared.machine.SliceletEvent.{SliceletEvent}
+use Rattle.machines.specs.Answers.{replied}
+use Rattle.machines.specs.declared.event.Event.{Event}
 use Rattle.slicelet.specs.declared.machine.SliceletReply.{SliceletReply}
 use Rattle.slicelet.specs.declared.machine.SliceletReply.TheVariants.{Started, Heard, Released}
 use Rattle.slicelet.specs.declared.call.SliceletCall.{SliceletCall}
@@ -80,5 +80,5 @@ slicelet_step s (Start life at) = replied (λ _. Started) (start_step s life at)
 slicelet_step s (Hear grant at) = replied (λ _. Heard) (hear_step s grant at)
 slicelet_step s (Release kind at) = replied Released (release_step s kind at)
 
-abbrev pub event_step : History → SliceletEvent → Result (History × SliceletReply) SliceletError
+abbrev pub event_step : History → Event SliceletCall → Result (History × SliceletReply) SliceletError
 event_step s event = slicelet_step s event.call

@@ -3,6 +3,7 @@
 ghost use Rattle.std.specs.Prelude.{◌≡◌, IfOk};
 
 use lease_table::Grant;
+use machines::Duplicate;
 use policy_rules::Kind;
 use std::alloc::AllocError;
 
@@ -30,11 +31,10 @@ impl SliceletCall {
             SliceletCall::Release { kind: _, at } => *at,
         }
     }
+}
 
-    /// A call that equals this one.
-    pub fn copy(&self) -> Result<Self, AllocError>
-        ensures { IfOk result (λ call. call ≡ self.now) }
-    {
+impl Duplicate for SliceletCall {
+    fn copy(&self) -> Result<SliceletCall, AllocError> {
         match self {
             SliceletCall::Start { life, at } => Ok(SliceletCall::Start {
                 life: *life,

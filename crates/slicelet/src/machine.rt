@@ -5,18 +5,12 @@ ghost use Rattle.slicelet.specs.Steps.{event_step};
 use crate::call::SliceletCall;
 use crate::error::SliceletError;
 use crate::slicelet::Slicelet;
-use history_lock::{Machine, Trouble};
 use lease_table::ReleaseNote;
+use machines::{Duplicate, Event, Machine, Trouble};
 use std::alloc::AllocError;
 
 /// A call of a slicelet, and when it was made.
-#[derive(Debug, Drop)]
-pub struct SliceletEvent {
-    /// The place of the call among all calls that drew a ticket. The slicelet does not look at it.
-    pub ticket: u64,
-    /// The call.
-    pub call: SliceletCall,
-}
+pub type SliceletEvent = Event<SliceletCall>;
 
 /// What an accepted call answers.
 #[derive(Clone, Copy, Debug, PartialEq, Eq)]
@@ -59,9 +53,6 @@ impl Machine for Slicelet {
     }
 
     fn copy_event(event: &SliceletEvent) -> Result<SliceletEvent, AllocError> {
-        Ok(SliceletEvent {
-            ticket: event.ticket,
-            call: event.call.copy()?,
-        })
+        event.copy()
     }
 }

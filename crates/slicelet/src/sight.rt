@@ -2,7 +2,7 @@
 
 ghost use Rattle.std.specs.Prelude.{◌≡◌, ℕ, ◌&&◌, List, [], ◌∷◌, reverse, MatchBool};
 ghost use Rattle.slicelet.specs.declared.call.SliceletCall.{SliceletCall};
-ghost use Rattle.slice_ranges.specs.Refusals.{when};
+ghost use Rattle.machines.specs.Refusals.{when};
 ghost use Rattle.slice_ranges.specs.Sets.{has};
 ghost use Rattle.slicelet.specs.Rules.{holding_after, covers_key};
 ghost use Rattle.slicelet.specs.Sights.{sight_of, with_end, permits, is_before};

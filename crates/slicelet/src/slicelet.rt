@@ -2,8 +2,8 @@
 
 ghost use Rattle.std.specs.Prelude.{◌≡◌, None, option_map, IfOk, OnOk};
 ghost use Rattle.std.specs.Result.{result_err};
-ghost use Rattle.slice_ranges.specs.Refusals.{first_of};
-ghost use Rattle.history_lock.specs.Steps.{Takes};
+ghost use Rattle.machines.specs.Refusals.{first_of};
+ghost use Rattle.machines.specs.Answers.{Takes};
 ghost use Rattle.slicelet.specs.Histories.{held};
 ghost use Rattle.slicelet.specs.Rules.{rule_after, covers_key, is_permitted};
 ghost use Rattle.slicelet.specs.Continuity.{handle_on, held_by, is_strange, IsChecked};
@@ -15,10 +15,10 @@ use crate::error::{SliceletError, Stranger};
 use crate::heard::{Heard, holds, nothing, put};
 use crate::sight::is_kept_since;
 use assignment::TaskId;
-use history_lock::Trouble;
 use key_handle::KeyHandle;
 use key_hash::SliceKey;
 use lease_table::{Grant, ReleaseNote};
+use machines::{Duplicate, Trouble};
 use policy_rules::{Ground, Holding, Kind, Verdict, verdict};
 use std::alloc::{AllocError, Global};
 use std::marker::Model;

@@ -1,9 +1,9 @@
 use super::*;
 use assignment::{Assignment, Listed, Slice, TaskId};
-use history_lock::Trouble;
 use key_handle::KeyHandle;
 use key_hash::{SliceKey, slice_key};
 use lease_table::{Grant, LeaseTable, Policy, ReleaseNote};
+use machines::Trouble;
 use policy_rules::{Ground, Kind, Lease, Verdict};
 use slice_ranges::Ranges;
 use std::alloc::Global;

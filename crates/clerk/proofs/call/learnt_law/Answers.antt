@@ -5,7 +5,7 @@ use Rattle.clerk.specs.Steps.{look_at}
 use Rattle.clerk.specs.Learnt.{accepted_since_forget}
 use Rattle.clerk.specs.Calls.{clerk_step}
 use Rattle.clerk.proofs.Newest.{leads_on, leads_to_first, first_is_greatest_of, first_is_greatest, greatest_is_first, nothing_accepted, nothing_kept}
-use Rattle.clerk.proofs.call.every_list_law.Goals as goal
+use Rattle.clerk.proofs.call.learnt_law.Goals as goal
 
 pub returns-clause-next : goal.returns-clause-next
 returns-clause-next c = λ past kept call h. leads_on past kept call (clerk_step kept call) refl h

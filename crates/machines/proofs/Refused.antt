@@ -2,7 +2,7 @@
 use Rattle.std.proofs.Common.{◌≡◌, Bool, true, false, List, [], ◌∷◌, refl}
 use Rattle.std.specs.Prelude.{Option, Some, None}
 use Rattle.std.specs.List.{AllByRecursion}
-use Rattle.slice_ranges.specs.Refusals.{when, first_of}
+use Rattle.machines.specs.Refusals.{when, first_of}
 
 pub all_none : {E : Type 0} (checks : List (Option E)) → first_of checks ≡ None → AllByRecursion (λ (c : Option E). c ≡ None) checks
 all_none [] h = tt
