@@ -1,6 +1,10 @@
 //! A set of slice keys, as half-open ranges.
 
-ghost use Rattle.std.specs.Prelude.{◌≡◌, ℕ, Bool, ◌^◌, ◌-◌, ◌<◌, ◌≤◌, ◌&&◌, ◌||◌, not, List, [], None, false, IfOk, IfErr, OnOk, unwrap_or, if◌then◌else◌};
+ghost use Rattle.std.specs.Prelude.{◌≡◌, ◌↔◌, ℕ, Bool, ◌^◌, ◌-◌, ◌<◌, ◌≤◌, ◌&&◌, ◌||◌, not, nat_eq, List, [], None, false, IfOk, IfErr, OnOk, unwrap_or, if◌then◌else◌};
+ghost use Rattle.std.specs.Bool.{IsTrue};
+ghost use Rattle.std.specs.Cmp.{partial_equiv_from_equiv};
+ghost use Rattle.std.specs.Cmp.Lexicographic.{pointwise};
+ghost use Rattle.std.proofs.lemmas.Cmp.{nat_list_eq_equiv};
 ghost use Rattle.slice_ranges.specs.declared.error.RangesError.TheVariants as refused;
 ghost use Rattle.slice_ranges.specs.Sets.{covered, refusal_of, has, count, keys_where, IsRanges};
 ghost use Rattle.slice_ranges.specs.Steps.{value_after, StepsRise};
@@ -30,6 +34,24 @@ impl Model for Ranges {
     ghost view = { λ r. r.boundaries.items };
 
     ghost invariant = { λ r. IsRanges r.boundaries.items };
+}
+
+/// Sets of the same keys are equal.
+impl PartialEq for Ranges {
+    ghost eq = { pointwise nat_eq };
+
+    ghost laws = { partial_equiv_from_equiv nat_list_eq_equiv };
+
+    fn eq(&self, other: &Self) -> bool
+        ensures eq { result ≡ pointwise nat_eq self.now other.now }
+        ensures same { IsTrue result ↔ (self.now ≡ other.now) }
+    {
+        self.boundaries == other.boundaries
+    }
+}
+
+impl Eq for Ranges {
+    ghost laws = { nat_list_eq_equiv };
 }
 
 impl Ranges {
