@@ -2,3 +2,4 @@ pub mod Accepted
 pub mod Rising
 pub mod Tasks
 pub mod Owned
+pub mod Equality

@@ -1,3 +1,4 @@
+pub mod Equality
 pub mod Slices
 pub mod Owners
 pub mod TaskSteps

@@ -1,6 +1,8 @@
 //! Which task owns which keys.
 
 ghost use Rattle.std.specs.Prelude.{◌≡◌, ℕ, ◌^◌, ◌<◌, ◌≤◌, ◌↔◌, ◌&&◌, Some, None, IfOk, IfErr, OnOk, All, Contains, unwrap_or, length, vec_len, slice_get, IsPermutation};
+ghost use Rattle.std.specs.Bool.{IsTrue};
+ghost use Rattle.std.specs.Cmp.{partial_equiv_from_equiv};
 ghost use Rattle.std.specs.List.Sorted.{IsSorted, IsStrictlyIncreasing};
 ghost use Rattle.std.specs.Ordering.{nat_cmp};
 ghost use Rattle.slice_ranges.specs.Sets.{has};
@@ -40,6 +42,27 @@ impl Model for Assignment {
     ghost view = { λ a. record { generation = a.generation; slices = a.slices.items } };
 
     ghost invariant = { λ a. refusal_of a.slices.items ≡ None };
+}
+
+impl PartialEq for Assignment {
+    ghost use Rattle.assignment.specs.Equality.{slicing_eq, slicing_equivalence};
+
+    ghost eq = { slicing_eq };
+
+    ghost laws = { partial_equiv_from_equiv slicing_equivalence };
+
+    fn eq(&self, other: &Self) -> bool
+        ensures eq { result ≡ slicing_eq self.now other.now }
+        ensures same { IsTrue result ↔ (self.now ≡ other.now) }
+    {
+        self.generation == other.generation && self.slices == other.slices
+    }
+}
+
+impl Eq for Assignment {
+    ghost use Rattle.assignment.specs.Equality.{slicing_equivalence};
+
+    ghost laws = { slicing_equivalence };
 }
 
 impl Assignment {

@@ -1,6 +1,7 @@
 //! A list that clauses see as a list alone.
 
 ghost use Rattle.std.specs.Prelude.{◌≡◌, List, [], ◌∷◌, ◌++◌, length, OnOk, OnErr};
+ghost use Rattle.std.specs.Cmp.Lexicographic.{pointwise, lists_per, lists_equiv};
 
 use std::alloc::{AllocError, Global};
 use std::marker::Model;
@@ -16,6 +17,21 @@ impl<T> Model for Listed<T> {
     ghost Value = { List T };
 
     ghost view = { λ l. l.items.items };
+}
+
+/// Lists are equal where their elements are, one by one.
+impl<T: PartialEq> PartialEq for Listed<T> {
+    ghost eq = { pointwise T.eq };
+
+    ghost laws = { lists_per T.laws };
+
+    fn eq(&self, other: &Self) -> bool {
+        self.items == other.items
+    }
+}
+
+impl<T: Eq> Eq for Listed<T> {
+    ghost laws = { lists_equiv T.Eq.laws };
 }
 
 impl<T> Listed<T> {

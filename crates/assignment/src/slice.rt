@@ -1,6 +1,8 @@
 //! Slices of the key space.
 
-ghost use Rattle.std.specs.Prelude.{◌≡◌, ◌≤◌, ◌<◌, ◌^◌, length};
+ghost use Rattle.std.specs.Prelude.{◌≡◌, ◌↔◌, ◌≤◌, ◌<◌, ◌^◌, length};
+ghost use Rattle.std.specs.Bool.{IsTrue};
+ghost use Rattle.std.specs.Cmp.{partial_equiv_from_equiv};
 
 use crate::listed::Listed;
 use crate::task::TaskId;
@@ -21,6 +23,27 @@ pub struct Slice {
     pub owners: Listed<u64>,
 }
 
+impl PartialEq for Slice {
+    ghost use Rattle.assignment.specs.Equality.{slice_eq, slice_equivalence};
+
+    ghost eq = { slice_eq };
+
+    ghost laws = { partial_equiv_from_equiv slice_equivalence };
+
+    fn eq(&self, other: &Self) -> bool
+        ensures eq { result ≡ slice_eq self.now other.now }
+        ensures same { IsTrue result ↔ (self.now ≡ other.now) }
+    {
+        self.start == other.start && self.owners == other.owners
+    }
+}
+
+impl Eq for Slice {
+    ghost use Rattle.assignment.specs.Equality.{slice_equivalence};
+
+    ghost laws = { slice_equivalence };
+}
+
 /// A slice of an assignment.
 #[derive(Debug, Drop)]
 pub struct OwnedSlice {
@@ -34,6 +57,27 @@ impl Model for OwnedSlice {
     ghost Value = { Slice };
 
     ghost view = { λ s. record { start = s.start; owners = s.owners.items } };
+}
+
+impl PartialEq for OwnedSlice {
+    ghost use Rattle.assignment.specs.Equality.{slice_eq, slice_equivalence};
+
+    ghost eq = { slice_eq };
+
+    ghost laws = { partial_equiv_from_equiv slice_equivalence };
+
+    fn eq(&self, other: &Self) -> bool
+        ensures eq { result ≡ slice_eq self.now other.now }
+        ensures same { IsTrue result ↔ (self.now ≡ other.now) }
+    {
+        self.start == other.start && self.owners == other.owners
+    }
+}
+
+impl Eq for OwnedSlice {
+    ghost use Rattle.assignment.specs.Equality.{slice_equivalence};
+
+    ghost laws = { slice_equivalence };
 }
 
 impl OwnedSlice {
