@@ -3,3 +3,4 @@ pub mod Rising
 pub mod Tasks
 pub mod Owned
 pub mod Equality
+pub mod OneOwner

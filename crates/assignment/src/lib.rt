@@ -12,6 +12,7 @@ mod task;
 pub use crate::assignment::{Assignment, MOST_SLICES};
 pub use error::AssignmentError;
 pub use listed::Listed;
+pub use ownership::one_owner_law;
 pub use slice::{MOST_OWNERS, OwnedSlice, Slice};
 pub use task::{TASKS, TaskId};
 

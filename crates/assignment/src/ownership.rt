@@ -1,6 +1,9 @@
 //! Which slices a task owns.
 
-ghost use Rattle.std.specs.Prelude.{◌≡◌, IfOk};
+ghost use Rattle.std.specs.Prelude.{◌≡◌, ℕ, true, false, nat_lt, List, length, IfOk};
+ghost use Rattle.std.specs.List.{list_any};
+ghost use Rattle.assignment.specs.declared.slice.Slice.{Slice};
+ghost use Rattle.assignment.specs.Owners.{owns};
 ghost use Rattle.assignment.specs.Slices.{is_among};
 ghost use Rattle.assignment.specs.TaskSteps.{task_steps};
 
@@ -21,6 +24,12 @@ pub fn ownership(
         .map(|slice| (slice.start().value(), is_owner(slice, task)))
         .collect(alloc)
 }
+
+/// Where no slice has two owners, the owners of a key are one task.
+pub fn one_owner_law()
+    ensures { (slices : List Slice) (key a b : ℕ) → list_any (λ s. nat_lt 1 (length s.owners)) slices ≡ false
+        → owns slices key a ≡ true → owns slices key b ≡ true → a ≡ b }
+{}
 
 fn is_owner(slice: &OwnedSlice, task: TaskId) -> bool
     ensures { result ≡ is_among slice.now.owners task }
