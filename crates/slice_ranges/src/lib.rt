@@ -8,7 +8,7 @@ mod steps;
 mod sweep;
 
 pub use error::RangesError;
-pub use ranges::Ranges;
+pub use ranges::{Ranges, keys_where_law};
 
 #[cfg(test)]
 mod tests;

@@ -155,6 +155,7 @@ impl Ranges {
             → has (keys_where member) key ≡ member key }
     {
         let _ = &set.boundaries;
+        keys_where_law();
     }
 
     /// Two sets of the same keys are equal.
@@ -166,6 +167,11 @@ impl Ranges {
         let _ = &second.boundaries;
     }
 }
+
+/// The set of the keys that pass a test has a key where it passes.
+pub fn keys_where_law()
+    ensures { (member : ℕ → Bool) (key : ℕ) → key < 2 ^ 63 → has (keys_where member) key ≡ member key }
+{}
 
 fn is_inside(boundaries: &[u64], key: u64) -> bool
     ensures { result ≡ has boundaries.now key }
