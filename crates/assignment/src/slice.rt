@@ -8,6 +8,8 @@ use crate::listed::Listed;
 use crate::task::TaskId;
 use arrayvec::ArrayVec;
 use key_hash::SliceKey;
+use machines::Duplicate;
+use std::alloc::AllocError;
 use std::marker::Model;
 
 /// How many tasks own a slice at the most.
@@ -21,6 +23,15 @@ pub struct Slice {
     pub start: u64,
     /// The tasks that own its keys.
     pub owners: Listed<u64>,
+}
+
+impl Duplicate for Slice {
+    fn copy(&self) -> Result<Slice, AllocError> {
+        Ok(Slice {
+            start: self.start,
+            owners: self.owners.copy()?,
+        })
+    }
 }
 
 impl PartialEq for Slice {
