@@ -14,9 +14,8 @@ ghost use Rattle.assignment.specs.Owners.{IsSliceOf, owners_of, owns, slice_at};
 use crate::checks::check;
 use crate::error::AssignmentError;
 use crate::ownership::ownership;
-use crate::slice::{OwnedSlice, Slice, few_tasks};
+use crate::slice::{MOST_OWNERS, OwnedSlice, Owners, Slice, few_tasks};
 use crate::task::TaskId;
-use arrayvec::ArrayVec;
 use key_hash::SliceKey;
 use slice_ranges::Ranges;
 use std::alloc::{AllocError, Global};
@@ -97,7 +96,7 @@ impl Assignment {
 
     /// The tasks that own a key, in rising order: the owners of the slice with the greatest start
     /// that is not above the key.
-    pub fn owners(&self, key: SliceKey) -> ArrayVec<TaskId, 3>
+    pub fn owners(&self, key: SliceKey) -> Owners
         ensures owners { result.items ≡ owners_of self.now.slices key }
         ensures slice { (slice : Slice) → IsSliceOf self.now.slices key slice
             → (task : ℕ) → Contains result.items task ↔ Contains slice.owners task }
@@ -176,8 +175,8 @@ fn copies(alloc: Global, slices: &[OwnedSlice]) -> Result<Vec<OwnedSlice>, Alloc
 }
 
 // The same tasks in rising order.
-fn rising(tasks: &[TaskId]) -> ArrayVec<TaskId, 3>
-    requires { length tasks.now ≤ 3 }
+fn rising(tasks: &[TaskId]) -> Owners
+    requires { length tasks.now ≤ MOST_OWNERS }
     ensures permutation { IsPermutation tasks.now result.items }
     ensures sorted { IsSorted nat_cmp result.items }
 {

@@ -77,7 +77,7 @@ fn any_has_no_owner(slices: &[Slice]) -> bool
 }
 
 fn any_has_many_owners(slices: &[Slice]) -> bool
-    ensures { result ≡ list_any (λ s. nat_lt 3 (length s.owners)) slices.now }
+    ensures { result ≡ list_any (λ s. nat_lt MOST_OWNERS (length s.owners)) slices.now }
 {
     slices
         .iter()

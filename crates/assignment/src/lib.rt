@@ -13,7 +13,7 @@ pub use crate::assignment::{Assignment, MOST_SLICES};
 pub use error::AssignmentError;
 pub use listed::Listed;
 pub use ownership::one_owner_law;
-pub use slice::{MOST_OWNERS, OwnedSlice, Slice};
+pub use slice::{MOST_OWNERS, OwnedSlice, Owners, Slice};
 pub use task::{TASKS, TaskId};
 
 #[cfg(test)]

@@ -15,6 +15,9 @@ use std::marker::Model;
 /// How many tasks own a slice at the most.
 pub const MOST_OWNERS: usize = 3;
 
+/// The tasks that own a key or a slice.
+pub type Owners = ArrayVec<TaskId, MOST_OWNERS>;
+
 /// A slice as a caller writes it: where it starts, up to the start of the next one or the end of
 /// the key space, and the numbers of the tasks that own its keys. Nothing is said of the numbers.
 #[derive(Debug, Drop)]
@@ -59,7 +62,7 @@ impl Eq for Slice {
 #[derive(Debug, Drop)]
 pub struct OwnedSlice {
     start: SliceKey,
-    owners: ArrayVec<TaskId, 3>,
+    owners: Owners,
 }
 
 impl Model for OwnedSlice {
@@ -119,7 +122,7 @@ impl OwnedSlice {
     /// The tasks that own its keys, in the order in which they were given.
     pub fn owners(&self) -> &[TaskId]
         ensures owners { result.now ≡ self.now.owners }
-        ensures few { length result.now ≤ 3 }
+        ensures few { length result.now ≤ MOST_OWNERS }
     {
         self.owners.as_slice()
     }
@@ -135,9 +138,9 @@ impl OwnedSlice {
     }
 }
 
-/// At most three tasks, in an order of their own.
-pub(crate) fn few_tasks(tasks: &[TaskId]) -> ArrayVec<TaskId, 3>
-    requires { length tasks.now ≤ 3 }
+/// So few tasks, in an order of their own.
+pub(crate) fn few_tasks(tasks: &[TaskId]) -> Owners
+    requires { length tasks.now ≤ MOST_OWNERS }
     ensures { result.items ≡ tasks.now }
 {
     let mut few = ArrayVec::new();
