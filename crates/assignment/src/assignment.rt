@@ -1,6 +1,6 @@
 //! Which task owns which keys.
 
-ghost use Rattle.std.specs.Prelude.{◌≡◌, ℕ, ◌^◌, ◌<◌, ◌≤◌, ◌↔◌, ◌&&◌, Some, None, IfOk, IfErr, OnOk, All, Contains, unwrap_or, length, vec_len, slice_get, IsPermutation};
+ghost use Rattle.std.specs.Prelude.{◌≡◌, ℕ, ◌<◌, ◌≤◌, ◌↔◌, ◌&&◌, Some, None, IfOk, IfErr, OnOk, All, Contains, unwrap_or, length, vec_len, slice_get, IsPermutation};
 ghost use Rattle.std.specs.Bool.{IsTrue};
 ghost use Rattle.std.specs.Cmp.{partial_equiv_from_equiv};
 ghost use Rattle.std.specs.List.Sorted.{IsSorted, IsStrictlyIncreasing};
@@ -16,7 +16,7 @@ use crate::error::AssignmentError;
 use crate::ownership::ownership;
 use crate::slice::{MOST_OWNERS, OwnedSlice, Owners, Slice, few_tasks};
 use crate::task::TaskId;
-use key_hash::SliceKey;
+use key_hash::{KEYS, SliceKey};
 use slice_ranges::Ranges;
 use std::alloc::{AllocError, Global};
 use std::marker::Model;
@@ -108,7 +108,7 @@ impl Assignment {
     /// The keys that a task owns.
     pub fn of_task(&self, task: TaskId) -> Result<Ranges, AllocError>
         ensures { IfOk result
-            (λ r. (key : ℕ) → key < 2 ^ 63 → has r key ≡ owns self.now.slices key task) }
+            (λ r. (key : ℕ) → key < KEYS → has r key ≡ owns self.now.slices key task) }
     {
         let alloc = *self.slices.allocator();
         let steps = ownership(alloc, &self.slices, task)?;
@@ -117,7 +117,7 @@ impl Assignment {
 
     /// The keys that a task owns both in this assignment and in the next one.
     pub fn bridge(&self, next: &Assignment, task: TaskId) -> Result<Ranges, AllocError>
-        ensures { IfOk result (λ r. (key : ℕ) → key < 2 ^ 63 → has r key
+        ensures { IfOk result (λ r. (key : ℕ) → key < KEYS → has r key
             ≡ (owns self.now.slices key task && owns next.now.slices key task)) }
     {
         let before = self.of_task(task)?;
