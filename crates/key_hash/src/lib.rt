@@ -62,6 +62,3 @@ pub fn slice_key(key: &[u8]) -> SliceKey
         number: u64::from_be_bytes([a, b, c, d, e, f, g, h]) >> 1,
     }
 }
-
-#[cfg(test)]
-mod tests;

@@ -9,6 +9,3 @@ mod sweep;
 
 pub use error::RangesError;
 pub use ranges::{Ranges, keys_where_law};
-
-#[cfg(test)]
-mod tests;
