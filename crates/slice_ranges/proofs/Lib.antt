@@ -1,8 +1,8 @@
 pub mod Boundaries
-pub mod Made
-pub mod Same
-pub mod Joined
-pub mod Where
-pub mod Swept
-pub mod Told
+pub mod Writing
+pub mod Uniqueness
+pub mod Joining
+pub mod KeysWhere
+pub mod Sweeping
+pub mod LevelWriting
 pub mod Widths

@@ -1,6 +1,5 @@
 pub mod Sets
-pub mod Steps
-pub mod Sweeps
-pub mod Turns
+pub mod Levels
+pub mod Internals
 pub use Rattle.key_hash.specs.Hash
 pub use Rattle.machines.specs.Refusals

@@ -2,9 +2,9 @@
 #![tactic(auto)]
 
 mod error;
+mod levels;
 mod pairs;
 mod ranges;
-mod steps;
 mod sweep;
 
 pub use error::RangesError;

@@ -3,7 +3,7 @@
 ghost use Rattle.std.specs.Prelude.{◌≡◌, ℕ, None, IfOk, OnOk};
 ghost use Rattle.std.specs.Result.{result_err};
 ghost use Rattle.slice_ranges.specs.Sets.{covered, refusal_of, has, IsRanges};
-ghost use Rattle.slice_ranges.specs.Turns.{IsTurned};
+ghost use Rattle.slice_ranges.specs.Internals.Turns.{IsTurned};
 
 use crate::error::RangesError;
 use key_hash::KEYS;
@@ -30,7 +30,7 @@ pub fn check(pairs: &[(u64, u64)]) -> Result<(), RangesError>
 }
 
 /// The boundaries of pairs in order.
-pub fn joined(alloc: Global, pairs: &[(u64, u64)]) -> Result<Vec<u64>, AllocError>
+pub fn boundaries_of_pairs(alloc: Global, pairs: &[(u64, u64)]) -> Result<Vec<u64>, AllocError>
     requires { refusal_of pairs.now ≡ None }
     ensures ranges { IfOk result (λ v. IsRanges v.items) }
     ensures keys { IfOk result (λ v. (key : ℕ) → has v.items key ≡ covered pairs.now key) }

@@ -7,12 +7,12 @@ ghost use Rattle.std.specs.Cmp.Lexicographic.{pointwise};
 ghost use Rattle.std.proofs.lemmas.Cmp.{nat_list_eq_equiv};
 ghost use Rattle.slice_ranges.specs.declared.error.RangesError.TheVariants as refused;
 ghost use Rattle.slice_ranges.specs.Sets.{covered, refusal_of, has, count, keys_where, IsRanges};
-ghost use Rattle.slice_ranges.specs.Steps.{value_after, StepsRise};
-ghost use Rattle.slice_ranges.specs.Sweeps.{apply};
+ghost use Rattle.slice_ranges.specs.Levels.{value_after, LevelsRise};
+ghost use Rattle.slice_ranges.specs.Internals.Sweeps.{apply};
 
 use crate::error::RangesError;
-use crate::pairs::{check, joined};
-use crate::steps::turns;
+use crate::levels::boundaries_of_levels;
+use crate::pairs::{boundaries_of_pairs, check};
 use crate::sweep::{Operation, sweep};
 use key_hash::{KEYS, SliceKey};
 use std::alloc::{AllocError, Global};
@@ -76,18 +76,18 @@ impl Ranges {
         ensures refused { IfErr result (λ e. e ≡ unwrap_or (refusal_of pairs.now) refused.NoMemory) }
     {
         check(pairs)?;
-        let boundaries = joined(alloc, pairs)?;
+        let boundaries = boundaries_of_pairs(alloc, pairs)?;
         Ok(Ranges { boundaries })
     }
 
-    /// The keys at which steps say yes: each step is a key and what holds from there on, up to the
-    /// key of the next step. Below the first step nothing is in the set.
-    pub fn from_steps(alloc: Global, steps: &[(u64, bool)]) -> Result<Self, AllocError>
-        requires { StepsRise 0 steps.now KEYS }
+    /// The keys at which levels say yes: each level is a key and what holds from there on, up to the
+    /// key of the next level. Below the first level nothing is in the set.
+    pub fn from_levels(alloc: Global, levels: &[(u64, bool)]) -> Result<Self, AllocError>
+        requires { LevelsRise 0 levels.now KEYS }
         ensures { IfOk result
-            (λ r. (key : ℕ) → key < KEYS → has r key ≡ value_after false steps.now key) }
+            (λ r. (key : ℕ) → key < KEYS → has r key ≡ value_after false levels.now key) }
     {
-        let boundaries = turns(alloc, steps)?;
+        let boundaries = boundaries_of_levels(alloc, levels)?;
         Ok(Ranges { boundaries })
     }
 

@@ -2,7 +2,7 @@
 
 ghost use Rattle.std.specs.Prelude.{◌≡◌, ℕ, Some, None, [], IfOk};
 ghost use Rattle.slice_ranges.specs.Sets.{has, IsRanges};
-ghost use Rattle.slice_ranges.specs.Sweeps.{apply, IsNext, IsPast};
+ghost use Rattle.slice_ranges.specs.Internals.Sweeps.{apply, IsNext, IsPast};
 
 use std::alloc::{AllocError, Global};
 
@@ -49,8 +49,8 @@ pub fn sweep(
     let mut inside = false;
     let mut boundaries = Vec::new(alloc);
     while let Some(key) = next_boundary(first_rest, second_rest) {
-        (first_rest, in_first) = past(first_rest, in_first, key);
-        (second_rest, in_second) = past(second_rest, in_second, key);
+        (first_rest, in_first) = boundaries_above(first_rest, in_first, key);
+        (second_rest, in_second) = boundaries_above(second_rest, in_second, key);
         let now = operation.apply(in_first, in_second);
         if now != inside {
             boundaries.push(key)?;
@@ -73,7 +73,7 @@ fn next_boundary(first: &[u64], second: &[u64]) -> Option<u64>
 }
 
 // The boundaries above a key, and whether the keys from there on are inside.
-fn past(boundaries: &[u64], inside: bool, key: u64) -> (&[u64], bool)
+fn boundaries_above(boundaries: &[u64], inside: bool, key: u64) -> (&[u64], bool)
     ensures { IsPast key inside boundaries.now result.1 result.0.now }
 {
     match boundaries {

@@ -1,7 +1,7 @@
 use Rattle.std.proofs.Common.{ℕ, ◌+◌, length}
 use Rattle.key_hash.specs.declared.TheConstants.{KEYS}
-use Rattle.slice_ranges.specs.Sweeps.{apply}
-use Rattle.slice_ranges.proofs.Swept.{IsSweep}
+use Rattle.slice_ranges.specs.Internals.Sweeps.{apply}
+use Rattle.slice_ranges.proofs.Sweeping.{IsSweep}
 use Rattle.slice_ranges.proofs.sweep.sweep.Given as goal
 
 -- the sweep has come to some key p

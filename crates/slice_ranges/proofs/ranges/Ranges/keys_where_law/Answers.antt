@@ -1,4 +1,4 @@
-use Rattle.slice_ranges.proofs.Where.{is_where}
+use Rattle.slice_ranges.proofs.KeysWhere.{is_where}
 use Rattle.slice_ranges.proofs.ranges.Ranges.keys_where_law.Goals as goal
 
 pub returns-clause-is : goal.returns-clause-is

@@ -1,4 +1,4 @@
-use Rattle.slice_ranges.proofs.Same.{same_ranges}
+use Rattle.slice_ranges.proofs.Uniqueness.{same_ranges}
 use Rattle.slice_ranges.proofs.ranges.Ranges.same_keys_law.Goals as goal
 
 pub returns : goal.returns

@@ -6,9 +6,9 @@ use Rattle.key_hash.specs.declared.TheConstants.{KEYS}
 use Rattle.slice_ranges.specs.declared.sweep.Operation.{Operation}
 use Rattle.slice_ranges.specs.declared.sweep.Operation.TheVariants.{Both, Either, Without}
 use Rattle.slice_ranges.specs.Sets.{inside_after, has, Rises, IsRanges}
-use Rattle.slice_ranges.specs.Sweeps.{apply, StartsAt, Heads, IsNext, IsPast}
+use Rattle.slice_ranges.specs.Internals.Sweeps.{apply, StartsAt, Heads, IsNext, IsPast}
 use Rattle.slice_ranges.proofs.Boundaries.{inside_below, rises_starts, rises_below, rises_bounds}
-use Rattle.slice_ranges.proofs.Made.{IsMade, made_same, made_turn}
+use Rattle.slice_ranges.proofs.Writing.{IsMade, writing_same, writing_turn}
 
 -- the rest of a list, and the membership at p, after all boundaries below p
 pub record IsRest (all : List ℕ) (inside : Bool) (rest : List ℕ) (p high : ℕ) : Type 0 where
@@ -43,7 +43,7 @@ rest_past all inside (b ∷ bs) p m high now next r h l q (inr e) =
 pub record IsSweep (f : Bool → Bool → Bool) (first second : List ℕ) (high : ℕ) (in_a : Bool) (a : List ℕ) (in_b : Bool) (b out : List ℕ) (inside : Bool) (p : ℕ) : Type 0 where
   pub first_rest : IsRest first in_a a p high
   pub second_rest : IsRest second in_b b p high
-  pub made : IsMade out inside p (λ k. f (has first k) (has second k))
+  pub writing : IsMade out inside p (λ k. f (has first k) (has second k))
   pub now : inside ≡ f in_a in_b
 
 -- the first boundary of what is left is at p or above
@@ -56,40 +56,40 @@ module _ (f : Bool → Bool → Bool) (first second : List ℕ) (high : ℕ) (in
   bounds : (p ≤ m) × (m < high)
   bounds = elim next.heads [ inl h ↦ head_bounds p m a high s.first_rest.rises h | inr h ↦ head_bounds p m b high s.second_rest.rises h ]
 
-  a_past : IsRest first now_a next_a (m + 1) high × (has first m ≡ now_a)
-  a_past = rest_past first in_a a p m high now_a next_a s.first_rest next.first_starts bounds.0 bounds.1 past_a
+  a_rest : IsRest first now_a next_a (m + 1) high × (has first m ≡ now_a)
+  a_rest = rest_past first in_a a p m high now_a next_a s.first_rest next.first_starts bounds.0 bounds.1 past_a
 
-  b_past : IsRest second now_b next_b (m + 1) high × (has second m ≡ now_b)
-  b_past = rest_past second in_b b p m high now_b next_b s.second_rest next.second_starts bounds.0 bounds.1 past_b
+  b_rest : IsRest second now_b next_b (m + 1) high × (has second m ≡ now_b)
+  b_rest = rest_past second in_b b p m high now_b next_b s.second_rest next.second_starts bounds.0 bounds.1 past_b
 
   between : (k : ℕ) → p ≤ k → k < m → f (has first k) (has second k) ≡ inside
   between k l g = rw (rest_until first in_a a p m high k s.first_rest next.first_starts l g, rest_until second in_b b p m high k s.second_rest next.second_starts l g) (sym s.now)
 
   at : f (has first m) (has second m) ≡ f now_a now_b
-  at = rw (a_past.1, b_past.1) refl
+  at = rw (a_rest.1, b_rest.1) refl
 
   pub sweep_same : f now_a now_b ≡ inside → IsSweep f first second high now_a next_a now_b next_b out inside (m + 1)
   sweep_same e = record {
-    first_rest = a_past.0;
-    second_rest = b_past.0;
-    made = made_same out inside p m (λ k. f (has first k) (has second k)) s.made bounds.0 between (at ∙ e);
+    first_rest = a_rest.0;
+    second_rest = b_rest.0;
+    writing = writing_same out inside p m (λ k. f (has first k) (has second k)) s.writing bounds.0 between (at ∙ e);
     now = sym e;
   }
 
-  pub sweep_turn : (turned : Bool) → turned ≡ f now_a now_b → turned ≡ not inside → IsSweep f first second high now_a next_a now_b next_b (out ++ m ∷ []) turned (m + 1)
-  sweep_turn turned same e = record {
-    first_rest = a_past.0;
-    second_rest = b_past.0;
-    made = rw e (made_turn out inside p m (λ k. f (has first k) (has second k)) s.made bounds.0 between (at ∙ sym same ∙ e));
+  pub sweep_turn : (taken_at : Bool) → taken_at ≡ f now_a now_b → taken_at ≡ not inside → IsSweep f first second high now_a next_a now_b next_b (out ++ m ∷ []) taken_at (m + 1)
+  sweep_turn taken_at same e = record {
+    first_rest = a_rest.0;
+    second_rest = b_rest.0;
+    writing = rw e (writing_turn out inside p m (λ k. f (has first k) (has second k)) s.writing bounds.0 between (at ∙ sym same ∙ e));
     now = same;
   }
 
--- the sweep is done where no boundary is left
+-- the sweep is at its end where no boundary is left
 sweep_end : (f : Bool → Bool → Bool) (first second : List ℕ) (high : ℕ) (in_a : Bool) (in_b : Bool) (out : List ℕ) (inside : Bool) (p : ℕ)
     → IsSweep f first second high in_a [] in_b [] out inside p → (k : ℕ) → has out k ≡ f (has first k) (has second k)
 sweep_end f first second high in_a in_b out inside p s k = elim (cases_lt k p) [
-  | inl below ↦ s.made.done k below
-  | inr above ↦ rw (s.first_rest.same k above, s.second_rest.same k above, s.made.after k above) s.now
+  | inl below ↦ s.writing.before k below
+  | inr above ↦ rw (s.first_rest.same k above, s.second_rest.same k above, s.writing.after k above) s.now
 ]
 
 apply_none : (operation : Operation) → false ≡ apply operation false false
@@ -101,7 +101,7 @@ pub sweep_start : (operation : Operation) (first second out : List ℕ) → IsRa
 sweep_start operation first second out r s e = record {
   first_rest = record { same = λ k g. refl; rises = r.rises };
   second_rest = record { same = λ k g. refl; rises = s.rises };
-  made = rw e (record { done = λ k g. absurd (omega arith); after = λ k g. refl; rises = omega arith });
+  writing = rw e (record { before = λ k g. absurd (omega arith); after = λ k g. refl; rises = omega arith });
   now = apply_none operation;
 }
 
@@ -123,4 +123,4 @@ pub sweep_ranges : (operation : Operation) (first second : List ℕ) (in_a : Boo
 sweep_ranges operation first second in_a a in_b b out inside p r s w e g =
     let w' : IsSweep (apply operation) first second (KEYS + 1) in_a [] in_b [] out inside p = rw (e, g) at w in
     let keys = sweep_end (apply operation) first second (KEYS + 1) in_a in_b out inside p w' in
-    (record { rises = rises_below 0 out p (KEYS + 1) w.made.rises (rises_bounds p a (KEYS + 1) w.first_rest.rises); ends = keys KEYS ∙ (rw (r.ends, s.ends) (sym (apply_none operation))) }, keys)
+    (record { rises = rises_below 0 out p (KEYS + 1) w.writing.rises (rises_bounds p a (KEYS + 1) w.first_rest.rises); ends = keys KEYS ∙ (rw (r.ends, s.ends) (sym (apply_none operation))) }, keys)

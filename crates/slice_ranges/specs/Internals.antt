@@ -1,0 +1,3 @@
+-- What only the clauses of private functions cite.
+pub mod Sweeps
+pub mod Turns
