@@ -1,6 +1,6 @@
-pub mod Accepted
-pub mod Rising
+pub mod Acceptance
+pub mod SliceOrder
 pub mod Tasks
-pub mod Owned
+pub mod TaskKeys
 pub mod Equality
 pub mod OneOwner

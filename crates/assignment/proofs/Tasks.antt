@@ -17,8 +17,8 @@ use Rattle.assignment.specs.declared.slice.Slice.{Slice}
 use Rattle.assignment.specs.declared.task.TheConstants.{TASKS}
 use Rattle.assignment.specs.Slices.{is_among, is_task, has_twice, IsProper}
 use Rattle.assignment.specs.Owners.{IsSliceOf, slice_at, owns, owners_of, tasks}
-use Rattle.assignment.proofs.Accepted.{IsAccepted}
-use Rattle.assignment.proofs.Rising.{of_slice_at, slice_at_is, some_is}
+use Rattle.assignment.proofs.Acceptance.{IsAccepted}
+use Rattle.assignment.proofs.SliceOrder.{of_slice_at, slice_at_is, some_is}
 
 -- the numbers rise, from `low` on, below `high`
 pub Rises : ℕ → List ℕ → ℕ → Type 0
@@ -93,8 +93,8 @@ distinct (x ∷ xs) h = by_test (is_among xs x) refl h (distinct xs)
     by_test false e h rest = (distinct_others x xs (sym e), rest h)
 
 -- sorted tasks that differ rise
-pub increasing : (owners sorted : List ℕ) → IsPermutation owners sorted → IsSorted nat_cmp sorted → has_twice owners ≡ false → IsStrictlyIncreasing sorted
-increasing owners sorted same order differ =
+pub owners_increasing : (owners sorted : List ℕ) → IsPermutation owners sorted → IsSorted nat_cmp sorted → has_twice owners ≡ false → IsStrictlyIncreasing sorted
+owners_increasing owners sorted same order differ =
     IsStrictlyIncreasing-from_distinct sorted (IsNonDecreasingBy-from_sort (λ x. x) sorted order) (IsDistinct-IsPermutation eqb eqb_sym owners sorted same (distinct owners differ))
 
 rises : (xs : List ℕ) (low high : ℕ) → IsStrictlySortedBy nat_cmp xs → AllByRecursion (λ x. low ≤ x) xs → AllByRecursion (λ x. x < high) xs → Rises low xs high
@@ -108,11 +108,11 @@ rises (x ∷ xs) low high sorted lows highs =
 pub owners_rise : (owners sorted : List ℕ) (test : ℕ → Bool) → IsPermutation owners sorted → IsSorted nat_cmp sorted → has_twice owners ≡ false → All (λ o. is_task o ≡ true) owners
     → ((t : ℕ) → test t ≡ is_among owners t) → filter test tasks ≡ sorted
 unfolding tasks
-owners_rise owners sorted test same order differ known is =
-    let known_sorted : All (λ o. is_task o ≡ true) sorted = All-permutation (λ o. is_task o ≡ true) owners sorted same known in
-    let lows : All (λ o. 1 ≤ o) sorted = λ k d l. let e : is_task (get_or sorted k d) ≡ true = known_sorted k d l in grind (arith, nat_tests) in
-    let highs : All (λ o. o < 65) sorted = λ k d l. let e : is_task (get_or sorted k d) ≡ true = known_sorted k d l in grind (arith, nat_tests) in
-    let rise = rises sorted 1 65 (sorted_from_strictly_increasing sorted (increasing owners sorted same order differ)) (recursion_from_All (λ o. 1 ≤ o) sorted lows) (recursion_from_All (λ o. o < 65) sorted highs) in
+owners_rise owners sorted test same order differ facts is =
+    let tasks_sorted : All (λ o. is_task o ≡ true) sorted = All-permutation (λ o. is_task o ≡ true) owners sorted same facts in
+    let lows : All (λ o. 1 ≤ o) sorted = λ k d l. let e : is_task (get_or sorted k d) ≡ true = tasks_sorted k d l in grind (arith, nat_tests) in
+    let highs : All (λ o. o < 65) sorted = λ k d l. let e : is_task (get_or sorted k d) ≡ true = tasks_sorted k d l in grind (arith, nat_tests) in
+    let rise = rises sorted 1 (TASKS + 1) (sorted_from_strictly_increasing sorted (owners_increasing owners sorted same order differ)) (recursion_from_All (λ o. 1 ≤ o) sorted lows) (recursion_from_All (λ o. o < 65) sorted highs) in
     filter-range test TASKS 1 sorted (λ t l. is t ∙ list_any-IsPermutation (λ o. o == t) owners sorted same) rise
 
 -- a slice of as many elements takes the place of a list
@@ -122,22 +122,22 @@ refill-same xs ws e =
     rw (none, append-nil, ← e) (take_all (length ws) ws (omega arith))
 
 -- the owners of a key, where the tasks of its slice are sorted
-module _ (slices : List Slice) (key : ℕ) (found : Slice) (sorted : List ℕ) (known : IsAccepted slices) (at : slice_at slices key ≡ Some found) (same : IsPermutation found.owners sorted) (order : IsSorted nat_cmp sorted) where
+module _ (slices : List Slice) (key : ℕ) (found : Slice) (sorted : List ℕ) (facts : IsAccepted slices) (at : slice_at slices key ≡ Some found) (same : IsPermutation found.owners sorted) (order : IsSorted nat_cmp sorted) where
   differ : has_twice found.owners ≡ false
-  differ = of_slice_at (λ s. has_twice s.owners ≡ false) key slices (recursion_from_All (λ s. has_twice s.owners ≡ false) slices known.distinct) found at
+  differ = of_slice_at (λ s. has_twice s.owners ≡ false) key slices (recursion_from_All (λ s. has_twice s.owners ≡ false) slices facts.distinct) found at
 
   proper : IsProper found
-  proper = of_slice_at IsProper key slices (recursion_from_All IsProper slices known.proper) found at
+  proper = of_slice_at IsProper key slices (recursion_from_All IsProper slices facts.proper) found at
 
   pub owners_are : sorted ≡ owners_of slices key
   owners_are = sym (owners_rise found.owners sorted (owns slices key) same order differ proper.tasks (λ t. rw at refl))
 
   pub owners_increase : IsStrictlyIncreasing sorted
-  owners_increase = increasing found.owners sorted same order differ
+  owners_increase = owners_increasing found.owners sorted same order differ
 
   pub owners_of_slice : (slice : Slice) → IsSliceOf slices key slice → (task : ℕ) → Contains sorted task ↔ Contains slice.owners task
   owners_of_slice slice h task =
-      let is : found ≡ slice = some_is (sym at ∙ slice_at_is slices slice key known.rising h) in
+      let is : found ≡ slice = some_is (sym at ∙ slice_at_is slices slice key facts.rising h) in
       let P : Slice → Type 0 = λ s. Contains sorted task ↔ Contains s.owners task in
       let there : Contains sorted task → Contains found.owners task = Contains-permutation sorted found.owners task (IsPermutation-sym found.owners sorted same) in
       let back : Contains found.owners task → Contains sorted task = Contains-permutation found.owners sorted task same in

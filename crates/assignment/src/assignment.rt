@@ -102,7 +102,7 @@ impl Assignment {
             → (task : ℕ) → Contains result.items task ↔ Contains slice.owners task }
         ensures rising { IsStrictlyIncreasing result.items }
     {
-        rising(slice_of(&self.slices, key).owners())
+        sorted_tasks(slice_of(&self.slices, key).owners())
     }
 
     /// The keys that a task owns.
@@ -111,8 +111,8 @@ impl Assignment {
             (λ r. (key : ℕ) → key < KEYS → has r key ≡ owns self.now.slices key task) }
     {
         let alloc = *self.slices.allocator();
-        let steps = ownership(alloc, &self.slices, task)?;
-        Ranges::from_steps(alloc, &steps)
+        let levels = ownership(alloc, &self.slices, task)?;
+        Ranges::from_levels(alloc, &levels)
     }
 
     /// The keys that a task owns both in this assignment and in the next one.
@@ -142,11 +142,11 @@ fn owned_slices(alloc: Global, slices: &[Slice]) -> Result<Vec<OwnedSlice>, Allo
     requires { All IsProper slices.now }
     ensures { IfOk result (λ owned. owned.items ≡ slices.now) }
 {
-    let mut owned = Vec::with_capacity(alloc, slices.len())?;
+    let mut items = Vec::with_capacity(alloc, slices.len())?;
     for slice in slices {
-        owned.push(OwnedSlice::of(slice))?;
+        items.push(OwnedSlice::of(slice))?;
     }
-    Ok(owned)
+    Ok(items)
 }
 
 // The slice of a key.
@@ -167,15 +167,15 @@ fn slice_of(slices: &[OwnedSlice], key: SliceKey) -> &OwnedSlice
 fn copies(alloc: Global, slices: &[OwnedSlice]) -> Result<Vec<OwnedSlice>, AllocError>
     ensures { IfOk result (λ owned. owned.items ≡ slices.now) }
 {
-    let mut owned = Vec::with_capacity(alloc, slices.len())?;
+    let mut items = Vec::with_capacity(alloc, slices.len())?;
     for slice in slices {
-        owned.push(slice.copy())?;
+        items.push(slice.copy())?;
     }
-    Ok(owned)
+    Ok(items)
 }
 
 // The same tasks in rising order.
-fn rising(tasks: &[TaskId]) -> Owners
+fn sorted_tasks(tasks: &[TaskId]) -> Owners
     requires { length tasks.now ≤ MOST_OWNERS }
     ensures permutation { IsPermutation tasks.now result.items }
     ensures sorted { IsSorted nat_cmp result.items }

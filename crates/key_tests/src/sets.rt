@@ -87,14 +87,14 @@ fn combines_two_sets(rt: HostRuntime) -> Result<(), Fail> {
 }
 
 #[test]
-fn takes_the_keys_of_steps(rt: HostRuntime) -> Result<(), Fail> {
+fn takes_the_keys_of_levels(rt: HostRuntime) -> Result<(), Fail> {
     let alloc = rt.alloc();
-    let steps = [(2, true), (3, true), (5, false), (7, false), (9, true)];
-    let set = Ranges::from_steps(alloc, &steps)?;
+    let levels = [(2, true), (3, true), (5, false), (7, false), (9, true)];
+    let set = Ranges::from_levels(alloc, &levels)?;
     assert!(rt; has_only(&set, &[2, 3, 4, 9, 10, 11, 12, 13])?);
     assert_eq!(rt; set.width(), (1 << 63) - 6);
-    assert_eq!(rt; Ranges::from_steps(alloc, &[(0, true)])?.width(), 1 << 63);
-    assert_eq!(rt; Ranges::from_steps(alloc, &[])?.width(), 0);
+    assert_eq!(rt; Ranges::from_levels(alloc, &[(0, true)])?.width(), 1 << 63);
+    assert_eq!(rt; Ranges::from_levels(alloc, &[])?.width(), 0);
     Ok(())
 }
 

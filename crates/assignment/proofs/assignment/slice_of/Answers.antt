@@ -1,15 +1,15 @@
 use Rattle.std.proofs.Common.{◌<◌, ◌≤◌, sym, ◌∙◌}
-use Rattle.assignment.proofs.Accepted.{accepted}
-use Rattle.assignment.proofs.Rising.{found_first, found_on, found_before, rising_on, below, not_below}
+use Rattle.assignment.proofs.Acceptance.{acceptance}
+use Rattle.assignment.proofs.SliceOrder.{found_first, found_on, found_before, rising_on, below, not_below}
 use Rattle.assignment.proofs.assignment.slice_of.Goals as goal
 
 pub bounds-slices-0 : goal.bounds-slices-0
-bounds-slices-0 c = (accepted c.args.slices.now c.requires).some
+bounds-slices-0 c = (acceptance c.args.slices.now c.requires).some
 
 pub loop-slice-init : goal.loop-slice-init
 loop-slice-init c =
-    let known = accepted c.args.slices.now c.requires in
-    record { rising = known.rising; found = found_first c.args.slices.now c.args.key c.index-slices-0.result known.first }
+    let facts = acceptance c.args.slices.now c.requires in
+    record { rising = facts.rising; found = found_first c.args.slices.now c.args.key c.index-slices-0.result facts.first }
 
 pub loop-slice-preserved : goal.loop-slice-preserved
 loop-slice-preserved c =

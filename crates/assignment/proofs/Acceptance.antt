@@ -40,9 +40,9 @@ pub record IsAccepted (slices : List Slice) : Type 0 where
   pub distinct : All (λ s. has_twice s.owners ≡ false) slices
   pub proper : All IsProper slices
 
-pub accepted : (slices : List Slice) → refusal_of slices ≡ None → IsAccepted slices
+pub acceptance : (slices : List Slice) → refusal_of slices ≡ None → IsAccepted slices
 unfolding refusal_of
-accepted slices h =
+acceptance slices h =
     let checks = slice_checks slices in
     let some = passes (length slices == 0) NoSlices (drop 1 checks) h in
     let first = passes (not (first_starts_at 0 slices)) FirstNotZero (drop 2 checks) some.others in
@@ -51,7 +51,7 @@ accepted slices h =
     let owned = passes (list_any (λ s. length s.owners == 0) slices) NoOwner (drop 5 checks) ends.others in
     let few = passes (list_any (λ s. nat_lt MOST_OWNERS (length s.owners)) slices) TooManyOwners (drop 6 checks) owned.others in
     let distinct = passes (list_any (λ s. has_twice s.owners) slices) OwnerTwice (drop 7 checks) few.others in
-    let known = passes (list_any (λ s. list_any (λ o. not (is_task o)) s.owners) slices) BadTask (drop 8 checks) distinct.others in
+    let facts = passes (list_any (λ s. list_any (λ o. not (is_task o)) s.owners) slices) BadTask (drop 8 checks) distinct.others in
     record {
       some = let e : (length slices == 0) ≡ false = some.fails in grind (arith, nat_tests);
       first = true_from_not _ first.fails;
@@ -60,6 +60,6 @@ accepted slices h =
       proper = λ k d l. record {
         starts = let e : nat_le KEYS (get_or slices k d).start ≡ false = none_passes (λ s. nat_le KEYS s.start) slices ends.fails k d l in grind (arith, nat_tests);
         few = let e : nat_lt MOST_OWNERS (length (get_or slices k d).owners) ≡ false = none_passes (λ s. nat_lt MOST_OWNERS (length s.owners)) slices few.fails k d l in grind (arith, nat_tests);
-        tasks = λ i o g. true_from_not _ (none_passes (λ o. not (is_task o)) (get_or slices k d).owners (none_passes (λ s. list_any (λ o. not (is_task o)) s.owners) slices known.fails k d l) i o g);
+        tasks = λ i o g. true_from_not _ (none_passes (λ o. not (is_task o)) (get_or slices k d).owners (none_passes (λ s. list_any (λ o. not (is_task o)) s.owners) slices facts.fails k d l) i o g);
       };
     }

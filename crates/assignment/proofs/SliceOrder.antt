@@ -96,29 +96,29 @@ unfolding StartsAbove
 none_from s slices key rising l = none_at key (s ∷ slices) (l, above_lower key s.start slices (omega arith) (later_above s slices rising))
 
 -- a slice stands first of what is left from its place on
-opened : (slices : List Slice) (i : ℕ) (slice : Slice) → i < length slices → slice ≡ get_or slices i slice → drop i slices ≡ slice ∷ drop (i + 1) slices
-opened slices i slice l is = rw (add-one, drop-cons slices i slice, ← is) refl
+opening : (slices : List Slice) (i : ℕ) (slice : Slice) → i < length slices → slice ≡ get_or slices i slice → drop i slices ≡ slice ∷ drop (i + 1) slices
+opening slices i slice l is = rw (add-one, drop-cons slices i slice, ← is) refl
 
-opened_rising : (slices : List Slice) (i : ℕ) (slice : Slice) → i < length slices → slice ≡ get_or slices i slice → is_rising (drop i slices) ≡ true → is_rising (slice ∷ drop (i + 1) slices) ≡ true
-opened_rising slices i slice l is rising = let P : List Slice → Type 0 = λ rest. is_rising rest ≡ true in subst P (opened slices i slice l is) rising
+opening_rising : (slices : List Slice) (i : ℕ) (slice : Slice) → i < length slices → slice ≡ get_or slices i slice → is_rising (drop i slices) ≡ true → is_rising (slice ∷ drop (i + 1) slices) ≡ true
+opening_rising slices i slice l is rising = let P : List Slice → Type 0 = λ rest. is_rising rest ≡ true in subst P (opening slices i slice l is) rising
 
 pub rising_on : (slices : List Slice) (i : ℕ) (slice : Slice) → i < length slices → slice ≡ get_or slices i slice → is_rising (drop i slices) ≡ true → is_rising (drop (i + 1) slices) ≡ true
-rising_on slices i slice l is rising = rising_rest slice (drop (i + 1) slices) (opened_rising slices i slice l is rising)
+rising_on slices i slice l is rising = rising_rest slice (drop (i + 1) slices) (opening_rising slices i slice l is rising)
 
 -- the search goes on past a slice at the key or below it
 pub found_on : (slices : List Slice) (key i : ℕ) (slice found : Slice) → i < length slices → slice ≡ get_or slices i slice → is_rising (drop i slices) ≡ true → slice.start ≤ key
     → slice_at slices key ≡ Some (unwrap_or (slice_at (drop i slices) key) found) → slice_at slices key ≡ Some (unwrap_or (slice_at (drop (i + 1) slices) key) slice)
 found_on slices key i slice found l is rising begins so_far =
-    let here = opened slices i slice l is in
-    let step : slice_at (drop i slices) key ≡ Some (unwrap_or (slice_at (drop (i + 1) slices) key) slice) = rw here (first_or_later slice (drop (i + 1) slices) key (opened_rising slices i slice l is rising) begins) in
+    let here = opening slices i slice l is in
+    let step : slice_at (drop i slices) key ≡ Some (unwrap_or (slice_at (drop (i + 1) slices) key) slice) = rw here (first_or_later slice (drop (i + 1) slices) key (opening_rising slices i slice l is rising) begins) in
     so_far ∙ rw step refl
 
 -- the search ends at a slice above the key
 pub found_before : (slices : List Slice) (key i : ℕ) (slice found : Slice) → i < length slices → slice ≡ get_or slices i slice → is_rising (drop i slices) ≡ true → key < slice.start
     → slice_at slices key ≡ Some (unwrap_or (slice_at (drop i slices) key) found) → slice_at slices key ≡ Some found
 found_before slices key i slice found l is rising above so_far =
-    let here = opened slices i slice l is in
-    let none : slice_at (drop i slices) key ≡ None = rw here (none_from slice (drop (i + 1) slices) key (opened_rising slices i slice l is rising) above) in
+    let here = opening slices i slice l is in
+    let none : slice_at (drop i slices) key ≡ None = rw here (none_from slice (drop (i + 1) slices) key (opening_rising slices i slice l is rising) above) in
     so_far ∙ rw none refl
 
 -- some slice starts at the key or below it
