@@ -23,13 +23,13 @@ pub fn verdict(holding: &Holding, key: SliceKey, at: u64) -> Verdict
     if at < holding.last {
         return Verdict::Deny(Ground::ClockBack);
     }
-    if let Some(generation) = serving(&holding.guard, key, at) {
+    if let Some(generation) = serving_generation(&holding.guard, key, at) {
         return Verdict::Allow {
             kind: Kind::Guard,
             generation,
         };
     }
-    if let Some(generation) = serving(&holding.bridge, key, at) {
+    if let Some(generation) = serving_generation(&holding.bridge, key, at) {
         return Verdict::Allow {
             kind: Kind::Bridge,
             generation,
@@ -38,14 +38,14 @@ pub fn verdict(holding: &Holding, key: SliceKey, at: u64) -> Verdict
     if covers(&holding.guard, key) || covers(&holding.bridge, key) {
         return Verdict::Deny(Ground::Ended);
     }
-    match newest_live(holding, at) {
+    match newest_live_generation(holding, at) {
         Some(generation) => Verdict::Deny(Ground::NotOwned { generation }),
         None => Verdict::Deny(Ground::NoLease),
     }
 }
 
 // The generation of a lease that is held, is live and covers the key.
-fn serving(lease: &Option<Lease>, key: SliceKey, at: u64) -> Option<u64>
+fn serving_generation(lease: &Option<Lease>, key: SliceKey, at: u64) -> Option<u64>
     ensures { result ≡ serving_generation at (option_map (seen_from key) lease.now) }
 {
     match lease {
@@ -65,19 +65,22 @@ fn covers(lease: &Option<Lease>, key: SliceKey) -> bool
 }
 
 // The greatest generation of a live lease that is held.
-fn newest_live(holding: &Holding, at: u64) -> Option<u64>
+fn newest_live_generation(holding: &Holding, at: u64) -> Option<u64>
     ensures { (key : ℕ) → result ≡ greatest
         (live_generation at (option_map (seen_from key) holding.now.guard))
         (live_generation at (option_map (seen_from key) holding.now.bridge)) }
 {
-    match (live(&holding.guard, at), live(&holding.bridge, at)) {
+    match (
+        live_generation(&holding.guard, at),
+        live_generation(&holding.bridge, at),
+    ) {
         (Some(guard), Some(bridge)) => Some(guard.max(bridge)),
         (guard, bridge) => guard.or(bridge),
     }
 }
 
 // The generation of a lease that is held and live.
-fn live(lease: &Option<Lease>, at: u64) -> Option<u64>
+fn live_generation(lease: &Option<Lease>, at: u64) -> Option<u64>
     ensures { (key : ℕ) → result ≡ live_generation at (option_map (seen_from key) lease.now) }
 {
     match lease {
