@@ -17,21 +17,21 @@ use Rattle.lease_table.specs.Policies.{Terms, is_policy}
 use Rattle.lease_table.specs.Rows.{runs_at, running, closes, left_open}
 use Rattle.lease_table.specs.Tables.{Standing}
 use Rattle.lease_table.specs.Steps
-use Rattle.lease_table.specs.Steps.{out_of_range, back}
+use Rattle.lease_table.specs.Steps.{out_of_range, clock_back}
 use Rattle.machines.specs.Answers.{replied}
 use Rattle.machines.specs.Calls.{answered, LeadsOn}
 use Rattle.lease_table.specs.Calls.{AnsweredTableCall, last_reading, last_term, pending_in, grants_sent, unfreed_rows, standing_after, table_step, LeadsTo}
 use Rattle.lease_table.proofs.Running.{running-running, running-push, filter-filter}
 
 -- an accepted reading is not below the last one
-pub not_back : (t : Standing) (at : ℕ) (checks : List (Option TableError)) → first_of (out_of_range at ∷ back t at ∷ checks) ≡ None → t.last ≤ at
+pub not_back : (t : Standing) (at : ℕ) (checks : List (Option TableError)) → first_of (out_of_range at ∷ clock_back t at ∷ checks) ≡ None → t.last ≤ at
 not_back t at checks h = by_range (nat_le (2 ^ 62) at) h
   where
     by_back : (b : Bool) → b ≡ nat_lt at t.last → first_of (when b ClockBack ∷ checks) ≡ None → t.last ≤ at
     by_back true e h = absurd (cc)
     by_back false e h = grind (arith, nat_tests)
 
-    by_range : (b : Bool) → first_of (when b ReadingRange ∷ back t at ∷ checks) ≡ None → t.last ≤ at
+    by_range : (b : Bool) → first_of (when b ReadingRange ∷ clock_back t at ∷ checks) ≡ None → t.last ≤ at
     by_range true h = absurd (cc)
     by_range false h = by_back (nat_lt at t.last) refl h
 

@@ -4,6 +4,8 @@ pub mod Rows
 pub mod Steps
 pub mod Calls
 pub mod Runs
+pub mod Generations
+pub mod OpenRows
 pub mod Keyed
 pub mod Kept
 pub use Rattle.machines.specs.Refusals

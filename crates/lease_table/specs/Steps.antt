@@ -19,8 +19,8 @@ use Rattle.lease_table.specs.Tables.{Standing, generation_of, slices_of, last_nu
 abbrev pub out_of_range : ℕ → Option TableError
 out_of_range at = when (nat_le (2 ^ 62) at) ReadingRange
 
-abbrev pub back : Standing → ℕ → Option TableError
-back t at = when (nat_lt at t.last) ClockBack
+abbrev pub clock_back : Standing → ℕ → Option TableError
+clock_back t at = when (nat_lt at t.last) ClockBack
 
 -- the last term has not ended
 abbrev pub job_held : ℕ → Option JobTerm → Option TableError
@@ -45,7 +45,7 @@ advanced t at = record t { last = at; rows = running at t.rows }
 
 -- `job_take`
 abbrev pub take_checks : Standing → ℕ → List (Option TableError)
-take_checks t at = out_of_range at ∷ back t at ∷ job_held at t.term ∷ []
+take_checks t at = out_of_range at ∷ clock_back t at ∷ job_held at t.term ∷ []
 
 abbrev pub term_taken : Standing → ℕ → ℕ → JobTerm
 term_taken t assigner at = record { number = last_number t.term + 1; assigner = assigner; until = at + t.policy.job }
@@ -55,7 +55,7 @@ take_step t assigner at = answer (take_checks t at) (record (advanced t at) { te
 
 -- `job_renew`
 abbrev pub renew_checks : Standing → ℕ → ℕ → List (Option TableError)
-renew_checks t number at = out_of_range at ∷ back t at ∷ not_holder t number at ∷ []
+renew_checks t number at = out_of_range at ∷ clock_back t at ∷ not_holder t number at ∷ []
 
 -- the same term with a new end
 abbrev pub renewed : ℕ → Option JobTerm → JobTerm
@@ -70,7 +70,7 @@ renew_step t number at =
 -- `propose`
 abbrev pub propose_checks : Standing → ℕ → Slicing → ℕ → List (Option TableError)
 propose_checks t number slicing at =
-    out_of_range at ∷ back t at ∷ not_holder t number at ∷
+    out_of_range at ∷ clock_back t at ∷ not_holder t number at ∷
     when (not (slicing.generation == generation_of t.committed + 1)) (StaleBase (generation_of t.committed)) ∷
     when (is_some t.pending) Pending ∷
     when (list_any (λ s. nat_lt t.policy.redundancy (length s.owners)) slicing.slices) TooManyOwnersForJob ∷ []
@@ -81,7 +81,7 @@ propose_step t number slicing at = answer (propose_checks t number slicing at) (
 -- `commit`
 abbrev pub commit_checks : Standing → ℕ → ℕ → List (Option TableError)
 commit_checks t number at =
-    out_of_range at ∷ back t at ∷ not_holder t number at ∷ when (is_none t.pending) NothingPending ∷ held_up t at ∷ []
+    out_of_range at ∷ clock_back t at ∷ not_holder t number at ∷ when (is_none t.pending) NothingPending ∷ held_up t at ∷ []
 
 abbrev pub commit_step : Standing → ℕ → ℕ → Result (Standing × ℕ) TableError
 commit_step t number at =
@@ -90,7 +90,7 @@ commit_step t number at =
 -- `grant`
 abbrev pub grant_checks : Standing → ℕ → List (Option TableError)
 grant_checks t at =
-    out_of_range at ∷ back t at ∷
+    out_of_range at ∷ clock_back t at ∷
     when (is_none t.committed && is_none t.pending) NoAssignment ∷
     when (nat_le t.policy.numbers t.granted) NumbersSpent ∷ []
 
@@ -150,7 +150,7 @@ grant_step t task life at =
 
 -- `free`
 abbrev pub free_checks : Standing → ReleaseNote → ℕ → List (Option TableError)
-free_checks t note at = out_of_range at ∷ back t at ∷ when (length (filter (closes note) (running at t.rows)) == 0) NoRow ∷ []
+free_checks t note at = out_of_range at ∷ clock_back t at ∷ when (length (filter (closes note) (running at t.rows)) == 0) NoRow ∷ []
 
 abbrev pub free_step : Standing → ReleaseNote → ℕ → Result (Standing × ℕ) TableError
 free_step t note at =

@@ -9,7 +9,7 @@ ghost use Rattle.assignment.specs.Owners.{owns};
 ghost use Rattle.lease_table.specs.Rows.{first_up_to, running, closes};
 ghost use Rattle.lease_table.specs.Tables.{opening, phase_of, generation_of, slices_of, last_number};
 ghost use Rattle.machines.specs.Answers.{Answers, Takes};
-ghost use Rattle.lease_table.specs.Steps.{out_of_range, back, advanced, take_checks, renew_checks, propose_checks, commit_checks, grant_checks, free_checks, grant_with, with_row, take_step, renew_step, propose_step, commit_step, grant_step, free_step};
+ghost use Rattle.lease_table.specs.Steps.{out_of_range, clock_back, advanced, take_checks, renew_checks, propose_checks, commit_checks, grant_checks, free_checks, grant_with, with_row, take_step, renew_step, propose_step, commit_step, grant_step, free_step};
 
 use crate::error::TableError;
 use crate::policy::Policy;
@@ -233,7 +233,7 @@ impl LeaseTable {
 
     // What every call asks of its reading.
     fn check_reading(&self, at: u64) -> Result<(), TableError>
-        ensures refusal { result_err result ≡ first_of (out_of_range at ∷ back self.now at ∷ []) }
+        ensures refusal { result_err result ≡ first_of (out_of_range at ∷ clock_back self.now at ∷ []) }
         ensures reading { OnOk result ((self.now.last ≤ at) × (at < 2 ^ 62)) }
     {
         if at >= READINGS {
