@@ -67,13 +67,17 @@ renew_step t number at =
     let term = renewed (at + t.policy.job) t.term in
     answer (renew_checks t number at) (record (advanced t at) { term = Some term }, term)
 
--- `propose`
+-- `propose`, of which it is asked whether some slice has too many owners
+abbrev pub proposal_checks : Standing → ℕ → ℕ → Bool → ℕ → List (Option TableError)
+proposal_checks t number generation too_many at =
+    out_of_range at ∷ clock_back t at ∷ not_holder t number at ∷
+    when (not (generation == generation_of t.committed + 1)) (StaleBase (generation_of t.committed)) ∷
+    when (is_some t.pending) Pending ∷
+    when too_many TooManyOwnersForJob ∷ []
+
 abbrev pub propose_checks : Standing → ℕ → Slicing → ℕ → List (Option TableError)
 propose_checks t number slicing at =
-    out_of_range at ∷ clock_back t at ∷ not_holder t number at ∷
-    when (not (slicing.generation == generation_of t.committed + 1)) (StaleBase (generation_of t.committed)) ∷
-    when (is_some t.pending) Pending ∷
-    when (list_any (λ s. nat_lt t.policy.redundancy (length s.owners)) slicing.slices) TooManyOwnersForJob ∷ []
+    proposal_checks t number slicing.generation (list_any (λ s. nat_lt t.policy.redundancy (length s.owners)) slicing.slices) at
 
 abbrev pub propose_step : Standing → ℕ → Slicing → ℕ → Result (Standing × Unit {0}) TableError
 propose_step t number slicing at = answer (propose_checks t number slicing at) (record (advanced t at) { pending = Some slicing }, tt)

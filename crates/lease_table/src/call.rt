@@ -95,3 +95,15 @@ pub enum TableReply {
     /// So many rows were freed.
     Freed(u64),
 }
+
+impl Duplicate for TableReply {
+    fn copy(&self) -> Result<TableReply, AllocError> {
+        Ok(match self {
+            TableReply::Term(term) => TableReply::Term(*term),
+            TableReply::Proposed => TableReply::Proposed,
+            TableReply::Committed(generation) => TableReply::Committed(*generation),
+            TableReply::Granted(grant) => TableReply::Granted(grant.copy()?),
+            TableReply::Freed(count) => TableReply::Freed(*count),
+        })
+    }
+}

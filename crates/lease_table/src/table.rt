@@ -9,13 +9,13 @@ ghost use Rattle.assignment.specs.Owners.{owns};
 ghost use Rattle.lease_table.specs.Rows.{first_up_to, running, closes};
 ghost use Rattle.lease_table.specs.Tables.{opening, phase_of, generation_of, slices_of, last_number};
 ghost use Rattle.machines.specs.Answers.{Answers, Takes};
-ghost use Rattle.lease_table.specs.Steps.{out_of_range, clock_back, advanced, take_checks, renew_checks, propose_checks, commit_checks, grant_checks, free_checks, grant_with, with_row, take_step, renew_step, propose_step, commit_step, grant_step, free_step};
+ghost use Rattle.lease_table.specs.Steps.{out_of_range, clock_back, advanced, take_checks, renew_checks, proposal_checks, propose_checks, commit_checks, grant_checks, free_checks, grant_with, with_row, take_step, renew_step, propose_step, commit_step, grant_step, free_step};
 
 use crate::error::TableError;
 use crate::policy::Policy;
 use crate::rows::Rows;
 use crate::values::{Grant, JobTerm, Phase, ReleaseNote, Row};
-use assignment::{Assignment, OwnedSlice, TaskId};
+use assignment::{Assignment, OwnedSlice, Slice, TaskId};
 use machines::Trouble;
 use policy_rules::{Kind, Lease};
 use slice_ranges::Ranges;
@@ -148,12 +148,29 @@ impl LeaseTable {
     ) -> Result<(), Trouble<TableError>>
         ensures { Takes (propose_step self.old number assignment.now at) self.old result self.new }
     {
-        self.check_propose(number, assignment, at)
+        let too_many = any_has_more_owners(assignment.slices(), self.policy.redundancy());
+        self.check_proposal(number, assignment.generation(), too_many, at)
             .map_err(Trouble::Refused)?;
         let next = assignment.copy()?;
         self.advance(at);
         self.pending = Some(next);
         Ok(())
+    }
+
+    /// Why a proposal of an assignment with this generation and these slices is refused, if it is:
+    /// the refusals of [`propose`](Self::propose) in their order, with no need of the assignment.
+    pub fn propose_refusal(
+        &self,
+        number: u64,
+        generation: u64,
+        slices: &[Slice],
+        at: u64,
+    ) -> Option<TableError>
+        ensures { result ≡ first_of
+            (propose_checks self.now number (record { generation = generation; slices = slices.now }) at) }
+    {
+        let too_many = any_written_has_more_owners(slices, self.policy.redundancy());
+        self.check_proposal(number, generation, too_many, at).err()
     }
 
     /// Commits the assignment that is proposed, and answers its generation.
@@ -270,19 +287,29 @@ impl LeaseTable {
         }
     }
 
-    fn check_propose(&self, number: u64, assignment: &Assignment, at: u64) -> Result<(), TableError>
-        ensures refusal { result_err result ≡ first_of (propose_checks self.now number assignment.now at) }
+    // Whether an assignment of a generation may be proposed, of which it is known whether some slice
+    // has too many owners.
+    fn check_proposal(
+        &self,
+        number: u64,
+        generation: u64,
+        too_many: bool,
+        at: u64,
+    ) -> Result<(), TableError>
+        ensures refusal { result_err result ≡ first_of (proposal_checks self.now number generation too_many at) }
         ensures reading { OnOk result ((self.now.last ≤ at) × (at < 2 ^ 62)) }
     {
         self.check_holder(number, at)?;
-        let generation = self.generation();
-        if generation.checked_add(1) != Some(assignment.generation()) {
-            return Err(TableError::StaleBase { generation });
+        let committed = self.generation();
+        if committed.checked_add(1) != Some(generation) {
+            return Err(TableError::StaleBase {
+                generation: committed,
+            });
         }
         if self.pending.is_some() {
             return Err(TableError::Pending);
         }
-        if any_has_more_owners(assignment.slices(), self.policy.redundancy()) {
+        if too_many {
             return Err(TableError::TooManyOwnersForJob);
         }
         Ok(())
@@ -429,6 +456,15 @@ fn any_has_more_owners(slices: &[OwnedSlice], most: u64) -> bool
     slices
         .iter()
         .any(|slice| slice.owners().len() as u64 > most)
+}
+
+// The same of slices as they are written.
+fn any_written_has_more_owners(slices: &[Slice], most: u64) -> bool
+    ensures { result ≡ list_any (λ s. nat_lt most (length s.owners)) slices.now }
+{
+    slices
+        .iter()
+        .any(|slice| slice.owners.as_slice().len() as u64 > most)
 }
 
 // The keys that a task owns in an assignment, none where there is none.
