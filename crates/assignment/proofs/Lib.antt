@@ -2,3 +2,5 @@ pub mod Accepted
 pub mod Rising
 pub mod Tasks
 pub mod Owned
+pub mod Equality
+pub mod OneOwner

@@ -1,11 +1,12 @@
 -- The keys that a task owns, as steps over the keys.
-use Rattle.std.proofs.Common.{◌≡◌, ◌∙◌, ℕ, ◌+◌, ◌^◌, ◌<◌, ◌≤◌, inl, inr, Bool, true, false, List, [], ◌∷◌, Option, Some, None, refl, sym, arith}
+use Rattle.std.proofs.Common.{◌≡◌, ◌∙◌, ℕ, ◌+◌, ◌<◌, ◌≤◌, inl, inr, Bool, true, false, List, [], ◌∷◌, Option, Some, None, refl, sym, arith}
 use Rattle.std.specs.Prelude.{unwrap_or, All, Result, IfOk}
 use Rattle.std.specs.Option.{option_map_or}
 use Rattle.std.specs.List.{AllByRecursion}
 use Rattle.std.proofs.lemmas.Bool.{lt-ltb, le-ltb, cases_lt}
 use Rattle.std.proofs.lemmas.List.Elements.{recursion_from_All}
 use Rattle.std.proofs.lemmas.Result.{IfOk-weaker}
+use Rattle.key_hash.specs.declared.TheConstants.{KEYS}
 use Rattle.slice_ranges.specs.Sets.{has}
 use Rattle.slice_ranges.specs.Steps.{Steps, value_after, StepsRise}
 use Rattle.assignment.specs.declared.slice.Slice.{Slice}
@@ -40,14 +41,14 @@ steps_rise task low high [] l lows highs rising = l
 steps_rise task low high (s ∷ slices) l lows highs rising =
     (lows.0, steps_rise task (s.start + 1) high slices (let p : s.start < high = highs.0 in omega arith) (starts_from s.start slices (later_above s slices rising)) highs.1 (rising_rest s slices rising))
 
-pub task_steps_rise : (task : ℕ) (slices : List Slice) → IsAccepted slices → StepsRise 0 (task_steps task slices) (2 ^ 63)
+pub task_steps_rise : (task : ℕ) (slices : List Slice) → IsAccepted slices → StepsRise 0 (task_steps task slices) KEYS
 task_steps_rise task slices known =
     let lows : All (λ s. 0 ≤ s.start) slices = λ k d l. omega arith in
-    let highs : All (λ s. s.start < 2 ^ 63) slices = λ k d l. (known.proper k d l).starts in
-    steps_rise task 0 (2 ^ 63) slices (omega arith) (recursion_from_All (λ s. 0 ≤ s.start) slices lows) (recursion_from_All (λ s. s.start < 2 ^ 63) slices highs) known.rising
+    let highs : All (λ s. s.start < KEYS) slices = λ k d l. (known.proper k d l).starts in
+    steps_rise task 0 KEYS slices (omega arith) (recursion_from_All (λ s. 0 ≤ s.start) slices lows) (recursion_from_All (λ s. s.start < KEYS) slices highs) known.rising
 
 -- the keys of the steps of a task are those that it owns
 pub owned_keys : {E : Type 0} (result : Result (List ℕ) E) (task : ℕ) (slices : List Slice) (steps : Steps Bool) → IsAccepted slices → steps ≡ task_steps task slices
-    → IfOk result (λ r. (key : ℕ) → key < 2 ^ 63 → has r key ≡ value_after false steps key) → IfOk result (λ r. (key : ℕ) → key < 2 ^ 63 → has r key ≡ owns slices key task)
+    → IfOk result (λ r. (key : ℕ) → key < KEYS → has r key ≡ value_after false steps key) → IfOk result (λ r. (key : ℕ) → key < KEYS → has r key ≡ owns slices key task)
 owned_keys result task slices steps known is =
-    IfOk-weaker result (λ r. (key : ℕ) → key < 2 ^ 63 → has r key ≡ value_after false steps key) (λ r. (key : ℕ) → key < 2 ^ 63 → has r key ≡ owns slices key task) (λ r told key l. (rw is at told key l) ∙ task_owns task slices key known)
+    IfOk-weaker result (λ r. (key : ℕ) → key < KEYS → has r key ≡ value_after false steps key) (λ r. (key : ℕ) → key < KEYS → has r key ≡ owns slices key task) (λ r told key l. (rw is at told key l) ∙ task_owns task slices key known)

@@ -14,6 +14,7 @@ use Rattle.std.proofs.lemmas.List.Sorted.{IsNonDecreasingBy-from_sort, list_any-
 use Rattle.std.proofs.lemmas.Map.Keys.{IsDistinct-IsPermutation, IsStrictlyIncreasing-from_distinct, sorted_from_strictly_increasing}
 use Rattle.machines.proofs.Every.{all_weaker}
 use Rattle.assignment.specs.declared.slice.Slice.{Slice}
+use Rattle.assignment.specs.declared.task.TheConstants.{TASKS}
 use Rattle.assignment.specs.Slices.{is_among, is_task, has_twice, IsProper}
 use Rattle.assignment.specs.Owners.{IsSliceOf, slice_at, owns, owners_of, tasks}
 use Rattle.assignment.proofs.Accepted.{IsAccepted}
@@ -112,7 +113,7 @@ owners_rise owners sorted test same order differ known is =
     let lows : All (λ o. 1 ≤ o) sorted = λ k d l. let e : is_task (get_or sorted k d) ≡ true = known_sorted k d l in grind (arith, nat_tests) in
     let highs : All (λ o. o < 65) sorted = λ k d l. let e : is_task (get_or sorted k d) ≡ true = known_sorted k d l in grind (arith, nat_tests) in
     let rise = rises sorted 1 65 (sorted_from_strictly_increasing sorted (increasing owners sorted same order differ)) (recursion_from_All (λ o. 1 ≤ o) sorted lows) (recursion_from_All (λ o. o < 65) sorted highs) in
-    filter-range test 64 1 sorted (λ t l. is t ∙ list_any-IsPermutation (λ o. o == t) owners sorted same) rise
+    filter-range test TASKS 1 sorted (λ t l. is t ∙ list_any-IsPermutation (λ o. o == t) owners sorted same) rise
 
 -- a slice of as many elements takes the place of a list
 pub refill-same : {X : Type 0} (xs ws : List X) → length ws ≡ length xs → refill (length xs) xs ws ≡ ws

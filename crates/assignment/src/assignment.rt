@@ -1,6 +1,8 @@
 //! Which task owns which keys.
 
-ghost use Rattle.std.specs.Prelude.{◌≡◌, ℕ, ◌^◌, ◌<◌, ◌≤◌, ◌↔◌, ◌&&◌, Some, None, IfOk, IfErr, OnOk, All, Contains, unwrap_or, length, vec_len, slice_get, IsPermutation};
+ghost use Rattle.std.specs.Prelude.{◌≡◌, ℕ, ◌<◌, ◌≤◌, ◌↔◌, ◌&&◌, Some, None, IfOk, IfErr, OnOk, All, Contains, unwrap_or, length, vec_len, slice_get, IsPermutation};
+ghost use Rattle.std.specs.Bool.{IsTrue};
+ghost use Rattle.std.specs.Cmp.{partial_equiv_from_equiv};
 ghost use Rattle.std.specs.List.Sorted.{IsSorted, IsStrictlyIncreasing};
 ghost use Rattle.std.specs.Ordering.{nat_cmp};
 ghost use Rattle.slice_ranges.specs.Sets.{has};
@@ -12,10 +14,9 @@ ghost use Rattle.assignment.specs.Owners.{IsSliceOf, owners_of, owns, slice_at};
 use crate::checks::check;
 use crate::error::AssignmentError;
 use crate::ownership::ownership;
-use crate::slice::{OwnedSlice, Slice, few_tasks};
+use crate::slice::{MOST_OWNERS, OwnedSlice, Owners, Slice, few_tasks};
 use crate::task::TaskId;
-use arrayvec::ArrayVec;
-use key_hash::SliceKey;
+use key_hash::{KEYS, SliceKey};
 use slice_ranges::Ranges;
 use std::alloc::{AllocError, Global};
 use std::marker::Model;
@@ -40,6 +41,27 @@ impl Model for Assignment {
     ghost view = { λ a. record { generation = a.generation; slices = a.slices.items } };
 
     ghost invariant = { λ a. refusal_of a.slices.items ≡ None };
+}
+
+impl PartialEq for Assignment {
+    ghost use Rattle.assignment.specs.Equality.{slicing_eq, slicing_equivalence};
+
+    ghost eq = { slicing_eq };
+
+    ghost laws = { partial_equiv_from_equiv slicing_equivalence };
+
+    fn eq(&self, other: &Self) -> bool
+        ensures eq { result ≡ slicing_eq self.now other.now }
+        ensures same { IsTrue result ↔ (self.now ≡ other.now) }
+    {
+        self.generation == other.generation && self.slices == other.slices
+    }
+}
+
+impl Eq for Assignment {
+    ghost use Rattle.assignment.specs.Equality.{slicing_equivalence};
+
+    ghost laws = { slicing_equivalence };
 }
 
 impl Assignment {
@@ -74,7 +96,7 @@ impl Assignment {
 
     /// The tasks that own a key, in rising order: the owners of the slice with the greatest start
     /// that is not above the key.
-    pub fn owners(&self, key: SliceKey) -> ArrayVec<TaskId, 3>
+    pub fn owners(&self, key: SliceKey) -> Owners
         ensures owners { result.items ≡ owners_of self.now.slices key }
         ensures slice { (slice : Slice) → IsSliceOf self.now.slices key slice
             → (task : ℕ) → Contains result.items task ↔ Contains slice.owners task }
@@ -86,7 +108,7 @@ impl Assignment {
     /// The keys that a task owns.
     pub fn of_task(&self, task: TaskId) -> Result<Ranges, AllocError>
         ensures { IfOk result
-            (λ r. (key : ℕ) → key < 2 ^ 63 → has r key ≡ owns self.now.slices key task) }
+            (λ r. (key : ℕ) → key < KEYS → has r key ≡ owns self.now.slices key task) }
     {
         let alloc = *self.slices.allocator();
         let steps = ownership(alloc, &self.slices, task)?;
@@ -95,7 +117,7 @@ impl Assignment {
 
     /// The keys that a task owns both in this assignment and in the next one.
     pub fn bridge(&self, next: &Assignment, task: TaskId) -> Result<Ranges, AllocError>
-        ensures { IfOk result (λ r. (key : ℕ) → key < 2 ^ 63 → has r key
+        ensures { IfOk result (λ r. (key : ℕ) → key < KEYS → has r key
             ≡ (owns self.now.slices key task && owns next.now.slices key task)) }
     {
         let before = self.of_task(task)?;
@@ -153,8 +175,8 @@ fn copies(alloc: Global, slices: &[OwnedSlice]) -> Result<Vec<OwnedSlice>, Alloc
 }
 
 // The same tasks in rising order.
-fn rising(tasks: &[TaskId]) -> ArrayVec<TaskId, 3>
-    requires { length tasks.now ≤ 3 }
+fn rising(tasks: &[TaskId]) -> Owners
+    requires { length tasks.now ≤ MOST_OWNERS }
     ensures permutation { IsPermutation tasks.now result.items }
     ensures sorted { IsSorted nat_cmp result.items }
 {

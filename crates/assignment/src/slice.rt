@@ -1,15 +1,22 @@
 //! Slices of the key space.
 
-ghost use Rattle.std.specs.Prelude.{◌≡◌, ◌≤◌, ◌<◌, ◌^◌, length};
+ghost use Rattle.std.specs.Prelude.{◌≡◌, ◌↔◌, ◌≤◌, ◌<◌, ◌^◌, length};
+ghost use Rattle.std.specs.Bool.{IsTrue};
+ghost use Rattle.std.specs.Cmp.{partial_equiv_from_equiv};
 
 use crate::listed::Listed;
 use crate::task::TaskId;
 use arrayvec::ArrayVec;
 use key_hash::SliceKey;
+use machines::Duplicate;
+use std::alloc::AllocError;
 use std::marker::Model;
 
 /// How many tasks own a slice at the most.
 pub const MOST_OWNERS: usize = 3;
+
+/// The tasks that own a key or a slice.
+pub type Owners = ArrayVec<TaskId, MOST_OWNERS>;
 
 /// A slice as a caller writes it: where it starts, up to the start of the next one or the end of
 /// the key space, and the numbers of the tasks that own its keys. Nothing is said of the numbers.
@@ -21,11 +28,41 @@ pub struct Slice {
     pub owners: Listed<u64>,
 }
 
+impl Duplicate for Slice {
+    fn copy(&self) -> Result<Slice, AllocError> {
+        Ok(Slice {
+            start: self.start,
+            owners: self.owners.copy()?,
+        })
+    }
+}
+
+impl PartialEq for Slice {
+    ghost use Rattle.assignment.specs.Equality.{slice_eq, slice_equivalence};
+
+    ghost eq = { slice_eq };
+
+    ghost laws = { partial_equiv_from_equiv slice_equivalence };
+
+    fn eq(&self, other: &Self) -> bool
+        ensures eq { result ≡ slice_eq self.now other.now }
+        ensures same { IsTrue result ↔ (self.now ≡ other.now) }
+    {
+        self.start == other.start && self.owners == other.owners
+    }
+}
+
+impl Eq for Slice {
+    ghost use Rattle.assignment.specs.Equality.{slice_equivalence};
+
+    ghost laws = { slice_equivalence };
+}
+
 /// A slice of an assignment.
 #[derive(Debug, Drop)]
 pub struct OwnedSlice {
     start: SliceKey,
-    owners: ArrayVec<TaskId, 3>,
+    owners: Owners,
 }
 
 impl Model for OwnedSlice {
@@ -34,6 +71,27 @@ impl Model for OwnedSlice {
     ghost Value = { Slice };
 
     ghost view = { λ s. record { start = s.start; owners = s.owners.items } };
+}
+
+impl PartialEq for OwnedSlice {
+    ghost use Rattle.assignment.specs.Equality.{slice_eq, slice_equivalence};
+
+    ghost eq = { slice_eq };
+
+    ghost laws = { partial_equiv_from_equiv slice_equivalence };
+
+    fn eq(&self, other: &Self) -> bool
+        ensures eq { result ≡ slice_eq self.now other.now }
+        ensures same { IsTrue result ↔ (self.now ≡ other.now) }
+    {
+        self.start == other.start && self.owners == other.owners
+    }
+}
+
+impl Eq for OwnedSlice {
+    ghost use Rattle.assignment.specs.Equality.{slice_equivalence};
+
+    ghost laws = { slice_equivalence };
 }
 
 impl OwnedSlice {
@@ -64,7 +122,7 @@ impl OwnedSlice {
     /// The tasks that own its keys, in the order in which they were given.
     pub fn owners(&self) -> &[TaskId]
         ensures owners { result.now ≡ self.now.owners }
-        ensures few { length result.now ≤ 3 }
+        ensures few { length result.now ≤ MOST_OWNERS }
     {
         self.owners.as_slice()
     }
@@ -80,9 +138,9 @@ impl OwnedSlice {
     }
 }
 
-/// At most three tasks, in an order of their own.
-pub(crate) fn few_tasks(tasks: &[TaskId]) -> ArrayVec<TaskId, 3>
-    requires { length tasks.now ≤ 3 }
+/// So few tasks, in an order of their own.
+pub(crate) fn few_tasks(tasks: &[TaskId]) -> Owners
+    requires { length tasks.now ≤ MOST_OWNERS }
     ensures { result.items ≡ tasks.now }
 {
     let mut few = ArrayVec::new();

@@ -1,7 +1,7 @@
 //! Slice keys: application keys hashed to 63 bits.
 #![tactic(auto)]
 
-ghost use Rattle.std.specs.Prelude.{◌≡◌, ℕ, ◌<◌, ◌^◌, ◌↔◌, IsSome, IfSome};
+ghost use Rattle.std.specs.Prelude.{◌≡◌, ◌<◌, ◌↔◌, IsSome, IfSome};
 ghost use Rattle.key_hash.specs.Hash.{slice_key};
 
 use sha2::{Digest, Sha256};
@@ -17,11 +17,14 @@ pub struct SliceKey {
 }
 
 impl Model for SliceKey {
+    ghost use Rattle.std.specs.Prelude.{ℕ, ◌<◌};
+    ghost use Rattle.key_hash.specs.declared.TheConstants.{KEYS};
+
     ghost Value = { ℕ };
 
     ghost view = { λ k. k.number };
 
-    ghost invariant = { λ k. k.number < 2 ^ 63 };
+    ghost invariant = { λ k. k.number < KEYS };
 
     ghost inverse = { λ n. record { number = n } };
 }
@@ -29,7 +32,7 @@ impl Model for SliceKey {
 impl SliceKey {
     /// The slice key of this number, or `None` at [`KEYS`] and above.
     pub fn new(number: u64) -> Option<Self>
-        ensures valid { IsSome result ↔ (number < 2 ^ 63) }
+        ensures valid { IsSome result ↔ (number < KEYS) }
         ensures value { IfSome result (λ key. key ≡ number) }
     {
         if number < KEYS {
@@ -42,7 +45,7 @@ impl SliceKey {
     /// The number that the key is.
     pub fn value(self) -> u64
         ensures value { result ≡ self }
-        ensures in_range { result < 2 ^ 63 }
+        ensures in_range { result < KEYS }
     {
         self.number
     }
@@ -59,6 +62,3 @@ pub fn slice_key(key: &[u8]) -> SliceKey
         number: u64::from_be_bytes([a, b, c, d, e, f, g, h]) >> 1,
     }
 }
-
-#[cfg(test)]
-mod tests;

@@ -10,3 +10,21 @@ pub trait Duplicate {
     fn copy(&self) -> Result<Self, AllocError>
         ensures { IfOk result (λ copied. copied ≡ self.now) };
 }
+
+impl Duplicate for u8 {
+    fn copy(&self) -> Result<u8, AllocError> {
+        Ok(*self)
+    }
+}
+
+impl Duplicate for u64 {
+    fn copy(&self) -> Result<u64, AllocError> {
+        Ok(*self)
+    }
+}
+
+impl<A: Duplicate + Drop, B: Duplicate> Duplicate for (A, B) {
+    fn copy(&self) -> Result<(A, B), AllocError> {
+        Ok((self.0.copy()?, self.1.copy()?))
+    }
+}

@@ -1,3 +1,4 @@
+pub mod Equality
 pub mod Leases
 pub mod Rule
 pub use Rattle.machines.specs.Refusals

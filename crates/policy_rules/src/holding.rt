@@ -1,6 +1,8 @@
 //! What a task holds.
 
-ghost use Rattle.std.specs.Prelude.{◌≡◌, IfOk};
+ghost use Rattle.std.specs.Prelude.{◌≡◌, ◌↔◌, IfOk};
+ghost use Rattle.std.specs.Bool.{IsTrue};
+ghost use Rattle.std.specs.Cmp.{partial_equiv_from_equiv};
 
 use crate::lease::Lease;
 use std::alloc::AllocError;
@@ -16,6 +18,30 @@ pub struct Holding {
     pub guard: Option<Lease>,
     /// The lease across a change.
     pub bridge: Option<Lease>,
+}
+
+impl PartialEq for Holding {
+    ghost use Rattle.policy_rules.specs.Equality.{holding_eq, holding_equivalence};
+
+    ghost eq = { holding_eq };
+
+    ghost laws = { partial_equiv_from_equiv holding_equivalence };
+
+    fn eq(&self, other: &Self) -> bool
+        ensures eq { result ≡ holding_eq self.now other.now }
+        ensures same { IsTrue result ↔ (self.now ≡ other.now) }
+    {
+        self.up == other.up
+            && self.last == other.last
+            && self.guard == other.guard
+            && self.bridge == other.bridge
+    }
+}
+
+impl Eq for Holding {
+    ghost use Rattle.policy_rules.specs.Equality.{holding_equivalence};
+
+    ghost laws = { holding_equivalence };
 }
 
 impl Holding {

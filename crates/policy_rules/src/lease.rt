@@ -1,6 +1,8 @@
 //! Leases on slices of keys.
 
-ghost use Rattle.std.specs.Prelude.{◌≡◌, IfOk, nat_lt};
+ghost use Rattle.std.specs.Prelude.{◌≡◌, ◌↔◌, IfOk, nat_lt};
+ghost use Rattle.std.specs.Bool.{IsTrue};
+ghost use Rattle.std.specs.Cmp.{partial_equiv_from_equiv};
 ghost use Rattle.slice_ranges.specs.Sets.{has};
 
 use key_hash::SliceKey;
@@ -27,6 +29,30 @@ pub struct Lease {
     pub ranges: Ranges,
     /// The task's deadline: the first reading, in ticks, at which the lease is not live any more.
     pub ends: u64,
+}
+
+impl PartialEq for Lease {
+    ghost use Rattle.policy_rules.specs.Equality.{lease_eq, lease_equivalence};
+
+    ghost eq = { lease_eq };
+
+    ghost laws = { partial_equiv_from_equiv lease_equivalence };
+
+    fn eq(&self, other: &Self) -> bool
+        ensures eq { result ≡ lease_eq self.now other.now }
+        ensures same { IsTrue result ↔ (self.now ≡ other.now) }
+    {
+        self.kind == other.kind
+            && self.generation == other.generation
+            && self.ranges == other.ranges
+            && self.ends == other.ends
+    }
+}
+
+impl Eq for Lease {
+    ghost use Rattle.policy_rules.specs.Equality.{lease_equivalence};
+
+    ghost laws = { lease_equivalence };
 }
 
 impl Lease {

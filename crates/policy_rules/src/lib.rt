@@ -10,6 +10,3 @@ pub use answer::{Ground, Verdict};
 pub use holding::Holding;
 pub use lease::{Kind, Lease};
 pub use rule::verdict;
-
-#[cfg(test)]
-mod tests;

@@ -1,7 +1,8 @@
 -- What joining ranges keeps.
-use Rattle.std.proofs.Common.{◌≡◌, ℕ, ◌+◌, ◌^◌, ◌<◌, ◌≤◌, Bool, true, false, List, [], ◌∷◌, ◌++◌, None, refl, sym, ◌∙◌, inl, inr, ◌⊎◌, arith}
+use Rattle.std.proofs.Common.{◌≡◌, ℕ, ◌+◌, ◌<◌, ◌≤◌, Bool, true, false, List, [], ◌∷◌, ◌++◌, None, refl, sym, ◌∙◌, inl, inr, ◌⊎◌, arith}
 use Rattle.std.specs.Prelude.{nat_lt, nat_le}
 use Rattle.std.proofs.lemmas.Bool.{lt-ltb, le-ltb, le-leb, lt-leb, cases_lt, ltb-false, leb-false}
+use Rattle.key_hash.specs.declared.TheConstants.{KEYS}
 use Rattle.slice_ranges.specs.declared.error.RangesError.TheVariants.{Unsorted, Empty, PastEnd}
 use Rattle.slice_ranges.specs.Sets.{has, IsRanges, covered, or_else, refusal_from}
 use Rattle.slice_ranges.specs.Turns.{IsTurned}
@@ -13,17 +14,17 @@ use Rattle.slice_ranges.proofs.Made.{IsMade, made_turn}
 pub record IsGood (end start stop : ℕ) (ranges : List (ℕ × ℕ)) : Type 0 where
   pub sorted : end ≤ start
   pub filled : start < stop
-  pub within : stop ≤ 2 ^ 63
+  pub within : stop ≤ KEYS
   pub rest : refusal_from stop ranges ≡ None
 
 pub good : (end start stop : ℕ) (ranges : List (ℕ × ℕ)) → refusal_from end ((start, stop) ∷ ranges) ≡ None → IsGood end start stop ranges
-good end start stop ranges e = tests (nat_lt start end) (nat_le stop start) (nat_lt (2 ^ 63) stop) refl refl refl e
+good end start stop ranges e = tests (nat_lt start end) (nat_le stop start) (nat_lt KEYS stop) refl refl refl e
   where
-    tests : (a b c : Bool) → nat_lt start end ≡ a → nat_le stop start ≡ b → nat_lt (2 ^ 63) stop ≡ c → or_else (first_of (when a Unsorted ∷ when b Empty ∷ when c PastEnd ∷ [])) (refusal_from stop ranges) ≡ None → IsGood end start stop ranges
+    tests : (a b c : Bool) → nat_lt start end ≡ a → nat_le stop start ≡ b → nat_lt KEYS stop ≡ c → or_else (first_of (when a Unsorted ∷ when b Empty ∷ when c PastEnd ∷ [])) (refusal_from stop ranges) ≡ None → IsGood end start stop ranges
     tests true b c p q r e = absurd (cc)
     tests false true c p q r e = absurd (cc)
     tests false false true p q r e = absurd (cc)
-    tests false false false p q r e = record { sorted = ltb-false start end p; filled = leb-false stop start q; within = ltb-false (2 ^ 63) stop r; rest = e }
+    tests false false false p q r e = record { sorted = ltb-false start end p; filled = leb-false stop start q; within = ltb-false KEYS stop r; rest = e }
 
 -- no key below its end is in what follows
 covered_below : (end : ℕ) (ranges : List (ℕ × ℕ)) (k : ℕ) → refusal_from end ranges ≡ None → k < end → covered ranges k ≡ false
@@ -44,7 +45,7 @@ pub record IsJoined (all rest : List (ℕ × ℕ)) (out : List ℕ) (inside : Bo
   pub made : IsMade out inside end (covered all)
   pub same : (k : ℕ) → end ≤ k → covered all k ≡ covered rest k
   pub sound : refusal_from end rest ≡ None
-  pub within : end ≤ 2 ^ 63
+  pub within : end ≤ KEYS
 
 module _ (all : List (ℕ × ℕ)) (start stop : ℕ) (rest : List (ℕ × ℕ)) (out : List ℕ) (end : ℕ) (sound : refusal_from end ((start, stop) ∷ rest) ≡ None) (same : (k : ℕ) → end ≤ k → covered all k ≡ covered ((start, stop) ∷ rest) k) where
   g : IsGood end start stop rest
@@ -83,10 +84,10 @@ joined_end all here out inside end new j h e = last e
     none : (k : ℕ) → end ≤ k → covered all k ≡ false
     none k l = j.same k l ∙ (rw h refl)
 
-    whole : (p : ℕ) (bs : List ℕ) → IsMade bs false p (covered all) → end ≤ p → p ≤ 2 ^ 63 + 1 → IsRanges bs × ((k : ℕ) → has bs k ≡ covered all k)
+    whole : (p : ℕ) (bs : List ℕ) → IsMade bs false p (covered all) → end ≤ p → p ≤ KEYS + 1 → IsRanges bs × ((k : ℕ) → has bs k ≡ covered all k)
     whole p bs made l b =
         let keys : (k : ℕ) → has bs k ≡ covered all k = λ k. elim (cases_lt k p) [ inl below ↦ made.done k below | inr above ↦ made.after k above ∙ sym (none k (omega arith)) ] in
-        (record { rises = rises_below 0 bs p (2 ^ 63 + 1) made.rises b; ends = keys (2 ^ 63) ∙ none (2 ^ 63) j.within }, keys)
+        (record { rises = rises_below 0 bs p (KEYS + 1) made.rises b; ends = keys KEYS ∙ none KEYS j.within }, keys)
 
     last : ((inside ≡ false) × (new ≡ out)) ⊎ ((inside ≡ true) × (new ≡ out ++ end ∷ [])) → IsRanges new × ((k : ℕ) → has new k ≡ covered all k)
     last (inl c) = rw c.1 (whole end out (rw c.0 at j.made) (omega arith) (omega (arith, j.within)))

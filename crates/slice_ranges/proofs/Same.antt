@@ -1,6 +1,7 @@
 -- Equal sets have equal boundaries.
-use Rattle.std.proofs.Common.{◌≡◌, ℕ, ◌+◌, ◌^◌, ◌<◌, ◌≤◌, Bool, true, false, not, List, [], ◌∷◌, refl, sym, ◌∙◌, inl, inr, arith}
+use Rattle.std.proofs.Common.{◌≡◌, ℕ, ◌+◌, ◌<◌, ◌≤◌, Bool, true, false, not, List, [], ◌∷◌, refl, sym, ◌∙◌, inl, inr, arith}
 use Rattle.std.proofs.lemmas.Bool.{le-ltb, cases_lt, cases_order}
+use Rattle.key_hash.specs.declared.TheConstants.{KEYS}
 use Rattle.slice_ranges.specs.Sets.{inside_after, has, Rises, IsRanges}
 use Rattle.slice_ranges.proofs.Boundaries.{inside_below, rises_starts, rises_bounds}
 
@@ -29,9 +30,9 @@ same_from s low high (x ∷ xs) (y ∷ ys) r q e =
       | inr (inr more) ↦ absurd (not_itself s (sym (inside_below s (x ∷ xs) x y (omega arith) more) ∙ e y q.0 (omega (arith, hy)) ∙ turns s y ys high q.1))
     ]
 
-pub same_ranges : (xs ys : List ℕ) → IsRanges xs → IsRanges ys → ((k : ℕ) → k < 2 ^ 63 → has xs k ≡ has ys k) → xs ≡ ys
-same_ranges xs ys r q e = same_from false 0 (2 ^ 63 + 1) xs ys r.rises q.rises (λ k l g.
-    elim (cases_lt k (2 ^ 63)) [
+pub same_ranges : (xs ys : List ℕ) → IsRanges xs → IsRanges ys → ((k : ℕ) → k < KEYS → has xs k ≡ has ys k) → xs ≡ ys
+same_ranges xs ys r q e = same_from false 0 (KEYS + 1) xs ys r.rises q.rises (λ k l g.
+    elim (cases_lt k KEYS) [
       | inl below ↦ e k below
-      | inr above ↦ (let h : k ≡ 2 ^ 63 = omega arith in rw h (r.ends ∙ sym q.ends))
+      | inr above ↦ (let h : k ≡ KEYS = omega arith in rw h (r.ends ∙ sym q.ends))
     ])

@@ -1,7 +1,8 @@
 -- What a sweep over two lists of boundaries keeps.
-use Rattle.std.proofs.Common.{◌≡◌, ℕ, ◌+◌, ◌^◌, ◌<◌, ◌≤◌, Bool, true, false, not, List, [], ◌∷◌, ◌++◌, refl, sym, ◌∙◌, inl, inr, arith}
+use Rattle.std.proofs.Common.{◌≡◌, ℕ, ◌+◌, ◌<◌, ◌≤◌, Bool, true, false, not, List, [], ◌∷◌, ◌++◌, refl, sym, ◌∙◌, inl, inr, arith}
 use Rattle.std.proofs.lemmas.Bool.{le-ltb, cases_lt}
 use mathlib.Core.Bool.{beq}
+use Rattle.key_hash.specs.declared.TheConstants.{KEYS}
 use Rattle.slice_ranges.specs.declared.sweep.Operation.{Operation}
 use Rattle.slice_ranges.specs.declared.sweep.Operation.TheVariants.{Both, Either, Without}
 use Rattle.slice_ranges.specs.Sets.{inside_after, has, Rises, IsRanges}
@@ -96,7 +97,7 @@ apply_none Both = refl
 apply_none Either = refl
 apply_none Without = refl
 
-pub sweep_start : (operation : Operation) (first second out : List ℕ) → IsRanges first → IsRanges second → out ≡ [] → IsSweep (apply operation) first second (2 ^ 63 + 1) false first false second out false 0
+pub sweep_start : (operation : Operation) (first second out : List ℕ) → IsRanges first → IsRanges second → out ≡ [] → IsSweep (apply operation) first second (KEYS + 1) false first false second out false 0
 sweep_start operation first second out r s e = record {
   first_rest = record { same = λ k g. refl; rises = r.rises };
   second_rest = record { same = λ k g. refl; rises = s.rises };
@@ -118,8 +119,8 @@ other_flag true false e = refl
 other_flag false true e = refl
 
 pub sweep_ranges : (operation : Operation) (first second : List ℕ) (in_a : Bool) (a : List ℕ) (in_b : Bool) (b out : List ℕ) (inside : Bool) (p : ℕ)
-    → IsRanges first → IsRanges second → IsSweep (apply operation) first second (2 ^ 63 + 1) in_a a in_b b out inside p → a ≡ [] → b ≡ [] → IsRanges out × ((k : ℕ) → has out k ≡ apply operation (has first k) (has second k))
+    → IsRanges first → IsRanges second → IsSweep (apply operation) first second (KEYS + 1) in_a a in_b b out inside p → a ≡ [] → b ≡ [] → IsRanges out × ((k : ℕ) → has out k ≡ apply operation (has first k) (has second k))
 sweep_ranges operation first second in_a a in_b b out inside p r s w e g =
-    let w' : IsSweep (apply operation) first second (2 ^ 63 + 1) in_a [] in_b [] out inside p = rw (e, g) at w in
-    let keys = sweep_end (apply operation) first second (2 ^ 63 + 1) in_a in_b out inside p w' in
-    (record { rises = rises_below 0 out p (2 ^ 63 + 1) w.made.rises (rises_bounds p a (2 ^ 63 + 1) w.first_rest.rises); ends = keys (2 ^ 63) ∙ (rw (r.ends, s.ends) (sym (apply_none operation))) }, keys)
+    let w' : IsSweep (apply operation) first second (KEYS + 1) in_a [] in_b [] out inside p = rw (e, g) at w in
+    let keys = sweep_end (apply operation) first second (KEYS + 1) in_a in_b out inside p w' in
+    (record { rises = rises_below 0 out p (KEYS + 1) w.made.rises (rises_bounds p a (KEYS + 1) w.first_rest.rises); ends = keys KEYS ∙ (rw (r.ends, s.ends) (sym (apply_none operation))) }, keys)

@@ -1,7 +1,8 @@
 -- The set of the keys that pass a test.
-use Rattle.std.proofs.Common.{◌≡◌, ◌∙◌, ℕ, zero, suc, ◌+◌, ◌^◌, ◌<◌, ◌≤◌, Bool, true, false, not, List, [], ◌∷◌, refl, sym, ap, arith, inl, inr}
+use Rattle.std.proofs.Common.{◌≡◌, ◌∙◌, ℕ, zero, suc, ◌+◌, ◌<◌, ◌≤◌, Bool, true, false, not, List, [], ◌∷◌, refl, sym, ap, arith, inl, inr}
 use Rattle.std.specs.Prelude.{if◌then◌else◌}
 use Rattle.std.proofs.lemmas.Bool.{le-ltb, cases_lt}
+use Rattle.key_hash.specs.declared.TheConstants.{KEYS}
 use Rattle.slice_ranges.specs.Sets.{inside_after, has, Rises, IsRanges, differ, turns_from, keys_where}
 use Rattle.slice_ranges.proofs.Boundaries.{inside_below, rises_starts}
 use Rattle.slice_ranges.proofs.Same.{same_ranges}
@@ -69,12 +70,12 @@ turns_end member zero low false key l = refl
 turns_end member (suc n) low inside key l = turned_off member n low inside key (differ inside (member low)) refl (omega arith) (λ b. turns_end member n (low + 1) b key (omega arith))
 
 -- a set of the keys that pass a test is the set of them
-pub is_where : (member : ℕ → Bool) (bs : List ℕ) → IsRanges bs → ((key : ℕ) → key < 2 ^ 63 → has bs key ≡ member key) → bs ≡ keys_where member
+pub is_where : (member : ℕ → Bool) (bs : List ℕ) → IsRanges bs → ((key : ℕ) → key < KEYS → has bs key ≡ member key) → bs ≡ keys_where member
 is_where member bs ranges same =
     same_ranges bs (keys_where member) ranges
-    (record { rises = turns_rise member (2 ^ 63) 0 false (2 ^ 63 + 1) (omega arith); ends = turns_end member (2 ^ 63) 0 false (2 ^ 63) (omega arith) })
-    (λ key l. same key l ∙ sym (turns_have member (2 ^ 63) 0 false key (omega arith) (omega arith)))
+    (record { rises = turns_rise member KEYS 0 false (KEYS + 1) (omega arith); ends = turns_end member KEYS 0 false KEYS (omega arith) })
+    (λ key l. same key l ∙ sym (turns_have member KEYS 0 false key (omega arith) (omega arith)))
 
 -- the set of the keys that pass a test has them
-pub has-where : (member : ℕ → Bool) (key : ℕ) → key < 2 ^ 63 → has (keys_where member) key ≡ member key
-has-where member key l = turns_have member (2 ^ 63) 0 false key (omega arith) (omega arith)
+pub has-where : (member : ℕ → Bool) (key : ℕ) → key < KEYS → has (keys_where member) key ≡ member key
+has-where member key l = turns_have member KEYS 0 false key (omega arith) (omega arith)

@@ -1,7 +1,8 @@
 -- How many keys a set has.
-use Rattle.std.proofs.Common.{◌≡◌, ℕ, zero, suc, ◌+◌, ◌-◌, ◌^◌, ◌<◌, ◌≤◌, Bool, true, false, not, List, [], ◌∷◌, refl, sym, ◌∙◌, inl, inr, arith}
+use Rattle.std.proofs.Common.{◌≡◌, ℕ, zero, suc, ◌+◌, ◌-◌, ◌<◌, ◌≤◌, Bool, true, false, not, List, [], ◌∷◌, refl, sym, ◌∙◌, inl, inr, arith}
 use Rattle.std.specs.Prelude.{if◌then◌else◌}
 use Rattle.std.proofs.lemmas.Bool.{le-ltb, cases_lt}
+use Rattle.key_hash.specs.declared.TheConstants.{KEYS}
 use Rattle.slice_ranges.specs.Sets.{inside_after, has, count, Rises, IsRanges}
 use Rattle.slice_ranges.specs.Sweeps.{StartsAt}
 use Rattle.slice_ranges.proofs.Boundaries.{inside_below, rises_starts, rises_from, rises_bounds}
@@ -44,8 +45,8 @@ count_alike f p (suc m) v l h = elim (cases_lt m p) [
 -- the keys below `last` are counted
 pub record IsCounted (all rest : List ℕ) (inside : Bool) (last total : ℕ) : Type 0 where
   pub same : (k : ℕ) → last ≤ k → has all k ≡ inside_after inside rest k
-  pub rises : Rises last rest (2 ^ 63 + 1)
-  pub within : last ≤ 2 ^ 63
+  pub rises : Rises last rest (KEYS + 1)
+  pub within : last ≤ KEYS
   pub counted : total ≡ count (has all) last
 
 pub counted_start : (all : List ℕ) → IsRanges all → IsCounted all all false 0 0
@@ -55,14 +56,14 @@ pub counted_step : (all here : List ℕ) (b : ℕ) (rest : List ℕ) (inside : B
     → (last ≤ b) × (total + widened inside last b ≤ b) × IsCounted all rest (not inside) b (total + widened inside last b)
 counted_step all here b rest inside last total c e =
     let d : IsCounted all (b ∷ rest) inside last total = rw e at c in
-    let top : b + 1 ≤ 2 ^ 63 + 1 = rises_bounds (b + 1) rest (2 ^ 63 + 1) d.rises.1 in
+    let top : b + 1 ≤ KEYS + 1 = rises_bounds (b + 1) rest (KEYS + 1) d.rises.1 in
     let alike = count_alike (has all) last b inside d.rises.0 (λ k l g. d.same k l ∙ inside_below inside (b ∷ rest) b k (omega arith) g) in
     let total_is : total + widened inside last b ≡ count (has all) b = rw d.counted (sym alike) in (
       d.rises.0,
       rw total_is (count_most (has all) b),
       record {
         same = λ k l. d.same k (omega (arith, d.rises.0)) ∙ (rw (le-ltb k b l) refl);
-        rises = rises_from (b + 1) b rest (2 ^ 63 + 1) d.rises.1 (starts rest (rises_starts (b + 1) rest (2 ^ 63 + 1) d.rises.1)) (omega (arith, top));
+        rises = rises_from (b + 1) b rest (KEYS + 1) d.rises.1 (starts rest (rises_starts (b + 1) rest (KEYS + 1) d.rises.1)) (omega (arith, top));
         within = omega (arith, top);
         counted = total_is;
       },
@@ -72,9 +73,9 @@ counted_step all here b rest inside last total c e =
     starts [] h = tt
     starts (x ∷ xs) h = omega (arith, h)
 
-pub counted_end : (all here : List ℕ) (inside : Bool) (last total : ℕ) → IsRanges all → IsCounted all here inside last total → here ≡ [] → total ≡ count (has all) (2 ^ 63)
+pub counted_end : (all here : List ℕ) (inside : Bool) (last total : ℕ) → IsRanges all → IsCounted all here inside last total → here ≡ [] → total ≡ count (has all) KEYS
 counted_end all here inside last total r c e =
     let d : IsCounted all [] inside last total = rw e at c in
-    let out : inside ≡ false = sym (d.same (2 ^ 63) d.within) ∙ r.ends in
-    let alike = count_alike (has all) last (2 ^ 63) false d.within (λ k l g. d.same k l ∙ out) in
+    let out : inside ≡ false = sym (d.same KEYS d.within) ∙ r.ends in
+    let alike = count_alike (has all) last KEYS false d.within (λ k l g. d.same k l ∙ out) in
     d.counted ∙ sym (alike ∙ (omega arith))

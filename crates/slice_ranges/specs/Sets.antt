@@ -1,6 +1,7 @@
 -- A set of slice keys as its boundaries: the keys where membership turns, in rising order.
-use Rattle.std.specs.Prelude.{◌≡◌, ℕ, zero, suc, ◌+◌, ◌^◌, ◌≤◌, Bool, true, false, not, ◌&&◌, List, [], ◌∷◌, if◌then◌else◌, nat_lt, nat_le, Option, Some, None}
+use Rattle.std.specs.Prelude.{◌≡◌, ℕ, zero, suc, ◌+◌, ◌≤◌, Bool, true, false, not, ◌&&◌, List, [], ◌∷◌, if◌then◌else◌, nat_lt, nat_le, Option, Some, None}
 use Rattle.std.specs.List.{list_any}
+use Rattle.key_hash.specs.declared.TheConstants.{KEYS}
 use Rattle.slice_ranges.specs.declared.error.RangesError.{RangesError}
 use Rattle.slice_ranges.specs.declared.error.RangesError.TheVariants.{Unsorted, Empty, PastEnd}
 use Rattle.machines.specs.Refusals.{when, first_of}
@@ -21,8 +22,8 @@ Rises low (b ∷ bs) high = (low ≤ b) × Rises (b + 1) bs high
 
 -- the boundaries of a set of keys below 2^63
 pub record IsRanges (bs : List ℕ) : Type 0 where
-  pub rises : Rises 0 bs (2 ^ 63 + 1)
-  pub ends : has bs (2 ^ 63) ≡ false
+  pub rises : Rises 0 bs (KEYS + 1)
+  pub ends : has bs KEYS ≡ false
 
 -- how many keys below a bound pass a test
 unfoldable pub count : (ℕ → Bool) → ℕ → ℕ
@@ -38,7 +39,7 @@ abbrev pub pair_checks : ℕ → ℕ × ℕ → List (Option RangesError)
 pair_checks end pair =
     when (nat_lt pair.0 end) Unsorted ∷
     when (nat_le pair.1 pair.0) Empty ∷
-    when (nat_lt (2 ^ 63) pair.1) PastEnd ∷ []
+    when (nat_lt KEYS pair.1) PastEnd ∷ []
 
 -- one refusal, or else another
 abbrev pub or_else : Option RangesError → Option RangesError → Option RangesError
@@ -66,4 +67,4 @@ turns_from member inside low (suc n) = if differ inside (member low) then low �
 
 -- the set of the keys that pass a test
 abbrev pub keys_where : (ℕ → Bool) → List ℕ
-keys_where member = turns_from member false 0 (2 ^ 63)
+keys_where member = turns_from member false 0 KEYS

@@ -8,7 +8,4 @@ mod steps;
 mod sweep;
 
 pub use error::RangesError;
-pub use ranges::Ranges;
-
-#[cfg(test)]
-mod tests;
+pub use ranges::{Ranges, keys_where_law};

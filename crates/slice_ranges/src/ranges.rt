@@ -1,6 +1,10 @@
 //! A set of slice keys, as half-open ranges.
 
-ghost use Rattle.std.specs.Prelude.{◌≡◌, ℕ, Bool, ◌^◌, ◌-◌, ◌<◌, ◌≤◌, ◌&&◌, ◌||◌, not, List, [], None, false, IfOk, IfErr, OnOk, unwrap_or, if◌then◌else◌};
+ghost use Rattle.std.specs.Prelude.{◌≡◌, ◌↔◌, ℕ, Bool, ◌-◌, ◌<◌, ◌≤◌, ◌&&◌, ◌||◌, not, nat_eq, List, [], None, false, IfOk, IfErr, OnOk, unwrap_or, if◌then◌else◌};
+ghost use Rattle.std.specs.Bool.{IsTrue};
+ghost use Rattle.std.specs.Cmp.{partial_equiv_from_equiv};
+ghost use Rattle.std.specs.Cmp.Lexicographic.{pointwise};
+ghost use Rattle.std.proofs.lemmas.Cmp.{nat_list_eq_equiv};
 ghost use Rattle.slice_ranges.specs.declared.error.RangesError.TheVariants as refused;
 ghost use Rattle.slice_ranges.specs.Sets.{covered, refusal_of, has, count, keys_where, IsRanges};
 ghost use Rattle.slice_ranges.specs.Steps.{value_after, StepsRise};
@@ -10,7 +14,7 @@ use crate::error::RangesError;
 use crate::pairs::{check, joined};
 use crate::steps::turns;
 use crate::sweep::{Operation, sweep};
-use key_hash::SliceKey;
+use key_hash::{KEYS, SliceKey};
 use std::alloc::{AllocError, Global};
 use std::marker::Model;
 
@@ -30,6 +34,24 @@ impl Model for Ranges {
     ghost view = { λ r. r.boundaries.items };
 
     ghost invariant = { λ r. IsRanges r.boundaries.items };
+}
+
+/// Sets of the same keys are equal.
+impl PartialEq for Ranges {
+    ghost eq = { pointwise nat_eq };
+
+    ghost laws = { partial_equiv_from_equiv nat_list_eq_equiv };
+
+    fn eq(&self, other: &Self) -> bool
+        ensures eq { result ≡ pointwise nat_eq self.now other.now }
+        ensures same { IsTrue result ↔ (self.now ≡ other.now) }
+    {
+        self.boundaries == other.boundaries
+    }
+}
+
+impl Eq for Ranges {
+    ghost laws = { nat_list_eq_equiv };
 }
 
 impl Ranges {
@@ -61,9 +83,9 @@ impl Ranges {
     /// The keys at which steps say yes: each step is a key and what holds from there on, up to the
     /// key of the next step. Below the first step nothing is in the set.
     pub fn from_steps(alloc: Global, steps: &[(u64, bool)]) -> Result<Self, AllocError>
-        requires { StepsRise 0 steps.now (2 ^ 63) }
+        requires { StepsRise 0 steps.now KEYS }
         ensures { IfOk result
-            (λ r. (key : ℕ) → key < 2 ^ 63 → has r key ≡ value_after false steps.now key) }
+            (λ r. (key : ℕ) → key < KEYS → has r key ≡ value_after false steps.now key) }
     {
         let boundaries = turns(alloc, steps)?;
         Ok(Ranges { boundaries })
@@ -78,7 +100,7 @@ impl Ranges {
 
     /// How many keys the set has.
     pub fn width(&self) -> u64
-        ensures { result ≡ count (has self.now) (2 ^ 63) }
+        ensures { result ≡ count (has self.now) KEYS }
     {
         width_of(&self.boundaries)
     }
@@ -127,23 +149,29 @@ impl Ranges {
 
     /// A set is that of the keys that it has, and the set of the keys that pass a test has them.
     pub fn keys_where_law(set: &Ranges)
-        ensures is { (member : ℕ → Bool) → ((key : ℕ) → key < 2 ^ 63 → has set.now key ≡ member key)
+        ensures is { (member : ℕ → Bool) → ((key : ℕ) → key < KEYS → has set.now key ≡ member key)
             → set.now ≡ keys_where member }
-        ensures has { (member : ℕ → Bool) (key : ℕ) → key < 2 ^ 63
+        ensures has { (member : ℕ → Bool) (key : ℕ) → key < KEYS
             → has (keys_where member) key ≡ member key }
     {
         let _ = &set.boundaries;
+        keys_where_law();
     }
 
     /// Two sets of the same keys are equal.
     pub fn same_keys_law(first: &Ranges, second: &Ranges)
-        ensures { ((key : ℕ) → key < 2 ^ 63 → has first.now key ≡ has second.now key)
+        ensures { ((key : ℕ) → key < KEYS → has first.now key ≡ has second.now key)
             → first.now ≡ second.now }
     {
         let _ = &first.boundaries;
         let _ = &second.boundaries;
     }
 }
+
+/// The set of the keys that pass a test has a key where it passes.
+pub fn keys_where_law()
+    ensures { (member : ℕ → Bool) (key : ℕ) → key < KEYS → has (keys_where member) key ≡ member key }
+{}
 
 fn is_inside(boundaries: &[u64], key: u64) -> bool
     ensures { result ≡ has boundaries.now key }
@@ -161,7 +189,7 @@ fn is_inside(boundaries: &[u64], key: u64) -> bool
 // How many keys lie inside the boundaries.
 fn width_of(boundaries: &[u64]) -> u64
     requires { IsRanges boundaries.now }
-    ensures { result ≡ count (has boundaries.now) (2 ^ 63) }
+    ensures { result ≡ count (has boundaries.now) KEYS }
 {
     let mut total = 0;
     let mut last = 0;

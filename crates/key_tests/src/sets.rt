@@ -1,5 +1,5 @@
-use super::*;
 use key_hash::SliceKey;
+use slice_ranges::{Ranges, RangesError};
 use std::test::Fail;
 
 #[test]
@@ -95,5 +95,17 @@ fn takes_the_keys_of_steps(rt: HostRuntime) -> Result<(), Fail> {
     assert_eq!(rt; set.width(), (1 << 63) - 6);
     assert_eq!(rt; Ranges::from_steps(alloc, &[(0, true)])?.width(), 1 << 63);
     assert_eq!(rt; Ranges::from_steps(alloc, &[])?.width(), 0);
+    Ok(())
+}
+
+#[test]
+fn compares_sets_by_their_keys(rt: HostRuntime) -> Result<(), Fail> {
+    let alloc = rt.alloc();
+    let set = |pairs| Ranges::build(alloc, pairs).map_err(|_| "pairs in order make a set");
+    let whole = set(&[(0, 9)])?;
+    assert_eq!(rt; set(&[(0, 5), (5, 9)])?, whole);
+    assert_eq!(rt; whole.copy()?, whole);
+    assert_ne!(rt; set(&[(0, 5), (6, 9)])?, whole);
+    assert_ne!(rt; Ranges::empty(alloc), whole);
     Ok(())
 }

@@ -1,5 +1,6 @@
-use super::*;
+use assignment::{Assignment, Listed, Slice, TaskId};
 use key_hash::SliceKey;
+use machines::Duplicate;
 use std::alloc::Global;
 use std::test::Fail;
 
@@ -65,6 +66,7 @@ fn keeps_what_it_is_given(rt: HostRuntime) -> Result<(), Fail> {
     let given = slices_of(alloc, &[(0, &[3, 1]), (5, &[2])])?;
     let built = Assignment::build(alloc, 9, &given).map_err(|_| "two slices make an assignment")?;
     let copied = built.copy()?;
+    assert!(rt; copied == built);
     for assignment in [&built, &copied] {
         assert_eq!(rt; assignment.generation(), 9);
         assert_eq!(rt; assignment.slices().len(), 2);
@@ -106,5 +108,23 @@ fn bridges_two_generations(rt: HostRuntime) -> Result<(), Fail> {
         assert_eq!(rt; bridge.contains(key), bridged);
     }
     assert_eq!(rt; old.bridge(&new, second)?.width(), 0);
+    Ok(())
+}
+
+#[test]
+fn copies_what_is_written(rt: HostRuntime) -> Result<(), Fail> {
+    let alloc = rt.alloc();
+    let slice = Slice {
+        start: 5,
+        owners: Listed::from_slice(alloc, &[3, 1])?,
+    };
+    let mut copied = slice.copy()?;
+    assert!(rt; copied == slice);
+    copied.owners.push(2)?;
+    assert!(rt; copied != slice);
+    let bytes = Listed::from_slice(alloc, b"key")?;
+    assert!(rt; bytes.copy()? == bytes);
+    let pairs = Listed::from_vec(Vec::from_array(alloc, [(1u64, 2u64), (3, 4)])?);
+    assert!(rt; pairs.copy()? == pairs);
     Ok(())
 }

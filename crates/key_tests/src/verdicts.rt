@@ -1,5 +1,5 @@
-use super::*;
 use key_hash::SliceKey;
+use policy_rules::{Ground, Holding, Kind, Lease, Verdict, verdict};
 use slice_ranges::Ranges;
 use std::alloc::Global;
 use std::test::Fail;
@@ -54,7 +54,9 @@ fn names_the_first_case_that_holds(rt: HostRuntime) -> Result<(), Fail> {
             "key {number} at {at}, of a copy"
         );
     }
+    assert!(rt; copied == holding);
     copied.up = false;
+    assert!(rt; copied != holding);
     let key = SliceKey::new(0).ok_or("a number of 63 bits is a key")?;
     assert_eq!(rt; verdict(&copied, key, 7), Verdict::Deny(Ground::Down));
     Ok(())
