@@ -1,5 +1,5 @@
 -- What was found of a call that was accepted: none of its refusals, and the reply of its step.
-use Rattle.std.proofs.Common.{◌≡◌, ℕ, ◌+◌, ◌<◌, ◌≤◌, ◌^◌, Bool, true, false, length, refl, arith}
+use Rattle.std.proofs.Common.{◌≡◌, ℕ, ◌+◌, ◌<◌, ◌≤◌, Bool, true, false, length, refl, arith}
 use Rattle.std.specs.Prelude.{Option, Some, None, Ok, nat_lt, nat_le, is_none, is_some, not, ◌==◌, ◌&&◌, filter, option_map}
 use Rattle.std.specs.List.{list_any}
 use Rattle.std.proofs.lemmas.Bool.Decides.{nat_tests}
@@ -14,9 +14,10 @@ use Rattle.lease_table.specs.declared.call.TableReply.{TableReply}
 use Rattle.lease_table.specs.declared.call.TableReply.TheVariants.{Term, Proposed, Committed, Granted, Freed}
 use Rattle.lease_table.specs.declared.error.TableError.{TableError}
 use Rattle.lease_table.specs.declared.error.TableError.TheVariants.{Held}
+use Rattle.lease_table.specs.declared.table.TheConstants.{READINGS}
 use Rattle.lease_table.specs.declared.values.ReleaseNote.{ReleaseNote}
 use Rattle.lease_table.specs.declared.values.Row.{Row}
-use Rattle.lease_table.specs.Rows.{running, closes, first_up_to}
+use Rattle.lease_table.specs.Rows.{running_rows, closes, first_up_to}
 use Rattle.lease_table.specs.Tables.{Standing, generation_of}
 use Rattle.lease_table.specs.Steps
 use Rattle.lease_table.specs.Calls.{reading_of, table_step}
@@ -24,7 +25,7 @@ use Rattle.lease_table.specs.Calls.{reading_of, table_step}
 -- the reading of an accepted call
 pub record IsReading (t : Standing) (at : ℕ) : Type 0 where
   pub low : t.last ≤ at
-  pub high : at < 2 ^ 62
+  pub high : at < READINGS
 
 pub record IsTaken (t : Standing) (assigner at : ℕ) (reply : TableReply) : Type 0 where
   pub reading : IsReading t at
@@ -34,7 +35,7 @@ pub record IsTaken (t : Standing) (assigner at : ℕ) (reply : TableReply) : Typ
 pub record IsRenewed (t : Standing) (number at : ℕ) (reply : TableReply) : Type 0 where
   pub reading : IsReading t at
   pub holder : Steps.is_holder number at t.term ≡ true
-  pub replies : reply ≡ Term (Steps.renewed (at + t.policy.job) t.term)
+  pub replies : reply ≡ Term (Steps.renewed_term (at + t.policy.job) t.term)
 
 pub record IsProposed (t : Standing) (number : ℕ) (slicing : Slicing) (at : ℕ) (reply : TableReply) : Type 0 where
   pub reading : IsReading t at
@@ -59,7 +60,7 @@ pub record IsGranted (t : Standing) (task life at : ℕ) (reply : TableReply) : 
 
 pub record IsClosing (t : Standing) (note : ReleaseNote) (at : ℕ) (reply : TableReply) : Type 0 where
   pub reading : IsReading t at
-  pub replies : reply ≡ Freed (length (filter (closes note) (running at t.rows)))
+  pub replies : reply ≡ Freed (length (filter (closes note) (running_rows at t.rows)))
 
 -- a call was accepted with this reply
 abbrev pub IsAccepted : Standing → TableCall → TableReply → Type 0
@@ -78,7 +79,7 @@ unrefused name (Some refusal) new r reply e = absurd (cc)
 
 read : (t : Standing) (at : ℕ) → Steps.out_of_range at ≡ None → Steps.clock_back t at ≡ None → IsReading t at
 read t at range back =
-    let high : nat_le (2 ^ 62) at ≡ false = not_when _ _ range in
+    let high : nat_le READINGS at ≡ false = not_when _ _ range in
     let low : nat_lt at t.last ≡ false = not_when _ _ back in
     record { low = grind (arith, nat_tests); high = grind (arith, nat_tests) }
 

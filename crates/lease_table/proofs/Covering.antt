@@ -1,6 +1,7 @@
 -- What a sent grant covers, by the owners in its generations.
-use Rattle.std.proofs.Common.{◌≡◌, ◌∙◌, ℕ, ◌+◌, ◌-◌, ◌<◌, ◌≤◌, ◌^◌, true, ◌&&◌, List, ◌∷◌, refl, sym, ap, subst, arith}
+use Rattle.std.proofs.Common.{◌≡◌, ◌∙◌, ℕ, ◌+◌, ◌-◌, ◌<◌, ◌≤◌, true, ◌&&◌, List, ◌∷◌, refl, sym, ap, subst, arith}
 use Rattle.std.specs.Prelude.{Option, Some, None, Result, Ok}
+use Rattle.key_hash.specs.declared.TheConstants.{KEYS}
 use Rattle.slice_ranges.specs.Sets.{has}
 use Rattle.slice_ranges.proofs.Where.{has-where}
 use Rattle.machines.specs.Calls.{answered, answer_of}
@@ -26,10 +27,10 @@ use Rattle.lease_table.proofs.Induction.{of_each_sent}
 use Rattle.lease_table.proofs.Assignments.{IsCounted, counted, assignment_stays_after, assignment_committed, assignment_proposed}
 use Rattle.lease_table.proofs.Leases.{granted_by, leased}
 
-pub guard_covers : (t : Standing) (task life at key : ℕ) → key < 2 ^ 63 → has (guard_of t task life at).lease.ranges key ≡ owns (slices_of t.committed) key task
+pub guard_covers : (t : Standing) (task life at key : ℕ) → key < KEYS → has (guard_of t task life at).lease.ranges key ≡ owns (slices_of t.committed) key task
 guard_covers t task life at key l = has-where (λ k. owns (slices_of t.committed) k task) key l
 
-pub bridge_covers : (t : Standing) (next : Slicing) (task life at key : ℕ) → key < 2 ^ 63
+pub bridge_covers : (t : Standing) (next : Slicing) (task life at key : ℕ) → key < KEYS
     → has (bridge_of t next task life at).lease.ranges key ≡ (owns (slices_of t.committed) key task && owns next.slices key task)
 bridge_covers t next task life at key l = has-where (λ k. owns (slices_of t.committed) k task && owns next.slices k task) key l
 
@@ -52,7 +53,7 @@ module _ (policy : Terms) (past : List AnsweredTableCall) where
           rw (first, second) refl
 
   -- a grant covers what its task owns when it is given
-  given_covers : IsCounted past → (task life at key : ℕ) → key < 2 ^ 63 → (p : Option Slicing) → pending_in past ≡ p
+  given_covers : IsCounted past → (task life at key : ℕ) → key < KEYS → (p : Option Slicing) → pending_in past ≡ p
       → has (grant_with (standing_after policy past) p task life at).lease.ranges key ≡ covers_by_owners past key (grant_with (standing_after policy past) p task life at)
   given_covers k task life at key l None e =
       let same : assignment_in (generation_of (committed_in past)) past ≡ committed_in past = ap (λ (g : ℕ). assignment_in g past) k.committed ∙ assignment_committed past in
@@ -68,7 +69,7 @@ module _ (policy : Terms) (past : List AnsweredTableCall) where
 
 -- a grant covers what its task owns in its generations
 CoversOwned : List AnsweredTableCall → Grant → Type 0
-CoversOwned past grant = (key : ℕ) → key < 2 ^ 63 → has grant.lease.ranges key ≡ covers_by_owners past key grant
+CoversOwned past grant = (key : ℕ) → key < KEYS → has grant.lease.ranges key ≡ covers_by_owners past key grant
 
 covers_given : (policy : Terms) (past : List AnsweredTableCall) (grant : Grant) → IsRun policy past → (task life at : ℕ) → IsGranted (standing_after policy past) task life at (Granted grant)
     → CoversOwned (answered (call.Grant task life at) (Ok (Granted grant)) ∷ past) grant
@@ -84,7 +85,7 @@ covers_given policy past grant run task life at a key l =
 
 -- every grant that was sent covers what its task owns in its generations
 pub covers_owned : (policy : Terms) → is_policy policy ≡ true → (past : List AnsweredTableCall) → IsRun policy past → (grant : Grant) → IsSent past grant
-    → (key : ℕ) → key < 2 ^ 63 → has grant.lease.ranges key ≡ covers_by_owners past key grant
+    → (key : ℕ) → key < KEYS → has grant.lease.ranges key ≡ covers_by_owners past key grant
 unfolding CoversOwned
 covers_owned policy within =
     of_each_sent policy CoversOwned

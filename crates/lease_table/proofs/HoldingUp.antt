@@ -13,11 +13,11 @@ use Rattle.lease_table.specs.declared.error.TableError.TheVariants.{Held}
 use Rattle.lease_table.specs.declared.values.Grant.{Grant}
 use Rattle.lease_table.specs.declared.values.Row.{Row}
 use Rattle.lease_table.specs.Policies.{Terms, is_policy}
-use Rattle.lease_table.specs.Rows.{runs_at, running, first_up_to}
+use Rattle.lease_table.specs.Rows.{runs_at, running_rows, first_up_to}
 use Rattle.lease_table.specs.Tables.{generation_of}
 use Rattle.lease_table.specs.Steps.{row_of, grant_with, held_up}
 use Rattle.lease_table.specs.Calls.{AnsweredTableCall, reading_of, last_reading, committed_in, pending_in, unfreed_rows, standing_after}
-use Rattle.lease_table.specs.Runs.{IsRun, longest, proposed_at, commits_in}
+use Rattle.lease_table.specs.Runs.{IsRun, longest_term, proposed_at, commits_in}
 use Rattle.lease_table.specs.OpenRows.{IsSent, IsOpen, HoldsUp, IsHeldUp}
 use Rattle.lease_table.proofs.Acceptance.{IsAccepted, acceptance, accepted_reading}
 use Rattle.lease_table.proofs.Induction.{of_each_sent}
@@ -57,13 +57,13 @@ reached g at row t =
 
 module _ (policy : Terms) (past : List AnsweredTableCall) (run : IsRun policy past) where
   rows : List Row
-  rows = running (last_reading past) (unfreed_rows past)
+  rows = running_rows (last_reading past) (unfreed_rows past)
 
   -- the first row that holds a commit up is that of a grant that does
-  pub holder : (at : ℕ) (row : Row) → first_up_to (generation_of (committed_in past)) at (running (last_reading past) (unfreed_rows past)) ≡ Some row → (grant : Grant) × HoldsUp past at grant × (row ≡ row_of grant)
+  pub holder : (at : ℕ) (row : Row) → first_up_to (generation_of (committed_in past)) at (running_rows (last_reading past) (unfreed_rows past)) ≡ Some row → (grant : Grant) × HoldsUp past at grant × (row ≡ row_of grant)
   unfolding is_reached
   holder at row e =
-      let r = found (is_reached (generation_of (committed_in past)) at) row (running (last_reading past) (unfreed_rows past)) e in
+      let r = found (is_reached (generation_of (committed_in past)) at) row (running_rows (last_reading past) (unfreed_rows past)) e in
       let within = reached (generation_of (committed_in past)) at row r.1 in
       let h = row_is_of_open policy past (last_reading past) row run r.0 in
       let ends : row.table_ends ≡ h.0.table_ends = ap (λ (r : Row). r.table_ends) h.2 in
@@ -74,17 +74,17 @@ module _ (policy : Terms) (past : List AnsweredTableCall) (run : IsRun policy pa
   opened_before at grant l o = let runs = o.runs in record { sent = o.sent; runs = omega arith; unfreed = o.unfreed }
 
   -- where a grant holds a commit up, a row is found
-  pub holder_found : (at : ℕ) (grant : Grant) → last_reading past ≤ at → HoldsUp past at grant → is_some (first_up_to (generation_of (committed_in past)) at (running (last_reading past) (unfreed_rows past))) ≡ true
+  pub holder_found : (at : ℕ) (grant : Grant) → last_reading past ≤ at → HoldsUp past at grant → is_some (first_up_to (generation_of (committed_in past)) at (running_rows (last_reading past) (unfreed_rows past))) ≡ true
   unfolding is_reached
   holder_found at grant l h =
-      findable (is_reached (generation_of (committed_in past)) at) (row_of grant) (running (last_reading past) (unfreed_rows past))
+      findable (is_reached (generation_of (committed_in past)) at) (row_of grant) (running_rows (last_reading past) (unfreed_rows past))
       (open_has_row policy past (last_reading past) grant run (opened_before at grant l h.opened)) (reaches (generation_of (committed_in past)) at (row_of grant) h.reached h.opened.runs)
 
   -- and none before it
-  holder_lowest : (at : ℕ) (row : Row) (other : Grant) → last_reading past ≤ at → first_up_to (generation_of (committed_in past)) at (running (last_reading past) (unfreed_rows past)) ≡ Some row → HoldsUp past at other → row.number ≤ other.number
+  holder_lowest : (at : ℕ) (row : Row) (other : Grant) → last_reading past ≤ at → first_up_to (generation_of (committed_in past)) at (running_rows (last_reading past) (unfreed_rows past)) ≡ Some row → HoldsUp past at other → row.number ≤ other.number
   unfolding is_reached
   holder_lowest at row other l e h =
-      elim (found_first (is_reached (generation_of (committed_in past)) at) (λ first second. first.number < second.number) row (row_of other) (running (last_reading past) (unfreed_rows past))
+      elim (found_first (is_reached (generation_of (committed_in past)) at) (λ first second. first.number < second.number) row (row_of other) (running_rows (last_reading past) (unfreed_rows past))
       (rows_in_order policy past (last_reading past) run) e (open_has_row policy past (last_reading past) other run (opened_before at other l h.opened))
       (reaches (generation_of (committed_in past)) at (row_of other) h.reached h.opened.runs)) [
         | inl same ↦ let number : row.number ≡ other.number = ap (λ (r : Row). r.number) same in omega arith
@@ -148,7 +148,7 @@ young_call policy past (call.Commit number at) reply grant run a o h =
           let k = (counted policy past run).committed in
           let holds : HoldsUp past at grant = record { opened = o; reached = omega (arith, old, k) } in
           let some = holder_found policy past run at grant a.reading.low holds in
-          let none : first_up_to (generation_of (committed_in past)) at (running (last_reading past) (unfreed_rows past)) ≡ None = a.unheld in
+          let none : first_up_to (generation_of (committed_in past)) at (running_rows (last_reading past) (unfreed_rows past)) ≡ None = a.unheld in
           absurd (not_some _ none some)
     ]
 young_call policy past (call.JobTake assigner at) reply grant run a o h = h
@@ -184,7 +184,7 @@ young policy =
 
 -- while an assignment is proposed, a grant of the committed generation or an older one ends within the longest term of the proposal
 abbrev pub EndsAfterProposal : Terms → List AnsweredTableCall → Grant → Type 0
-EndsAfterProposal policy past grant = (slicing : Slicing) → pending_in past ≡ Some slicing → grant.lease.generation ≤ commits_in past → grant.table_ends ≤ proposed_at past + longest policy
+EndsAfterProposal policy past grant = (slicing : Slicing) → pending_in past ≡ Some slicing → grant.lease.generation ≤ commits_in past → grant.table_ends ≤ proposed_at past + longest_term policy
 
 module _ (policy : Terms) (within : is_policy policy ≡ true) where
   ends_call : (past : List AnsweredTableCall) (c : TableCall) (reply : TableReply) (grant : Grant) → IsRun policy past → IsAccepted (standing_after policy past) c reply → IsSent past grant → EndsAfterProposal policy past grant
@@ -202,17 +202,17 @@ module _ (policy : Terms) (within : is_policy policy ≡ true) where
   ends_after past c (Err refusal) grant run sent h = h
 
   ends_given : (past : List AnsweredTableCall) → IsCounted past → (task life at : ℕ) (p : Option Slicing) → pending_in past ≡ p → (slicing : Slicing) → pending_in past ≡ Some slicing
-      → (grant_with (standing_after policy past) p task life at).lease.generation ≤ commits_in past → (grant_with (standing_after policy past) p task life at).table_ends ≤ proposed_at past + longest policy
+      → (grant_with (standing_after policy past) p task life at).lease.generation ≤ commits_in past → (grant_with (standing_after policy past) p task life at).table_ends ≤ proposed_at past + longest_term policy
   ends_given past k task life at None e slicing f old = absurd (let none : None ≡ Some slicing = sym e ∙ f in cc)
   ends_given past k task life at (Some next) e slicing f old = absurd (let n = k.pending next e in omega (arith, n, old))
 
   pub ends_after_proposal : (past : List AnsweredTableCall) → IsRun policy past → (grant : Grant) → IsSent past grant → EndsAfterProposal policy past grant
   ends_after_proposal =
       of_each_sent policy (EndsAfterProposal policy) (λ past e grant run sent h. ends_after past e.call e.answer grant run sent h)
-      (λ past grant run task life at a slicing e. subst (λ (g : Grant). g.lease.generation ≤ commits_in past → g.table_ends ≤ proposed_at past + longest policy) (sym (granted_by (standing_after policy past) task life at grant a))
+      (λ past grant run task life at a slicing e. subst (λ (g : Grant). g.lease.generation ≤ commits_in past → g.table_ends ≤ proposed_at past + longest_term policy) (sym (granted_by (standing_after policy past) task life at grant a))
       (ends_given past (counted policy past run) task life at (pending_in past) refl slicing e))
 
-  pub held_up_no_longer : (past : List AnsweredTableCall) (slicing : Slicing) (at : ℕ) → IsRun policy past → pending_in past ≡ Some slicing → proposed_at past + longest policy ≤ at → held_up (standing_after policy past) at ≡ None
+  pub held_up_no_longer : (past : List AnsweredTableCall) (slicing : Slicing) (at : ℕ) → IsRun policy past → pending_in past ≡ Some slicing → proposed_at past + longest_term policy ≤ at → held_up (standing_after policy past) at ≡ None
   held_up_no_longer past slicing at run e l =
       mapped_none _ (λ row f.
       let h = holder policy past run at row f in

@@ -16,7 +16,7 @@ use Rattle.lease_table.specs.Policies.{Terms, is_policy}
 use Rattle.lease_table.specs.Tables.{Standing}
 use Rattle.lease_table.specs.Steps.{grant_with}
 use Rattle.lease_table.specs.Calls.{AnsweredTableCall, last_reading, pending_in, standing_after, table_step}
-use Rattle.lease_table.specs.Runs.{IsRun, longest, commits_in}
+use Rattle.lease_table.specs.Runs.{IsRun, longest_term, commits_in}
 use Rattle.lease_table.specs.Generations.{newest_with, newest_generation}
 use Rattle.lease_table.specs.OpenRows.{IsSent}
 use Rattle.lease_table.proofs.Acceptance.{IsGranted, acceptance, accepted_reading}
@@ -36,7 +36,7 @@ pub record IsLeased (policy : Terms) (high commits last : ℕ) (grant : Grant) :
   pub newest : grant.lease.generation ≤ high
   pub guard : grant.lease.kind ≡ Guard → grant.lease.generation ≤ commits
   pub skewed : grant.lease.ends + policy.skew ≡ grant.table_ends
-  pub ends : grant.table_ends ≤ last + longest policy
+  pub ends : grant.table_ends ≤ last + longest_term policy
 
 abbrev pub IsLeasedAfter : Terms → List AnsweredTableCall → Grant → Type 0
 IsLeasedAfter policy past grant = IsLeased policy (newest_generation past) (commits_in past) (last_reading past) grant

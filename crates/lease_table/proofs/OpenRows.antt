@@ -16,7 +16,7 @@ use Rattle.lease_table.specs.declared.values.Grant.{Grant}
 use Rattle.lease_table.specs.declared.values.ReleaseNote.{ReleaseNote}
 use Rattle.lease_table.specs.declared.values.Row.{Row}
 use Rattle.lease_table.specs.Policies.{Terms}
-use Rattle.lease_table.specs.Rows.{runs_at, running, closes}
+use Rattle.lease_table.specs.Rows.{runs_at, running_rows, closes}
 use Rattle.lease_table.specs.Steps.{row_of}
 use Rattle.lease_table.specs.Calls.{AnsweredTableCall, last_reading, standing_after, grants_after, grants_sent, rows_freed, rows_granted, unfreed_rows}
 use Rattle.lease_table.specs.Runs.{IsRun}
@@ -205,7 +205,7 @@ ends_after at row t = let test : nat_lt at row.table_ends ≡ true = t in grind 
 runs_until : (at : ℕ) (row : Row) → at < row.table_ends → runs_at at row ≡ true
 runs_until at row l = let P : nat_lt at row.table_ends ≡ true = grind (arith, nat_tests) in P
 
-pub row_is_of_open : (policy : Terms) (past : List AnsweredTableCall) (at : ℕ) (row : Row) → IsRun policy past → Contains (running at (unfreed_rows past)) row → IsRowOfOpen past at row
+pub row_is_of_open : (policy : Terms) (past : List AnsweredTableCall) (at : ℕ) (row : Row) → IsRun policy past → Contains (running_rows at (unfreed_rows past)) row → IsRowOfOpen past at row
 row_is_of_open policy past at row run i =
     let r = of_filtered (runs_at at) row (unfreed_rows past) i in
     let h = unfreed_row policy past run row r.0 in
@@ -213,7 +213,7 @@ row_is_of_open policy past at row run i =
     let l = ends_after at row r.1 in
     (h.grant, record { sent = h.sent; runs = omega (arith, l, ends); unfreed = h.unfreed }, h.is)
 
-pub open_has_row : (policy : Terms) (past : List AnsweredTableCall) (at : ℕ) (grant : Grant) → IsRun policy past → IsOpen past at grant → Contains (running at (unfreed_rows past)) (row_of grant)
+pub open_has_row : (policy : Terms) (past : List AnsweredTableCall) (at : ℕ) (grant : Grant) → IsRun policy past → IsOpen past at grant → Contains (running_rows at (unfreed_rows past)) (row_of grant)
 open_has_row policy past at grant run o =
     elim (has_row_or_freed policy past run grant o.sent) [
       | inl i ↦ filtered (runs_at at) (row_of grant) (unfreed_rows past) i (runs_until at (row_of grant) o.runs)
@@ -258,7 +258,7 @@ pairs_granted policy past c (Freed count) run h a = pairs_freed c (unfreed_rows 
 none_precedes : AllPairs Precedes []
 none_precedes i j d lt l = absurd (let m : j < 0 = l in omega arith)
 
-pub rows_in_order : (policy : Terms) (past : List AnsweredTableCall) (at : ℕ) → IsRun policy past → AllPairs Precedes (running at (unfreed_rows past))
+pub rows_in_order : (policy : Terms) (past : List AnsweredTableCall) (at : ℕ) → IsRun policy past → AllPairs Precedes (running_rows at (unfreed_rows past))
 rows_in_order policy past at run =
     AllPairs-filter Precedes (runs_at at) (unfreed_rows past)
     (after_run policy (λ past. AllPairs Precedes (unfreed_rows past)) none_precedes (λ past c refusal h. h) (λ past c reply run h a. pairs_granted policy past c reply run h a) past run)
@@ -266,7 +266,7 @@ rows_in_order policy past at run =
 -- WHAT BECOMES OF A GRANT
 
 pub row_of_sent : (policy : Terms) (past : List AnsweredTableCall) → IsRun policy past → (grant : Grant) → IsSent past grant
-    → Contains (running (last_reading past) (unfreed_rows past)) (row_of grant) ⊎ ((grant.table_ends ≤ last_reading past) ⊎ IsFreed past grant)
+    → Contains (running_rows (last_reading past) (unfreed_rows past)) (row_of grant) ⊎ ((grant.table_ends ≤ last_reading past) ⊎ IsFreed past grant)
 row_of_sent policy past run grant sent =
     elim (has_row_or_freed policy past run grant sent) [
       | inl i ↦ elim (cases_lt (last_reading past) grant.table_ends) [

@@ -6,7 +6,7 @@ use Rattle.std.specs.Map.{values_of}
 use Rattle.std.proofs.lemmas.Bool.Decides.{nat_tests}
 use Rattle.indexmap.specs.IndexMap.{insert_entry}
 use Rattle.lease_table.specs.declared.values.Row.{Row}
-use Rattle.lease_table.specs.Keyed.{IsKeyed}
+use Rattle.lease_table.specs.Inside.RowKeys.{IsKeyed}
 
 -- a filter on values keeps each row under its number, and filters the rows
 pub keyed-filter : (test : Row → Bool) (entries : List (ℕ × Row)) → IsKeyed entries → IsKeyed (filter (λ e. test e.1) entries)

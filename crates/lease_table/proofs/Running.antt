@@ -9,32 +9,32 @@ use Rattle.machines.proofs.Every.{all_weaker, all_push}
 use Rattle.lease_table.specs.declared.error.TableError.{TableError}
 use Rattle.lease_table.specs.declared.values.Row.{Row}
 use Rattle.lease_table.specs.declared.values.JobTerm.{JobTerm}
-use Rattle.lease_table.specs.Kept.{IsSmall}
-use Rattle.lease_table.specs.Rows.{runs_at, running, first_up_to}
+use Rattle.lease_table.specs.Inside.Numbers.{IsTermInRange}
+use Rattle.lease_table.specs.Rows.{runs_at, running_rows, first_up_to}
 
 module _ (at last : ℕ) (l : last ≤ at) where
   -- a row that did not run before does not run now
   over : (row : Row) → runs_at last row ≡ false → runs_at at row ≡ false
   over row ended = let earlier : nat_lt last row.table_ends ≡ false = ended in let P : nat_lt at row.table_ends ≡ false = grind (arith, nat_tests) in P
 
-  kept_running : (row : Row) (rows : List Row) (a b : Bool) → runs_at last row ≡ a → runs_at at row ≡ b → running at (running last rows) ≡ running at rows
-      → running at (if a then row ∷ running last rows else running last rows) ≡ (if b then row ∷ running at rows else running at rows)
+  kept_running : (row : Row) (rows : List Row) (a b : Bool) → runs_at last row ≡ a → runs_at at row ≡ b → running_rows at (running_rows last rows) ≡ running_rows at rows
+      → running_rows at (if a then row ∷ running_rows last rows else running_rows last rows) ≡ (if b then row ∷ running_rows at rows else running_rows at rows)
   kept_running row rows true true p q rest = rw q (ap (λ (rs : List Row). row ∷ rs) rest)
   kept_running row rows true false p q rest = rw q rest
   kept_running row rows false true p q rest = absurd (let r = over row p in cc)
   kept_running row rows false false p q rest = rest
 
   -- the rows that run now are among those that ran before
-  pub running-running : (rows : List Row) → running at (running last rows) ≡ running at rows
+  pub running-running : (rows : List Row) → running_rows at (running_rows last rows) ≡ running_rows at rows
   running-running [] = refl
   running-running (row ∷ rows) = kept_running row rows (runs_at last row) (runs_at at row) refl refl (running-running rows)
 
   -- the first row that runs now is the first of those that ran before
-  find_kept : (g : ℕ) (row : Row) (rows : List Row) (a b : Bool) → runs_at last row ≡ a → runs_at at row ≡ b → first_up_to g at (running last rows) ≡ first_up_to g at rows
-      → first_up_to g at (if a then row ∷ running last rows else running last rows) ≡ first_up_to g at (row ∷ rows)
+  find_kept : (g : ℕ) (row : Row) (rows : List Row) (a b : Bool) → runs_at last row ≡ a → runs_at at row ≡ b → first_up_to g at (running_rows last rows) ≡ first_up_to g at rows
+      → first_up_to g at (if a then row ∷ running_rows last rows else running_rows last rows) ≡ first_up_to g at (row ∷ rows)
   find_kept g row rows true b p q rest = by_test (nat_le row.generation g && runs_at at row) rest
     where
-      by_test : (t : Bool) → first_up_to g at (running last rows) ≡ first_up_to g at rows → (if t then Some row else first_up_to g at (running last rows)) ≡ (if t then Some row else first_up_to g at rows)
+      by_test : (t : Bool) → first_up_to g at (running_rows last rows) ≡ first_up_to g at rows → (if t then Some row else first_up_to g at (running_rows last rows)) ≡ (if t then Some row else first_up_to g at rows)
       by_test true rest = refl
       by_test false rest = rest
   find_kept g row rows false true p q rest = absurd (let r = over row p in cc)
@@ -44,12 +44,12 @@ module _ (at last : ℕ) (l : last ≤ at) where
       skip true = rw q refl
       skip false = refl
 
-  pub first_up_to-running : (g : ℕ) (rows : List Row) → first_up_to g at (running last rows) ≡ first_up_to g at rows
+  pub first_up_to-running : (g : ℕ) (rows : List Row) → first_up_to g at (running_rows last rows) ≡ first_up_to g at rows
   first_up_to-running g [] = refl
   first_up_to-running g (row ∷ rows) = find_kept g row rows (runs_at last row) (runs_at at row) refl refl (first_up_to-running g rows)
 
 -- what holds of a term at a reading holds of it later
-pub small_later : (last at job : ℕ) (term : Option JobTerm) → last ≤ at → IsSmall last job term → IsSmall at job term
+pub small_later : (last at job : ℕ) (term : Option JobTerm) → last ≤ at → IsTermInRange last job term → IsTermInRange at job term
 small_later last at job None l h = tt
 small_later last at job (Some term) l h = (h.0, omega (arith, h.1), h.2)
 
@@ -79,16 +79,16 @@ pub answered : {A : Type 0} (checks : List (Option TableError)) (value : A) → 
 answered checks value e = ap (λ (o : Option TableError). unless_refused o value) (sym e)
 
 -- a row that runs goes last
-pub running-push : (at : ℕ) (rows : List Row) (row : Row) → runs_at at row ≡ true → running at (rows ++ row ∷ []) ≡ running at rows ++ row ∷ []
+pub running-push : (at : ℕ) (rows : List Row) (row : Row) → runs_at at row ≡ true → running_rows at (rows ++ row ∷ []) ≡ running_rows at rows ++ row ∷ []
 running-push at [] row runs = rw runs refl
 running-push at (other ∷ rows) row runs = by_test (runs_at at other) (running-push at rows row runs)
   where
-    by_test : (b : Bool) → running at (rows ++ row ∷ []) ≡ running at rows ++ row ∷ []
-        → (if b then other ∷ running at (rows ++ row ∷ []) else running at (rows ++ row ∷ [])) ≡ (if b then other ∷ running at rows else running at rows) ++ row ∷ []
+    by_test : (b : Bool) → running_rows at (rows ++ row ∷ []) ≡ running_rows at rows ++ row ∷ []
+        → (if b then other ∷ running_rows at (rows ++ row ∷ []) else running_rows at (rows ++ row ∷ [])) ≡ (if b then other ∷ running_rows at rows else running_rows at rows) ++ row ∷ []
     by_test true rest = ap (λ (rs : List Row). other ∷ rs) rest
     by_test false rest = rest
 
-pub running-added : (at last : ℕ) (rows : List Row) (row : Row) → last ≤ at → runs_at at row ≡ true → running at (running at (rows ++ row ∷ [])) ≡ running at (running last rows) ++ row ∷ []
+pub running-added : (at last : ℕ) (rows : List Row) (row : Row) → last ≤ at → runs_at at row ≡ true → running_rows at (running_rows at (rows ++ row ∷ [])) ≡ running_rows at (running_rows last rows) ++ row ∷ []
 running-added at last rows row l runs =
     running-running at at (omega arith) (rows ++ row ∷ []) ∙ running-push at rows row runs ∙ ap (λ (rs : List Row). rs ++ row ∷ []) (sym (running-running at last l rows))
 

@@ -12,7 +12,7 @@ use Rattle.lease_table.specs.declared.values.JobTerm.{JobTerm}
 use Rattle.lease_table.specs.declared.values.Grant.{Grant}
 use Rattle.lease_table.specs.declared.values.Row.{Row}
 use Rattle.lease_table.specs.Policies.{Terms}
-use Rattle.lease_table.specs.Rows.{running, left_open}
+use Rattle.lease_table.specs.Rows.{running_rows, rows_left_open}
 use Rattle.lease_table.specs.Tables.{Standing}
 use Rattle.machines.specs.Answers.{replied}
 use Rattle.lease_table.specs.Steps.{row_of, take_step, renew_step, propose_step, commit_step, grant_step, free_step}
@@ -78,7 +78,7 @@ rows_granted (Ok (Granted grant)) before = before ++ row_of grant ∷ []
 rows_granted _ before = before
 
 abbrev pub rows_freed : TableCall → List Row → List Row
-rows_freed (call.Free note at) before = left_open note before
+rows_freed (call.Free note at) before = rows_left_open note before
 rows_freed _ before = before
 
 abbrev pub unfreed_rows : List AnsweredTableCall → List Row
@@ -94,7 +94,7 @@ standing_after policy past = record {
   committed = committed_in past;
   pending = pending_in past;
   granted = length (grants_sent past);
-  rows = running (last_reading past) (unfreed_rows past);
+  rows = running_rows (last_reading past) (unfreed_rows past);
 }
 
 -- what a call answers and leaves, by its step

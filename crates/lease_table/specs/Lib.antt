@@ -6,8 +6,8 @@ pub mod Calls
 pub mod Runs
 pub mod Generations
 pub mod OpenRows
-pub mod Keyed
-pub mod Kept
+pub mod Equality
+pub mod Inside
 pub use Rattle.machines.specs.Refusals
 pub use Rattle.slice_ranges.specs.Sets
 pub use Rattle.policy_rules.specs.Leases

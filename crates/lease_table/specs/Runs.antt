@@ -30,5 +30,5 @@ commits_in [] = 0
 commits_in (e ∷ past) = if is_ok e.answer then commits_after e.call (commits_in past) else commits_in past
 
 -- the longer of the terms of task leases
-abbrev pub longest : Terms → ℕ
-longest policy = max policy.guard policy.bridge
+abbrev pub longest_term : Terms → ℕ
+longest_term policy = max policy.guard policy.bridge

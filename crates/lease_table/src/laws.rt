@@ -1,6 +1,6 @@
 //! What holds after every list of calls that a table answered.
 
-ghost use Rattle.std.specs.Prelude.{◌≡◌, ℕ, ◌+◌, ◌≤◌, ◌<◌, ◌^◌, ◌&&◌, ◌⊎◌, ◌↔◌, List, [], ◌∷◌, ◌++◌, Some, None, true, is_some, slice_get, Contains, AllPairs};
+ghost use Rattle.std.specs.Prelude.{◌≡◌, ℕ, ◌+◌, ◌≤◌, ◌<◌, ◌&&◌, ◌⊎◌, ◌↔◌, List, [], ◌∷◌, ◌++◌, Some, None, true, is_some, slice_get, Contains, AllPairs};
 ghost use Rattle.slice_ranges.specs.Sets.{has};
 ghost use Rattle.policy_rules.specs.declared.lease.Kind.TheVariants.{Guard, Bridge};
 ghost use Rattle.assignment.specs.Slices.{Slicing};
@@ -14,12 +14,13 @@ ghost use Rattle.lease_table.specs.Policies.{Terms, is_policy};
 ghost use Rattle.lease_table.specs.Tables.{Standing, opening, generation_of, slices_of};
 ghost use Rattle.lease_table.specs.Calls.{AnsweredTableCall, table_step, standing_after, LeadsTo, last_reading, committed_in, pending_in, grants_sent};
 ghost use Rattle.machines.specs.Calls.{LeadsOn};
-ghost use Rattle.lease_table.specs.Runs.{IsRun, commits_in, proposed_at, longest};
+ghost use Rattle.lease_table.specs.Runs.{IsRun, commits_in, proposed_at, longest_term};
 ghost use Rattle.lease_table.specs.Generations.{assignment_in, published_in, newest_generation, covers_by_owners, HasFewOwners};
 ghost use Rattle.lease_table.specs.OpenRows.{IsSent, IsFreed, IsOpen, HoldsUp, IsHeldUp, grant_numbered};
 ghost use Rattle.lease_table.specs.Steps.{row_of, held_up, guard_of, bridge_of};
 
 use crate::policy::Policy;
+use key_hash::KEYS;
 
 /// A policy is within its limits.
 pub fn policy_law(policy: Policy)
@@ -83,20 +84,20 @@ pub fn leases_law()
     ensures skew { (policy : Terms) (past : List AnsweredTableCall) (grant : Grant) → is_policy policy ≡ true → IsRun policy past
         → IsSent past grant → grant.lease.ends + policy.skew ≡ grant.table_ends }
     ensures ends { (policy : Terms) (past : List AnsweredTableCall) (grant : Grant) → is_policy policy ≡ true → IsRun policy past
-        → IsSent past grant → grant.table_ends ≤ last_reading past + longest policy }
+        → IsSent past grant → grant.table_ends ≤ last_reading past + longest_term policy }
 {}
 
 /// A guard lease covers a key exactly where its task owns it in the committed assignment, a bridge
 /// lease exactly where the task owns it in the committed and in the proposed one; and so does every
 /// grant that was sent, by the assignments of its generations.
 pub fn covers_law()
-    ensures guard { (t : Standing) (task life at key : ℕ) → key < 2 ^ 63
+    ensures guard { (t : Standing) (task life at key : ℕ) → key < KEYS
         → has (guard_of t task life at).lease.ranges key ≡ owns (slices_of t.committed) key task }
-    ensures bridge { (t : Standing) (next : Slicing) (task life at key : ℕ) → key < 2 ^ 63
+    ensures bridge { (t : Standing) (next : Slicing) (task life at key : ℕ) → key < KEYS
         → has (bridge_of t next task life at).lease.ranges key
         ≡ (owns (slices_of t.committed) key task && owns next.slices key task) }
     ensures sent { (policy : Terms) (past : List AnsweredTableCall) (grant : Grant) (key : ℕ) → is_policy policy ≡ true → IsRun policy past
-        → IsSent past grant → key < 2 ^ 63 → has grant.lease.ranges key ≡ covers_by_owners past key grant }
+        → IsSent past grant → key < KEYS → has grant.lease.ranges key ≡ covers_by_owners past key grant }
 {}
 
 /// The rows of a table are those of the grants sent that are open at the last accepted reading, in
@@ -130,5 +131,5 @@ pub fn held_law()
 pub fn bound_law()
     ensures { (policy : Terms) (past : List AnsweredTableCall) (next : Slicing) (at : ℕ)
         → is_policy policy ≡ true → IsRun policy past → pending_in past ≡ Some next
-        → proposed_at past + longest policy ≤ at → held_up (standing_after policy past) at ≡ None }
+        → proposed_at past + longest_term policy ≤ at → held_up (standing_after policy past) at ≡ None }
 {}

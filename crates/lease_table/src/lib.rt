@@ -17,8 +17,8 @@ pub use laws::{
     policy_law, rows_law, standing_law,
 };
 pub use machine::TableEvent;
-pub use policy::Policy;
-pub use table::LeaseTable;
+pub use policy::{LONGEST_TERM, MOST_GRANTS, Policy};
+pub use table::{LeaseTable, READINGS};
 pub use values::{Grant, JobTerm, Phase, ReleaseNote, Row};
 
 #[cfg(test)]

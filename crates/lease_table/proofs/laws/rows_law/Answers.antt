@@ -1,5 +1,5 @@
 use Rattle.std.proofs.Common.{sym, subst, Contains}
-use Rattle.lease_table.specs.Rows.{running}
+use Rattle.lease_table.specs.Rows.{running_rows}
 use Rattle.lease_table.specs.Calls.{last_reading, unfreed_rows}
 use Rattle.lease_table.proofs.OpenRows.{row_is_of_open, open_has_row, rows_in_order, row_of_sent}
 use Rattle.lease_table.proofs.HoldingUp.{young}
@@ -8,7 +8,7 @@ use Rattle.lease_table.proofs.laws.rows_law.Goals as goal
 pub returns-clause-listed : goal.returns-clause-listed
 returns-clause-listed c = λ policy past row run. (
   row_is_of_open policy past (last_reading past) row run,
-  λ h. subst (Contains (running (last_reading past) (unfreed_rows past))) (sym h.2) (open_has_row policy past (last_reading past) h.0 run h.1),
+  λ h. subst (Contains (running_rows (last_reading past) (unfreed_rows past))) (sym h.2) (open_has_row policy past (last_reading past) h.0 run h.1),
 )
 
 pub returns-clause-ordered : goal.returns-clause-ordered
