@@ -1,6 +1,6 @@
 -- What was found of a call that was accepted: none of its refusals, and the reply of its step.
-use Rattle.std.proofs.Common.{◌≡◌, ℕ, ◌+◌, ◌<◌, ◌≤◌, Bool, true, false, length, refl, arith}
-use Rattle.std.specs.Prelude.{Option, Some, None, Ok, nat_lt, nat_le, is_none, is_some, not, ◌==◌, ◌&&◌, filter, option_map}
+use Rattle.std.proofs.Common.{◌≡◌, ℕ, ◌+◌, ◌<◌, ◌≤◌, Bool, true, false, length, refl, arith, List}
+use Rattle.std.specs.Prelude.{Option, Some, None, Ok, nat_lt, nat_le, is_none, is_some, not, ◌==◌, ◌&&◌, filter, option_map, Result}
 use Rattle.std.specs.List.{list_any}
 use Rattle.std.proofs.lemmas.Bool.Decides.{nat_tests}
 use Rattle.machines.specs.Refusals.{first_of, unless_refused}
@@ -17,10 +17,11 @@ use Rattle.lease_table.specs.declared.error.TableError.TheVariants.{Held}
 use Rattle.lease_table.specs.declared.table.TheConstants.{READINGS}
 use Rattle.lease_table.specs.declared.values.ReleaseNote.{ReleaseNote}
 use Rattle.lease_table.specs.declared.values.Row.{Row}
+use Rattle.lease_table.specs.Policies.{Terms}
 use Rattle.lease_table.specs.Rows.{running_rows, closes, first_up_to}
 use Rattle.lease_table.specs.Tables.{Standing, generation_of}
 use Rattle.lease_table.specs.Steps
-use Rattle.lease_table.specs.Calls.{reading_of, table_step}
+use Rattle.lease_table.specs.Calls.{AnsweredTableCall, reading_of, standing_after, table_step}
 
 -- the reading of an accepted call
 pub record IsReading (t : Standing) (at : ℕ) : Type 0 where
@@ -70,6 +71,13 @@ IsAccepted t (call.Propose number slicing at) reply = IsProposed t number slicin
 IsAccepted t (call.Commit number at) reply = IsCommitted t number at reply
 IsAccepted t (call.Grant task life at) reply = IsGranted t task life at reply
 IsAccepted t (call.Free note at) reply = IsClosing t note at reply
+
+abbrev pub IsAcceptedAfter : Terms → List AnsweredTableCall → TableCall → TableReply → Type 0
+IsAcceptedAfter policy past c reply = IsAccepted (standing_after policy past) c reply
+
+-- a call was answered by its step
+abbrev pub IsAnsweredAfter : Terms → List AnsweredTableCall → TableCall → Result TableReply TableError → Type 0
+IsAnsweredAfter policy past c given = given ≡ answer_of (table_step (standing_after policy past) c)
 
 -- an answered call was not refused, and its reply is that of its step
 unrefused : {R : Type 0} (name : R → TableReply) (o : Option TableError) (new : Standing) (r : R) (reply : TableReply)

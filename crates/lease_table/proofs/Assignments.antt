@@ -2,7 +2,7 @@
 use Rattle.std.proofs.Common.{◌≡◌, ◌∙◌, ℕ, ◌+◌, ◌≤◌, Bool, true, false, List, [], ◌∷◌, ◌++◌, refl, ap, arith}
 use Rattle.std.specs.Prelude.{Option, Some, None, Result, Ok, Err, is_none, ◌==◌, if◌then◌else◌}
 use Rattle.std.proofs.lemmas.Bool.Decides.{nat_tests}
-use Rattle.machines.specs.Calls.{answered, answer_of}
+use Rattle.machines.specs.Calls.{answered}
 use Rattle.assignment.specs.Slices.{Slicing}
 use Rattle.lease_table.specs.declared.call.TableCall.{TableCall}
 use Rattle.lease_table.specs.declared.call.TableCall.TheVariants as call
@@ -10,10 +10,10 @@ use Rattle.lease_table.specs.declared.call.TableReply.{TableReply}
 use Rattle.lease_table.specs.declared.error.TableError.{TableError}
 use Rattle.lease_table.specs.Policies.{Terms}
 use Rattle.lease_table.specs.Tables.{generation_of}
-use Rattle.lease_table.specs.Calls.{AnsweredTableCall, standing_after, table_step, pending_after, pending_in, committed_after, committed_in}
+use Rattle.lease_table.specs.Calls.{AnsweredTableCall, standing_after, pending_after, pending_in, committed_after, committed_in}
 use Rattle.lease_table.specs.Runs.{IsRun, commits_after, commits_in}
 use Rattle.lease_table.specs.Generations.{published_after, published_in, assignment_in, newest_with, newest_generation, HasFewOwners}
-use Rattle.lease_table.proofs.Acceptance.{IsAccepted, IsProposed, acceptance}
+use Rattle.lease_table.proofs.Acceptance.{IsAcceptedAfter, IsAnsweredAfter, IsProposed, acceptance}
 use Rattle.lease_table.proofs.Induction.{after_run}
 
 -- THE NUMBERS OF GENERATIONS
@@ -27,7 +27,8 @@ proposed_generation : (n : ℕ) (p : Option Slicing) → is_none p ≡ false →
 proposed_generation n None e h = absurd (cc)
 proposed_generation n (Some slicing) e h = h slicing refl
 
-counted_call : (policy : Terms) (past : List AnsweredTableCall) (c : TableCall) (reply : TableReply) → IsCounted past → IsAccepted (standing_after policy past) c reply → IsCounted (answered c (Ok reply) ∷ past)
+counted_call : (policy : Terms) (past : List AnsweredTableCall) (c : TableCall) (reply : TableReply) → IsCounted past
+    → IsAcceptedAfter policy past c reply → IsCounted (answered c (Ok reply) ∷ past)
 counted_call policy past (call.Propose number slicing at) reply h a = record {
   committed = h.committed;
   pending = λ other e.
@@ -70,7 +71,8 @@ published_committed : (past : List AnsweredTableCall) → published_in (commits_
 published_committed [] = refl
 published_committed (e ∷ past) = by_answer e.answer (published_committed past)
   where
-    by_answer : (given : Result TableReply TableError) → published_in (commits_in past) past ≡ committed_in past → published_in (commits_in (answered e.call given ∷ past)) (answered e.call given ∷ past) ≡ committed_in (answered e.call given ∷ past)
+    by_answer : (given : Result TableReply TableError) → published_in (commits_in past) past ≡ committed_in past
+        → published_in (commits_in (answered e.call given ∷ past)) (answered e.call given ∷ past) ≡ committed_in (answered e.call given ∷ past)
     by_answer (Ok reply) h = published_step e.call past h
     by_answer (Err refusal) h = h
 
@@ -102,7 +104,8 @@ newest_step (call.JobRenew number at) n p = omega arith
 newest_step (call.Grant task life at) n p = omega arith
 newest_step (call.Free note at) n p = omega arith
 
-pub newest_call : (c : TableCall) (given : Result TableReply TableError) (past : List AnsweredTableCall) → newest_generation past ≤ newest_generation (answered c given ∷ past)
+pub newest_call : (c : TableCall) (given : Result TableReply TableError) (past : List AnsweredTableCall)
+    → newest_generation past ≤ newest_generation (answered c given ∷ past)
 newest_call c (Ok reply) past = newest_step c (commits_in past) (pending_in past)
 newest_call c (Err refusal) past = omega arith
 
@@ -118,7 +121,8 @@ commits_step (call.JobRenew number at) n = omega arith
 commits_step (call.Grant task life at) n = omega arith
 commits_step (call.Free note at) n = omega arith
 
-pub commits_call : (c : TableCall) (given : Result TableReply TableError) (past : List AnsweredTableCall) → commits_in past ≤ commits_in (answered c given ∷ past)
+pub commits_call : (c : TableCall) (given : Result TableReply TableError) (past : List AnsweredTableCall)
+    → commits_in past ≤ commits_in (answered c given ∷ past)
 commits_call c (Ok reply) past = commits_step c (commits_in past)
 commits_call c (Err refusal) past = omega arith
 
@@ -126,7 +130,8 @@ newest_alone : (n : ℕ) (p : Option Slicing) → p ≡ None → newest_with n p
 newest_alone n None e = refl
 newest_alone n (Some slicing) e = absurd (cc)
 
-stays_propose : (policy : Terms) (past : List AnsweredTableCall) (number : ℕ) (slicing : Slicing) (at : ℕ) (reply : TableReply) (g : ℕ) → IsProposed (standing_after policy past) number slicing at reply → g ≤ newest_generation past
+stays_propose : (policy : Terms) (past : List AnsweredTableCall) (number : ℕ) (slicing : Slicing) (at : ℕ) (reply : TableReply) (g : ℕ)
+    → IsProposed (standing_after policy past) number slicing at reply → g ≤ newest_generation past
     → (if g == commits_in past + 1 then Some slicing else published_in g past) ≡ assignment_in g past
 stays_propose policy past number slicing at reply g a l =
     let most : newest_generation past ≡ commits_in past = newest_alone (commits_in past) (pending_in past) a.alone in
@@ -148,7 +153,8 @@ stays_commit past g l =
     by_test : (a b : Bool) → a ≡ b → (if a then pending_in past else published_in g past) ≡ (if b then pending_in past else published_in g past)
     by_test a b e = ap (λ (c : Bool). if c then pending_in past else published_in g past) e
 
-stays_call : (policy : Terms) (past : List AnsweredTableCall) (c : TableCall) (reply : TableReply) → IsAccepted (standing_after policy past) c reply → (g : ℕ) → g ≤ newest_generation past
+stays_call : (policy : Terms) (past : List AnsweredTableCall) (c : TableCall) (reply : TableReply) → IsAcceptedAfter policy past c reply → (g : ℕ)
+    → g ≤ newest_generation past
     → assignment_in g (answered c (Ok reply) ∷ past) ≡ assignment_in g past
 stays_call policy past (call.Propose number slicing at) reply a g l = stays_propose policy past number slicing at reply g a l
 stays_call policy past (call.Commit number at) reply a g l = stays_commit past g l
@@ -157,12 +163,14 @@ stays_call policy past (call.JobRenew number at) reply a g l = refl
 stays_call policy past (call.Grant task life at) reply a g l = refl
 stays_call policy past (call.Free note at) reply a g l = refl
 
-pub assignment_stays_after : (policy : Terms) (past : List AnsweredTableCall) (c : TableCall) (given : Result TableReply TableError) → given ≡ answer_of (table_step (standing_after policy past) c) → (g : ℕ) → g ≤ newest_generation past
+pub assignment_stays_after : (policy : Terms) (past : List AnsweredTableCall) (c : TableCall) (given : Result TableReply TableError)
+    → IsAnsweredAfter policy past c given → (g : ℕ) → g ≤ newest_generation past
     → assignment_in g (answered c given ∷ past) ≡ assignment_in g past
 assignment_stays_after policy past c (Ok reply) e g l = stays_call policy past c reply (acceptance (standing_after policy past) c reply e) g l
 assignment_stays_after policy past c (Err refusal) e g l = refl
 
-pub assignment_stays : (policy : Terms) (later past : List AnsweredTableCall) (g : ℕ) → IsRun policy (later ++ past) → g ≤ newest_generation past → assignment_in g (later ++ past) ≡ assignment_in g past
+pub assignment_stays : (policy : Terms) (later past : List AnsweredTableCall) (g : ℕ) → IsRun policy (later ++ past) → g ≤ newest_generation past
+    → assignment_in g (later ++ past) ≡ assignment_in g past
 assignment_stays policy [] past g run l = refl
 assignment_stays policy (e ∷ later) past g run l =
     let grown = newest_grows later past in
@@ -181,19 +189,23 @@ module _ (policy : Terms) (P : Option Slicing → Type 0) (none : P None)
     pub pending : P (pending_in past)
     pub published : (g : ℕ) → P (published_in g past)
 
-  each_call : (past : List AnsweredTableCall) (c : TableCall) (reply : TableReply) → HasEach past → IsAccepted (standing_after policy past) c reply → HasEach (answered c (Ok reply) ∷ past)
+  each_call : (past : List AnsweredTableCall) (c : TableCall) (reply : TableReply) → HasEach past → IsAcceptedAfter policy past c reply
+      → HasEach (answered c (Ok reply) ∷ past)
   each_call past (call.Propose number slicing at) reply h a = record { pending = proposed past number slicing at reply a; published = h.published }
-  each_call past (call.Commit number at) reply h a = record { pending = none; published = λ g. of_test P (commits_in past + 1 == g) (pending_in past) (published_in g past) h.pending (h.published g) }
+  each_call past (call.Commit number at) reply h a =
+      record { pending = none; published = λ g. of_test P (commits_in past + 1 == g) (pending_in past) (published_in g past) h.pending (h.published g) }
   each_call past (call.JobTake assigner at) reply h a = record { pending = h.pending; published = h.published }
   each_call past (call.JobRenew number at) reply h a = record { pending = h.pending; published = h.published }
   each_call past (call.Grant task life at) reply h a = record { pending = h.pending; published = h.published }
   each_call past (call.Free note at) reply h a = record { pending = h.pending; published = h.published }
 
   has_each : (past : List AnsweredTableCall) → IsRun policy past → HasEach past
-  has_each = after_run policy HasEach (record { pending = none; published = λ g. none }) (λ past c refusal h. record { pending = h.pending; published = h.published }) (λ past c reply run h a. each_call past c reply h a)
+  has_each =
+      after_run policy HasEach (record { pending = none; published = λ g. none }) (λ past c refusal h. record { pending = h.pending; published = h.published }) (λ past c reply run h a. each_call past c reply h a)
 
   pub each_assignment : (past : List AnsweredTableCall) → IsRun policy past → (g : ℕ) → P (assignment_in g past)
-  each_assignment past run g = let h = has_each past run in of_test P (g == commits_in past + 1) (pending_in past) (published_in g past) h.pending (h.published g)
+  each_assignment past run g =
+      let h = has_each past run in of_test P (g == commits_in past + 1) (pending_in past) (published_in g past) h.pending (h.published g)
 
 pub few_owners : (policy : Terms) (past : List AnsweredTableCall) → IsRun policy past → (g : ℕ) → HasFewOwners policy (assignment_in g past)
 few_owners policy = each_assignment policy (HasFewOwners policy) refl (λ past number slicing at reply a. a.few)
@@ -202,11 +214,13 @@ few_owners policy = each_assignment policy (HasFewOwners policy) refl (λ past n
 IsNamed : ℕ → Option Slicing → Type 0
 IsNamed g p = (slicing : Slicing) → p ≡ Some slicing → slicing.generation ≡ g
 
-named_call : (policy : Terms) (past : List AnsweredTableCall) (c : TableCall) (reply : TableReply) → IsCounted past → ((g : ℕ) → IsNamed g (published_in g past)) → (g : ℕ) → IsNamed g (published_in g (answered c (Ok reply) ∷ past))
+named_call : (policy : Terms) (past : List AnsweredTableCall) (c : TableCall) (reply : TableReply) → IsCounted past
+    → ((g : ℕ) → IsNamed g (published_in g past)) → (g : ℕ) → IsNamed g (published_in g (answered c (Ok reply) ∷ past))
 unfolding IsNamed
 named_call policy past (call.Commit number at) reply k h g = by_test (commits_in past + 1 == g) refl
   where
-    by_test : (b : Bool) → b ≡ (commits_in past + 1 == g) → (slicing : Slicing) → (if b then pending_in past else published_in g past) ≡ Some slicing → slicing.generation ≡ g
+    by_test : (b : Bool) → b ≡ (commits_in past + 1 == g) → (slicing : Slicing) → (if b then pending_in past else published_in g past) ≡ Some slicing
+        → slicing.generation ≡ g
     by_test true t slicing e = let n = k.pending slicing e in grind (arith, nat_tests)
     by_test false t slicing e = h g slicing e
 named_call policy past (call.Propose number slicing at) reply k h g = h g
@@ -221,10 +235,12 @@ published_named policy =
     after_run policy (λ past. (g : ℕ) → IsNamed g (published_in g past)) (λ g slicing e. absurd (let none : None ≡ Some slicing = e in cc)) (λ past c refusal h. h)
     (λ past c reply run h a. named_call policy past c reply (counted policy past run) h)
 
-pub assignment_named : (policy : Terms) (past : List AnsweredTableCall) → IsRun policy past → (g : ℕ) (slicing : Slicing) → assignment_in g past ≡ Some slicing → slicing.generation ≡ g
+pub assignment_named : (policy : Terms) (past : List AnsweredTableCall) → IsRun policy past → (g : ℕ) (slicing : Slicing)
+    → assignment_in g past ≡ Some slicing → slicing.generation ≡ g
 unfolding IsNamed
 assignment_named policy past run g = by_test (g == commits_in past + 1) refl
   where
-    by_test : (b : Bool) → b ≡ (g == commits_in past + 1) → (slicing : Slicing) → (if b then pending_in past else published_in g past) ≡ Some slicing → slicing.generation ≡ g
+    by_test : (b : Bool) → b ≡ (g == commits_in past + 1) → (slicing : Slicing) → (if b then pending_in past else published_in g past) ≡ Some slicing
+        → slicing.generation ≡ g
     by_test true t slicing e = let n = (counted policy past run).pending slicing e in grind (arith, nat_tests)
     by_test false t slicing e = published_named policy past run g slicing e

@@ -4,7 +4,7 @@ use Rattle.std.specs.Prelude.{Option, Some, None, Result, Ok}
 use Rattle.key_hash.specs.declared.TheConstants.{KEYS}
 use Rattle.slice_ranges.specs.Sets.{has}
 use Rattle.slice_ranges.proofs.Where.{has-where}
-use Rattle.machines.specs.Calls.{answered, answer_of}
+use Rattle.machines.specs.Calls.{answered}
 use Rattle.policy_rules.specs.declared.lease.Kind.{Kind}
 use Rattle.policy_rules.specs.declared.lease.Kind.TheVariants.{Guard, Bridge}
 use Rattle.assignment.specs.Slices.{Slicing}
@@ -18,11 +18,11 @@ use Rattle.lease_table.specs.declared.values.Grant.{Grant}
 use Rattle.lease_table.specs.Policies.{Terms, is_policy}
 use Rattle.lease_table.specs.Tables.{Standing, generation_of, slices_of}
 use Rattle.lease_table.specs.Steps.{grant_with, guard_of, bridge_of}
-use Rattle.lease_table.specs.Calls.{AnsweredTableCall, standing_after, table_step, committed_in, pending_in}
+use Rattle.lease_table.specs.Calls.{AnsweredTableCall, standing_after, committed_in, pending_in}
 use Rattle.lease_table.specs.Runs.{IsRun, commits_in}
 use Rattle.lease_table.specs.Generations.{assignment_in, newest_generation, owns_in, covers_as, covers_by_owners}
 use Rattle.lease_table.specs.OpenRows.{IsSent}
-use Rattle.lease_table.proofs.Acceptance.{IsGranted}
+use Rattle.lease_table.proofs.Acceptance.{IsAnsweredAfter, IsGranted}
 use Rattle.lease_table.proofs.Induction.{of_each_sent}
 use Rattle.lease_table.proofs.Assignments.{IsCounted, counted, assignment_stays_after, assignment_committed, assignment_proposed}
 use Rattle.lease_table.proofs.Leases.{granted_by, leased}
@@ -35,12 +35,12 @@ pub bridge_covers : (t : Standing) (next : Slicing) (task life at key : ℕ) →
 bridge_covers t next task life at key l = has-where (λ k. owns (slices_of t.committed) k task && owns next.slices k task) key l
 
 module _ (policy : Terms) (past : List AnsweredTableCall) where
-  owns_stays : (c : TableCall) (given : Result TableReply TableError) → given ≡ answer_of (table_step (standing_after policy past) c) → (g key task : ℕ) → g ≤ newest_generation past
+  owns_stays : (c : TableCall) (given : Result TableReply TableError) → IsAnsweredAfter policy past c given → (g key task : ℕ) → g ≤ newest_generation past
       → owns_in (answered c given ∷ past) g key task ≡ owns_in past g key task
   owns_stays c given e g key task l = ap (λ (o : Option Slicing). owns (slices_of o) key task) (assignment_stays_after policy past c given e g l)
 
   -- what the owners say of a grant stays
-  covers_stays : (c : TableCall) (given : Result TableReply TableError) → given ≡ answer_of (table_step (standing_after policy past) c) → (key : ℕ) (grant : Grant)
+  covers_stays : (c : TableCall) (given : Result TableReply TableError) → IsAnsweredAfter policy past c given → (key : ℕ) (grant : Grant)
       → grant.lease.generation ≤ newest_generation past → covers_by_owners (answered c given ∷ past) key grant ≡ covers_by_owners past key grant
   covers_stays c given e key grant l = by_kind grant.lease.kind
     where
@@ -71,7 +71,8 @@ module _ (policy : Terms) (past : List AnsweredTableCall) where
 CoversOwned : List AnsweredTableCall → Grant → Type 0
 CoversOwned past grant = (key : ℕ) → key < KEYS → has grant.lease.ranges key ≡ covers_by_owners past key grant
 
-covers_given : (policy : Terms) (past : List AnsweredTableCall) (grant : Grant) → IsRun policy past → (task life at : ℕ) → IsGranted (standing_after policy past) task life at (Granted grant)
+covers_given : (policy : Terms) (past : List AnsweredTableCall) (grant : Grant) → IsRun policy past → (task life at : ℕ)
+    → IsGranted (standing_after policy past) task life at (Granted grant)
     → CoversOwned (answered (call.Grant task life at) (Ok (Granted grant)) ∷ past) grant
 unfolding CoversOwned
 covers_given policy past grant run task life at a key l =

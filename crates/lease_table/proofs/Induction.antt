@@ -2,7 +2,7 @@
 use Rattle.std.proofs.Common.{◌≡◌, ◌<◌, List, [], ◌∷◌, subst, inl, inr, arith}
 use Rattle.std.specs.Prelude.{Result, Ok, Err}
 use Rattle.std.proofs.lemmas.List.Elements.{Contains-push_cases}
-use Rattle.machines.specs.Calls.{answered, answer_of}
+use Rattle.machines.specs.Calls.{answered}
 use Rattle.lease_table.specs.declared.call.TableCall.{TableCall}
 use Rattle.lease_table.specs.declared.call.TableCall.TheVariants as call
 use Rattle.lease_table.specs.declared.call.TableReply.{TableReply}
@@ -10,16 +10,17 @@ use Rattle.lease_table.specs.declared.call.TableReply.TheVariants.{Term, Propose
 use Rattle.lease_table.specs.declared.error.TableError.{TableError}
 use Rattle.lease_table.specs.declared.values.Grant.{Grant}
 use Rattle.lease_table.specs.Policies.{Terms}
-use Rattle.lease_table.specs.Calls.{AnsweredTableCall, standing_after, table_step}
+use Rattle.lease_table.specs.Calls.{AnsweredTableCall, standing_after}
 use Rattle.lease_table.specs.Runs.{IsRun}
 use Rattle.lease_table.specs.OpenRows.{IsSent}
-use Rattle.lease_table.proofs.Acceptance.{IsAccepted, IsGranted, acceptance}
+use Rattle.lease_table.proofs.Acceptance.{IsAcceptedAfter, IsAnsweredAfter, IsGranted, acceptance}
 
 -- what holds before the first call, and is kept by each accepted call and each refused one
 module _ (policy : Terms) (P : List AnsweredTableCall → Type 0) (start : P [])
     (refused : (past : List AnsweredTableCall) (c : TableCall) (refusal : TableError) → P past → P (answered c (Err refusal) ∷ past))
-    (accepted : (past : List AnsweredTableCall) (c : TableCall) (reply : TableReply) → IsRun policy past → P past → IsAccepted (standing_after policy past) c reply → P (answered c (Ok reply) ∷ past)) where
-  by_answer : (past : List AnsweredTableCall) (c : TableCall) (given : Result TableReply TableError) → given ≡ answer_of (table_step (standing_after policy past) c) → IsRun policy past → P past → P (answered c given ∷ past)
+    (accepted : (past : List AnsweredTableCall) (c : TableCall) (reply : TableReply) → IsRun policy past → P past → IsAcceptedAfter policy past c reply → P (answered c (Ok reply) ∷ past)) where
+  by_answer : (past : List AnsweredTableCall) (c : TableCall) (given : Result TableReply TableError) → IsAnsweredAfter policy past c given
+      → IsRun policy past → P past → P (answered c given ∷ past)
   by_answer past c (Ok reply) e run h = accepted past c reply run h (acceptance (standing_after policy past) c reply e)
   by_answer past c (Err refusal) e run h = refused past c refusal h
 
@@ -30,7 +31,7 @@ module _ (policy : Terms) (P : List AnsweredTableCall → Type 0) (start : P [])
 -- a call that answers a grant is a `grant` that was accepted
 pub of_grant : (policy : Terms) (Q : AnsweredTableCall → Type 0) (past : List AnsweredTableCall) (c : TableCall) (grant : Grant)
     → ((task life at : _) → IsGranted (standing_after policy past) task life at (Granted grant) → Q (answered (call.Grant task life at) (Ok (Granted grant))))
-    → IsAccepted (standing_after policy past) c (Granted grant) → Q (answered c (Ok (Granted grant)))
+    → IsAcceptedAfter policy past c (Granted grant) → Q (answered c (Ok (Granted grant)))
 of_grant policy Q past (call.Grant task life at) grant given a = given task life at a
 of_grant policy Q past (call.JobTake assigner at) grant given a = absurd (let e : Granted grant ≡ Term _ = a.replies in cc)
 of_grant policy Q past (call.JobRenew number at) grant given a = absurd (let e : Granted grant ≡ Term _ = a.replies in cc)

@@ -44,39 +44,45 @@ by_checks : {R : Type 0} (reply : R → TableReply) (policy : Terms) (past : Lis
 by_checks reply policy past c None new r refused accepted = accepted refl
 by_checks reply policy past c (Some refusal) new r refused accepted = refused refusal
 
-module _ (policy : Terms) (past : List AnsweredTableCall) where
-  now : Standing
-  now = standing_after policy past
+-- a call leads where the calls with it lead
+abbrev pub Leads : Terms → List AnsweredTableCall → TableCall → Type 0
+Leads policy past c = LeadsOn (LeadsTo policy) past (standing_after policy past) c (table_step (standing_after policy past) c)
 
+module _ (policy : Terms) (past : List AnsweredTableCall) where
   -- the rows that run at an accepted reading
   later_rows : (at : ℕ) → last_reading past ≤ at → running_rows at (unfreed_rows past) ≡ running_rows at (running_rows (last_reading past) (unfreed_rows past))
   later_rows at l = sym (running-running at (last_reading past) l (unfreed_rows past))
 
-  lead_take : (assigner at : ℕ) → LeadsOn (LeadsTo policy) past (standing_after policy past) (call.JobTake assigner at) (table_step (standing_after policy past) (call.JobTake assigner at))
+  lead_take : (assigner at : ℕ)
+      → Leads policy past (call.JobTake assigner at)
   lead_take assigner at =
       by_checks Term policy past (call.JobTake assigner at) (first_of (Steps.take_checks (standing_after policy past) at)) _ _ (λ refusal. refl)
       (λ h. let rows = later_rows at (not_back (standing_after policy past) at _ h) in
       ap (λ (rs : List Row). let s : Standing = record (standing_after policy past) { last = at; term = Some (Steps.term_taken (standing_after policy past) assigner at); rows = rs } in s) rows)
 
-  lead_renew : (number at : ℕ) → LeadsOn (LeadsTo policy) past (standing_after policy past) (call.JobRenew number at) (table_step (standing_after policy past) (call.JobRenew number at))
+  lead_renew : (number at : ℕ)
+      → Leads policy past (call.JobRenew number at)
   lead_renew number at =
       by_checks Term policy past (call.JobRenew number at) (first_of (Steps.renew_checks (standing_after policy past) number at)) _ _ (λ refusal. refl)
       (λ h. let rows = later_rows at (not_back (standing_after policy past) at _ h) in
       ap (λ (rs : List Row). let s : Standing = record (standing_after policy past) { last = at; term = Some (Steps.renewed_term (at + policy.job) (last_term past)); rows = rs } in s) rows)
 
-  lead_propose : (number : ℕ) (slicing : Slicing) (at : ℕ) → LeadsOn (LeadsTo policy) past (standing_after policy past) (call.Propose number slicing at) (table_step (standing_after policy past) (call.Propose number slicing at))
+  lead_propose : (number : ℕ) (slicing : Slicing) (at : ℕ)
+      → Leads policy past (call.Propose number slicing at)
   lead_propose number slicing at =
       by_checks (λ _. Proposed) policy past (call.Propose number slicing at) (first_of (Steps.propose_checks (standing_after policy past) number slicing at)) _ _ (λ refusal. refl)
       (λ h. let rows = later_rows at (not_back (standing_after policy past) at _ h) in
       ap (λ (rs : List Row). let s : Standing = record (standing_after policy past) { last = at; pending = Some slicing; rows = rs } in s) rows)
 
-  lead_commit : (number at : ℕ) → LeadsOn (LeadsTo policy) past (standing_after policy past) (call.Commit number at) (table_step (standing_after policy past) (call.Commit number at))
+  lead_commit : (number at : ℕ)
+      → Leads policy past (call.Commit number at)
   lead_commit number at =
       by_checks Committed policy past (call.Commit number at) (first_of (Steps.commit_checks (standing_after policy past) number at)) _ _ (λ refusal. refl)
       (λ h. let rows = later_rows at (not_back (standing_after policy past) at _ h) in
       ap (λ (rs : List Row). let s : Standing = record (standing_after policy past) { last = at; committed = pending_in past; pending = None; rows = rs } in s) rows)
 
-  lead_free : (note : ReleaseNote) (at : ℕ) → LeadsOn (LeadsTo policy) past (standing_after policy past) (call.Free note at) (table_step (standing_after policy past) (call.Free note at))
+  lead_free : (note : ReleaseNote) (at : ℕ)
+      → Leads policy past (call.Free note at)
   lead_free note at =
       by_checks Freed policy past (call.Free note at) (first_of (Steps.free_checks (standing_after policy past) note at)) _ _ (λ refusal. refl)
       (λ h. let rows = later_rows at (not_back (standing_after policy past) at _ h) in
@@ -84,7 +90,8 @@ module _ (policy : Terms) (past : List AnsweredTableCall) where
       ap (λ (rs : List Row). let s : Standing = record (standing_after policy past) { last = at; rows = rs } in s) (swapped ∙ ap (rows_left_open note) rows))
 
   -- a grant's row runs at its reading: terms are positive
-  pub row_runs : (task life at : ℕ) → is_policy policy ≡ true → runs_at at (Steps.row_of (Steps.grant_with (standing_after policy past) (pending_in past) task life at)) ≡ true
+  pub row_runs : (task life at : ℕ) → is_policy policy ≡ true
+      → runs_at at (Steps.row_of (Steps.grant_with (standing_after policy past) (pending_in past) task life at)) ≡ true
   row_runs task life at p = by_phase (pending_in past)
     where
       guard : 1 ≤ policy.guard
@@ -97,7 +104,8 @@ module _ (policy : Terms) (past : List AnsweredTableCall) where
       by_phase None = let l : at < at + policy.guard = omega (arith, guard) in grind (arith, nat_tests)
       by_phase (Some next) = let l : at < at + policy.bridge = omega (arith, bridge) in grind (arith, nat_tests)
 
-  lead_grant : (task life at : ℕ) → is_policy policy ≡ true → LeadsOn (LeadsTo policy) past (standing_after policy past) (call.Grant task life at) (table_step (standing_after policy past) (call.Grant task life at))
+  lead_grant : (task life at : ℕ) → is_policy policy ≡ true
+      → Leads policy past (call.Grant task life at)
   lead_grant task life at p =
       by_checks Granted policy past (call.Grant task life at) (first_of (Steps.grant_checks (standing_after policy past) at)) _ _ (λ refusal. refl)
       (λ h.
@@ -110,7 +118,8 @@ module _ (policy : Terms) (past : List AnsweredTableCall) where
       λ j. standing (counted j) (added j))
 
   -- each call leads where the calls with it lead
-  pub leads : (c : TableCall) → is_policy policy ≡ true → LeadsOn (LeadsTo policy) past (standing_after policy past) c (table_step (standing_after policy past) c)
+  pub leads : (c : TableCall) → is_policy policy ≡ true
+      → Leads policy past c
   leads (call.JobTake assigner at) p = lead_take assigner at
   leads (call.JobRenew number at) p = lead_renew number at
   leads (call.Propose number slicing at) p = lead_propose number slicing at

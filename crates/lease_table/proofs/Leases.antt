@@ -2,7 +2,7 @@
 use Rattle.std.proofs.Common.{◌≡◌, ℕ, ◌+◌, ◌<◌, ◌≤◌, true, List, ◌∷◌, refl, sym, ap, subst, arith}
 use Rattle.std.specs.Prelude.{Option, Some, None, Result, Ok, Err}
 use Rattle.std.proofs.lemmas.Bool.Decides.{nat_tests}
-use Rattle.machines.specs.Calls.{answered, answer_of}
+use Rattle.machines.specs.Calls.{answered}
 use Rattle.policy_rules.specs.declared.lease.Kind.{Kind}
 use Rattle.policy_rules.specs.declared.lease.Kind.TheVariants.{Guard, Bridge}
 use Rattle.assignment.specs.Slices.{Slicing}
@@ -15,15 +15,16 @@ use Rattle.lease_table.specs.declared.values.Grant.{Grant}
 use Rattle.lease_table.specs.Policies.{Terms, is_policy}
 use Rattle.lease_table.specs.Tables.{Standing}
 use Rattle.lease_table.specs.Steps.{grant_with}
-use Rattle.lease_table.specs.Calls.{AnsweredTableCall, last_reading, pending_in, standing_after, table_step}
+use Rattle.lease_table.specs.Calls.{AnsweredTableCall, last_reading, pending_in, standing_after}
 use Rattle.lease_table.specs.Runs.{IsRun, longest_term, commits_in}
 use Rattle.lease_table.specs.Generations.{newest_with, newest_generation}
 use Rattle.lease_table.specs.OpenRows.{IsSent}
-use Rattle.lease_table.proofs.Acceptance.{IsGranted, acceptance, accepted_reading}
+use Rattle.lease_table.proofs.Acceptance.{IsAnsweredAfter, IsGranted, acceptance, accepted_reading}
 use Rattle.lease_table.proofs.Induction.{of_each_sent}
 use Rattle.lease_table.proofs.Assignments.{IsCounted, counted, newest_most, newest_call, commits_call}
 
-pub later_reading : (policy : Terms) (past : List AnsweredTableCall) (c : TableCall) (given : Result TableReply TableError) → given ≡ answer_of (table_step (standing_after policy past) c) → last_reading past ≤ last_reading (answered c given ∷ past)
+pub later_reading : (policy : Terms) (past : List AnsweredTableCall) (c : TableCall) (given : Result TableReply TableError)
+    → IsAnsweredAfter policy past c given → last_reading past ≤ last_reading (answered c given ∷ past)
 later_reading policy past c (Ok reply) e = (accepted_reading (standing_after policy past) c reply (acceptance (standing_after policy past) c reply e)).low
 later_reading policy past c (Err refusal) e = omega arith
 
@@ -42,7 +43,8 @@ abbrev pub IsLeasedAfter : Terms → List AnsweredTableCall → Grant → Type 0
 IsLeasedAfter policy past grant = IsLeased policy (newest_generation past) (commits_in past) (last_reading past) grant
 
 module _ (policy : Terms) (within : is_policy policy ≡ true) where
-  keeps : (past : List AnsweredTableCall) (e : AnsweredTableCall) (grant : Grant) → IsRun policy (e ∷ past) → IsSent past grant → IsLeasedAfter policy past grant → IsLeasedAfter policy (e ∷ past) grant
+  keeps : (past : List AnsweredTableCall) (e : AnsweredTableCall) (grant : Grant) → IsRun policy (e ∷ past) → IsSent past grant
+      → IsLeasedAfter policy past grant → IsLeasedAfter policy (e ∷ past) grant
   keeps past e grant run sent h =
       let newest = newest_call e.call e.answer past in
       let commits = commits_call e.call e.answer past in
@@ -52,7 +54,8 @@ module _ (policy : Terms) (within : is_policy policy ≡ true) where
       record { newest = omega arith; guard = λ k. let g = h.guard k in omega arith; skewed = h.skewed; ends = omega arith }
 
   module _ (past : List AnsweredTableCall) (k : IsCounted past) where
-    by_phase : (task life at : ℕ) (p : Option Slicing) → pending_in past ≡ p → IsLeased policy (newest_generation past) (commits_in past) at (grant_with (standing_after policy past) p task life at)
+    by_phase : (task life at : ℕ) (p : Option Slicing) → pending_in past ≡ p
+        → IsLeased policy (newest_generation past) (commits_in past) at (grant_with (standing_after policy past) p task life at)
     by_phase task life at None e =
         let short : policy.skew < policy.guard = grind (arith, nat_tests) in
         let most = newest_most (commits_in past) (pending_in past) in
@@ -64,7 +67,8 @@ module _ (policy : Terms) (within : is_policy policy ≡ true) where
         let newest : newest_generation past ≡ commits_in past + 1 = ap (newest_with (commits_in past)) e in
         record { newest = omega arith; guard = λ kind. absurd (cc); skewed = omega arith; ends = omega arith }
 
-  given : (past : List AnsweredTableCall) (grant : Grant) → IsRun policy past → (task life at : ℕ) → IsGranted (standing_after policy past) task life at (Granted grant)
+  given : (past : List AnsweredTableCall) (grant : Grant) → IsRun policy past → (task life at : ℕ)
+      → IsGranted (standing_after policy past) task life at (Granted grant)
       → IsLeasedAfter policy (answered (call.Grant task life at) (Ok (Granted grant)) ∷ past) grant
   given past grant run task life at a =
       subst (IsLeased policy (newest_generation past) (commits_in past) at) (sym (granted_by (standing_after policy past) task life at grant a)) (by_phase past (counted policy past run) task life at (pending_in past) refl)

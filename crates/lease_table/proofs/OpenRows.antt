@@ -18,10 +18,10 @@ use Rattle.lease_table.specs.declared.values.Row.{Row}
 use Rattle.lease_table.specs.Policies.{Terms}
 use Rattle.lease_table.specs.Rows.{runs_at, running_rows, closes}
 use Rattle.lease_table.specs.Steps.{row_of}
-use Rattle.lease_table.specs.Calls.{AnsweredTableCall, last_reading, standing_after, grants_after, grants_sent, rows_freed, rows_granted, unfreed_rows}
+use Rattle.lease_table.specs.Calls.{AnsweredTableCall, last_reading, grants_after, grants_sent, rows_freed, rows_granted, unfreed_rows, open_rows}
 use Rattle.lease_table.specs.Runs.{IsRun}
 use Rattle.lease_table.specs.OpenRows.{IsSent, IsFreed, IsOpen}
-use Rattle.lease_table.proofs.Acceptance.{IsAccepted}
+use Rattle.lease_table.proofs.Acceptance.{IsAcceptedAfter}
 use Rattle.lease_table.proofs.Induction.{after_run, of_each_sent}
 use Rattle.lease_table.proofs.Numbers.{given_number, sent_number}
 use Rattle.lease_table.proofs.Members.{filtered, of_filtered, nowhere}
@@ -66,14 +66,17 @@ record Closes (e : AnsweredTableCall) (row : Row) : Type 0 where
   closed : closes note row ≡ true
 
 -- a grant is freed by the last call, or before it
-freed_cases : (past : List AnsweredTableCall) (e : AnsweredTableCall) (grant : Grant) → IsFreed (e ∷ past) grant → (Closes e (row_of grant) × IsSent past grant) ⊎ IsFreed past grant
+freed_cases : (past : List AnsweredTableCall) (e : AnsweredTableCall) (grant : Grant) → IsFreed (e ∷ past) grant
+    → (Closes e (row_of grant) × IsSent past grant) ⊎ IsFreed past grant
 freed_cases past e grant f = by_later f.later f.parts
   where
-    by_later : (later : List AnsweredTableCall) → e ∷ past ≡ later ++ answered (call.Free f.note f.at) (Ok f.reply) ∷ f.before → (Closes e (row_of grant) × IsSent past grant) ⊎ IsFreed past grant
+    by_later : (later : List AnsweredTableCall) → e ∷ past ≡ later ++ answered (call.Free f.note f.at) (Ok f.reply) ∷ f.before
+        → (Closes e (row_of grant) × IsSent past grant) ⊎ IsFreed past grant
     by_later [] p =
         let same : f.before ≡ past = cc in
         inl (record { note = f.note; at = f.at; reply = f.reply; is = cc; closed = f.closed }, subst (λ (all : List AnsweredTableCall). IsSent all grant) same f.sent)
-    by_later (x ∷ later) p = inr (record { later = later; before = f.before; note = f.note; at = f.at; reply = f.reply; parts = cc; sent = f.sent; closed = f.closed })
+    by_later (x ∷ later) p =
+        inr (record { later = later; before = f.before; note = f.note; at = f.at; reply = f.reply; parts = cc; sent = f.sent; closed = f.closed })
 
 -- A SENT GRANT HAS ITS ROW, OR IT WAS FREED
 
@@ -87,11 +90,13 @@ granted_row Proposed rows row i = i
 granted_row (Committed generation) rows row i = i
 granted_row (Freed count) rows row i = i
 
-freed_row : (past : List AnsweredTableCall) (c : TableCall) (reply : TableReply) (grant : Grant) → IsSent past grant → Contains (unfreed_rows past) (row_of grant)
+freed_row : (past : List AnsweredTableCall) (c : TableCall) (reply : TableReply) (grant : Grant) → IsSent past grant
+    → Contains (unfreed_rows past) (row_of grant)
     → Contains (rows_freed c (unfreed_rows past)) (row_of grant) ⊎ IsFreed (answered c (Ok reply) ∷ past) grant
 freed_row past (call.Free note at) reply grant sent i = by_test (closes note (row_of grant)) refl
   where
-    by_test : (b : Bool) → b ≡ closes note (row_of grant) → Contains (rows_freed (call.Free note at) (unfreed_rows past)) (row_of grant) ⊎ IsFreed (answered (call.Free note at) (Ok reply) ∷ past) grant
+    by_test : (b : Bool) → b ≡ closes note (row_of grant)
+        → Contains (rows_freed (call.Free note at) (unfreed_rows past)) (row_of grant) ⊎ IsFreed (answered (call.Free note at) (Ok reply) ∷ past) grant
     by_test true t = inr (record { later = []; before = past; note = note; at = at; reply = reply; parts = refl; sent = sent; closed = sym t })
     by_test false t = inl (filtered (λ row. not (closes note row)) (row_of grant) (unfreed_rows past) i (ap not (sym t)))
 freed_row past (call.JobTake assigner at) reply grant sent i = inl i
@@ -100,7 +105,8 @@ freed_row past (call.Propose number slicing at) reply grant sent i = inl i
 freed_row past (call.Commit number at) reply grant sent i = inl i
 freed_row past (call.Grant task life at) reply grant sent i = inl i
 
-row_stays : (past : List AnsweredTableCall) (c : TableCall) (given : Result TableReply TableError) (grant : Grant) → IsSent past grant → HasRowOrFreed past grant → HasRowOrFreed (answered c given ∷ past) grant
+row_stays : (past : List AnsweredTableCall) (c : TableCall) (given : Result TableReply TableError) (grant : Grant) → IsSent past grant
+    → HasRowOrFreed past grant → HasRowOrFreed (answered c given ∷ past) grant
 unfolding HasRowOrFreed
 row_stays past c (Err refusal) grant sent (inl i) = inl i
 row_stays past c (Ok reply) grant sent (inl i) =
@@ -110,7 +116,8 @@ row_stays past c (Ok reply) grant sent (inl i) =
     ]
 row_stays past c given grant sent (inr f) = inr (freed_later past (answered c given) grant f)
 
-pub has_row_or_freed : (policy : Terms) (past : List AnsweredTableCall) → IsRun policy past → (grant : Grant) → IsSent past grant → Contains (unfreed_rows past) (row_of grant) ⊎ IsFreed past grant
+pub has_row_or_freed : (policy : Terms) (past : List AnsweredTableCall) → IsRun policy past → (grant : Grant) → IsSent past grant
+    → Contains (unfreed_rows past) (row_of grant) ⊎ IsFreed past grant
 unfolding HasRowOrFreed
 has_row_or_freed policy =
     of_each_sent policy HasRowOrFreed (λ past e grant run sent h. row_stays past e.call e.answer grant sent h)
@@ -124,7 +131,8 @@ record IsRowOfUnfreed (past : List AnsweredTableCall) (row : Row) : Type 0 where
   is : row ≡ row_of grant
   unfreed : IsFreed past grant → ⊥
 
-left_after : (c : TableCall) (reply : TableReply) (rows : List Row) (row : Row) → Contains (rows_freed c rows) row → Contains rows row × (Closes (answered c (Ok reply)) row → ⊥)
+left_after : (c : TableCall) (reply : TableReply) (rows : List Row) (row : Row) → Contains (rows_freed c rows) row
+    → Contains rows row × (Closes (answered c (Ok reply)) row → ⊥)
 left_after (call.Free note at) reply rows row i =
     let r = of_filtered (λ row. not (closes note row)) row rows i in (
       r.0,
@@ -136,11 +144,16 @@ left_after (call.Free note at) reply rows row i =
           let f : not true ≡ true = rw closed at open_row in
           cc,
     )
-left_after (call.JobTake assigner at) reply rows row i = (i, λ k. let e : call.JobTake assigner at ≡ call.Free k.note k.at = ap (λ (x : AnsweredTableCall). x.call) k.is in cc)
-left_after (call.JobRenew number at) reply rows row i = (i, λ k. let e : call.JobRenew number at ≡ call.Free k.note k.at = ap (λ (x : AnsweredTableCall). x.call) k.is in cc)
-left_after (call.Propose number slicing at) reply rows row i = (i, λ k. let e : call.Propose number slicing at ≡ call.Free k.note k.at = ap (λ (x : AnsweredTableCall). x.call) k.is in cc)
-left_after (call.Commit number at) reply rows row i = (i, λ k. let e : call.Commit number at ≡ call.Free k.note k.at = ap (λ (x : AnsweredTableCall). x.call) k.is in cc)
-left_after (call.Grant task life at) reply rows row i = (i, λ k. let e : call.Grant task life at ≡ call.Free k.note k.at = ap (λ (x : AnsweredTableCall). x.call) k.is in cc)
+left_after (call.JobTake assigner at) reply rows row i =
+    (i, λ k. let e : call.JobTake assigner at ≡ call.Free k.note k.at = ap (λ (x : AnsweredTableCall). x.call) k.is in cc)
+left_after (call.JobRenew number at) reply rows row i =
+    (i, λ k. let e : call.JobRenew number at ≡ call.Free k.note k.at = ap (λ (x : AnsweredTableCall). x.call) k.is in cc)
+left_after (call.Propose number slicing at) reply rows row i =
+    (i, λ k. let e : call.Propose number slicing at ≡ call.Free k.note k.at = ap (λ (x : AnsweredTableCall). x.call) k.is in cc)
+left_after (call.Commit number at) reply rows row i =
+    (i, λ k. let e : call.Commit number at ≡ call.Free k.note k.at = ap (λ (x : AnsweredTableCall). x.call) k.is in cc)
+left_after (call.Grant task life at) reply rows row i =
+    (i, λ k. let e : call.Grant task life at ≡ call.Free k.note k.at = ap (λ (x : AnsweredTableCall). x.call) k.is in cc)
 
 -- a row that was there and is not closed stays that of its grant
 of_left : (past : List AnsweredTableCall) (e : AnsweredTableCall) (row : Row) → (Closes e row → ⊥) → IsRowOfUnfreed past row → IsRowOfUnfreed (e ∷ past) row
@@ -155,25 +168,29 @@ of_left past e row open_row h = record {
 }
 
 -- the row of a new grant: no `free` came after it
-of_granted : (policy : Terms) (past : List AnsweredTableCall) (c : TableCall) (grant : Grant) → IsRun policy past → IsAccepted (standing_after policy past) c (Granted grant) → IsRowOfUnfreed (answered c (Ok (Granted grant)) ∷ past) (row_of grant)
+of_granted : (policy : Terms) (past : List AnsweredTableCall) (c : TableCall) (grant : Grant) → IsRun policy past
+    → IsAcceptedAfter policy past c (Granted grant) → IsRowOfUnfreed (answered c (Ok (Granted grant)) ∷ past) (row_of grant)
 of_granted policy past c grant run a = record {
   grant = grant;
   sent = Contains-push (grants_sent past) grant;
   is = refl;
-  unfreed = λ f. elim (freed_cases past (answered c (Ok (Granted grant))) grant f) [ inl now ↦ fresh now.1 | inr before ↦ fresh (freed_was_sent past grant before) ];
+  unfreed =
+      λ f. elim (freed_cases past (answered c (Ok (Granted grant))) grant f) [ inl now ↦ fresh now.1 | inr before ↦ fresh (freed_was_sent past grant before) ];
 }
   where
     fresh : IsSent past grant → ⊥
     fresh i = let new = given_number policy past c grant a in let old = sent_number policy past grant run i in omega (arith, new, old)
 
-rows_call : (policy : Terms) (past : List AnsweredTableCall) (c : TableCall) (reply : TableReply) → IsRun policy past → ((row : Row) → Contains (unfreed_rows past) row → IsRowOfUnfreed past row) → IsAccepted (standing_after policy past) c reply
+rows_call : (policy : Terms) (past : List AnsweredTableCall) (c : TableCall) (reply : TableReply) → IsRun policy past
+    → ((row : Row) → Contains (unfreed_rows past) row → IsRowOfUnfreed past row) → IsAcceptedAfter policy past c reply
     → (row : Row) → Contains (unfreed_rows (answered c (Ok reply) ∷ past)) row → IsRowOfUnfreed (answered c (Ok reply) ∷ past) row
 rows_call policy past c reply run h a row i = by_reply reply a i
   where
     of_old : (reply : TableReply) → Contains (rows_freed c (unfreed_rows past)) row → IsRowOfUnfreed (answered c (Ok reply) ∷ past) row
     of_old reply i = let r = left_after c reply (unfreed_rows past) row i in of_left past (answered c (Ok reply)) row r.1 (h row r.0)
 
-    by_reply : (reply : TableReply) → IsAccepted (standing_after policy past) c reply → Contains (rows_granted (Ok reply) (rows_freed c (unfreed_rows past))) row → IsRowOfUnfreed (answered c (Ok reply) ∷ past) row
+    by_reply : (reply : TableReply) → IsAcceptedAfter policy past c reply → Contains (rows_granted (Ok reply) (rows_freed c (unfreed_rows past))) row
+        → IsRowOfUnfreed (answered c (Ok reply) ∷ past) row
     by_reply (Granted grant) a i =
         elim (Contains-push_cases (rows_freed c (unfreed_rows past)) (row_of grant) row i) [
           | inl old ↦ of_old (Granted grant) old
@@ -184,9 +201,11 @@ rows_call policy past c reply run h a row i = by_reply reply a i
     by_reply (Committed generation) a i = of_old (Committed generation) i
     by_reply (Freed count) a i = of_old (Freed count) i
 
-rows_refused : (past : List AnsweredTableCall) (c : TableCall) (refusal : TableError) → ((row : Row) → Contains (unfreed_rows past) row → IsRowOfUnfreed past row)
+rows_refused : (past : List AnsweredTableCall) (c : TableCall) (refusal : TableError)
+    → ((row : Row) → Contains (unfreed_rows past) row → IsRowOfUnfreed past row)
     → (row : Row) → Contains (unfreed_rows (answered c (Err refusal) ∷ past)) row → IsRowOfUnfreed (answered c (Err refusal) ∷ past) row
-rows_refused past c refusal h row i = of_left past (answered c (Err refusal)) row (λ k. let e : Err refusal ≡ Ok k.reply = ap (λ (x : AnsweredTableCall). x.answer) k.is in cc) (h row i)
+rows_refused past c refusal h row i =
+    of_left past (answered c (Err refusal)) row (λ k. let e : Err refusal ≡ Ok k.reply = ap (λ (x : AnsweredTableCall). x.answer) k.is in cc) (h row i)
 
 unfreed_row : (policy : Terms) (past : List AnsweredTableCall) → IsRun policy past → (row : Row) → Contains (unfreed_rows past) row → IsRowOfUnfreed past row
 unfreed_row policy =
@@ -205,7 +224,8 @@ ends_after at row t = let test : nat_lt at row.table_ends ≡ true = t in grind 
 runs_until : (at : ℕ) (row : Row) → at < row.table_ends → runs_at at row ≡ true
 runs_until at row l = let P : nat_lt at row.table_ends ≡ true = grind (arith, nat_tests) in P
 
-pub row_is_of_open : (policy : Terms) (past : List AnsweredTableCall) (at : ℕ) (row : Row) → IsRun policy past → Contains (running_rows at (unfreed_rows past)) row → IsRowOfOpen past at row
+pub row_is_of_open : (policy : Terms) (past : List AnsweredTableCall) (at : ℕ) (row : Row) → IsRun policy past
+    → Contains (running_rows at (unfreed_rows past)) row → IsRowOfOpen past at row
 row_is_of_open policy past at row run i =
     let r = of_filtered (runs_at at) row (unfreed_rows past) i in
     let h = unfreed_row policy past run row r.0 in
@@ -213,7 +233,8 @@ row_is_of_open policy past at row run i =
     let l = ends_after at row r.1 in
     (h.grant, record { sent = h.sent; runs = omega (arith, l, ends); unfreed = h.unfreed }, h.is)
 
-pub open_has_row : (policy : Terms) (past : List AnsweredTableCall) (at : ℕ) (grant : Grant) → IsRun policy past → IsOpen past at grant → Contains (running_rows at (unfreed_rows past)) (row_of grant)
+pub open_has_row : (policy : Terms) (past : List AnsweredTableCall) (at : ℕ) (grant : Grant) → IsRun policy past → IsOpen past at grant
+    → Contains (running_rows at (unfreed_rows past)) (row_of grant)
 open_has_row policy past at grant run o =
     elim (has_row_or_freed policy past run grant o.sent) [
       | inl i ↦ filtered (runs_at at) (row_of grant) (unfreed_rows past) i (runs_until at (row_of grant) o.runs)
@@ -225,7 +246,8 @@ open_has_row policy past at grant run o =
 abbrev pub Precedes : Row → Row → Type 0
 Precedes first second = first.number < second.number
 
-rows_number : (policy : Terms) (past : List AnsweredTableCall) (row : Row) → IsRun policy past → Contains (unfreed_rows past) row → row.number ≤ length (grants_sent past)
+rows_number : (policy : Terms) (past : List AnsweredTableCall) (row : Row) → IsRun policy past → Contains (unfreed_rows past) row
+    → row.number ≤ length (grants_sent past)
 rows_number policy past row run i =
     let h = unfreed_row policy past run row i in
     let number : row.number ≡ h.grant.number = ap (λ (r : Row). r.number) h.is in
@@ -243,7 +265,8 @@ pairs_freed (call.Grant task life at) rows h = h
 freed_were_there : (c : TableCall) (reply : TableReply) (rows : List Row) (row : Row) → Contains (rows_freed c rows) row → Contains rows row
 freed_were_there c reply rows row i = (left_after c reply rows row i).0
 
-pairs_granted : (policy : Terms) (past : List AnsweredTableCall) (c : TableCall) (reply : TableReply) → IsRun policy past → AllPairs Precedes (unfreed_rows past) → IsAccepted (standing_after policy past) c reply
+pairs_granted : (policy : Terms) (past : List AnsweredTableCall) (c : TableCall) (reply : TableReply) → IsRun policy past
+    → AllPairs Precedes (unfreed_rows past) → IsAcceptedAfter policy past c reply
     → AllPairs Precedes (rows_granted (Ok reply) (rows_freed c (unfreed_rows past)))
 pairs_granted policy past c (Granted grant) run h a =
     let rows = rows_freed c (unfreed_rows past) in
@@ -266,7 +289,7 @@ rows_in_order policy past at run =
 -- WHAT BECOMES OF A GRANT
 
 pub row_of_sent : (policy : Terms) (past : List AnsweredTableCall) → IsRun policy past → (grant : Grant) → IsSent past grant
-    → Contains (running_rows (last_reading past) (unfreed_rows past)) (row_of grant) ⊎ ((grant.table_ends ≤ last_reading past) ⊎ IsFreed past grant)
+    → Contains (open_rows past) (row_of grant) ⊎ ((grant.table_ends ≤ last_reading past) ⊎ IsFreed past grant)
 row_of_sent policy past run grant sent =
     elim (has_row_or_freed policy past run grant sent) [
       | inl i ↦ elim (cases_lt (last_reading past) grant.table_ends) [

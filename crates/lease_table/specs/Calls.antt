@@ -85,6 +85,10 @@ abbrev pub unfreed_rows : List AnsweredTableCall → List Row
 unfreed_rows [] = []
 unfreed_rows (e ∷ past) = if is_ok e.answer then rows_granted e.answer (rows_freed e.call (unfreed_rows past)) else unfreed_rows past
 
+-- the rows that are neither freed nor ended at the last accepted reading
+abbrev pub open_rows : List AnsweredTableCall → List Row
+open_rows past = running_rows (last_reading past) (unfreed_rows past)
+
 -- where a table stands after these calls
 abbrev pub standing_after : Terms → List AnsweredTableCall → Standing
 standing_after policy past = record {
@@ -94,7 +98,7 @@ standing_after policy past = record {
   committed = committed_in past;
   pending = pending_in past;
   granted = length (grants_sent past);
-  rows = running_rows (last_reading past) (unfreed_rows past);
+  rows = open_rows past;
 }
 
 -- what a call answers and leaves, by its step
