@@ -1,4 +1,12 @@
 pub mod RowLemmas
 pub mod Running
 pub mod Leading
-pub mod Settling
+pub mod Acceptance
+pub mod Induction
+pub mod Assignments
+pub mod Members
+pub mod Leases
+pub mod Numbers
+pub mod OpenRows
+pub mod HoldingUp
+pub mod Covering

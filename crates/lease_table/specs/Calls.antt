@@ -1,5 +1,5 @@
 -- The calls of one table with their answers, newest first, and where they lead.
-use Rattle.std.specs.Prelude.{◌≡◌, ℕ, Bool, List, [], ◌∷◌, ◌++◌, length, Option, Some, None, Result, Ok, Err, is_ok, if◌then◌else◌}
+use Rattle.std.specs.Prelude.{◌≡◌, ℕ, List, [], ◌∷◌, ◌++◌, length, Option, Some, None, Result, Ok, is_ok, if◌then◌else◌}
 use Rattle.assignment.specs.Slices.{Slicing}
 use Rattle.lease_table.specs.declared.call.TableCall.{TableCall}
 use Rattle.lease_table.specs.declared.call.TableCall.TheVariants as call
@@ -12,7 +12,7 @@ use Rattle.lease_table.specs.declared.values.JobTerm.{JobTerm}
 use Rattle.lease_table.specs.declared.values.Grant.{Grant}
 use Rattle.lease_table.specs.declared.values.Row.{Row}
 use Rattle.lease_table.specs.Policies.{Terms}
-use Rattle.lease_table.specs.Rows.{running, left_open}
+use Rattle.lease_table.specs.Rows.{running_rows, rows_left_open}
 use Rattle.lease_table.specs.Tables.{Standing}
 use Rattle.machines.specs.Answers.{replied}
 use Rattle.lease_table.specs.Steps.{row_of, take_step, renew_step, propose_step, commit_step, grant_step, free_step}
@@ -45,23 +45,23 @@ last_term [] = None
 last_term (e ∷ past) = term_after e.answer (last_term past)
 
 -- the assignment of the last accepted `propose`, unless an accepted `commit` follows it
-abbrev pub pending_after : TableCall → Bool → Option Slicing → Option Slicing
-pending_after (call.Propose number slicing at) accepted before = if accepted then Some slicing else before
-pending_after (call.Commit number at) accepted before = if accepted then None else before
-pending_after _ accepted before = before
+abbrev pub pending_after : TableCall → Option Slicing → Option Slicing
+pending_after (call.Propose number slicing at) before = Some slicing
+pending_after (call.Commit number at) before = None
+pending_after _ before = before
 
 abbrev pub pending_in : List AnsweredTableCall → Option Slicing
 pending_in [] = None
-pending_in (e ∷ past) = pending_after e.call (is_ok e.answer) (pending_in past)
+pending_in (e ∷ past) = if is_ok e.answer then pending_after e.call (pending_in past) else pending_in past
 
 -- the assignment that the last accepted `commit` found proposed
-abbrev pub committed_after : TableCall → Bool → Option Slicing → Option Slicing → Option Slicing
-committed_after (call.Commit number at) accepted pending before = if accepted then pending else before
-committed_after _ accepted pending before = before
+abbrev pub committed_after : TableCall → Option Slicing → Option Slicing → Option Slicing
+committed_after (call.Commit number at) pending before = pending
+committed_after _ pending before = before
 
 abbrev pub committed_in : List AnsweredTableCall → Option Slicing
 committed_in [] = None
-committed_in (e ∷ past) = committed_after e.call (is_ok e.answer) (pending_in past) (committed_in past)
+committed_in (e ∷ past) = if is_ok e.answer then committed_after e.call (pending_in past) (committed_in past) else committed_in past
 
 -- the grants sent, in order
 abbrev pub grants_after : Result TableReply TableError → List Grant → List Grant
@@ -77,13 +77,17 @@ abbrev pub rows_granted : Result TableReply TableError → List Row → List Row
 rows_granted (Ok (Granted grant)) before = before ++ row_of grant ∷ []
 rows_granted _ before = before
 
-abbrev pub rows_freed : TableCall → Bool → List Row → List Row
-rows_freed (call.Free note at) accepted before = if accepted then left_open note before else before
-rows_freed _ accepted before = before
+abbrev pub rows_freed : TableCall → List Row → List Row
+rows_freed (call.Free note at) before = rows_left_open note before
+rows_freed _ before = before
 
 abbrev pub unfreed_rows : List AnsweredTableCall → List Row
 unfreed_rows [] = []
-unfreed_rows (e ∷ past) = rows_granted e.answer (rows_freed e.call (is_ok e.answer) (unfreed_rows past))
+unfreed_rows (e ∷ past) = if is_ok e.answer then rows_granted e.answer (rows_freed e.call (unfreed_rows past)) else unfreed_rows past
+
+-- the rows that are neither freed nor ended at the last accepted reading
+abbrev pub open_rows : List AnsweredTableCall → List Row
+open_rows past = running_rows (last_reading past) (unfreed_rows past)
 
 -- where a table stands after these calls
 abbrev pub standing_after : Terms → List AnsweredTableCall → Standing
@@ -94,7 +98,7 @@ standing_after policy past = record {
   committed = committed_in past;
   pending = pending_in past;
   granted = length (grants_sent past);
-  rows = running (last_reading past) (unfreed_rows past);
+  rows = open_rows past;
 }
 
 -- what a call answers and leaves, by its step

@@ -4,8 +4,10 @@ pub mod Rows
 pub mod Steps
 pub mod Calls
 pub mod Runs
-pub mod Keyed
-pub mod Kept
+pub mod Generations
+pub mod OpenRows
+pub mod Equality
+pub mod Inside
 pub use Rattle.machines.specs.Refusals
 pub use Rattle.slice_ranges.specs.Sets
 pub use Rattle.policy_rules.specs.Leases

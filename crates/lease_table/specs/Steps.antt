@@ -1,5 +1,5 @@
 -- What each call answers and leaves, from what the table stands at.
-use Rattle.std.specs.Prelude.{ℕ, ◌==◌, ◌+◌, ◌-◌, ◌^◌, Bool, false, not, ◌&&◌, nat_lt, nat_le, List, [], ◌∷◌, ◌++◌, length, filter, Option, Some, None, is_some, is_none, option_map, Result}
+use Rattle.std.specs.Prelude.{ℕ, ◌==◌, ◌+◌, ◌-◌, Bool, false, not, ◌&&◌, nat_lt, nat_le, List, [], ◌∷◌, ◌++◌, length, filter, Option, Some, None, is_some, is_none, option_map, Result}
 use Rattle.std.specs.List.{list_any}
 use Rattle.machines.specs.Refusals.{when, answer}
 use Rattle.slice_ranges.specs.Sets.{keys_where}
@@ -8,19 +8,20 @@ use Rattle.assignment.specs.Slices.{Slicing}
 use Rattle.assignment.specs.Owners.{owns}
 use Rattle.lease_table.specs.declared.error.TableError.{TableError}
 use Rattle.lease_table.specs.declared.error.TableError.TheVariants.{ReadingRange, ClockBack, JobHeld, NotHolder, StaleBase, Pending, NothingPending, TooManyOwnersForJob, Held, NoRow, NoAssignment, NumbersSpent}
+use Rattle.lease_table.specs.declared.table.TheConstants.{READINGS}
 use Rattle.lease_table.specs.declared.values.JobTerm.{JobTerm}
 use Rattle.lease_table.specs.declared.values.Grant.{Grant}
 use Rattle.lease_table.specs.declared.values.ReleaseNote.{ReleaseNote}
 use Rattle.lease_table.specs.declared.values.Row.{Row}
-use Rattle.lease_table.specs.Rows.{running, closes, left_open, first_up_to}
+use Rattle.lease_table.specs.Rows.{running_rows, closes, rows_left_open, first_up_to}
 use Rattle.lease_table.specs.Tables.{Standing, generation_of, slices_of, last_number}
 
 -- the refusals of a reading
 abbrev pub out_of_range : ℕ → Option TableError
-out_of_range at = when (nat_le (2 ^ 62) at) ReadingRange
+out_of_range at = when (nat_le READINGS at) ReadingRange
 
-abbrev pub back : Standing → ℕ → Option TableError
-back t at = when (nat_lt at t.last) ClockBack
+abbrev pub clock_back : Standing → ℕ → Option TableError
+clock_back t at = when (nat_lt at t.last) ClockBack
 
 -- the last term has not ended
 abbrev pub job_held : ℕ → Option JobTerm → Option TableError
@@ -40,57 +41,61 @@ abbrev pub held_up : Standing → ℕ → Option TableError
 held_up t at = option_map (λ row. Held row.task row.kind row.number) (first_up_to (generation_of t.committed) at t.rows)
 
 -- what stands after an accepted reading: rows that have ended are gone
-abbrev pub advanced : Standing → ℕ → Standing
-advanced t at = record t { last = at; rows = running at t.rows }
+abbrev pub standing_at : Standing → ℕ → Standing
+standing_at t at = record t { last = at; rows = running_rows at t.rows }
 
 -- `job_take`
 abbrev pub take_checks : Standing → ℕ → List (Option TableError)
-take_checks t at = out_of_range at ∷ back t at ∷ job_held at t.term ∷ []
+take_checks t at = out_of_range at ∷ clock_back t at ∷ job_held at t.term ∷ []
 
 abbrev pub term_taken : Standing → ℕ → ℕ → JobTerm
 term_taken t assigner at = record { number = last_number t.term + 1; assigner = assigner; until = at + t.policy.job }
 
 abbrev pub take_step : Standing → ℕ → ℕ → Result (Standing × JobTerm) TableError
-take_step t assigner at = answer (take_checks t at) (record (advanced t at) { term = Some (term_taken t assigner at) }, term_taken t assigner at)
+take_step t assigner at = answer (take_checks t at) (record (standing_at t at) { term = Some (term_taken t assigner at) }, term_taken t assigner at)
 
 -- `job_renew`
 abbrev pub renew_checks : Standing → ℕ → ℕ → List (Option TableError)
-renew_checks t number at = out_of_range at ∷ back t at ∷ not_holder t number at ∷ []
+renew_checks t number at = out_of_range at ∷ clock_back t at ∷ not_holder t number at ∷ []
 
 -- the same term with a new end
-abbrev pub renewed : ℕ → Option JobTerm → JobTerm
-renewed until None = record { number = 0; assigner = 0; until = until }
-renewed until (Some term) = record term { until = until }
+abbrev pub renewed_term : ℕ → Option JobTerm → JobTerm
+renewed_term until None = record { number = 0; assigner = 0; until = until }
+renewed_term until (Some term) = record term { until = until }
 
 abbrev pub renew_step : Standing → ℕ → ℕ → Result (Standing × JobTerm) TableError
 renew_step t number at =
-    let term = renewed (at + t.policy.job) t.term in
-    answer (renew_checks t number at) (record (advanced t at) { term = Some term }, term)
+    let term = renewed_term (at + t.policy.job) t.term in
+    answer (renew_checks t number at) (record (standing_at t at) { term = Some term }, term)
 
--- `propose`
+-- `propose`, of which it is asked whether some slice has too many owners
+abbrev pub proposal_checks : Standing → ℕ → ℕ → Bool → ℕ → List (Option TableError)
+proposal_checks t number generation too_many at =
+    out_of_range at ∷ clock_back t at ∷ not_holder t number at ∷
+    when (not (generation == generation_of t.committed + 1)) (StaleBase (generation_of t.committed)) ∷
+    when (is_some t.pending) Pending ∷
+    when too_many TooManyOwnersForJob ∷ []
+
 abbrev pub propose_checks : Standing → ℕ → Slicing → ℕ → List (Option TableError)
 propose_checks t number slicing at =
-    out_of_range at ∷ back t at ∷ not_holder t number at ∷
-    when (not (slicing.generation == generation_of t.committed + 1)) (StaleBase (generation_of t.committed)) ∷
-    when (is_some t.pending) Pending ∷
-    when (list_any (λ s. nat_lt t.policy.redundancy (length s.owners)) slicing.slices) TooManyOwnersForJob ∷ []
+    proposal_checks t number slicing.generation (list_any (λ s. nat_lt t.policy.redundancy (length s.owners)) slicing.slices) at
 
 abbrev pub propose_step : Standing → ℕ → Slicing → ℕ → Result (Standing × Unit {0}) TableError
-propose_step t number slicing at = answer (propose_checks t number slicing at) (record (advanced t at) { pending = Some slicing }, tt)
+propose_step t number slicing at = answer (propose_checks t number slicing at) (record (standing_at t at) { pending = Some slicing }, tt)
 
 -- `commit`
 abbrev pub commit_checks : Standing → ℕ → ℕ → List (Option TableError)
 commit_checks t number at =
-    out_of_range at ∷ back t at ∷ not_holder t number at ∷ when (is_none t.pending) NothingPending ∷ held_up t at ∷ []
+    out_of_range at ∷ clock_back t at ∷ not_holder t number at ∷ when (is_none t.pending) NothingPending ∷ held_up t at ∷ []
 
 abbrev pub commit_step : Standing → ℕ → ℕ → Result (Standing × ℕ) TableError
 commit_step t number at =
-    answer (commit_checks t number at) (record (advanced t at) { committed = t.pending; pending = None }, generation_of t.pending)
+    answer (commit_checks t number at) (record (standing_at t at) { committed = t.pending; pending = None }, generation_of t.pending)
 
 -- `grant`
 abbrev pub grant_checks : Standing → ℕ → List (Option TableError)
 grant_checks t at =
-    out_of_range at ∷ back t at ∷
+    out_of_range at ∷ clock_back t at ∷
     when (is_none t.committed && is_none t.pending) NoAssignment ∷
     when (nat_le t.policy.numbers t.granted) NumbersSpent ∷ []
 
@@ -141,7 +146,7 @@ row_of grant = record {
 }
 
 abbrev pub with_row : Standing → ℕ → Row → Standing
-with_row t at row = record (advanced t at) { granted = t.granted + 1; rows = running at t.rows ++ row ∷ [] }
+with_row t at row = record (standing_at t at) { granted = t.granted + 1; rows = running_rows at t.rows ++ row ∷ [] }
 
 abbrev pub grant_step : Standing → ℕ → ℕ → ℕ → Result (Standing × Grant) TableError
 grant_step t task life at =
@@ -150,8 +155,8 @@ grant_step t task life at =
 
 -- `free`
 abbrev pub free_checks : Standing → ReleaseNote → ℕ → List (Option TableError)
-free_checks t note at = out_of_range at ∷ back t at ∷ when (length (filter (closes note) (running at t.rows)) == 0) NoRow ∷ []
+free_checks t note at = out_of_range at ∷ clock_back t at ∷ when (length (filter (closes note) (running_rows at t.rows)) == 0) NoRow ∷ []
 
 abbrev pub free_step : Standing → ReleaseNote → ℕ → Result (Standing × ℕ) TableError
 free_step t note at =
-    answer (free_checks t note at) (record (advanced t at) { rows = left_open note (running at t.rows) }, length (filter (closes note) (running at t.rows)))
+    answer (free_checks t note at) (record (standing_at t at) { rows = rows_left_open note (running_rows at t.rows) }, length (filter (closes note) (running_rows at t.rows)))

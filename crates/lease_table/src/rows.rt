@@ -2,7 +2,7 @@
 
 ghost use Rattle.std.specs.Prelude.{◌≡◌, ◌<◌, ◌&&◌, List, [], ◌∷◌, ◌++◌, length, filter, not, OnOk, OnErr, IfOk};
 ghost use Rattle.std.specs.List.{AllByRecursion, list_any};
-ghost use Rattle.lease_table.specs.Rows.{runs_at, running, closes, left_open, first_up_to};
+ghost use Rattle.lease_table.specs.Rows.{runs_at, running_rows, closes, rows_left_open, first_up_to};
 
 use crate::values::{ReleaseNote, Row};
 use indexmap::IndexMap;
@@ -22,7 +22,7 @@ impl Model for Rows {
     ghost Value = { List Row };
 
     ghost use Rattle.indexmap.specs.IndexMap.{values};
-    ghost use Rattle.lease_table.specs.Keyed.{IsKeyed};
+    ghost use Rattle.lease_table.specs.Inside.RowKeys.{IsKeyed};
 
     ghost view = { λ r. values r.map };
 
@@ -56,14 +56,14 @@ impl Rows {
 
     /// Lets the rows go that have ended at a reading.
     pub fn keep_running(&mut self, at: u64)
-        ensures { self.new ≡ running at self.old }
+        ensures { self.new ≡ running_rows at self.old }
     {
         self.map.retain(|_, row| at < row.table_ends);
     }
 
     /// Lets the rows go that a note closes.
     pub fn keep_open(&mut self, note: &ReleaseNote)
-        ensures { self.new ≡ left_open note.now self.old }
+        ensures { self.new ≡ rows_left_open note.now self.old }
     {
         let note = *note;
         self.map.retain(|_, row| !note.closes(row));
@@ -81,7 +81,7 @@ impl Rows {
 
     /// How many rows that run at a reading a note closes.
     pub fn count_closed(&self, note: &ReleaseNote, at: u64) -> usize
-        ensures { result ≡ length (filter (closes note.now) (running at self.now)) }
+        ensures { result ≡ length (filter (closes note.now) (running_rows at self.now)) }
     {
         self.map
             .values()
@@ -91,8 +91,8 @@ impl Rows {
     }
 
     /// The rows that run at a reading.
-    pub fn running(&self, at: u64) -> Result<Vec<Row>, AllocError>
-        ensures { IfOk result (λ rows. rows.items ≡ running at self.now) }
+    pub fn running_at(&self, at: u64) -> Result<Vec<Row>, AllocError>
+        ensures { IfOk result (λ rows. rows.items ≡ running_rows at self.now) }
     {
         let alloc = self.allocator();
         self.map

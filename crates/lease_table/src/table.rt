@@ -1,21 +1,21 @@
 //! The lease table.
 
-ghost use Rattle.std.specs.Prelude.{◌≡◌, ◌≤◌, ◌<◌, ◌^◌, ◌∷◌, [], ◌+◌, ◌&&◌, IfOk, OnOk, OnErr, option_map, length, filter, nat_lt};
-ghost use Rattle.std.specs.List.{list_any};
-ghost use Rattle.std.specs.Result.{result_err};
+ghost use Rattle.std.specs.Prelude.{◌≡◌, ◌≤◌, ◌<◌, ◌+◌, ◌&&◌, IfOk, OnOk, OnErr, option_map};
 ghost use Rattle.machines.specs.Refusals.{first_of};
 ghost use Rattle.slice_ranges.specs.Sets.{keys_where};
 ghost use Rattle.assignment.specs.Owners.{owns};
-ghost use Rattle.lease_table.specs.Rows.{first_up_to, running, closes};
 ghost use Rattle.lease_table.specs.Tables.{opening, phase_of, generation_of, slices_of, last_number};
 ghost use Rattle.machines.specs.Answers.{Answers, Takes};
-ghost use Rattle.lease_table.specs.Steps.{out_of_range, back, advanced, take_checks, renew_checks, propose_checks, commit_checks, grant_checks, free_checks, grant_with, with_row, take_step, renew_step, propose_step, commit_step, grant_step, free_step};
+ghost use Rattle.lease_table.specs.Steps.{standing_at, propose_checks, grant_with, with_row, take_step, renew_step, propose_step, commit_step, grant_step, free_step};
 
+mod checks;
+
+use self::checks::{any_has_more_owners, any_written_has_more_owners};
 use crate::error::TableError;
-use crate::policy::Policy;
+use crate::policy::{MOST_GRANTS, Policy};
 use crate::rows::Rows;
 use crate::values::{Grant, JobTerm, Phase, ReleaseNote, Row};
-use assignment::{Assignment, OwnedSlice, TaskId};
+use assignment::{Assignment, Slice, TaskId};
 use machines::Trouble;
 use policy_rules::{Kind, Lease};
 use slice_ranges::Ranges;
@@ -23,7 +23,7 @@ use std::alloc::{AllocError, Global};
 use std::marker::Model;
 
 /// Readings are below this.
-const READINGS: u64 = 1 << 62;
+pub const READINGS: u64 = 1 << 62;
 
 /// Who may propose and commit assignments, which is committed and which is proposed, and the leases
 /// that are out.
@@ -43,8 +43,8 @@ impl Model for LeaseTable {
 
     ghost Value = { Standing };
 
-    ghost use Rattle.lease_table.specs.Rows.{running};
-    ghost use Rattle.lease_table.specs.Kept.{IsKept};
+    ghost use Rattle.lease_table.specs.Rows.{running_rows};
+    ghost use Rattle.lease_table.specs.Inside.Numbers.{IsInRange};
 
     ghost view = { λ t. record {
       policy = t.policy;
@@ -53,10 +53,10 @@ impl Model for LeaseTable {
       committed = t.committed;
       pending = t.pending;
       granted = t.granted;
-      rows = running t.last t.rows;
+      rows = running_rows t.last t.rows;
     } };
 
-    ghost invariant = { λ t. IsKept t.last t.policy.job t.granted t.term t.rows };
+    ghost invariant = { λ t. IsInRange t.last t.policy.job t.granted t.term t.rows };
 }
 
 impl LeaseTable {
@@ -103,7 +103,7 @@ impl LeaseTable {
     pub fn rows(&self) -> Result<Vec<Row>, AllocError>
         ensures { IfOk result (λ rows. rows.items ≡ self.now.rows) }
     {
-        self.rows.running(self.last)
+        self.rows.running_at(self.last)
     }
 
     /// Gives the job lease to an assigner, for the job's term from the reading on, in ticks.
@@ -148,12 +148,29 @@ impl LeaseTable {
     ) -> Result<(), Trouble<TableError>>
         ensures { Takes (propose_step self.old number assignment.now at) self.old result self.new }
     {
-        self.check_propose(number, assignment, at)
+        let too_many = any_has_more_owners(assignment.slices(), self.policy.redundancy());
+        self.check_proposal(number, assignment.generation(), too_many, at)
             .map_err(Trouble::Refused)?;
         let next = assignment.copy()?;
         self.advance(at);
         self.pending = Some(next);
         Ok(())
+    }
+
+    /// Why a proposal of an assignment with this generation and these slices is refused, if it is:
+    /// the refusals of [`propose`](Self::propose) in their order, with no need of the assignment.
+    pub fn propose_refusal(
+        &self,
+        number: u64,
+        generation: u64,
+        slices: &[Slice],
+        at: u64,
+    ) -> Option<TableError>
+        ensures { result ≡ first_of
+            (propose_checks self.now number (record { generation = generation; slices = slices.now }) at) }
+    {
+        let too_many = any_written_has_more_owners(slices, self.policy.redundancy());
+        self.check_proposal(number, generation, too_many, at).err()
     }
 
     /// Commits the assignment that is proposed, and answers its generation.
@@ -231,131 +248,10 @@ impl LeaseTable {
         }
     }
 
-    // What every call asks of its reading.
-    fn check_reading(&self, at: u64) -> Result<(), TableError>
-        ensures refusal { result_err result ≡ first_of (out_of_range at ∷ back self.now at ∷ []) }
-        ensures reading { OnOk result ((self.now.last ≤ at) × (at < 2 ^ 62)) }
-    {
-        if at >= READINGS {
-            return Err(TableError::ReadingRange);
-        }
-        if at < self.last {
-            return Err(TableError::ClockBack);
-        }
-        Ok(())
-    }
-
-    fn check_take(&self, at: u64) -> Result<(), TableError>
-        ensures { result_err result ≡ first_of (take_checks self.now at) }
-    {
-        self.check_reading(at)?;
-        match &self.term {
-            Some(term) if at < term.until => Err(TableError::JobHeld { until: term.until }),
-            _ => Ok(()),
-        }
-    }
-
-    // The last term given, where it is of this number and has not ended.
-    fn check_holder(&self, number: u64, at: u64) -> Result<JobTerm, TableError>
-        ensures refusal { result_err result ≡ first_of (renew_checks self.now number at) }
-        ensures term { IfOk result (λ term. self.now.term ≡ Some term) }
-        ensures reading { OnOk result ((self.now.last ≤ at) × (at < 2 ^ 62)) }
-    {
-        self.check_reading(at)?;
-        match &self.term {
-            Some(term) if term.number == number && at < term.until => Ok(*term),
-            _ => Err(TableError::NotHolder {
-                term: self.last_number(),
-            }),
-        }
-    }
-
-    fn check_propose(&self, number: u64, assignment: &Assignment, at: u64) -> Result<(), TableError>
-        ensures refusal { result_err result ≡ first_of (propose_checks self.now number assignment.now at) }
-        ensures reading { OnOk result ((self.now.last ≤ at) × (at < 2 ^ 62)) }
-    {
-        self.check_holder(number, at)?;
-        let generation = self.generation();
-        if generation.checked_add(1) != Some(assignment.generation()) {
-            return Err(TableError::StaleBase { generation });
-        }
-        if self.pending.is_some() {
-            return Err(TableError::Pending);
-        }
-        if any_has_more_owners(assignment.slices(), self.policy.redundancy()) {
-            return Err(TableError::TooManyOwnersForJob);
-        }
-        Ok(())
-    }
-
-    // The generation that is proposed, where it may be committed.
-    fn check_commit(&self, number: u64, at: u64) -> Result<u64, TableError>
-        ensures refusal { result_err result ≡ first_of (commit_checks self.now number at) }
-        ensures generation { IfOk result (λ generation. generation ≡ generation_of self.now.pending) }
-        ensures reading { OnOk result ((self.now.last ≤ at) × (at < 2 ^ 62)) }
-    {
-        self.check_holder(number, at)?;
-        let Some(next) = &self.pending else {
-            return Err(TableError::NothingPending);
-        };
-        if let Some(row) = self.first_held(at) {
-            return Err(TableError::Held {
-                task: row.task,
-                kind: row.kind,
-                number: row.number,
-            });
-        }
-        Ok(next.generation())
-    }
-
-    // The first row of the committed generation or an older one that has not ended.
-    fn first_held(&self, at: u64) -> Option<Row>
-        requires { self.now.last ≤ at }
-        ensures { result ≡ first_up_to (generation_of self.now.committed) at self.now.rows }
-    {
-        self.rows.first_up_to(self.generation(), at)
-    }
-
-    // How many rows a note frees.
-    fn check_free(&self, note: &ReleaseNote, at: u64) -> Result<u64, TableError>
-        ensures refusal { result_err result ≡ first_of (free_checks self.now note.now at) }
-        ensures count { IfOk result (λ count. count ≡ length (filter (closes note.now) (running at self.now.rows))) }
-        ensures reading { OnOk result ((self.now.last ≤ at) × (at < 2 ^ 62)) }
-    {
-        self.check_reading(at)?;
-        match self.count_closed(note, at) {
-            0 => Err(TableError::NoRow),
-            count => Ok(count as u64),
-        }
-    }
-
-    // How many rows that have not ended a note closes.
-    fn count_closed(&self, note: &ReleaseNote, at: u64) -> usize
-        requires { self.now.last ≤ at }
-        ensures { result ≡ length (filter (closes note.now) (running at self.now.rows)) }
-    {
-        self.rows.count_closed(note, at)
-    }
-
-    fn check_grant(&self, at: u64) -> Result<(), TableError>
-        ensures refusal { result_err result ≡ first_of (grant_checks self.now at) }
-        ensures reading { OnOk result ((self.now.last ≤ at) × (at < 2 ^ 62)) }
-        ensures number { OnOk result (self.now.granted < 2 ^ 32) }
-    {
-        self.check_reading(at)?;
-        if self.committed.is_none() && self.pending.is_none() {
-            return Err(TableError::NoAssignment);
-        }
-        if self.granted >= self.policy.numbers() {
-            return Err(TableError::NumbersSpent);
-        }
-        Ok(())
-    }
-
     // The grant of the phase.
     fn next_grant(&self, task: TaskId, life: u32, at: u64) -> Result<Grant, AllocError>
-        requires reading { at < 2 ^ 62 }
-        requires number { self.now.granted < 2 ^ 32 }
+        requires reading { at < READINGS }
+        requires number { self.now.granted < MOST_GRANTS }
         ensures grant { IfOk result (λ grant. grant ≡ grant_with self.now self.now.pending task life at) }
         ensures runs { IfOk result (λ grant. at < grant.table_ends) }
     {
@@ -371,7 +267,7 @@ impl LeaseTable {
                     lease: Lease {
                         kind: Kind::Guard,
                         generation: self.generation(),
-                        ranges: owned(alloc, &self.committed, task)?,
+                        ranges: keys_of_task(alloc, &self.committed, task)?,
                         ends: table_ends - self.policy.skew(),
                     },
                     table_ends,
@@ -386,7 +282,7 @@ impl LeaseTable {
                     lease: Lease {
                         kind: Kind::Bridge,
                         generation: next.generation(),
-                        ranges: kept(alloc, &self.committed, next, task)?,
+                        ranges: keys_kept_over(alloc, &self.committed, next, task)?,
                         ends: table_ends - self.policy.skew(),
                     },
                     table_ends,
@@ -398,9 +294,9 @@ impl LeaseTable {
     // Counts one more grant, and keeps its row.
     fn add_row(&mut self, row: Row, at: u64) -> Result<(), AllocError>
         requires low { self.old.last ≤ at }
-        requires high { at < 2 ^ 62 }
+        requires high { at < READINGS }
         requires number { row.number ≡ self.old.granted + 1 }
-        requires spare { self.old.granted < 2 ^ 32 }
+        requires spare { self.old.granted < MOST_GRANTS }
         requires runs { at < row.table_ends }
         ensures ok { OnOk result (self.new ≡ with_row self.old at row) }
         ensures err { OnErr result (self.new ≡ self.old) }
@@ -415,24 +311,19 @@ impl LeaseTable {
     // An accepted reading: rows that have ended do not count from then on.
     fn advance(&mut self, at: u64)
         requires low { self.old.last ≤ at }
-        requires high { at < 2 ^ 62 }
-        ensures { self.new ≡ advanced self.old at }
+        requires high { at < READINGS }
+        ensures { self.new ≡ standing_at self.old at }
     {
         self.last = at;
     }
 }
 
-// Whether a slice has more owners than this.
-fn any_has_more_owners(slices: &[OwnedSlice], most: u64) -> bool
-    ensures { result ≡ list_any (λ s. nat_lt most (length s.owners)) slices.now }
-{
-    slices
-        .iter()
-        .any(|slice| slice.owners().len() as u64 > most)
-}
-
 // The keys that a task owns in an assignment, none where there is none.
-fn owned(alloc: Global, assignment: &Option<Assignment>, task: TaskId) -> Result<Ranges, AllocError>
+fn keys_of_task(
+    alloc: Global,
+    assignment: &Option<Assignment>,
+    task: TaskId,
+) -> Result<Ranges, AllocError>
     ensures { IfOk result
         (λ r. r ≡ keys_where (λ key. owns (slices_of assignment.now) key task)) }
 {
@@ -445,7 +336,7 @@ fn owned(alloc: Global, assignment: &Option<Assignment>, task: TaskId) -> Result
 }
 
 // The keys that a task owns in an assignment and in the next one.
-fn kept(
+fn keys_kept_over(
     alloc: Global,
     assignment: &Option<Assignment>,
     next: &Assignment,

@@ -206,14 +206,16 @@ fn refusal(answer: Result<(), Trouble<TableError>>) -> Option<TableError> {
 fn refused_proposals(
     alloc: Global,
     table: &mut LeaseTable,
+    number: u64,
+    at: u64,
 ) -> Result<[Option<TableError>; 4], Fail> {
     let again = assignment_of(alloc, 1, &[(0, &[1])])?;
     let shared = assignment_of(alloc, 2, &[(0, &[1, 2])])?;
     let second = assignment_of(alloc, 2, &[(0, &[1])])?;
-    let stale = refusal(table.propose(1, &again, 20));
-    let too_many = refusal(table.propose(1, &shared, 20));
-    let proposed = refusal(table.propose(1, &second, 20));
-    let pending = refusal(table.propose(1, &second, 20));
+    let stale = refusal(table.propose(number, &again, at));
+    let too_many = refusal(table.propose(number, &shared, at));
+    let proposed = refusal(table.propose(number, &second, at));
+    let pending = refusal(table.propose(number, &second, at));
     Ok([stale, too_many, proposed, pending])
 }
 
@@ -222,7 +224,7 @@ fn refuses_proposals_in_order(rt: HostRuntime) -> Result<(), Fail> {
     let mut table = base_of(rt.alloc(), 1000)?;
     assert_eq!(rt; table.commit(1, 20), Err(TableError::NothingPending));
     assert_eq!(rt;
-        refused_proposals(rt.alloc(), &mut table)?,
+        refused_proposals(rt.alloc(), &mut table, 1, 20)?,
         [
             Some(TableError::StaleBase { generation: 1 }),
             Some(TableError::TooManyOwnersForJob),
@@ -231,6 +233,37 @@ fn refuses_proposals_in_order(rt: HostRuntime) -> Result<(), Fail> {
         ]
     );
     assert_eq!(rt; table.phase(), Phase::Bridging(1, 2));
+    Ok(())
+}
+
+#[test]
+fn passes_the_job_lease_to_another_assigner(rt: HostRuntime) -> Result<(), Fail> {
+    let task = task_of(1)?;
+    let mut table = base_of(rt.alloc(), 1000)?;
+    assert_eq!(rt;
+        term(table.job_take(2, 10)),
+        Err(TableError::JobHeld { until: 1000 })
+    );
+    assert_eq!(rt; term(table.job_take(2, 1000)), Ok((2, 2000)));
+    assert_eq!(rt;
+        term(table.job_renew(1, 1001)),
+        Err(TableError::NotHolder { term: 2 })
+    );
+    assert_eq!(rt; table.commit(2, 1002), Err(TableError::NothingPending));
+    assert_eq!(rt;
+        refused_proposals(rt.alloc(), &mut table, 2, 1003)?,
+        [
+            Some(TableError::StaleBase { generation: 1 }),
+            Some(TableError::TooManyOwnersForJob),
+            None,
+            Some(TableError::Pending),
+        ]
+    );
+    assert_eq!(rt; term(table.job_renew(2, 1500)), Ok((2, 2500)));
+    let early = refusal(table.grant(task, 1, 1499).map(drop));
+    assert_eq!(rt; early, Some(TableError::ClockBack));
+    let late = refusal(table.grant(task, 1, HALF).map(drop));
+    assert_eq!(rt; late, Some(TableError::ReadingRange));
     Ok(())
 }
 

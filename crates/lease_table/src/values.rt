@@ -1,6 +1,8 @@
 //! What the table gives and is given.
 
-ghost use Rattle.std.specs.Prelude.{◌≡◌, IfOk};
+ghost use Rattle.std.specs.Prelude.{◌≡◌, ◌↔◌, IfOk};
+ghost use Rattle.std.specs.Bool.{IsTrue};
+ghost use Rattle.std.specs.Cmp.{partial_equiv_from_equiv};
 
 use assignment::TaskId;
 use policy_rules::{Kind, Lease};
@@ -39,6 +41,31 @@ pub struct Grant {
     pub lease: Lease,
     /// The table's deadline: the first reading, in ticks, at which its row has ended.
     pub table_ends: u64,
+}
+
+impl PartialEq for Grant {
+    ghost use Rattle.lease_table.specs.Equality.{grant_eq, grant_equivalence};
+
+    ghost eq = { grant_eq };
+
+    ghost laws = { partial_equiv_from_equiv grant_equivalence };
+
+    fn eq(&self, other: &Self) -> bool
+        ensures eq { result ≡ grant_eq self.now other.now }
+        ensures same { IsTrue result ↔ (self.now ≡ other.now) }
+    {
+        self.number == other.number
+            && self.task == other.task
+            && self.life == other.life
+            && self.lease == other.lease
+            && self.table_ends == other.table_ends
+    }
+}
+
+impl Eq for Grant {
+    ghost use Rattle.lease_table.specs.Equality.{grant_equivalence};
+
+    ghost laws = { grant_equivalence };
 }
 
 impl Grant {

@@ -1,5 +1,6 @@
-use Rattle.std.proofs.Common.{◌≡◌, ◌≤◌, ◌<◌, ◌+◌, ◌^◌, List, true, arith, ap}
+use Rattle.std.proofs.Common.{◌≡◌, ◌≤◌, ◌<◌, ◌+◌, List, true, arith, ap}
 use Rattle.std.proofs.lemmas.Bool.Decides.{nat_tests}
+use Rattle.lease_table.specs.declared.policy.TheConstants.{MOST_GRANTS}
 use Rattle.lease_table.specs.declared.values.Row.{Row}
 use Rattle.lease_table.specs.Rows.{runs_at}
 use Rattle.lease_table.specs.Tables.{Standing}
@@ -11,12 +12,12 @@ invariant_of-self-2 c =
     let now = c.self.inside in
     let later : now.last ≤ c.args.at = rw (← c.self.view_is) at c.requires.low in
     let number : c.args.row.number ≡ now.granted + 1 = rw (← c.self.view_is) at c.requires.number in
-    let spare : now.granted < 2 ^ 32 = rw (← c.self.view_is) at c.requires.spare in
+    let spare : now.granted < MOST_GRANTS = rw (← c.self.view_is) at c.requires.spare in
     record {
-      in_range = c.requires.high;
-      small = small_later now.last c.args.at now.policy.job now.term later c.self.invariant.small;
-      counted = omega arith;
-      numbered = rw (c.keep_running.ensures, c.in_ok-push.ensures.ok) (all_of_filter _ (runs_at c.args.at) _ (numbered_push now.granted now.rows c.args.row number c.self.invariant.numbered));
+      reading = c.requires.high;
+      term = small_later now.last c.args.at now.policy.job now.term later c.self.invariant.term;
+      grants = omega arith;
+      rows = rw (c.keep_running.ensures, c.in_ok-push.ensures.ok) (all_of_filter _ (runs_at c.args.at) _ (numbered_push now.granted now.rows c.args.row number c.self.invariant.rows));
     }
 
 pub returns-clause-ok : goal.returns-clause-ok

@@ -6,10 +6,10 @@ use Rattle.lease_table.proofs.table.LeaseTable.advance.Goals as goal
 
 pub invariant_of-self : goal.invariant_of-self
 invariant_of-self c = record {
-  in_range = c.requires.high;
-  small = small_later c.self.inside.last c.args.at c.self.inside.policy.job c.self.inside.term (rw (← c.self.view_is) at c.requires.low) c.self.invariant.small;
-  counted = c.self.invariant.counted;
-  numbered = c.self.invariant.numbered;
+  reading = c.requires.high;
+  term = small_later c.self.inside.last c.args.at c.self.inside.policy.job c.self.inside.term (rw (← c.self.view_is) at c.requires.low) c.self.invariant.term;
+  grants = c.self.invariant.grants;
+  rows = c.self.invariant.rows;
 }
 
 pub returns : goal.returns

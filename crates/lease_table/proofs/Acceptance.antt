@@ -1,0 +1,154 @@
+-- What was found of a call that was accepted: none of its refusals, and the reply of its step.
+use Rattle.std.proofs.Common.{◌≡◌, ℕ, ◌+◌, ◌<◌, ◌≤◌, Bool, true, false, length, refl, arith, List}
+use Rattle.std.specs.Prelude.{Option, Some, None, Ok, nat_lt, nat_le, is_none, is_some, not, ◌==◌, ◌&&◌, filter, option_map, Result}
+use Rattle.std.specs.List.{list_any}
+use Rattle.std.proofs.lemmas.Bool.Decides.{nat_tests}
+use Rattle.machines.specs.Refusals.{first_of, unless_refused}
+use Rattle.machines.specs.Answers.{replied}
+use Rattle.machines.specs.Calls.{answer_of}
+use Rattle.machines.proofs.Refused.{all_none, not_when}
+use Rattle.assignment.specs.Slices.{Slicing}
+use Rattle.lease_table.specs.declared.call.TableCall.{TableCall}
+use Rattle.lease_table.specs.declared.call.TableCall.TheVariants as call
+use Rattle.lease_table.specs.declared.call.TableReply.{TableReply}
+use Rattle.lease_table.specs.declared.call.TableReply.TheVariants.{Term, Proposed, Committed, Granted, Freed}
+use Rattle.lease_table.specs.declared.error.TableError.{TableError}
+use Rattle.lease_table.specs.declared.error.TableError.TheVariants.{Held}
+use Rattle.lease_table.specs.declared.table.TheConstants.{READINGS}
+use Rattle.lease_table.specs.declared.values.ReleaseNote.{ReleaseNote}
+use Rattle.lease_table.specs.declared.values.Row.{Row}
+use Rattle.lease_table.specs.Policies.{Terms}
+use Rattle.lease_table.specs.Rows.{running_rows, closes, first_up_to}
+use Rattle.lease_table.specs.Tables.{Standing, generation_of}
+use Rattle.lease_table.specs.Steps
+use Rattle.lease_table.specs.Calls.{AnsweredTableCall, reading_of, standing_after, table_step}
+
+-- the reading of an accepted call
+pub record IsReading (t : Standing) (at : ℕ) : Type 0 where
+  pub low : t.last ≤ at
+  pub high : at < READINGS
+
+pub record IsTaken (t : Standing) (assigner at : ℕ) (reply : TableReply) : Type 0 where
+  pub reading : IsReading t at
+  pub unheld : Steps.job_held at t.term ≡ None
+  pub replies : reply ≡ Term (Steps.term_taken t assigner at)
+
+pub record IsRenewed (t : Standing) (number at : ℕ) (reply : TableReply) : Type 0 where
+  pub reading : IsReading t at
+  pub holder : Steps.is_holder number at t.term ≡ true
+  pub replies : reply ≡ Term (Steps.renewed_term (at + t.policy.job) t.term)
+
+pub record IsProposed (t : Standing) (number : ℕ) (slicing : Slicing) (at : ℕ) (reply : TableReply) : Type 0 where
+  pub reading : IsReading t at
+  pub holder : Steps.is_holder number at t.term ≡ true
+  pub next : slicing.generation ≡ generation_of t.committed + 1
+  pub alone : t.pending ≡ None
+  pub few : list_any (λ s. nat_lt t.policy.redundancy (length s.owners)) slicing.slices ≡ false
+  pub replies : reply ≡ Proposed
+
+pub record IsCommitted (t : Standing) (number at : ℕ) (reply : TableReply) : Type 0 where
+  pub reading : IsReading t at
+  pub holder : Steps.is_holder number at t.term ≡ true
+  pub proposed : is_none t.pending ≡ false
+  pub unheld : first_up_to (generation_of t.committed) at t.rows ≡ None
+  pub replies : reply ≡ Committed (generation_of t.pending)
+
+pub record IsGranted (t : Standing) (task life at : ℕ) (reply : TableReply) : Type 0 where
+  pub reading : IsReading t at
+  pub assigned : (is_none t.committed && is_none t.pending) ≡ false
+  pub spare : t.granted < t.policy.numbers
+  pub replies : reply ≡ Granted (Steps.grant_with t t.pending task life at)
+
+pub record IsClosing (t : Standing) (note : ReleaseNote) (at : ℕ) (reply : TableReply) : Type 0 where
+  pub reading : IsReading t at
+  pub replies : reply ≡ Freed (length (filter (closes note) (running_rows at t.rows)))
+
+-- a call was accepted with this reply
+abbrev pub IsAccepted : Standing → TableCall → TableReply → Type 0
+IsAccepted t (call.JobTake assigner at) reply = IsTaken t assigner at reply
+IsAccepted t (call.JobRenew number at) reply = IsRenewed t number at reply
+IsAccepted t (call.Propose number slicing at) reply = IsProposed t number slicing at reply
+IsAccepted t (call.Commit number at) reply = IsCommitted t number at reply
+IsAccepted t (call.Grant task life at) reply = IsGranted t task life at reply
+IsAccepted t (call.Free note at) reply = IsClosing t note at reply
+
+abbrev pub IsAcceptedAfter : Terms → List AnsweredTableCall → TableCall → TableReply → Type 0
+IsAcceptedAfter policy past c reply = IsAccepted (standing_after policy past) c reply
+
+-- a call was answered by its step
+abbrev pub IsAnsweredAfter : Terms → List AnsweredTableCall → TableCall → Result TableReply TableError → Type 0
+IsAnsweredAfter policy past c given = given ≡ answer_of (table_step (standing_after policy past) c)
+
+-- an answered call was not refused, and its reply is that of its step
+unrefused : {R : Type 0} (name : R → TableReply) (o : Option TableError) (new : Standing) (r : R) (reply : TableReply)
+    → Ok reply ≡ answer_of (replied name (unless_refused o (new, r))) → (o ≡ None) × (reply ≡ name r)
+unrefused name None new r reply e = (refl, cc)
+unrefused name (Some refusal) new r reply e = absurd (cc)
+
+read : (t : Standing) (at : ℕ) → Steps.out_of_range at ≡ None → Steps.clock_back t at ≡ None → IsReading t at
+read t at range back =
+    let high : nat_le READINGS at ≡ false = not_when _ _ range in
+    let low : nat_lt at t.last ≡ false = not_when _ _ back in
+    record { low = grind (arith, nat_tests); high = grind (arith, nat_tests) }
+
+unnot : (b : Bool) → not b ≡ false → b ≡ true
+unnot true e = refl
+unnot false e = absurd (cc)
+
+unsome : (p : Option Slicing) → is_some p ≡ false → p ≡ None
+unsome None e = refl
+unsome (Some slicing) e = absurd (cc)
+
+unheld_row : (o : Option Row) → option_map (λ row. Held row.task row.kind row.number) o ≡ None → o ≡ None
+unheld_row None e = refl
+unheld_row (Some row) e = absurd (cc)
+
+module _ (t : Standing) where
+  pub acceptance : (c : TableCall) (reply : TableReply) → Ok reply ≡ answer_of (table_step t c) → IsAccepted t c reply
+  acceptance (call.JobTake assigner at) reply e =
+      let a = unrefused Term (first_of (Steps.take_checks t at)) _ _ reply e in
+      let none = all_none (Steps.take_checks t at) a.0 in
+      record { reading = read t at none.0 none.1.0; unheld = none.1.1.0; replies = a.1 }
+  acceptance (call.JobRenew number at) reply e =
+      let a = unrefused Term (first_of (Steps.renew_checks t number at)) _ _ reply e in
+      let none = all_none (Steps.renew_checks t number at) a.0 in
+      record { reading = read t at none.0 none.1.0; holder = unnot _ (not_when _ _ none.1.1.0); replies = a.1 }
+  acceptance (call.Propose number slicing at) reply e =
+      let a = unrefused (λ _. Proposed) (first_of (Steps.propose_checks t number slicing at)) _ _ reply e in
+      let none = all_none (Steps.propose_checks t number slicing at) a.0 in
+      let next : (slicing.generation == generation_of t.committed + 1) ≡ true = unnot _ (not_when _ _ none.1.1.1.0) in
+      record {
+        reading = read t at none.0 none.1.0;
+        holder = unnot _ (not_when _ _ none.1.1.0);
+        next = grind (arith, nat_tests);
+        alone = unsome t.pending (not_when _ _ none.1.1.1.1.0);
+        few = not_when _ _ none.1.1.1.1.1.0;
+        replies = a.1;
+      }
+  acceptance (call.Commit number at) reply e =
+      let a = unrefused Committed (first_of (Steps.commit_checks t number at)) _ _ reply e in
+      let none = all_none (Steps.commit_checks t number at) a.0 in
+      record {
+        reading = read t at none.0 none.1.0;
+        holder = unnot _ (not_when _ _ none.1.1.0);
+        proposed = not_when _ _ none.1.1.1.0;
+        unheld = unheld_row _ none.1.1.1.1.0;
+        replies = a.1;
+      }
+  acceptance (call.Grant task life at) reply e =
+      let a = unrefused Granted (first_of (Steps.grant_checks t at)) _ _ reply e in
+      let none = all_none (Steps.grant_checks t at) a.0 in
+      let spent : nat_le t.policy.numbers t.granted ≡ false = not_when _ _ none.1.1.1.0 in
+      record { reading = read t at none.0 none.1.0; assigned = not_when _ _ none.1.1.0; spare = grind (arith, nat_tests); replies = a.1 }
+  acceptance (call.Free note at) reply e =
+      let a = unrefused Freed (first_of (Steps.free_checks t note at)) _ _ reply e in
+      let none = all_none (Steps.free_checks t note at) a.0 in
+      record { reading = read t at none.0 none.1.0; replies = a.1 }
+
+pub accepted_reading : (t : Standing) (c : TableCall) (reply : TableReply) → IsAccepted t c reply → IsReading t (reading_of c)
+accepted_reading t (call.JobTake assigner at) reply a = a.reading
+accepted_reading t (call.JobRenew number at) reply a = a.reading
+accepted_reading t (call.Propose number slicing at) reply a = a.reading
+accepted_reading t (call.Commit number at) reply a = a.reading
+accepted_reading t (call.Grant task life at) reply a = a.reading
+accepted_reading t (call.Free note at) reply a = a.reading

@@ -1,0 +1,135 @@
+//! What holds after every list of calls that a table answered.
+
+ghost use Rattle.std.specs.Prelude.{◌≡◌, ℕ, ◌+◌, ◌≤◌, ◌<◌, ◌&&◌, ◌⊎◌, ◌↔◌, List, [], ◌∷◌, ◌++◌, Some, None, true, is_some, slice_get, Contains, AllPairs};
+ghost use Rattle.slice_ranges.specs.Sets.{has};
+ghost use Rattle.policy_rules.specs.declared.lease.Kind.TheVariants.{Guard, Bridge};
+ghost use Rattle.assignment.specs.Slices.{Slicing};
+ghost use Rattle.assignment.specs.Owners.{owns};
+ghost use Rattle.lease_table.specs.declared.call.TableCall.{TableCall};
+ghost use Rattle.lease_table.specs.declared.error.TableError.{TableError};
+ghost use Rattle.lease_table.specs.declared.error.TableError.TheVariants.{Held};
+ghost use Rattle.lease_table.specs.declared.values.Grant.{Grant};
+ghost use Rattle.lease_table.specs.declared.values.Row.{Row};
+ghost use Rattle.lease_table.specs.Policies.{Terms, is_policy};
+ghost use Rattle.lease_table.specs.Tables.{Standing, opening, generation_of, slices_of};
+ghost use Rattle.lease_table.specs.Calls.{AnsweredTableCall, table_step, standing_after, LeadsTo, last_reading, committed_in, pending_in, grants_sent};
+ghost use Rattle.machines.specs.Calls.{LeadsOn};
+ghost use Rattle.lease_table.specs.Runs.{IsRun, commits_in, proposed_at, longest_term};
+ghost use Rattle.lease_table.specs.Generations.{assignment_in, published_in, newest_generation, covers_by_owners, HasFewOwners};
+ghost use Rattle.lease_table.specs.OpenRows.{IsSent, IsFreed, IsOpen, HoldsUp, IsHeldUp, grant_numbered};
+ghost use Rattle.lease_table.specs.Steps.{row_of, held_up, guard_of, bridge_of};
+
+use crate::policy::Policy;
+use key_hash::KEYS;
+
+/// A policy is within its limits.
+pub fn policy_law(policy: Policy)
+    ensures { is_policy policy ≡ true }
+{}
+
+/// After every list of calls the table stands where the definitions over that list say, and its
+/// answers are those of its steps from there.
+pub fn standing_law()
+    ensures start { (policy : Terms) → standing_after policy [] ≡ opening policy }
+    ensures next { (policy : Terms) (past : List AnsweredTableCall) (call : TableCall) → is_policy policy ≡ true
+        → LeadsOn (LeadsTo policy) past (standing_after policy past) call (table_step (standing_after policy past) call) }
+{}
+
+/// The committed generation is the number of commits, the proposed one is the next, and an
+/// assignment is of the generation that it is the assignment of.
+pub fn generations_law()
+    ensures committed { (policy : Terms) (past : List AnsweredTableCall) → IsRun policy past
+        → generation_of (committed_in past) ≡ commits_in past }
+    ensures pending { (policy : Terms) (past : List AnsweredTableCall) (slicing : Slicing) → IsRun policy past
+        → pending_in past ≡ Some slicing → slicing.generation ≡ commits_in past + 1 }
+    ensures named { (policy : Terms) (past : List AnsweredTableCall) (generation : ℕ) (slicing : Slicing) → IsRun policy past
+        → assignment_in generation past ≡ Some slicing → slicing.generation ≡ generation }
+    ensures grows { (later past : List AnsweredTableCall) → newest_generation past ≤ newest_generation (later ++ past) }
+{}
+
+/// A generation up to the newest has one assignment for ever: that of the accepted commit of its
+/// number, or the proposed one while it is not committed. None has a slice with more owners than the
+/// job's redundancy.
+pub fn assignments_law()
+    ensures stays { (policy : Terms) (later past : List AnsweredTableCall) (generation : ℕ) → IsRun policy (later ++ past)
+        → generation ≤ newest_generation past → assignment_in generation (later ++ past) ≡ assignment_in generation past }
+    ensures published { (past : List AnsweredTableCall) (generation : ℕ)
+        → generation ≤ commits_in past → assignment_in generation past ≡ published_in generation past }
+    ensures committed { (past : List AnsweredTableCall) → assignment_in (commits_in past) past ≡ committed_in past }
+    ensures proposed { (past : List AnsweredTableCall) → assignment_in (commits_in past + 1) past ≡ pending_in past }
+    ensures few { (policy : Terms) (past : List AnsweredTableCall) (generation : ℕ) → IsRun policy past
+        → HasFewOwners policy (assignment_in generation past) }
+{}
+
+/// Grants have the numbers 1, 2, and so on in the order in which they were sent, so that each is
+/// found by its number.
+pub fn numbers_law()
+    ensures place { (policy : Terms) (past : List AnsweredTableCall) (place : ℕ) → IsRun policy past
+        → grant_numbered (place + 1) (grants_sent past) ≡ slice_get (grants_sent past) place }
+    ensures sent { (policy : Terms) (past : List AnsweredTableCall) (grant : Grant) → IsRun policy past
+        → IsSent past grant → grant_numbered grant.number (grants_sent past) ≡ Some grant }
+    ensures found { (past : List AnsweredTableCall) (number : ℕ) (grant : Grant)
+        → grant_numbered number (grants_sent past) ≡ Some grant → IsSent past grant × (grant.number ≡ number) }
+{}
+
+/// Of which generation a grant that was sent is, and when it ends: its lease by the skew before its
+/// row, and its row within the longest term of a task lease.
+pub fn leases_law()
+    ensures generation { (policy : Terms) (past : List AnsweredTableCall) (grant : Grant) → is_policy policy ≡ true → IsRun policy past
+        → IsSent past grant → grant.lease.generation ≤ newest_generation past }
+    ensures guard { (policy : Terms) (past : List AnsweredTableCall) (grant : Grant) → is_policy policy ≡ true → IsRun policy past
+        → IsSent past grant → grant.lease.kind ≡ Guard → grant.lease.generation ≤ commits_in past }
+    ensures bridge { (policy : Terms) (past : List AnsweredTableCall) (grant : Grant) → is_policy policy ≡ true → IsRun policy past
+        → IsSent past grant → grant.lease.generation ≡ commits_in past + 1 → grant.lease.kind ≡ Bridge }
+    ensures skew { (policy : Terms) (past : List AnsweredTableCall) (grant : Grant) → is_policy policy ≡ true → IsRun policy past
+        → IsSent past grant → grant.lease.ends + policy.skew ≡ grant.table_ends }
+    ensures ends { (policy : Terms) (past : List AnsweredTableCall) (grant : Grant) → is_policy policy ≡ true → IsRun policy past
+        → IsSent past grant → grant.table_ends ≤ last_reading past + longest_term policy }
+{}
+
+/// A guard lease covers a key exactly where its task owns it in the committed assignment, a bridge
+/// lease exactly where the task owns it in the committed and in the proposed one; and so does every
+/// grant that was sent, by the assignments of its generations.
+pub fn covers_law()
+    ensures guard { (t : Standing) (task life at key : ℕ) → key < KEYS
+        → has (guard_of t task life at).lease.ranges key ≡ owns (slices_of t.committed) key task }
+    ensures bridge { (t : Standing) (next : Slicing) (task life at key : ℕ) → key < KEYS
+        → has (bridge_of t next task life at).lease.ranges key
+        ≡ (owns (slices_of t.committed) key task && owns next.slices key task) }
+    ensures sent { (policy : Terms) (past : List AnsweredTableCall) (grant : Grant) (key : ℕ) → is_policy policy ≡ true → IsRun policy past
+        → IsSent past grant → key < KEYS → has grant.lease.ranges key ≡ covers_by_owners past key grant }
+{}
+
+/// The rows of a table are those of the grants sent that are open at the last accepted reading, in
+/// the order of the grants, and of the committed generation or a later one: a grant that was sent has
+/// its row, or has ended, or was freed.
+pub fn rows_law()
+    ensures listed { (policy : Terms) (past : List AnsweredTableCall) (row : Row) → IsRun policy past
+        → Contains (standing_after policy past).rows row
+        ↔ ((grant : Grant) × IsOpen past (last_reading past) grant × (row ≡ row_of grant)) }
+    ensures ordered { (policy : Terms) (past : List AnsweredTableCall) → IsRun policy past
+        → AllPairs (λ first second. first.number < second.number) (standing_after policy past).rows }
+    ensures sent { (policy : Terms) (past : List AnsweredTableCall) (grant : Grant) → IsRun policy past → IsSent past grant
+        → Contains (standing_after policy past).rows (row_of grant) ⊎ ((grant.table_ends ≤ last_reading past) ⊎ IsFreed past grant) }
+    ensures generation { (policy : Terms) (past : List AnsweredTableCall) (grant : Grant) → IsRun policy past
+        → IsOpen past (last_reading past) grant → commits_in past ≤ grant.lease.generation }
+{}
+
+/// A commit is held up exactly where the row of a sent grant of the committed generation or an older
+/// one is open at its reading. The refusal names the grant of the lowest number that holds it up.
+pub fn held_law()
+    ensures held { (policy : Terms) (past : List AnsweredTableCall) (at : ℕ) → IsRun policy past → last_reading past ≤ at
+        → (is_some (held_up (standing_after policy past) at) ≡ true) ↔ IsHeldUp past at }
+    ensures lowest { (policy : Terms) (past : List AnsweredTableCall) (at : ℕ) (refusal : TableError) → IsRun policy past → last_reading past ≤ at
+        → held_up (standing_after policy past) at ≡ Some refusal
+        → (grant : Grant) × HoldsUp past at grant × (refusal ≡ Held grant.task grant.lease.kind grant.number)
+        × ((other : Grant) → HoldsUp past at other → grant.number ≤ other.number) }
+{}
+
+/// A commit at a reading that is by the longest term of a task lease above that of the proposal is
+/// not held up.
+pub fn bound_law()
+    ensures { (policy : Terms) (past : List AnsweredTableCall) (next : Slicing) (at : ℕ)
+        → is_policy policy ≡ true → IsRun policy past → pending_in past ≡ Some next
+        → proposed_at past + longest_term policy ≤ at → held_up (standing_after policy past) at ≡ None }
+{}

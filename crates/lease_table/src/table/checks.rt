@@ -1,0 +1,166 @@
+//! Why the table refuses a call.
+
+ghost use Rattle.std.specs.Prelude.{◌≡◌, ◌≤◌, ◌<◌, ◌∷◌, [], IfOk, OnOk, length, filter, nat_lt};
+ghost use Rattle.std.specs.List.{list_any};
+ghost use Rattle.std.specs.Result.{result_err};
+ghost use Rattle.machines.specs.Refusals.{first_of};
+ghost use Rattle.lease_table.specs.Rows.{first_up_to, running_rows, closes};
+ghost use Rattle.lease_table.specs.Tables.{generation_of};
+ghost use Rattle.lease_table.specs.Steps.{out_of_range, clock_back, take_checks, renew_checks, proposal_checks, commit_checks, grant_checks, free_checks};
+
+use super::{LeaseTable, READINGS};
+use crate::error::TableError;
+use crate::policy::MOST_GRANTS;
+use crate::values::{JobTerm, ReleaseNote, Row};
+use assignment::{OwnedSlice, Slice};
+
+impl LeaseTable {
+    // What every call asks of its reading.
+    pub(super) fn check_reading(&self, at: u64) -> Result<(), TableError>
+        ensures refusal { result_err result ≡ first_of (out_of_range at ∷ clock_back self.now at ∷ []) }
+        ensures reading { OnOk result ((self.now.last ≤ at) × (at < READINGS)) }
+    {
+        if at >= READINGS {
+            return Err(TableError::ReadingRange);
+        }
+        if at < self.last {
+            return Err(TableError::ClockBack);
+        }
+        Ok(())
+    }
+
+    pub(super) fn check_take(&self, at: u64) -> Result<(), TableError>
+        ensures { result_err result ≡ first_of (take_checks self.now at) }
+    {
+        self.check_reading(at)?;
+        match &self.term {
+            Some(term) if at < term.until => Err(TableError::JobHeld { until: term.until }),
+            _ => Ok(()),
+        }
+    }
+
+    // The last term given, where it is of this number and has not ended.
+    pub(super) fn check_holder(&self, number: u64, at: u64) -> Result<JobTerm, TableError>
+        ensures refusal { result_err result ≡ first_of (renew_checks self.now number at) }
+        ensures term { IfOk result (λ term. self.now.term ≡ Some term) }
+        ensures reading { OnOk result ((self.now.last ≤ at) × (at < READINGS)) }
+    {
+        self.check_reading(at)?;
+        match &self.term {
+            Some(term) if term.number == number && at < term.until => Ok(*term),
+            _ => Err(TableError::NotHolder {
+                term: self.last_number(),
+            }),
+        }
+    }
+
+    // Whether an assignment of a generation may be proposed, of which it is known whether some slice
+    // has too many owners.
+    pub(super) fn check_proposal(
+        &self,
+        number: u64,
+        generation: u64,
+        too_many: bool,
+        at: u64,
+    ) -> Result<(), TableError>
+        ensures refusal { result_err result ≡ first_of (proposal_checks self.now number generation too_many at) }
+        ensures reading { OnOk result ((self.now.last ≤ at) × (at < READINGS)) }
+    {
+        self.check_holder(number, at)?;
+        let committed = self.generation();
+        if committed.checked_add(1) != Some(generation) {
+            return Err(TableError::StaleBase {
+                generation: committed,
+            });
+        }
+        if self.pending.is_some() {
+            return Err(TableError::Pending);
+        }
+        if too_many {
+            return Err(TableError::TooManyOwnersForJob);
+        }
+        Ok(())
+    }
+
+    // The generation that is proposed, where it may be committed.
+    pub(super) fn check_commit(&self, number: u64, at: u64) -> Result<u64, TableError>
+        ensures refusal { result_err result ≡ first_of (commit_checks self.now number at) }
+        ensures generation { IfOk result (λ generation. generation ≡ generation_of self.now.pending) }
+        ensures reading { OnOk result ((self.now.last ≤ at) × (at < READINGS)) }
+    {
+        self.check_holder(number, at)?;
+        let Some(next) = &self.pending else {
+            return Err(TableError::NothingPending);
+        };
+        if let Some(row) = self.first_held(at) {
+            return Err(TableError::Held {
+                task: row.task,
+                kind: row.kind,
+                number: row.number,
+            });
+        }
+        Ok(next.generation())
+    }
+
+    // The first row of the committed generation or an older one that has not ended.
+    pub(super) fn first_held(&self, at: u64) -> Option<Row>
+        requires { self.now.last ≤ at }
+        ensures { result ≡ first_up_to (generation_of self.now.committed) at self.now.rows }
+    {
+        self.rows.first_up_to(self.generation(), at)
+    }
+
+    // How many rows a note frees.
+    pub(super) fn check_free(&self, note: &ReleaseNote, at: u64) -> Result<u64, TableError>
+        ensures refusal { result_err result ≡ first_of (free_checks self.now note.now at) }
+        ensures count { IfOk result (λ count. count ≡ length (filter (closes note.now) (running_rows at self.now.rows))) }
+        ensures reading { OnOk result ((self.now.last ≤ at) × (at < READINGS)) }
+    {
+        self.check_reading(at)?;
+        match self.count_closed(note, at) {
+            0 => Err(TableError::NoRow),
+            count => Ok(count as u64),
+        }
+    }
+
+    // How many rows that have not ended a note closes.
+    pub(super) fn count_closed(&self, note: &ReleaseNote, at: u64) -> usize
+        requires { self.now.last ≤ at }
+        ensures { result ≡ length (filter (closes note.now) (running_rows at self.now.rows)) }
+    {
+        self.rows.count_closed(note, at)
+    }
+
+    pub(super) fn check_grant(&self, at: u64) -> Result<(), TableError>
+        ensures refusal { result_err result ≡ first_of (grant_checks self.now at) }
+        ensures reading { OnOk result ((self.now.last ≤ at) × (at < READINGS)) }
+        ensures number { OnOk result (self.now.granted < MOST_GRANTS) }
+    {
+        self.check_reading(at)?;
+        if self.committed.is_none() && self.pending.is_none() {
+            return Err(TableError::NoAssignment);
+        }
+        if self.granted >= self.policy.numbers() {
+            return Err(TableError::NumbersSpent);
+        }
+        Ok(())
+    }
+}
+
+// Whether a slice has more owners than this.
+pub(super) fn any_has_more_owners(slices: &[OwnedSlice], most: u64) -> bool
+    ensures { result ≡ list_any (λ s. nat_lt most (length s.owners)) slices.now }
+{
+    slices
+        .iter()
+        .any(|slice| slice.owners().len() as u64 > most)
+}
+
+// The same of slices as they are written.
+pub(super) fn any_written_has_more_owners(slices: &[Slice], most: u64) -> bool
+    ensures { result ≡ list_any (λ s. nat_lt most (length s.owners)) slices.now }
+{
+    slices
+        .iter()
+        .any(|slice| slice.owners.as_slice().len() as u64 > most)
+}
