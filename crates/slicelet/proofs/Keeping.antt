@@ -13,10 +13,10 @@ use Rattle.lease_table.specs.declared.values.Grant.{Grant}
 use Rattle.slicelet.specs.declared.heard.Heard.{Heard}
 use Rattle.slicelet.specs.declared.call.SliceletCall.{SliceletCall}
 use Rattle.slicelet.specs.declared.call.SliceletCall.TheVariants.{Start, Hear, Release}
-use Rattle.slicelet.specs.Histories.{held, greatest_heard}
+use Rattle.slicelet.specs.Calls.{held, greatest_heard}
 use Rattle.slicelet.specs.Steps.{old_number, start_checks, hear_checks, release_checks}
 use Rattle.slicelet.specs.Kept.{IsKept, holding_of, lease_of_kind, with_lease, number_of_kind, with_number}
-use Rattle.slicelet.proofs.Settling.{greatest_above, settled}
+use Rattle.slicelet.proofs.OwnLeases.{greatest_above, own_leases}
 
 -- the last call is the newest
 pub newest_call : {X : Type 0} (xs : List X) (x : X) → reverse (xs ++ x ∷ []) ≡ x ∷ reverse xs
@@ -76,7 +76,7 @@ module _ (task : ℕ) (h : List SliceletCall) (life : ℕ) (holding : Holding) (
       by_held : (o : Option Grant) → held kind h ≡ o → is_some (option_map (λ (grant : Grant). grant.lease) o) ≡ true
           → greatest_heard kind h ≡ option_map (λ (grant : Grant). grant.number) o
       by_held None q e = absurd (cc)
-      by_held (Some grant) q e = ((settled task h k.accepted).own kind grant q).greatest
+      by_held (Some grant) q e = ((own_leases task h k.accepted).own kind grant q).greatest
 
   pub none_held : (kind : Kind) → is_some (lease_of_kind (holding_of h) kind) ≡ false → None ≡ option_map (λ (grant : Grant). grant.number) (held kind h)
   none_held kind e = by_held (held kind h) (of_kind kind e)

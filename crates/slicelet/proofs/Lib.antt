@@ -1,5 +1,7 @@
-pub mod Settling
+pub mod OwnLeases
 pub mod Keeping
 pub mod Seeing
 pub mod Walking
 pub mod Between
+pub mod Allowing
+pub mod Hearing

@@ -15,7 +15,7 @@ use Rattle.policy_rules.specs.Rule.{SeenHolding, allowed_by, rule, is_covered, l
 use Rattle.lease_table.specs.declared.values.Grant.{Grant}
 use Rattle.slicelet.specs.declared.sight.Sight.{Sight}
 use Rattle.slicelet.specs.declared.call.SliceletCall.{SliceletCall}
-use Rattle.slicelet.specs.Histories.{reading_of}
+use Rattle.slicelet.specs.Calls.{reading_of}
 use Rattle.slicelet.specs.Rules.{covers_key, holding_after, is_allowed, is_permitted}
 use Rattle.slicelet.specs.Sights.{end_of, is_before, sight_of, permits}
 use Rattle.slicelet.specs.Continuity.{IsKeptSince}

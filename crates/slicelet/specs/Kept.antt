@@ -6,7 +6,7 @@ use Rattle.policy_rules.specs.declared.lease.Lease.{Lease}
 use Rattle.policy_rules.specs.declared.holding.Holding.{Holding}
 use Rattle.slicelet.specs.declared.heard.Heard.{Heard}
 use Rattle.slicelet.specs.declared.call.SliceletCall.{SliceletCall}
-use Rattle.slicelet.specs.Histories.{is_started, life_of, last_reading, held, greatest_heard}
+use Rattle.slicelet.specs.Calls.{is_started, life_of, last_reading, held, greatest_heard}
 use Rattle.slicelet.specs.Accepted.{AreAccepted}
 
 -- the lease of a kind, and a holding with another one

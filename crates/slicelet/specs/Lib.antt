@@ -1,7 +1,8 @@
-pub mod Histories
+pub mod Calls
 pub mod Rules
 pub mod Steps
 pub mod Accepted
+pub mod Laws
 pub mod Continuity
 pub mod Kept
 pub mod Sights

@@ -12,7 +12,7 @@ use Rattle.slicelet.specs.declared.machine.SliceletReply.{SliceletReply}
 use Rattle.slicelet.specs.declared.machine.SliceletReply.TheVariants.{Started, Heard, Released}
 use Rattle.slicelet.specs.declared.call.SliceletCall.{SliceletCall}
 use Rattle.slicelet.specs.declared.call.SliceletCall.TheVariants.{Start, Hear, Release}
-use Rattle.slicelet.specs.Histories.{is_started, life_of, last_reading, held, greatest_heard}
+use Rattle.slicelet.specs.Calls.{is_started, life_of, last_reading, held, greatest_heard}
 
 -- a slicelet: its task, and its accepted calls, newest first
 pub record History : Type 0 where

@@ -19,7 +19,7 @@ pub enum SliceletCall {
 }
 
 impl SliceletCall {
-    ghost use Rattle.slicelet.specs.Histories.{reading_of};
+    ghost use Rattle.slicelet.specs.Calls.{reading_of};
 
     /// The reading of the call, in ticks.
     pub fn reading(&self) -> u64

@@ -11,7 +11,9 @@ mod slicelet;
 
 pub use call::SliceletCall;
 pub use error::{SliceletError, Stranger};
-pub use laws::{between_law, lives_law, released_law, settled_law};
+pub use laws::{
+    agreement_law, between_law, covering_lease_law, heard_law, held_law, lives_law, released_law,
+};
 pub use machine::{SliceletEvent, SliceletReply};
 pub use slicelet::{CALLS, Slicelet};
 

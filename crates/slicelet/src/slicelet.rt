@@ -4,7 +4,7 @@ ghost use Rattle.std.specs.Prelude.{◌≡◌, None, option_map, IfOk, OnOk};
 ghost use Rattle.std.specs.Result.{result_err};
 ghost use Rattle.machines.specs.Refusals.{first_of};
 ghost use Rattle.machines.specs.Answers.{Takes};
-ghost use Rattle.slicelet.specs.Histories.{held};
+ghost use Rattle.slicelet.specs.Calls.{held};
 ghost use Rattle.slicelet.specs.Rules.{rule_after, covers_key, is_permitted};
 ghost use Rattle.slicelet.specs.Continuity.{handle_on, held_by, is_strange, IsChecked};
 ghost use Rattle.slicelet.specs.Accepted.{AreAccepted};
