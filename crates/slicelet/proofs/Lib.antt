@@ -1,3 +1,4 @@
+pub mod Accepting
 pub mod OwnLeases
 pub mod Keeping
 pub mod Seeing

@@ -4,7 +4,6 @@ use Rattle.std.proofs.lemmas.Bool.Decides.{nat_tests}
 use Rattle.std.specs.Prelude.{Option, Some, None, is_none, nat_le, ◌==◌, not, max, find, if◌then◌else◌}
 use Rattle.std.specs.List.{AllByRecursion}
 use Rattle.machines.specs.Refusals.{when, first_of}
-use Rattle.machines.proofs.Refused.{all_none, not_when}
 use Rattle.machines.proofs.Every.{all_weaker}
 use Rattle.policy_rules.specs.declared.lease.Kind.{Kind}
 use Rattle.policy_rules.specs.declared.lease.Kind.TheVariants.{Guard, Bridge}
@@ -19,6 +18,7 @@ use Rattle.slicelet.specs.declared.call.SliceletCall.TheVariants.{Start, Hear, R
 use Rattle.slicelet.specs.Calls.{this_life, life_of, is_about, heard_by, held, greatest_heard}
 use Rattle.slicelet.specs.Steps.{start_checks, hear_checks, release_checks, old_number, number_of, note_of}
 use Rattle.slicelet.specs.Accepted.{AreAccepted, notes_sent}
+use Rattle.slicelet.proofs.Accepting.{IsHearAccepted, start_accepted, hear_accepted, release_accepted}
 use Rattle.slicelet.specs.Laws.{IsOwn, IsUpTo, IsSpent, HoldsOwnLeases, IsAbove}
 
 -- kinds that are the same are equal
@@ -51,9 +51,6 @@ same_itself : (kind : Kind) → same_kind kind kind ≡ true
 same_itself Guard = refl
 same_itself Bridge = refl
 
-equal_numbers : (m n : ℕ) → not (m == n) ≡ false → m ≡ n
-equal_numbers m n e = grind (arith, nat_tests)
-
 -- the number of a held lease was heard
 held_number_heard : (task : ℕ) (h : List SliceletCall) (kind : Kind) (o : Option Grant) → held kind h ≡ o → is_none o ≡ false
     → ((grant : Grant) → o ≡ Some grant → IsOwn task h kind grant) → IsUpTo (number_of o) (greatest_heard kind h)
@@ -63,8 +60,7 @@ held_number_heard task h kind (Some grant) q e own = rw ((own grant refl).greate
 -- lives rise
 pub life_rises : (life at : ℕ) (h : List SliceletCall) → first_of (start_checks h life at) ≡ None → life_of h < life
 life_rises life at h e =
-    let old : nat_le life (life_of h) ≡ false = not_when _ _ (all_none (start_checks h life at) e).0 in
-    grind (arith, nat_tests)
+    (start_accepted h life at e).newer
 
 module _ (task : ℕ) (h : List SliceletCall) (s : HoldsOwnLeases task h) where
   own_after_start : (life at : ℕ) → first_of (start_checks h life at) ≡ None → HoldsOwnLeases task (Start life at ∷ h)
@@ -79,18 +75,15 @@ module _ (task : ℕ) (h : List SliceletCall) (s : HoldsOwnLeases task h) where
   own_after_hear : (grant : Grant) (at : ℕ) → first_of (hear_checks (record { task = task; calls = h }) grant at) ≡ None → HoldsOwnLeases task (Hear grant at ∷ h)
   own_after_hear grant at e = record { own = λ kind other. own kind other (same_kind grant.lease.kind kind) refl; spent = all_weaker (IsSpent h) (IsSpent (Hear grant at ∷ h)) (notes_sent task h) spent s.spent }
     where
-      none : AllByRecursion (λ (c : Option SliceletError). c ≡ None) (hear_checks (record { task = task; calls = h }) grant at)
-      none = all_none (hear_checks (record { task = task; calls = h }) grant at) e
-
-      newer : old_number grant.number (greatest_heard grant.lease.kind h) ≡ None
-      newer = none.1.1.1.1.0
+      accepted : IsHearAccepted (record { task = task; calls = h }) grant at
+      accepted = hear_accepted (record { task = task; calls = h }) grant at e
 
       its_own : IsOwn task (Hear grant at ∷ h) grant.lease.kind grant
       its_own = record {
-        of_task = equal_numbers grant.task task (not_when _ _ none.1.1.0);
-        of_life = equal_numbers grant.life (life_of h) (not_when _ _ none.1.1.1.0);
+        of_task = accepted.of_task;
+        of_life = accepted.of_life;
         of_kind = refl;
-        greatest = rw (same_itself grant.lease.kind) (greatest_above grant.number (greatest_heard grant.lease.kind h) newer);
+        greatest = rw (same_itself grant.lease.kind) (greatest_above grant.number (greatest_heard grant.lease.kind h) accepted.newer);
       }
 
       own : (kind : Kind) (other : Grant) (b : Bool) → b ≡ same_kind grant.lease.kind kind
@@ -114,7 +107,7 @@ module _ (task : ℕ) (h : List SliceletCall) (s : HoldsOwnLeases task h) where
           by_test true t q other p =
               let same : grant ≡ other = cc in
               let kinds : grant.lease.kind ≡ note.kind = equal_kinds grant.lease.kind note.kind (sym t) in
-              subst (λ (g : Grant). note.number < g.number) same (below (greatest_heard note.kind h) refl (n.heard q) (rw (sym kinds) newer))
+              subst (λ (g : Grant). note.number < g.number) same (below (greatest_heard note.kind h) refl (n.heard q) (rw (sym kinds) accepted.newer))
             where
               below : (o : Option ℕ) → greatest_heard note.kind h ≡ o → IsUpTo note.number o → old_number grant.number (greatest_heard note.kind h) ≡ None → note.number < grant.number
               below None r u w = absurd u
@@ -127,9 +120,6 @@ module _ (task : ℕ) (h : List SliceletCall) (s : HoldsOwnLeases task h) where
     spent = (its_note, all_weaker (IsSpent h) (IsSpent (Release kind at ∷ h)) (notes_sent task h) spent s.spent);
   }
     where
-      none : AllByRecursion (λ (c : Option SliceletError). c ≡ None) (release_checks h kind at)
-      none = all_none (release_checks h kind at) e
-
       not_held : (other : Kind) (grant : Grant) (b : Bool) → heard_by (if b then Some (Release kind at) else find (is_about other) (this_life h)) ≡ Some grant → (b ≡ false) × (held other h ≡ Some grant)
       not_held other grant true q = absurd (cc)
       not_held other grant false q = (refl, q)
@@ -143,7 +133,7 @@ module _ (task : ℕ) (h : List SliceletCall) (s : HoldsOwnLeases task h) where
       its_note : IsSpent (Release kind at ∷ h) (note_of (record { task = task; calls = h }) kind)
       its_note = record {
         of_life = omega arith;
-        heard = λ q. held_number_heard task h kind (held kind h) refl (not_when _ _ none.1.1.0) (s.own kind);
+        heard = λ q. held_number_heard task h kind (held kind h) refl (release_accepted h kind at e).is_held (s.own kind);
         newer = λ q grant p. absurd (let f : same_kind kind kind ≡ false = (not_held kind grant (same_kind kind kind) p).0 in let t = same_itself kind in cc);
       }
 
@@ -169,17 +159,15 @@ lives_rise task (Release kind at ∷ later) h a = lives_rise task later h a.1
 pub above_released : (task : ℕ) (grant : Grant) (at : ℕ) (h : List SliceletCall) → AreAccepted task (Hear grant at ∷ h) → AllByRecursion (IsAbove grant) (notes_sent task h)
 above_released task grant at h a = all_weaker (IsSpent h) (IsAbove grant) (notes_sent task h) over (own_leases task h a.1).spent
   where
-    none : AllByRecursion (λ (c : Option SliceletError). c ≡ None) (hear_checks (record { task = task; calls = h }) grant at)
-    none = all_none (hear_checks (record { task = task; calls = h }) grant at) a.0
+    accepted : IsHearAccepted (record { task = task; calls = h }) grant at
+    accepted = hear_accepted (record { task = task; calls = h }) grant at a.0
 
     over : (note : ReleaseNote) → IsSpent h note → IsAbove grant note
     over note n kinds lives =
-        let life = equal_numbers grant.life (life_of h) (not_when _ _ none.1.1.1.0) in
-        below (greatest_heard grant.lease.kind h) refl (rw kinds at (n.heard (lives ∙ life)))
+        below (greatest_heard grant.lease.kind h) refl (rw kinds at (n.heard (lives ∙ accepted.of_life)))
       where
         below : (o : Option ℕ) → greatest_heard grant.lease.kind h ≡ o → IsUpTo note.number o → note.number < grant.number
         below None r u = absurd u
         below (Some m) r u =
-            let newer : old_number grant.number (greatest_heard grant.lease.kind h) ≡ None = none.1.1.1.1.0 in
-            let l : m < grant.number = above grant.number (Some m) (rw r at newer) m refl in
+            let l : m < grant.number = above grant.number (Some m) (rw r at accepted.newer) m refl in
             omega (arith, u)

@@ -17,7 +17,7 @@ use Rattle.slicelet.specs.declared.sight.Sight.{Sight}
 use Rattle.slicelet.specs.declared.call.SliceletCall.{SliceletCall}
 use Rattle.slicelet.specs.Calls.{reading_of}
 use Rattle.slicelet.specs.Rules.{covers_key, holding_after, is_allowed, is_permitted}
-use Rattle.slicelet.specs.Sights.{end_of, is_before, sight_of, permits}
+use Rattle.slicelet.specs.inside.Sights.{end_of, is_before, sight_of, permits}
 use Rattle.slicelet.specs.Continuity.{IsKeptSince}
 
 -- a lease allows the key, at readings before the end that is kept of it, or it says nothing

@@ -4,7 +4,7 @@ use Rattle.slicelet.proofs.sight.is_kept_since.Goals as goal
 use Rattle.slicelet.proofs.sight.is_kept_since.Goals.{else-position-count-via-then-position-count+else-not-finds_permitted, else-position-count-via-else-position-count}
 
 pub loop-call-init : goal.loop-call-init
-loop-call-init c = walked_none _ _ _ (c.nothing-sight.ensures c.args.key)
+loop-call-init c = walked_none _ _ _ (c.no_calls-sight.ensures c.args.key)
 
 pub loop-call-preserved : goal.loop-call-preserved
 loop-call-preserved c =
