@@ -1,7 +1,7 @@
 -- What holds where a call is accepted: none of its refusals does.
 use Rattle.std.proofs.Common.{◌≡◌, ℕ, ◌<◌, ◌≤◌, true, false, List, length, arith}
 use Rattle.std.proofs.lemmas.Bool.Decides.{nat_tests}
-use Rattle.std.specs.Prelude.{Option, None, ◌==◌, Bool, not, nat_lt, nat_le, is_none}
+use Rattle.std.specs.Prelude.{None, ◌==◌, Bool, not, nat_lt, nat_le, is_none}
 use Rattle.machines.specs.Refusals.{first_of}
 use Rattle.machines.proofs.Refused.{all_none, not_when}
 use Rattle.policy_rules.specs.declared.lease.Kind.{Kind}

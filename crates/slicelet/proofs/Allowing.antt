@@ -1,5 +1,5 @@
 -- An allowed key has a held lease that is live and covers it.
-use Rattle.std.proofs.Common.{◌≡◌, ℕ, ◌<◌, Bool, true, false, List, [], ◌∷◌, refl, sym, subst, inl, inr, ◌⊎◌, arith}
+use Rattle.std.proofs.Common.{◌≡◌, ℕ, Bool, true, false, List, [], ◌∷◌, refl, subst, inl, inr, ◌⊎◌, arith}
 use Rattle.std.proofs.lemmas.Bool.Decides.{nat_tests}
 use Rattle.std.specs.Prelude.{Option, Some, None, ◌&&◌, ◌||◌, not, nat_lt, option_map, unwrap_or}
 use Rattle.machines.specs.Refusals.{when, first_of}
@@ -9,7 +9,6 @@ use Rattle.policy_rules.specs.declared.answer.Ground.{Ground}
 use Rattle.policy_rules.specs.declared.answer.Ground.TheVariants.{Down, ClockBack, Ended, NotOwned, NoLease}
 use Rattle.policy_rules.specs.declared.answer.Verdict.{Verdict}
 use Rattle.policy_rules.specs.declared.answer.Verdict.TheVariants.{Allow, Deny}
-use Rattle.policy_rules.specs.Leases.{SeenLease}
 use Rattle.policy_rules.specs.Rule.{allowed_by, is_covered, greatest, live_generation}
 use Rattle.lease_table.specs.declared.values.Grant.{Grant}
 use Rattle.slicelet.specs.declared.call.SliceletCall.{SliceletCall}

@@ -1,7 +1,7 @@
 -- What holds after every list of accepted calls.
 use Rattle.std.proofs.Common.{◌≡◌, ◌∙◌, ℕ, ◌<◌, ◌≤◌, Bool, true, false, List, [], ◌∷◌, ◌++◌, refl, sym, ap, subst, arith}
 use Rattle.std.proofs.lemmas.Bool.Decides.{nat_tests}
-use Rattle.std.specs.Prelude.{Option, Some, None, is_none, nat_le, ◌==◌, not, max, find, if◌then◌else◌}
+use Rattle.std.specs.Prelude.{Option, Some, None, is_none, nat_le, max, find, if◌then◌else◌}
 use Rattle.std.specs.List.{AllByRecursion}
 use Rattle.machines.specs.Refusals.{when, first_of}
 use Rattle.machines.proofs.Every.{all_weaker}
@@ -11,7 +11,6 @@ use Rattle.policy_rules.specs.Leases.{same_kind}
 use Rattle.policy_rules.specs.Rule.{greatest}
 use Rattle.lease_table.specs.declared.values.Grant.{Grant}
 use Rattle.lease_table.specs.declared.values.ReleaseNote.{ReleaseNote}
-use Rattle.slicelet.specs.declared.error.SliceletError.{SliceletError}
 use Rattle.slicelet.specs.declared.error.SliceletError.TheVariants.{Old}
 use Rattle.slicelet.specs.declared.call.SliceletCall.{SliceletCall}
 use Rattle.slicelet.specs.declared.call.SliceletCall.TheVariants.{Start, Hear, Release}

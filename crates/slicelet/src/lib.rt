@@ -16,6 +16,3 @@ pub use laws::{
 };
 pub use machine::SliceletEvent;
 pub use slicelet::{CALLS, Slicelet};
-
-#[cfg(test)]
-mod tests;
