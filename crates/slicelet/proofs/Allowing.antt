@@ -1,7 +1,7 @@
 -- An allowed key has a held lease that is live and covers it.
 use Rattle.std.proofs.Common.{◌≡◌, ℕ, Bool, true, false, List, [], ◌∷◌, refl, subst, inl, inr, ◌⊎◌, arith}
 use Rattle.std.proofs.lemmas.Bool.Decides.{nat_tests}
-use Rattle.std.specs.Prelude.{Option, Some, None, ◌&&◌, ◌||◌, not, nat_lt, option_map, unwrap_or}
+use Rattle.std.specs.Prelude.{Option, Some, None, ◌&&◌, ◌||◌, not, nat_lt, option_map, unwrap_or, IsTrue}
 use Rattle.machines.specs.Refusals.{when, first_of}
 use Rattle.policy_rules.specs.declared.lease.Kind.{Kind}
 use Rattle.policy_rules.specs.declared.lease.Kind.TheVariants.{Guard, Bridge}
@@ -13,7 +13,7 @@ use Rattle.policy_rules.specs.Rule.{allowed_by, is_covered, greatest, live_gener
 use Rattle.lease_table.specs.declared.values.Grant.{Grant}
 use Rattle.slicelet.specs.declared.call.SliceletCall.{SliceletCall}
 use Rattle.slicelet.specs.Calls.{is_started, last_reading, held}
-use Rattle.slicelet.specs.Rules.{seen_by, rule_after}
+use Rattle.slicelet.specs.Rules.{seen_by, rule_after, is_allowed, is_permitted}
 use Rattle.slicelet.specs.Laws.{HasCoveringLease}
 
 -- the verdict of some cases of the rule
@@ -67,3 +67,12 @@ module _ (kind : Kind) (generation : ℕ) where
             | inr r ↦ absurd (no_case (greatest (live_generation at guard) (live_generation at bridge)) (past_denial (is_covered guard || is_covered bridge) Ended rest r))
           ]
         ]
+
+-- so has a permitted one, whatever its verdict tells
+pub permitting_lease : (covers : Grant → Bool) (h : List SliceletCall) (at : ℕ) → IsTrue (is_permitted covers h at)
+    → (kind : Kind) × (generation : ℕ) × HasCoveringLease covers h at kind generation
+permitting_lease covers h at permitted = by_verdict (rule_after covers h at) refl permitted
+  where
+    by_verdict : (v : Verdict) → rule_after covers h at ≡ v → is_allowed v ≡ true → (kind : Kind) × (generation : ℕ) × HasCoveringLease covers h at kind generation
+    by_verdict (Allow kind generation) e a = (kind, generation, covering_lease kind generation covers h at e)
+    by_verdict (Deny why) e a = absurd (cc)

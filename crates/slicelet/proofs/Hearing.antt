@@ -73,8 +73,8 @@ module _ (covers other : Grant → Bool) where
   pub same_permitted : (h : List SliceletCall) (at : ℕ) → AgreeOnHeard covers other h → is_permitted covers h at ≡ is_permitted other h at
   same_permitted h at a = ap is_allowed (same_rule h at a)
 
-  permitted : (h : List SliceletCall) (at : ℕ) → AgreeOnHeard covers other h → IsTrue (is_permitted covers h at) → IsTrue (is_permitted other h at)
-  permitted h at a p = subst IsTrue (same_permitted h at a) p
+  permitted_by_other : (h : List SliceletCall) (at : ℕ) → AgreeOnHeard covers other h → IsTrue (is_permitted covers h at) → IsTrue (is_permitted other h at)
+  permitted_by_other h at a p = subst IsTrue (same_permitted h at a) p
 
   pub same_continuous : (h : List SliceletCall) (handle : KeyHandle) (at : ℕ) → AgreeOnHeard covers other h → IsContinuous covers h handle at → IsContinuous other h handle at
   same_continuous h handle at a k = record {
@@ -82,8 +82,8 @@ module _ (covers other : Grant → Bool) where
     kept = λ later before c e l.
         let all : AgreeOnHeard covers other (c ∷ before) = agree_before later (c ∷ before) (subst (AgreeOnHeard covers other) e a) in
         let both = k.kept later before c e l in
-        (permitted before (reading_of c) all.1 both.0, permitted (c ∷ before) (reading_of c) all both.1);
-    now = permitted h at a k.now;
+        (permitted_by_other before (reading_of c) all.1 both.0, permitted_by_other (c ∷ before) (reading_of c) all both.1);
+    now = permitted_by_other h at a k.now;
   }
 
 -- agreement is the same the other way round

@@ -28,9 +28,9 @@ equal_kinds Bridge Guard e = absurd (cc)
 equal_kinds Bridge Bridge e = refl
 
 -- a number that is not old is above the greatest
-pub above : (number : ℕ) (heard : Option ℕ) → old_number number heard ≡ None → (n : ℕ) → heard ≡ Some n → n < number
-above number None h n e = absurd (cc)
-above number (Some m) h n e = by_test (nat_le number m) refl h
+pub above_greatest : (number : ℕ) (heard : Option ℕ) → old_number number heard ≡ None → (n : ℕ) → heard ≡ Some n → n < number
+above_greatest number None h n e = absurd (cc)
+above_greatest number (Some m) h n e = by_test (nat_le number m) refl h
   where
     by_test : (b : Bool) → b ≡ nat_le number m → when b (Old m) ≡ None → n < number
     by_test true t h = absurd (cc)
@@ -39,7 +39,7 @@ above number (Some m) h n e = by_test (nat_le number m) refl h
 -- so it is the greatest with it
 pub greatest_above : (number : ℕ) (heard : Option ℕ) → old_number number heard ≡ None → greatest (Some number) heard ≡ Some number
 greatest_above number None h = refl
-greatest_above number (Some n) h = let l = above number (Some n) h n refl in ap (λ (m : ℕ). Some m) (let w : max number n ≡ number = omega arith in w)
+greatest_above number (Some n) h = let l = above_greatest number (Some n) h n refl in ap (λ (m : ℕ). Some m) (let w : max number n ≡ number = omega arith in w)
 
 up_to_greater : (number : ℕ) (first second : Option ℕ) → IsUpTo number second → IsUpTo number (greatest first second)
 up_to_greater number None second h = h
@@ -110,7 +110,7 @@ module _ (task : ℕ) (h : List SliceletCall) (s : HoldsOwnLeases task h) where
             where
               below : (o : Option ℕ) → greatest_heard note.kind h ≡ o → IsUpTo note.number o → old_number grant.number (greatest_heard note.kind h) ≡ None → note.number < grant.number
               below None r u w = absurd u
-              below (Some m) r u w = let l : m < grant.number = above grant.number (Some m) (rw r at w) m refl in omega (arith, u)
+              below (Some m) r u w = let l : m < grant.number = above_greatest grant.number (Some m) (rw r at w) m refl in omega (arith, u)
           by_test false t q other p = n.newer q other p
 
   own_after_release : (kind : Kind) (at : ℕ) → first_of (release_checks h kind at) ≡ None → HoldsOwnLeases task (Release kind at ∷ h)
@@ -168,5 +168,5 @@ above_released task grant at h a = all_weaker (IsSpent h) (IsAbove grant) (notes
         below : (o : Option ℕ) → greatest_heard grant.lease.kind h ≡ o → IsUpTo note.number o → note.number < grant.number
         below None r u = absurd u
         below (Some m) r u =
-            let l : m < grant.number = above grant.number (Some m) (rw r at accepted.newer) m refl in
+            let l : m < grant.number = above_greatest grant.number (Some m) (rw r at accepted.newer) m refl in
             omega (arith, u)

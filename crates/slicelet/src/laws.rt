@@ -34,10 +34,12 @@ pub fn released_law()
 {}
 
 /// A key that is allowed has a held lease that is live, covers it, and is of the kind and the
-/// generation that are told.
+/// generation that are told; so has a key that is permitted, of some kind and generation.
 pub fn covering_lease_law()
-    ensures { (covers : Grant → Bool) (h : List SliceletCall) (at : ℕ) (kind : Kind) (generation : ℕ)
+    ensures allowed { (covers : Grant → Bool) (h : List SliceletCall) (at : ℕ) (kind : Kind) (generation : ℕ)
         → rule_after covers h at ≡ Allow kind generation → HasCoveringLease covers h at kind generation }
+    ensures permitted { (covers : Grant → Bool) (h : List SliceletCall) (at : ℕ) → IsTrue (is_permitted covers h at)
+        → (kind : Kind) × (generation : ℕ) × HasCoveringLease covers h at kind generation }
 {}
 
 /// The grant of a held lease is that of a `hear` among the calls.
