@@ -4,6 +4,3 @@
 mod handle;
 
 pub use handle::KeyHandle;
-
-#[cfg(test)]
-mod tests;

@@ -1,5 +1,8 @@
-pub mod Settling
+pub mod Accepting
+pub mod OwnLeases
 pub mod Keeping
 pub mod Seeing
 pub mod Walking
 pub mod Between
+pub mod Allowing
+pub mod Hearing

@@ -6,9 +6,9 @@ use Rattle.policy_rules.specs.Leases.{seen_from}
 use Rattle.policy_rules.specs.Rule.{holding_seen_from}
 use Rattle.lease_table.specs.declared.values.Grant.{Grant}
 use Rattle.slicelet.specs.declared.call.SliceletCall.{SliceletCall}
-use Rattle.slicelet.specs.Histories.{held}
+use Rattle.slicelet.specs.Calls.{held}
 use Rattle.slicelet.specs.Rules.{seen_by, covers_key, holding_after}
-use Rattle.slicelet.specs.Kept.{holding_of}
+use Rattle.slicelet.specs.inside.State.{holding_of}
 
 seen_lease : (key : ℕ) (held : Option Grant) → option_map (seen_from key) (option_map (λ (grant : Grant). grant.lease) held) ≡ option_map (seen_by (covers_key key)) held
 seen_lease key None = refl

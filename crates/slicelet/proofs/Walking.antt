@@ -15,16 +15,16 @@ use Rattle.policy_rules.specs.Rule.{SeenHolding, allowed_by, rule, is_covered, l
 use Rattle.lease_table.specs.declared.values.Grant.{Grant}
 use Rattle.slicelet.specs.declared.sight.Sight.{Sight}
 use Rattle.slicelet.specs.declared.call.SliceletCall.{SliceletCall}
-use Rattle.slicelet.specs.Histories.{reading_of}
+use Rattle.slicelet.specs.Calls.{reading_of}
 use Rattle.slicelet.specs.Rules.{covers_key, holding_after, is_allowed, is_permitted}
-use Rattle.slicelet.specs.Sights.{end_of, is_before, sight_of, permits}
+use Rattle.slicelet.specs.inside.Sights.{end_of, is_before, sight_of, permits}
 use Rattle.slicelet.specs.Continuity.{IsKeptSince}
 
 -- a lease allows the key, at readings before the end that is kept of it, or it says nothing
-allowed : (kind : Kind) (at : ℕ) (lease : Option SeenLease) (rest : Verdict)
+lease_allows : (kind : Kind) (at : ℕ) (lease : Option SeenLease) (rest : Verdict)
     → is_allowed (unwrap_or (allowed_by kind at lease) rest) ≡ (is_before at (end_of lease) || is_allowed rest)
-allowed kind at None rest = refl
-allowed kind at (Some lease) rest = by_tests lease.covers (nat_lt at lease.ends) refl
+lease_allows kind at None rest = refl
+lease_allows kind at (Some lease) rest = by_tests lease.covers (nat_lt at lease.ends) refl
   where
     by_tests : (covers live : Bool) → nat_lt at lease.ends ≡ live
         → is_allowed (unwrap_or (option_map (λ generation. Allow kind generation) (when (live && covers) lease.generation)) rest) ≡ (is_before at (when covers lease.ends) || is_allowed rest)
@@ -38,10 +38,10 @@ first_or None checks rest = refl
 first_or (Some verdict) checks rest = refl
 
 -- the cases after the two leases deny
-denied : (covered : Bool) (newest : Option ℕ) → is_allowed (unwrap_or (first_of (when covered (Deny Ended) ∷ option_map (λ generation. Deny (NotOwned generation)) newest ∷ [])) (Deny NoLease)) ≡ false
-denied true newest = refl
-denied false None = refl
-denied false (Some generation) = refl
+other_cases_deny : (covered : Bool) (newest : Option ℕ) → is_allowed (unwrap_or (first_of (when covered (Deny Ended) ∷ option_map (λ generation. Deny (NotOwned generation)) newest ∷ [])) (Deny NoLease)) ≡ false
+other_cases_deny true newest = refl
+other_cases_deny false None = refl
+other_cases_deny false (Some generation) = refl
 
 or_nothing : (a b : Bool) → (a || b) ≡ (a || (b || false))
 or_nothing true b = refl
@@ -57,7 +57,7 @@ permits_rule h at = by_tests h.up (nat_lt at h.last) refl
         ∷ option_map (λ generation. Deny (NotOwned generation)) (greatest (live_generation at h.guard) (live_generation at h.bridge)) ∷ []
 
     by_leases : (is_before at (end_of h.guard) || is_before at (end_of h.bridge)) ≡ is_allowed (unwrap_or (first_of leases) (Deny NoLease))
-    by_leases = rw (first_or, allowed, first_or, allowed, denied) (or_nothing (is_before at (end_of h.guard)) (is_before at (end_of h.bridge)))
+    by_leases = rw (first_or, lease_allows, first_or, lease_allows, other_cases_deny) (or_nothing (is_before at (end_of h.guard)) (is_before at (end_of h.bridge)))
 
     by_tests : (up back : Bool) → nat_lt at h.last ≡ back
         → (up && nat_le h.last at && (is_before at (end_of h.guard) || is_before at (end_of h.bridge)))
@@ -99,8 +99,8 @@ newest_taken calls i c l e =
     rw taken (turned ∙ its)
 
 -- all calls are those before it, it, and those after it
-pub parted : (calls : List SliceletCall) (i : ℕ) (c : SliceletCall) → i + 1 ≤ length calls → c ≡ get_or calls i c → reverse calls ≡ reverse (drop (i + 1) calls) ++ c ∷ reverse (take i calls)
-parted calls i c l e =
+pub calls_around : (calls : List SliceletCall) (i : ℕ) (c : SliceletCall) → i + 1 ≤ length calls → c ≡ get_or calls i c → reverse calls ≡ reverse (drop (i + 1) calls) ++ c ∷ reverse (take i calls)
+calls_around calls i c l e =
     let whole : take (i + 1) calls ++ drop (i + 1) calls ≡ calls = take-append-drop (i + 1) calls in
     let turned : reverse (take (i + 1) calls ++ drop (i + 1) calls) ≡ reverse (drop (i + 1) calls) ++ reverse (take (i + 1) calls) = reverse-append (take (i + 1) calls) (drop (i + 1) calls) in
     let calls_turned : reverse calls ≡ reverse (take (i + 1) calls ++ drop (i + 1) calls) = ap (λ (xs : List SliceletCall). reverse xs) (sym whole) in
@@ -121,8 +121,8 @@ module _ (key position : ℕ) (h : List SliceletCall) (c : SliceletCall) (sight 
   abbrev pub IsFound : Type 0
   IsFound = (permits sight (reading_of c) && permits next (reading_of c)) ≡ true
 
-  found : IsFound → IsTrue (is_permitted (covers_key key) h (reading_of c)) × IsTrue (is_permitted (covers_key key) (c ∷ h) (reading_of c))
-  found e = by_tests (permits sight (reading_of c)) (permits next (reading_of c)) refl refl e
+  found_permitted : IsFound → IsTrue (is_permitted (covers_key key) h (reading_of c)) × IsTrue (is_permitted (covers_key key) (c ∷ h) (reading_of c))
+  found_permitted e = by_tests (permits sight (reading_of c)) (permits next (reading_of c)) refl refl e
     where
       by_tests : (a b : Bool) → permits sight (reading_of c) ≡ a → permits next (reading_of c) ≡ b → (a && b) ≡ true
           → IsTrue (is_permitted (covers_key key) h (reading_of c)) × IsTrue (is_permitted (covers_key key) (c ∷ h) (reading_of c))
@@ -134,7 +134,7 @@ module _ (key position : ℕ) (h : List SliceletCall) (c : SliceletCall) (sight 
   walked_next e = record {
     counted = omega (arith, w.counted);
     seen = seen;
-    kept = kept_with position (covers_key key) h c w.kept (λ l. found (e (rw (sym w.counted) at l)));
+    kept = kept_with position (covers_key key) h c w.kept (λ l. found_permitted (e (rw (sym w.counted) at l)));
   }
 
   -- a call that does not find the key permitted breaks it

@@ -7,7 +7,7 @@ use Rattle.lease_table.specs.declared.values.Grant.{Grant}
 use Rattle.key_handle.specs.declared.handle.KeyHandle.{KeyHandle}
 use Rattle.slicelet.specs.declared.error.Stranger.{Stranger}
 use Rattle.slicelet.specs.declared.call.SliceletCall.{SliceletCall}
-use Rattle.slicelet.specs.Histories.{reading_of, life_of}
+use Rattle.slicelet.specs.Calls.{reading_of, life_of}
 use Rattle.slicelet.specs.Rules.{is_permitted, covers_key}
 use Rattle.slicelet.specs.Steps.{History}
 

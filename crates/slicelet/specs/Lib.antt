@@ -1,10 +1,10 @@
-pub mod Histories
+pub mod Calls
 pub mod Rules
 pub mod Steps
 pub mod Accepted
+pub mod Laws
 pub mod Continuity
-pub mod Kept
-pub mod Sights
+pub mod inside
 pub use Rattle.machines.specs.Refusals
 pub use Rattle.slice_ranges.specs.Sets
 pub use Rattle.policy_rules.specs.Leases

@@ -8,7 +8,7 @@ use Rattle.policy_rules.specs.Rule.{SeenHolding, rule}
 use Rattle.slice_ranges.specs.Sets.{has}
 use Rattle.lease_table.specs.declared.values.Grant.{Grant}
 use Rattle.slicelet.specs.declared.call.SliceletCall.{SliceletCall}
-use Rattle.slicelet.specs.Histories.{is_started, last_reading, held}
+use Rattle.slicelet.specs.Calls.{is_started, last_reading, held}
 
 -- a granted lease as it is seen by whoever knows whether it covers a key
 abbrev pub seen_by : (Grant → Bool) → Grant → SeenLease

@@ -8,11 +8,12 @@ use Rattle.slicelet.specs.declared.error.SliceletError.{SliceletError}
 use Rattle.slicelet.specs.declared.error.SliceletError.TheVariants.{NotStarted, OldLife, ClockBack, OtherTask, OtherLife, Old, TooLate, NothingHeld, HistoryFull}
 use Rattle.machines.specs.Answers.{replied}
 use Rattle.machines.specs.declared.event.Event.{Event}
-use Rattle.slicelet.specs.declared.machine.SliceletReply.{SliceletReply}
-use Rattle.slicelet.specs.declared.machine.SliceletReply.TheVariants.{Started, Heard, Released}
+use Rattle.slicelet.specs.declared.call.SliceletReply.{SliceletReply}
+use Rattle.slicelet.specs.declared.call.SliceletReply.TheVariants.{Started, Heard, Released}
 use Rattle.slicelet.specs.declared.call.SliceletCall.{SliceletCall}
 use Rattle.slicelet.specs.declared.call.SliceletCall.TheVariants.{Start, Hear, Release}
-use Rattle.slicelet.specs.Histories.{is_started, life_of, last_reading, held, greatest_heard}
+use Rattle.slicelet.specs.declared.slicelet.TheConstants.{CALLS}
+use Rattle.slicelet.specs.Calls.{is_started, life_of, last_reading, held, greatest_heard}
 
 -- a slicelet: its task, and its accepted calls, newest first
 pub record History : Type 0 where
@@ -29,20 +30,20 @@ with_call s c = record s { calls = c ∷ s.calls }
 abbrev pub not_started : List SliceletCall → Option SliceletError
 not_started h = when (not (is_started h)) NotStarted
 
-abbrev pub back : List SliceletCall → ℕ → Option SliceletError
-back h at = when (nat_lt at (last_reading h)) ClockBack
+abbrev pub clock_back : List SliceletCall → ℕ → Option SliceletError
+clock_back h at = when (nat_lt at (last_reading h)) ClockBack
 
 -- a number is not above the greatest heard
 abbrev pub old_number : ℕ → Option ℕ → Option SliceletError
 old_number number None = None
 old_number number (Some greatest) = when (nat_le number greatest) (Old greatest)
 
-abbrev pub full : List SliceletCall → Option SliceletError
-full h = when (nat_le 65536 (length h)) HistoryFull
+abbrev pub history_full : List SliceletCall → Option SliceletError
+history_full h = when (nat_le CALLS (length h)) HistoryFull
 
 -- `start`
 abbrev pub start_checks : List SliceletCall → ℕ → ℕ → List (Option SliceletError)
-start_checks h life at = when (nat_le life (life_of h)) OldLife ∷ back h at ∷ full h ∷ []
+start_checks h life at = when (nat_le life (life_of h)) OldLife ∷ clock_back h at ∷ history_full h ∷ []
 
 abbrev pub start_step : History → ℕ → ℕ → Result (History × Unit {0}) SliceletError
 start_step s life at = answer (start_checks s.calls life at) (with_call s (Start life at), tt)
@@ -50,18 +51,18 @@ start_step s life at = answer (start_checks s.calls life at) (with_call s (Start
 -- `hear`
 abbrev pub hear_checks : History → Grant → ℕ → List (Option SliceletError)
 hear_checks s grant at =
-    not_started s.calls ∷ back s.calls at ∷
+    not_started s.calls ∷ clock_back s.calls at ∷
     when (not (grant.task == s.task)) OtherTask ∷
     when (not (grant.life == life_of s.calls)) OtherLife ∷
     old_number grant.number (greatest_heard grant.lease.kind s.calls) ∷
-    when (nat_le grant.lease.ends at) TooLate ∷ full s.calls ∷ []
+    when (nat_le grant.lease.ends at) TooLate ∷ history_full s.calls ∷ []
 
 abbrev pub hear_step : History → Grant → ℕ → Result (History × Unit {0}) SliceletError
 hear_step s grant at = answer (hear_checks s grant at) (with_call s (Hear grant at), tt)
 
 -- `release`
 abbrev pub release_checks : List SliceletCall → Kind → ℕ → List (Option SliceletError)
-release_checks h kind at = not_started h ∷ back h at ∷ when (is_none (held kind h)) NothingHeld ∷ full h ∷ []
+release_checks h kind at = not_started h ∷ clock_back h at ∷ when (is_none (held kind h)) NothingHeld ∷ history_full h ∷ []
 
 -- the note of a released lease: its number
 abbrev pub number_of : Option Grant → ℕ

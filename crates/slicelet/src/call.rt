@@ -1,8 +1,8 @@
-//! The calls that change a slicelet.
+//! The calls that change a slicelet, and what they answer.
 
 ghost use Rattle.std.specs.Prelude.{◌≡◌, IfOk};
 
-use lease_table::Grant;
+use lease_table::{Grant, ReleaseNote};
 use machines::Duplicate;
 use policy_rules::Kind;
 use std::alloc::AllocError;
@@ -19,7 +19,7 @@ pub enum SliceletCall {
 }
 
 impl SliceletCall {
-    ghost use Rattle.slicelet.specs.Histories.{reading_of};
+    ghost use Rattle.slicelet.specs.Calls.{reading_of};
 
     /// The reading of the call, in ticks.
     pub fn reading(&self) -> u64
@@ -50,4 +50,15 @@ impl Duplicate for SliceletCall {
             }),
         }
     }
+}
+
+/// What an accepted call answers.
+#[derive(Clone, Copy, Debug, PartialEq, Eq)]
+pub enum SliceletReply {
+    /// The life is started.
+    Started,
+    /// The grant is heard.
+    Heard,
+    /// The lease is released, and this is the note of it.
+    Released(ReleaseNote),
 }

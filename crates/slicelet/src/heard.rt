@@ -1,23 +1,23 @@
 //! What a slicelet keeps of each kind of lease.
 
 ghost use Rattle.std.specs.Prelude.{◌≡◌, None, is_some};
-ghost use Rattle.slicelet.specs.Kept.{lease_of_kind, with_lease, number_of_kind, with_number};
+ghost use Rattle.slicelet.specs.inside.State.{lease_of_kind, with_lease, number_of_kind, with_number};
 
 use policy_rules::{Holding, Kind, Lease};
 
 /// The greatest number heard of each kind.
 #[derive(Clone, Copy)]
-pub struct Heard {
+pub struct HeardNumbers {
     pub guard: Option<u64>,
     pub bridge: Option<u64>,
 }
 
-impl Heard {
+impl HeardNumbers {
     /// No number was heard.
-    pub fn nothing() -> Self
+    pub fn no_numbers() -> Self
         ensures { result ≡ record { guard = None; bridge = None } }
     {
-        Heard {
+        HeardNumbers {
             guard: None,
             bridge: None,
         }
@@ -38,11 +38,11 @@ impl Heard {
         ensures { result ≡ with_number self kind number }
     {
         match kind {
-            Kind::Guard => Heard {
+            Kind::Guard => HeardNumbers {
                 guard: Some(number),
                 ..self
             },
-            Kind::Bridge => Heard {
+            Kind::Bridge => HeardNumbers {
                 bridge: Some(number),
                 ..self
             },
@@ -51,7 +51,7 @@ impl Heard {
 }
 
 /// What a task holds that holds no lease.
-pub fn nothing(up: bool, last: u64) -> Holding
+pub fn no_leases(up: bool, last: u64) -> Holding
     ensures { result ≡ record { up = up; last = last; guard = None; bridge = None } }
 {
     Holding {
@@ -73,7 +73,7 @@ pub fn holds(holding: &Holding, kind: Kind) -> bool
 }
 
 /// Puts a lease, or none, in the place of that of a kind.
-pub fn put(holding: &mut Holding, kind: Kind, lease: Option<Lease>)
+pub fn put_lease(holding: &mut Holding, kind: Kind, lease: Option<Lease>)
     ensures { holding.new ≡ with_lease holding.old kind lease }
 {
     match kind {

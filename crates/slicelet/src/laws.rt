@@ -1,21 +1,24 @@
-//! What holds after every list of calls that a slicelet accepted.
+//! What holds after every list of calls that a slicelet accepted, and what its rule rests on.
 
-ghost use Rattle.std.specs.Prelude.{◌≡◌, ℕ, ◌<◌, ◌≤◌, Bool, IsTrue, List, ◌∷◌, ◌++◌, length};
+ghost use Rattle.std.specs.Prelude.{◌≡◌, ℕ, ◌<◌, ◌≤◌, ◌↔◌, Bool, IsTrue, List, ◌∷◌, ◌++◌, length, Some, Contains};
 ghost use Rattle.std.specs.List.{AllByRecursion};
+ghost use Rattle.policy_rules.specs.declared.lease.Kind.{Kind};
+ghost use Rattle.policy_rules.specs.declared.answer.Verdict.TheVariants.{Allow};
 ghost use Rattle.lease_table.specs.declared.values.Grant.{Grant};
 ghost use Rattle.slicelet.specs.declared.call.SliceletCall.{SliceletCall};
 ghost use Rattle.slicelet.specs.declared.call.SliceletCall.TheVariants.{Start, Hear};
-ghost use Rattle.slicelet.specs.Histories.{life_of};
+ghost use Rattle.slicelet.specs.Calls.{life_of, held};
 ghost use Rattle.key_handle.specs.declared.handle.KeyHandle.{KeyHandle};
-ghost use Rattle.slicelet.specs.Rules.{is_permitted};
+ghost use Rattle.slicelet.specs.Rules.{rule_after, is_permitted};
 ghost use Rattle.slicelet.specs.Continuity.{IsContinuous, next_reading};
-ghost use Rattle.slicelet.specs.Accepted.{AreAccepted, IsSettled, IsAbove, notes_sent};
+ghost use Rattle.slicelet.specs.Accepted.{AreAccepted, notes_sent};
+ghost use Rattle.slicelet.specs.Laws.{HoldsOwnLeases, IsAbove, HasCoveringLease, WasHeard, AgreeOnHeard};
 
 /// A lease that is held was heard in the current life, is of its kind, and has the greatest number
 /// that was heard of it; a note that was sent is of the current life or an earlier one, and in the
 /// current one its number was heard, and is below that of a lease held now.
-pub fn settled_law()
-    ensures { (task : ℕ) (h : List SliceletCall) → AreAccepted task h → IsSettled task h }
+pub fn held_law()
+    ensures { (task : ℕ) (h : List SliceletCall) → AreAccepted task h → HoldsOwnLeases task h }
 {}
 
 /// The lives of accepted starts rise.
@@ -28,6 +31,32 @@ pub fn lives_law()
 pub fn released_law()
     ensures { (task : ℕ) (grant : Grant) (at : ℕ) (h : List SliceletCall) → AreAccepted task (Hear grant at ∷ h)
         → AllByRecursion (IsAbove grant) (notes_sent task h) }
+{}
+
+/// A key that is allowed has a held lease that is live, covers it, and is of the kind and the
+/// generation that are told; so has a key that is permitted, of some kind and generation.
+pub fn covering_lease_law()
+    ensures allowed { (covers : Grant → Bool) (h : List SliceletCall) (at : ℕ) (kind : Kind) (generation : ℕ)
+        → rule_after covers h at ≡ Allow kind generation → HasCoveringLease covers h at kind generation }
+    ensures permitted { (covers : Grant → Bool) (h : List SliceletCall) (at : ℕ) → IsTrue (is_permitted covers h at)
+        → (kind : Kind) × (generation : ℕ) × HasCoveringLease covers h at kind generation }
+{}
+
+/// The grant of a held lease is that of a `hear` among the calls.
+pub fn heard_law()
+    ensures held { (kind : Kind) (h : List SliceletCall) (grant : Grant) → held kind h ≡ Some grant → WasHeard h grant }
+    ensures among { (h : List SliceletCall) (grant : Grant) → (heard : WasHeard h grant) → Contains h (Hear grant heard.at) }
+{}
+
+/// The rule, what is permitted and what is continuous rest on what leases cover only at the grants
+/// that were heard: two tests that agree on each of these give the same.
+pub fn agreement_law()
+    ensures rule { (covers other : Grant → Bool) (h : List SliceletCall) (at : ℕ) → AgreeOnHeard covers other h
+        → rule_after covers h at ≡ rule_after other h at }
+    ensures permitted { (covers other : Grant → Bool) (h : List SliceletCall) (at : ℕ) → AgreeOnHeard covers other h
+        → is_permitted covers h at ≡ is_permitted other h at }
+    ensures continuous { (covers other : Grant → Bool) (h : List SliceletCall) (handle : KeyHandle) (at : ℕ) → AgreeOnHeard covers other h
+        → IsContinuous covers h handle at ↔ IsContinuous other h handle at }
 {}
 
 /// Where a handle that was taken after some calls is continuous later, its key was permitted at

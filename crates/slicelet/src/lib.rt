@@ -9,11 +9,10 @@ mod machine;
 mod sight;
 mod slicelet;
 
-pub use call::SliceletCall;
+pub use call::{SliceletCall, SliceletReply};
 pub use error::{SliceletError, Stranger};
-pub use laws::{between_law, lives_law, released_law, settled_law};
-pub use machine::{SliceletEvent, SliceletReply};
+pub use laws::{
+    agreement_law, between_law, covering_lease_law, heard_law, held_law, lives_law, released_law,
+};
+pub use machine::SliceletEvent;
 pub use slicelet::{CALLS, Slicelet};
-
-#[cfg(test)]
-mod tests;

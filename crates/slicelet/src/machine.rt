@@ -2,26 +2,14 @@
 
 ghost use Rattle.slicelet.specs.Steps.{event_step};
 
-use crate::call::SliceletCall;
+use crate::call::{SliceletCall, SliceletReply};
 use crate::error::SliceletError;
 use crate::slicelet::Slicelet;
-use lease_table::ReleaseNote;
 use machines::{Duplicate, Event, Machine, Trouble};
 use std::alloc::AllocError;
 
 /// A call of a slicelet, and when it was made.
 pub type SliceletEvent = Event<SliceletCall>;
-
-/// What an accepted call answers.
-#[derive(Clone, Copy, Debug, PartialEq, Eq)]
-pub enum SliceletReply {
-    /// The life is started.
-    Started,
-    /// The grant is heard.
-    Heard,
-    /// The lease is released, and this is the note of it.
-    Released(ReleaseNote),
-}
 
 impl Machine for Slicelet {
     type Event = SliceletEvent;

@@ -5,7 +5,7 @@ ghost use Rattle.slicelet.specs.declared.call.SliceletCall.{SliceletCall};
 ghost use Rattle.machines.specs.Refusals.{when};
 ghost use Rattle.slice_ranges.specs.Sets.{has};
 ghost use Rattle.slicelet.specs.Rules.{holding_after, covers_key};
-ghost use Rattle.slicelet.specs.Sights.{sight_of, with_end, permits, is_before};
+ghost use Rattle.slicelet.specs.inside.Sights.{sight_of, with_end, permits, is_before};
 ghost use Rattle.slicelet.specs.Continuity.{IsKeptSince};
 
 use crate::call::SliceletCall;
@@ -24,7 +24,7 @@ pub struct Sight {
 
 impl Sight {
     /// Before the first call.
-    pub fn nothing() -> Self
+    pub fn no_calls() -> Self
         ensures { (key : ℕ) → result ≡ sight_of (holding_after (covers_key key) []) }
     {
         Sight {
@@ -106,7 +106,7 @@ pub fn is_kept_since(calls: &[SliceletCall], key: SliceKey, position: u64) -> bo
         (IsKeptSince position (covers_key key) (reverse calls.now))
         (IsKeptSince position (covers_key key) (reverse calls.now) → ⊥) }
 {
-    let mut sight = Sight::nothing();
+    let mut sight = Sight::no_calls();
     let mut count = 0;
     for call in calls {
         let next = sight.after(call, key);

@@ -4,15 +4,15 @@ ghost use Rattle.std.specs.Prelude.{◌≡◌, None, option_map, IfOk, OnOk};
 ghost use Rattle.std.specs.Result.{result_err};
 ghost use Rattle.machines.specs.Refusals.{first_of};
 ghost use Rattle.machines.specs.Answers.{Takes};
-ghost use Rattle.slicelet.specs.Histories.{held};
+ghost use Rattle.slicelet.specs.Calls.{held};
 ghost use Rattle.slicelet.specs.Rules.{rule_after, covers_key, is_permitted};
 ghost use Rattle.slicelet.specs.Continuity.{handle_on, held_by, is_strange, IsChecked};
 ghost use Rattle.slicelet.specs.Accepted.{AreAccepted};
-ghost use Rattle.slicelet.specs.Steps.{opening, not_started, back, full, number_of, start_checks, hear_checks, release_checks, start_step, hear_step, release_step};
+ghost use Rattle.slicelet.specs.Steps.{opening, not_started, clock_back, history_full, number_of, start_checks, hear_checks, release_checks, start_step, hear_step, release_step};
 
 use crate::call::SliceletCall;
 use crate::error::{SliceletError, Stranger};
-use crate::heard::{Heard, holds, nothing, put};
+use crate::heard::{HeardNumbers, holds, no_leases, put_lease};
 use crate::sight::is_kept_since;
 use assignment::TaskId;
 use key_handle::KeyHandle;
@@ -33,7 +33,7 @@ pub struct Slicelet {
     calls: Vec<SliceletCall>,
     life: u32,
     holding: Holding,
-    heard: Heard,
+    heard: HeardNumbers,
 }
 
 impl Model for Slicelet {
@@ -42,11 +42,11 @@ impl Model for Slicelet {
     ghost Value = { History };
 
     ghost use Rattle.std.specs.Prelude.{reverse};
-    ghost use Rattle.slicelet.specs.Kept.{IsKept};
+    ghost use Rattle.slicelet.specs.inside.State.{IsStateAfter};
 
     ghost view = { λ s. record { task = s.task; calls = reverse s.calls.items } };
 
-    ghost invariant = { λ s. IsKept s.task (reverse s.calls.items) s.life s.holding s.heard };
+    ghost invariant = { λ s. IsStateAfter s.task (reverse s.calls.items) s.life s.holding s.heard };
 }
 
 impl Slicelet {
@@ -58,8 +58,8 @@ impl Slicelet {
             task,
             calls: Vec::new(alloc),
             life: 0,
-            holding: nothing(false, 0),
-            heard: Heard::nothing(),
+            holding: no_leases(false, 0),
+            heard: HeardNumbers::no_numbers(),
         }
     }
 
@@ -74,8 +74,8 @@ impl Slicelet {
         self.calls.reserve(1)?;
         self.calls.push_reserved(SliceletCall::Start { life, at });
         self.life = life;
-        self.holding = nothing(true, at);
-        self.heard = Heard::nothing();
+        self.holding = no_leases(true, at);
+        self.heard = HeardNumbers::no_numbers();
         Ok(())
     }
 
@@ -95,7 +95,7 @@ impl Slicelet {
         self.calls.reserve(1)?;
         self.calls.push_reserved(call);
         self.holding.last = at;
-        put(&mut self.holding, grant.lease.kind, Some(lease));
+        put_lease(&mut self.holding, grant.lease.kind, Some(lease));
         self.heard = self.heard.with(grant.lease.kind, grant.number);
         Ok(())
     }
@@ -112,7 +112,7 @@ impl Slicelet {
         self.calls.reserve(1)?;
         self.calls.push_reserved(SliceletCall::Release { kind, at });
         self.holding.last = at;
-        put(&mut self.holding, kind, None);
+        put_lease(&mut self.holding, kind, None);
         Ok(ReleaseNote {
             task: self.task,
             life: self.life,
@@ -218,7 +218,7 @@ impl Slicelet {
     }
 
     fn check_reading(&self, at: u64) -> Result<(), SliceletError>
-        ensures { result_err result ≡ back self.now.calls at }
+        ensures { result_err result ≡ clock_back self.now.calls at }
     {
         if at < self.holding.last {
             Err(SliceletError::ClockBack)
@@ -228,7 +228,7 @@ impl Slicelet {
     }
 
     fn check_room(&self) -> Result<(), SliceletError>
-        ensures { result_err result ≡ full self.now.calls }
+        ensures { result_err result ≡ history_full self.now.calls }
     {
         if self.calls.len() >= CALLS {
             Err(SliceletError::HistoryFull)

@@ -1,4 +1,4 @@
-use Rattle.slicelet.proofs.Settling.{life_rises, lives_rise}
+use Rattle.slicelet.proofs.OwnLeases.{life_rises, lives_rise}
 use Rattle.slicelet.proofs.laws.lives_law.Goals as goal
 
 pub returns-clause-start : goal.returns-clause-start

@@ -1,4 +1,4 @@
-use Rattle.slicelet.proofs.Settling.{above_released}
+use Rattle.slicelet.proofs.OwnLeases.{above_released}
 use Rattle.slicelet.proofs.laws.released_law.Goals as goal
 
 pub returns : goal.returns

@@ -4,9 +4,9 @@ use Rattle.policy_rules.specs.declared.lease.Kind.{Kind}
 use Rattle.policy_rules.specs.declared.lease.Kind.TheVariants.{Guard, Bridge}
 use Rattle.policy_rules.specs.declared.lease.Lease.{Lease}
 use Rattle.policy_rules.specs.declared.holding.Holding.{Holding}
-use Rattle.slicelet.specs.declared.heard.Heard.{Heard}
+use Rattle.slicelet.specs.declared.heard.HeardNumbers.{HeardNumbers}
 use Rattle.slicelet.specs.declared.call.SliceletCall.{SliceletCall}
-use Rattle.slicelet.specs.Histories.{is_started, life_of, last_reading, held, greatest_heard}
+use Rattle.slicelet.specs.Calls.{is_started, life_of, last_reading, held, greatest_heard}
 use Rattle.slicelet.specs.Accepted.{AreAccepted}
 
 -- the lease of a kind, and a holding with another one
@@ -19,11 +19,11 @@ with_lease holding Guard lease = record holding { guard = lease }
 with_lease holding Bridge lease = record holding { bridge = lease }
 
 -- the number of a kind, and numbers with another one
-abbrev pub number_of_kind : Heard → Kind → Option ℕ
+abbrev pub number_of_kind : HeardNumbers → Kind → Option ℕ
 number_of_kind heard Guard = heard.guard
 number_of_kind heard Bridge = heard.bridge
 
-abbrev pub with_number : Heard → Kind → ℕ → Heard
+abbrev pub with_number : HeardNumbers → Kind → ℕ → HeardNumbers
 with_number heard Guard number = record heard { guard = Some number }
 with_number heard Bridge number = record heard { bridge = Some number }
 
@@ -36,8 +36,8 @@ holding_of h = record {
   bridge = option_map (λ grant. grant.lease) (held Bridge h);
 }
 
--- the calls were accepted, and the life, the holding and the greatest numbers are theirs
-pub record IsKept (task : ℕ) (h : List SliceletCall) (life : ℕ) (holding : Holding) (heard : Heard) : Type 0 where
+-- the state after accepted calls: the life, the holding and the greatest numbers are those of the calls
+pub record IsStateAfter (task : ℕ) (h : List SliceletCall) (life : ℕ) (holding : Holding) (heard : HeardNumbers) : Type 0 where
   pub accepted : AreAccepted task h
   pub lives : life ≡ life_of h
   pub holds : holding ≡ holding_of h

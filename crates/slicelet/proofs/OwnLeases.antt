@@ -1,10 +1,9 @@
 -- What holds after every list of accepted calls.
 use Rattle.std.proofs.Common.{◌≡◌, ◌∙◌, ℕ, ◌<◌, ◌≤◌, Bool, true, false, List, [], ◌∷◌, ◌++◌, refl, sym, ap, subst, arith}
 use Rattle.std.proofs.lemmas.Bool.Decides.{nat_tests}
-use Rattle.std.specs.Prelude.{Option, Some, None, is_none, nat_le, ◌==◌, not, max, find, if◌then◌else◌}
+use Rattle.std.specs.Prelude.{Option, Some, None, is_none, nat_le, max, find, if◌then◌else◌}
 use Rattle.std.specs.List.{AllByRecursion}
 use Rattle.machines.specs.Refusals.{when, first_of}
-use Rattle.machines.proofs.Refused.{all_none, not_when}
 use Rattle.machines.proofs.Every.{all_weaker}
 use Rattle.policy_rules.specs.declared.lease.Kind.{Kind}
 use Rattle.policy_rules.specs.declared.lease.Kind.TheVariants.{Guard, Bridge}
@@ -12,13 +11,14 @@ use Rattle.policy_rules.specs.Leases.{same_kind}
 use Rattle.policy_rules.specs.Rule.{greatest}
 use Rattle.lease_table.specs.declared.values.Grant.{Grant}
 use Rattle.lease_table.specs.declared.values.ReleaseNote.{ReleaseNote}
-use Rattle.slicelet.specs.declared.error.SliceletError.{SliceletError}
 use Rattle.slicelet.specs.declared.error.SliceletError.TheVariants.{Old}
 use Rattle.slicelet.specs.declared.call.SliceletCall.{SliceletCall}
 use Rattle.slicelet.specs.declared.call.SliceletCall.TheVariants.{Start, Hear, Release}
-use Rattle.slicelet.specs.Histories.{this_life, life_of, is_about, heard_by, held, greatest_heard}
+use Rattle.slicelet.specs.Calls.{this_life, life_of, is_about, heard_by, held, greatest_heard}
 use Rattle.slicelet.specs.Steps.{start_checks, hear_checks, release_checks, old_number, number_of, note_of}
-use Rattle.slicelet.specs.Accepted.{AreAccepted, IsOwn, IsUpTo, IsSpent, IsSettled, IsAbove, notes_sent}
+use Rattle.slicelet.specs.Accepted.{AreAccepted, notes_sent}
+use Rattle.slicelet.proofs.Accepting.{IsHearAccepted, start_accepted, hear_accepted, release_accepted}
+use Rattle.slicelet.specs.Laws.{IsOwn, IsUpTo, IsSpent, HoldsOwnLeases, IsAbove}
 
 -- kinds that are the same are equal
 pub equal_kinds : (kind other : Kind) → same_kind kind other ≡ true → kind ≡ other
@@ -28,9 +28,9 @@ equal_kinds Bridge Guard e = absurd (cc)
 equal_kinds Bridge Bridge e = refl
 
 -- a number that is not old is above the greatest
-pub above : (number : ℕ) (heard : Option ℕ) → old_number number heard ≡ None → (n : ℕ) → heard ≡ Some n → n < number
-above number None h n e = absurd (cc)
-above number (Some m) h n e = by_test (nat_le number m) refl h
+pub above_greatest : (number : ℕ) (heard : Option ℕ) → old_number number heard ≡ None → (n : ℕ) → heard ≡ Some n → n < number
+above_greatest number None h n e = absurd (cc)
+above_greatest number (Some m) h n e = by_test (nat_le number m) refl h
   where
     by_test : (b : Bool) → b ≡ nat_le number m → when b (Old m) ≡ None → n < number
     by_test true t h = absurd (cc)
@@ -39,7 +39,7 @@ above number (Some m) h n e = by_test (nat_le number m) refl h
 -- so it is the greatest with it
 pub greatest_above : (number : ℕ) (heard : Option ℕ) → old_number number heard ≡ None → greatest (Some number) heard ≡ Some number
 greatest_above number None h = refl
-greatest_above number (Some n) h = let l = above number (Some n) h n refl in ap (λ (m : ℕ). Some m) (let w : max number n ≡ number = omega arith in w)
+greatest_above number (Some n) h = let l = above_greatest number (Some n) h n refl in ap (λ (m : ℕ). Some m) (let w : max number n ≡ number = omega arith in w)
 
 up_to_greater : (number : ℕ) (first second : Option ℕ) → IsUpTo number second → IsUpTo number (greatest first second)
 up_to_greater number None second h = h
@@ -50,24 +50,20 @@ same_itself : (kind : Kind) → same_kind kind kind ≡ true
 same_itself Guard = refl
 same_itself Bridge = refl
 
-equal_numbers : (m n : ℕ) → not (m == n) ≡ false → m ≡ n
-equal_numbers m n e = grind (arith, nat_tests)
-
 -- the number of a held lease was heard
-held_heard : (task : ℕ) (h : List SliceletCall) (kind : Kind) (o : Option Grant) → held kind h ≡ o → is_none o ≡ false
+held_number_heard : (task : ℕ) (h : List SliceletCall) (kind : Kind) (o : Option Grant) → held kind h ≡ o → is_none o ≡ false
     → ((grant : Grant) → o ≡ Some grant → IsOwn task h kind grant) → IsUpTo (number_of o) (greatest_heard kind h)
-held_heard task h kind None q e own = absurd (cc)
-held_heard task h kind (Some grant) q e own = rw ((own grant refl).greatest) (omega arith)
+held_number_heard task h kind None q e own = absurd (cc)
+held_number_heard task h kind (Some grant) q e own = rw ((own grant refl).greatest) (omega arith)
 
 -- lives rise
 pub life_rises : (life at : ℕ) (h : List SliceletCall) → first_of (start_checks h life at) ≡ None → life_of h < life
 life_rises life at h e =
-    let old : nat_le life (life_of h) ≡ false = not_when _ _ (all_none (start_checks h life at) e).0 in
-    grind (arith, nat_tests)
+    (start_accepted h life at e).newer
 
-module _ (task : ℕ) (h : List SliceletCall) (s : IsSettled task h) where
-  settle_start : (life at : ℕ) → first_of (start_checks h life at) ≡ None → IsSettled task (Start life at ∷ h)
-  settle_start life at e =
+module _ (task : ℕ) (h : List SliceletCall) (s : HoldsOwnLeases task h) where
+  own_after_start : (life at : ℕ) → first_of (start_checks h life at) ≡ None → HoldsOwnLeases task (Start life at ∷ h)
+  own_after_start life at e =
       let newer : life_of h < life = life_rises life at h e in
       record {
         own = λ kind grant q. absurd (cc);
@@ -75,21 +71,18 @@ module _ (task : ℕ) (h : List SliceletCall) (s : IsSettled task h) where
             (λ note n. let l : note.life ≤ life_of h = n.of_life in record { of_life = omega arith; heard = λ q. absurd (omega (arith, q)); newer = λ q. absurd (omega (arith, q)) }) s.spent;
       }
 
-  settle_hear : (grant : Grant) (at : ℕ) → first_of (hear_checks (record { task = task; calls = h }) grant at) ≡ None → IsSettled task (Hear grant at ∷ h)
-  settle_hear grant at e = record { own = λ kind other. own kind other (same_kind grant.lease.kind kind) refl; spent = all_weaker (IsSpent h) (IsSpent (Hear grant at ∷ h)) (notes_sent task h) spent s.spent }
+  own_after_hear : (grant : Grant) (at : ℕ) → first_of (hear_checks (record { task = task; calls = h }) grant at) ≡ None → HoldsOwnLeases task (Hear grant at ∷ h)
+  own_after_hear grant at e = record { own = λ kind other. own kind other (same_kind grant.lease.kind kind) refl; spent = all_weaker (IsSpent h) (IsSpent (Hear grant at ∷ h)) (notes_sent task h) spent s.spent }
     where
-      none : AllByRecursion (λ (c : Option SliceletError). c ≡ None) (hear_checks (record { task = task; calls = h }) grant at)
-      none = all_none (hear_checks (record { task = task; calls = h }) grant at) e
-
-      newer : old_number grant.number (greatest_heard grant.lease.kind h) ≡ None
-      newer = none.1.1.1.1.0
+      accepted : IsHearAccepted (record { task = task; calls = h }) grant at
+      accepted = hear_accepted (record { task = task; calls = h }) grant at e
 
       its_own : IsOwn task (Hear grant at ∷ h) grant.lease.kind grant
       its_own = record {
-        of_task = equal_numbers grant.task task (not_when _ _ none.1.1.0);
-        of_life = equal_numbers grant.life (life_of h) (not_when _ _ none.1.1.1.0);
+        of_task = accepted.of_task;
+        of_life = accepted.of_life;
         of_kind = refl;
-        greatest = rw (same_itself grant.lease.kind) (greatest_above grant.number (greatest_heard grant.lease.kind h) newer);
+        greatest = rw (same_itself grant.lease.kind) (greatest_above grant.number (greatest_heard grant.lease.kind h) accepted.newer);
       }
 
       own : (kind : Kind) (other : Grant) (b : Bool) → b ≡ same_kind grant.lease.kind kind
@@ -113,22 +106,19 @@ module _ (task : ℕ) (h : List SliceletCall) (s : IsSettled task h) where
           by_test true t q other p =
               let same : grant ≡ other = cc in
               let kinds : grant.lease.kind ≡ note.kind = equal_kinds grant.lease.kind note.kind (sym t) in
-              subst (λ (g : Grant). note.number < g.number) same (below (greatest_heard note.kind h) refl (n.heard q) (rw (sym kinds) newer))
+              subst (λ (g : Grant). note.number < g.number) same (below (greatest_heard note.kind h) refl (n.heard q) (rw (sym kinds) accepted.newer))
             where
               below : (o : Option ℕ) → greatest_heard note.kind h ≡ o → IsUpTo note.number o → old_number grant.number (greatest_heard note.kind h) ≡ None → note.number < grant.number
               below None r u w = absurd u
-              below (Some m) r u w = let l : m < grant.number = above grant.number (Some m) (rw r at w) m refl in omega (arith, u)
+              below (Some m) r u w = let l : m < grant.number = above_greatest grant.number (Some m) (rw r at w) m refl in omega (arith, u)
           by_test false t q other p = n.newer q other p
 
-  settle_release : (kind : Kind) (at : ℕ) → first_of (release_checks h kind at) ≡ None → IsSettled task (Release kind at ∷ h)
-  settle_release kind at e = record {
+  own_after_release : (kind : Kind) (at : ℕ) → first_of (release_checks h kind at) ≡ None → HoldsOwnLeases task (Release kind at ∷ h)
+  own_after_release kind at e = record {
     own = λ other grant. own other grant (same_kind kind other) refl;
     spent = (its_note, all_weaker (IsSpent h) (IsSpent (Release kind at ∷ h)) (notes_sent task h) spent s.spent);
   }
     where
-      none : AllByRecursion (λ (c : Option SliceletError). c ≡ None) (release_checks h kind at)
-      none = all_none (release_checks h kind at) e
-
       not_held : (other : Kind) (grant : Grant) (b : Bool) → heard_by (if b then Some (Release kind at) else find (is_about other) (this_life h)) ≡ Some grant → (b ≡ false) × (held other h ≡ Some grant)
       not_held other grant true q = absurd (cc)
       not_held other grant false q = (refl, q)
@@ -142,18 +132,18 @@ module _ (task : ℕ) (h : List SliceletCall) (s : IsSettled task h) where
       its_note : IsSpent (Release kind at ∷ h) (note_of (record { task = task; calls = h }) kind)
       its_note = record {
         of_life = omega arith;
-        heard = λ q. held_heard task h kind (held kind h) refl (not_when _ _ none.1.1.0) (s.own kind);
+        heard = λ q. held_number_heard task h kind (held kind h) refl (release_accepted h kind at e).is_held (s.own kind);
         newer = λ q grant p. absurd (let f : same_kind kind kind ≡ false = (not_held kind grant (same_kind kind kind) p).0 in let t = same_itself kind in cc);
       }
 
       spent : (note : ReleaseNote) → IsSpent h note → IsSpent (Release kind at ∷ h) note
       spent note n = record { of_life = n.of_life; heard = n.heard; newer = λ q grant p. n.newer q grant (not_held note.kind grant (same_kind kind note.kind) p).1 }
 
-pub settled : (task : ℕ) (h : List SliceletCall) → AreAccepted task h → IsSettled task h
-settled task [] a = record { own = λ kind grant q. absurd (cc); spent = tt }
-settled task (Start life at ∷ h) a = settle_start task h (settled task h a.1) life at a.0
-settled task (Hear grant at ∷ h) a = settle_hear task h (settled task h a.1) grant at a.0
-settled task (Release kind at ∷ h) a = settle_release task h (settled task h a.1) kind at a.0
+pub own_leases : (task : ℕ) (h : List SliceletCall) → AreAccepted task h → HoldsOwnLeases task h
+own_leases task [] a = record { own = λ kind grant q. absurd (cc); spent = tt }
+own_leases task (Start life at ∷ h) a = own_after_start task h (own_leases task h a.1) life at a.0
+own_leases task (Hear grant at ∷ h) a = own_after_hear task h (own_leases task h a.1) grant at a.0
+own_leases task (Release kind at ∷ h) a = own_after_release task h (own_leases task h a.1) kind at a.0
 
 pub lives_rise : (task : ℕ) (later h : List SliceletCall) → AreAccepted task (later ++ h) → life_of h ≤ life_of (later ++ h)
 lives_rise task [] h a = omega arith
@@ -166,19 +156,17 @@ lives_rise task (Release kind at ∷ later) h a = lives_rise task later h a.1
 
 -- a released number is not heard again
 pub above_released : (task : ℕ) (grant : Grant) (at : ℕ) (h : List SliceletCall) → AreAccepted task (Hear grant at ∷ h) → AllByRecursion (IsAbove grant) (notes_sent task h)
-above_released task grant at h a = all_weaker (IsSpent h) (IsAbove grant) (notes_sent task h) over (settled task h a.1).spent
+above_released task grant at h a = all_weaker (IsSpent h) (IsAbove grant) (notes_sent task h) over (own_leases task h a.1).spent
   where
-    none : AllByRecursion (λ (c : Option SliceletError). c ≡ None) (hear_checks (record { task = task; calls = h }) grant at)
-    none = all_none (hear_checks (record { task = task; calls = h }) grant at) a.0
+    accepted : IsHearAccepted (record { task = task; calls = h }) grant at
+    accepted = hear_accepted (record { task = task; calls = h }) grant at a.0
 
     over : (note : ReleaseNote) → IsSpent h note → IsAbove grant note
     over note n kinds lives =
-        let life = equal_numbers grant.life (life_of h) (not_when _ _ none.1.1.1.0) in
-        below (greatest_heard grant.lease.kind h) refl (rw kinds at (n.heard (lives ∙ life)))
+        below (greatest_heard grant.lease.kind h) refl (rw kinds at (n.heard (lives ∙ accepted.of_life)))
       where
         below : (o : Option ℕ) → greatest_heard grant.lease.kind h ≡ o → IsUpTo note.number o → note.number < grant.number
         below None r u = absurd u
         below (Some m) r u =
-            let newer : old_number grant.number (greatest_heard grant.lease.kind h) ≡ None = none.1.1.1.1.0 in
-            let l : m < grant.number = above grant.number (Some m) (rw r at newer) m refl in
+            let l : m < grant.number = above_greatest grant.number (Some m) (rw r at accepted.newer) m refl in
             omega (arith, u)
