@@ -66,8 +66,8 @@ module _ {M E R F : Type 0} (step : M → E → Result (M × R) F) (opened : Ope
   word_is zero below = refl
   word_is (suc l) below = absurd (omega arith)
 
-  pub starts : (b : Book M E) → b.machine ≡ opened.machine → b.history.items ≡ [] → Kept step opened (opening (0 ∷ []) (Some b ∷ []) (first_view opened))
-  starts b is empty = record {
+  pub starts : 0 < opened.lanes → (b : Book M E) → b.machine ≡ opened.machine → b.history.items ≡ [] → Kept step opened (opening (0 ∷ []) (Some b ∷ []) (first_view opened))
+  starts lanes b is empty = record {
     log = [];
     holder = λ l. 0;
     next = 0;
@@ -76,6 +76,7 @@ module _ {M E R F : Type 0} (step : M → E → Result (M × R) F) (opened : Ope
     few = omega arith;
     short = omega arith;
     wide = refl;
+    each_lane = lanes;
     home = λ l below z. only_lane b is empty l below;
     away = λ l below busy. absurd (busy (word_is l below));
     undealt = λ n h. refl;
@@ -97,6 +98,7 @@ module _ {M E R F : Type 0} (step : M → E → Result (M × R) F) (opened : Ope
         few = omega arith;
         short = r.short;
         wide = r.wide;
+        each_lane = r.each_lane;
         home = r.home;
         away = λ l below busy. let h = r.away l below busy in let t = h.1 in
             (h.0, (t.0, at_longer (set s.views id w) (u ∷ []) (r.holder l) t.0 (set_else s.views id (r.holder l) w (holds_none step opened s r id v at idle l h) ∙ t.1), t.2, t.3));
@@ -124,6 +126,7 @@ module _ {M E R F : Type 0} (step : M → E → Result (M × R) F) (opened : Ope
         few = r.few;
         short = r.short;
         wide = r.wide;
+        each_lane = r.each_lane;
         home = r.home;
         away = λ l below busy. let h = r.away l below busy in let t = h.1 in (h.0, (t.0, at_longer s.views (u ∷ []) (r.holder l) t.0 t.1, t.2, t.3));
         undealt = r.undealt;
@@ -151,6 +154,7 @@ module _ {M E R F : Type 0} (step : M → E → Result (M × R) F) (opened : Ope
         few = r.few;
         short = r.short;
         wide = r.wide;
+        each_lane = r.each_lane;
         home = r.home;
         away = λ l below busy. let h = r.away l below busy in let t = h.1 in
             let not_id = holds_none step opened s r id v at idle l h in

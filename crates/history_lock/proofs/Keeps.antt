@@ -16,7 +16,7 @@ use Rattle.history_lock.specs.declared.view.Gone.{Gone}
 use Rattle.history_lock.specs.declared.view.View.{View}
 use Rattle.history_lock.specs.declared.view.Book.{Book}
 use Rattle.history_lock.specs.Histories.{replay, of_lane, StartsWith, GrowsBy}
-use Rattle.history_lock.specs.Rule.{Books, Sat, IsWordOf, HasLane, KnowsRole, KnowsGone, Holds, Knows, IsAway, Kept, mine_of, taken, turned_away, wrote, gave_back, claimed, published, given_back}
+use Rattle.history_lock.specs.Rule.{Books, Sat, IsWordOf, HasLane, KnowsRole, KnowsGone, Holds, Knows, IsAway, Kept, IsHeldByAnother, mine_of, taken, turned_away, wrote, gave_back, claimed, published, given_back}
 use Rattle.history_lock.proofs.Histories.{starts_itself, starts_through}
 use Rattle.history_lock.proofs.Lists.{put, put_here, put_else, inside, each_set}
 
@@ -60,6 +60,7 @@ module _ {M E R F : Type 0} (step : M → E → Result (M × R) F) (opened : Ope
     few = r.few;
     short = r.short;
     wide = r.wide;
+    each_lane = r.each_lane;
     home = r.home;
     away = λ l below busy. let h = r.away l below busy in let t = h.1 in
         (h.0, (t.0, set_else s.views id (r.holder l) w (holds_none s r id v at idle l h) ∙ t.1, t.2, t.3));
@@ -86,6 +87,7 @@ module _ {M E R F : Type 0} (step : M → E → Result (M × R) F) (opened : Ope
         few = r.few;
         short = r.short;
         wide = omega arith;
+        each_lane = (let lanes = r.each_lane in omega arith);
         home = λ j below free. let ne : j ≢ l = λ e. word_some v.role new word (sym here ∙ (ap (λ (x : ℕ). get_or ws x 0) (sym e) ∙ free)) in
             let h = r.home j (omega arith) (sym (elsewhere j ne) ∙ free) in (h.0, set_else s.homes l j none ne ∙ h.1, h.2, h.3);
         away = λ j below busy. dite (ℕ_discrete j l)
@@ -140,6 +142,7 @@ module _ {M E R F : Type 0} (step : M → E → Result (M × R) F) (opened : Ope
         few = r.few;
         short = r.short;
         wide = omega arith;
+        each_lane = (let lanes = r.each_lane in omega arith);
         home = λ j below free. dite (ℕ_discrete j l)
             (λ e. (b, ap (get_elem? (set s.homes l (some (Some b)))) e ∙ set_here s.homes l (some (Some b)) (omega arith), same ∙ last.whole, subst (λ x. replay step opened.machine x ≡ Some b.machine) (same ∙ last.whole) legal))
             (λ ne. let h = r.home j (omega arith) (sym (elsewhere j ne) ∙ free) in (h.0, set_else s.homes l j (some (Some b)) ne ∙ h.1, h.2, h.3));
@@ -195,6 +198,7 @@ module _ {M E R F : Type 0} (step : M → E → Result (M × R) F) (opened : Ope
         few = r.few;
         short = short;
         wide = omega arith;
+        each_lane = (let lanes = r.each_lane in omega arith);
         home = λ j below free. dite (ℕ_discrete j l)
             (λ e. (b, ap (get_elem? (set s.homes l (some (Some b)))) e ∙ set_here s.homes l (some (Some b)) (omega arith), refl, legal))
             (λ ne. let m = mine j (omega arith) in absurd (word_some v.role v.shows m.word (sym m.shown ∙ (sym (elsewhere j ne) ∙ free))));
@@ -219,6 +223,23 @@ module _ {M E R F : Type 0} (step : M → E → Result (M × R) F) (opened : Ope
               role = role_stays r.log log n r.next r.dealer r.owner more j apart u.role u.mine q.role;
               gone = gone_stay r.log log n r.next r.dealer r.owner more j apart u.gone q.gone;
             });
+      }
+
+  -- a word that is not 0 is another's, if the seat that meets it holds no lane
+  held_by_another : (s : Books M E) (r : Kept step opened s) (id l : ℕ) (v : View M E) → get_elem? s.views id ≡ some v → v.to ≤ v.from → l < length s.words → get_or s.words l 0 ≢ 0
+      → IsHeldByAnother v l (get_or s.words l 0)
+  held_by_another s r id l v at idle lt miss =
+      let h = r.away l lt miss in let t = h.1 in let u : View M E = t.0 in let z = r.each (r.holder l) u t.1 in let out = z.out l t.2 t.3 in let m : ℕ = out.word.0 in
+      let has : HasLane r.log r.next r.dealer r.owner (r.holder l) m u.mine = subst (λ (x : Role). KnowsRole r.log r.next r.dealer r.owner (r.holder l) x u.mine) out.word.1 z.role in
+      let k = r.each id v at in let lanes = r.each_lane in let few = r.few in let shown = out.shown in
+      let same : (n : ℕ) → get_or s.words l 0 ≡ n + 2 → n ≡ m = λ n is. ⊎_elim (λ (e : u.shows ≡ 1). absurd (omega arith)) (λ (e : u.shows ≡ m + 2). omega arith) out.word.2 in record {
+        apart = λ inside. (let low : v.from ≤ l = inside.0 in let high : l < v.to = inside.1 in absurd (omega arith));
+        lane = λ o e. subst (λ (x : Opened M). l < x.lanes) (sym (k.opens o e)) (omega arith);
+        writer = λ n is. (
+          λ role. (let mine : HasLane r.log r.next r.dealer r.owner id n v.mine = subst (λ (x : Role). KnowsRole r.log r.next r.dealer r.owner id x v.mine) role k.role in
+              holds_none s r id v at idle l h (sym has.0 ∙ (ap r.owner (sym (same n is)) ∙ mine.0))),
+          λ o e. subst (λ (x : Opened M). n < x.lanes) (sym (k.opens o e)) (let below : m < r.next = has.1 in let e : n ≡ m = same n is in omega arith),
+        );
       }
 
   pub claims : (slots id l new : ℕ) (me : Sat M E) → l < slots → me.0.to ≤ me.0.from → IsWordOf me.0.role new
@@ -255,7 +276,7 @@ module _ {M E R F : Type 0} (step : M → E → Result (M × R) F) (opened : Ope
         subst (λ t. Kept step opened record { words = set s.words l (either t new (get_or s.words l 0)); homes = s.homes; views = set s.views id w }) (sym (ne_eqb (get_or s.words l 0) 0 miss))
             (subst (λ ws. Kept step opened record { words = ws; homes = s.homes; views = set s.views id w }) (sym (set-get_or s.words l 0))
             (reviewed s r id me.0 w at idle record { opens = k.opens; before = k.before; heard = k.heard; out = λ j low high. absurd (omega arith); role = k.role; gone = k.gone })),
-        ((λ hit. absurd (miss hit)), λ _. refl),
+        ((λ hit. absurd (miss hit)), λ _. (refl, held_by_another s r id l me.0 at idle lt miss)),
       ))
 
   pub gives_back : (slots id l : ℕ) (v : View M E) (b : Book M E) → v.from ≤ l → v.to ≡ l + 1 → b.history.items ≡ v.seen → replay step opened.machine b.history.items ≡ Some b.machine

@@ -94,6 +94,7 @@ module _ {M E R F : Type 0} (step : M → E → Result (M × R) F) where
     pub few : next ≤ opened.lanes
     pub short : length log ≤ opened.limit
     pub wide : length s.homes ≡ length s.words
+    pub each_lane : length s.words ≤ opened.lanes
     pub home : (l : ℕ) → l < length s.words → slice_index s.words l ≡ 0 → IsAtHome opened log s l
     pub away : (l : ℕ) → l < length s.words → slice_index s.words l ≢ 0 → IsAway holder s l
     pub undealt : (n : ℕ) → next ≤ n → of_lane n log ≡ []
@@ -163,6 +164,12 @@ module _ {M E : Type 0} where
   abbrev pub gathered : View M E → View M E → View M E
   gathered v w = record v { gone = gone_of w ∷ v.gone }
 
+  -- a lane of the lock shows a word that the seat did not put there: the seat does not hold it, and a writer that does has another lane of the lock
+  pub record IsHeldByAnother (v : View M E) (l word : ℕ) : Type 0 where
+    pub apart : ¬ ((v.from ≤ l) × (l < v.to))
+    pub lane : (o : Opened M) → v.opened ≡ Some o → l < o.lanes
+    pub writer : (n : ℕ) → word ≡ n + 2 → (v.role ≢ Lane n) × ((o : Opened M) → v.opened ≡ Some o → n < o.lanes)
+
   -- a lane is given back with a new book, and what the book says was seen
   abbrev pub published : At M E → Sat M E → ℕ → Sat M E → Type 0
   published at before found after = after ≡ (wrote before.0 at.word (log_of before.1), rest before.1)
@@ -184,4 +191,4 @@ module _ {M E R F : Type 0} (step : M → E → Result (M × R) F) where
   abbrev pub claimed : At M E → Sat M E → ℕ → Sat M E → Type 0
   claimed at before found after =
       (found ≡ 0 → (b : Book M E) × (after ≡ (taken before.0 at.word at.second b.history.items, (at.word, Some b) ∷ before.1)) × IsTaken before.0 b)
-      × (found ≢ 0 → after ≡ (turned_away before.0 at.word found, before.1))
+      × (found ≢ 0 → (after ≡ (turned_away before.0 at.word found, before.1)) × IsHeldByAnother before.0 at.word found)

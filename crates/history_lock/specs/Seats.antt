@@ -1,5 +1,5 @@
 -- Seats between two calls.
-use Rattle.std.specs.Prelude.{◌≡◌, ℕ, ◌<◌, ◌≤◌, List, [], Option, Some, Result}
+use Rattle.std.specs.Prelude.{◌≡◌, ◌≢◌, ℕ, ◌<◌, ◌≤◌, List, [], Option, Some, Result}
 use Rattle.atomic_table.specs.Seated.{TableId}
 use Rattle.atomic_table.specs.Table.{Me}
 use Rattle.history_lock.specs.declared.view.Opened.{Opened}
@@ -7,7 +7,9 @@ use Rattle.history_lock.specs.declared.view.Role.TheVariants.{Lane, Dealer}
 use Rattle.history_lock.specs.declared.view.Gone.{Gone}
 use Rattle.history_lock.specs.declared.view.View.{View}
 use Rattle.history_lock.specs.declared.view.Book.{Book}
+use Rattle.history_lock.specs.declared.error.Busy.{Busy}
 use Rattle.history_lock.specs.Histories.{IsLegal}
+use Rattle.history_lock.specs.Rule.{busy, IsHeldByAnother}
 
 -- the seat of a lane holds nothing, and has taken in these passes
 pub record IsTaking {M E : Type 0} (me : Me (Option (Book M E)) (View M E)) (lane : ℕ) (gone : List (Gone E)) : Type 0 where
@@ -23,6 +25,13 @@ pub record IsResting {M E : Type 0} (me : Me (Option (Book M E)) (View M E)) (la
   pub small : lane < 8
   pub alone : me.0.gone ≡ []
   pub bare : me.1 ≡ []
+
+-- the claim of a seat with this view was refused, by the word that it found
+pub record IsRefusedClaim {M E : Type 0} (v : View M E) (refusal : Busy) : Type 0 where
+  pub found : ℕ
+  pub held : found ≢ 0
+  pub named : refusal ≡ busy refusal.lane found
+  pub other : IsHeldByAnother v refusal.lane found
 
 -- what a seat has seen is legal
 abbrev pub SeesLegal : {M E R F : Type 0} → (M → E → Result (M × R) F) → View M E → Type 0

@@ -1,5 +1,5 @@
 -- What a pass does while it holds the lane.
-use Rattle.std.specs.Prelude.{◌≡◌, ◌⊎◌, ℕ, ◌<◌, ◌≤◌, [], ◌∷◌, ◌++◌, length, Result, Ok, Err}
+use Rattle.std.specs.Prelude.{◌≡◌, ◌⊎◌, ℕ, ◌<◌, ◌≤◌, [], ◌∷◌, ◌++◌, length, true, is_ok, Result, Ok, Err}
 use Rattle.history_lock.specs.declared.error.WriteError.{WriteError}
 use Rattle.history_lock.specs.declared.error.WriteError.TheVariants.{HistoryFull, Refused, NoMemory}
 use Rattle.history_lock.specs.declared.view.Book.{Book}
@@ -15,4 +15,4 @@ module _ {M E R F : Type 0} (step : M → E → Result (M × R) F) (lane limit :
   Turn old (Ok reply) new = (event : E) × made event × (length old.history.items < limit) × (step old.machine event ≡ Ok (new.machine, reply)) × (new.history.items ≡ old.history.items ++ entry lane event ∷ [])
   Turn old (Err HistoryFull) new = unmade × (limit ≤ length old.history.items) × Stays old new
   Turn old (Err (Refused fault)) new = (event : E) × made event × (length old.history.items < limit) × (step old.machine event ≡ Err fault) × Stays old new
-  Turn old (Err NoMemory) new = (unmade ⊎ ((event : E) × made event)) × (length old.history.items < limit) × Stays old new
+  Turn old (Err NoMemory) new = (unmade ⊎ ((event : E) × made event × (is_ok (step old.machine event) ≡ true))) × (length old.history.items < limit) × Stays old new

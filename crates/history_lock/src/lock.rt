@@ -25,7 +25,7 @@ impl<M: Machine> LaneLock<M> {
         ensures legal { IsLegal M.step self.now.opened.machine pass.new.seen }
         ensures answer { MatchResult result
             (λ answer. Wrote M.step self.now (λ event. F.step make.old event make.new) (make.new ≡ make.old) pass.old answer pass.new)
-            (λ busy. (make.new ≡ make.old) × IsTurnedAway pass.old busy pass.new) }
+            (λ busy. (make.new ≡ make.old) × IsTurnedAway self.now pass.old busy pass.new) }
     {
         write_at(
             &self.board.shared,
@@ -70,7 +70,7 @@ impl<M: Machine> LaneLock<M> {
         requires may { F.pre make.old }
         ensures own { IsPassOf self.now pass.new }
         ensures legal { IsLegal M.step self.now.opened.machine pass.new.seen }
-        ensures answer { (late : Sight M M.Event) × HasWaited pass.old late
+        ensures answer { (late : Sight M M.Event) × HasWaited self.now pass.old late
             × Wrote M.step self.now (λ event. F.step make.old event make.new) (make.new ≡ make.old) late result pass.new }
     {
         for _ in rt.forever() {
@@ -99,7 +99,7 @@ impl<M: Machine> LaneLock<M> {
         requires may { (machine : M) → TakesAt F.FnMut f.old machine }
         ensures own { IsPassOf self.now pass.new }
         ensures legal { IsLegal M.step self.now.opened.machine pass.new.seen }
-        ensures answer { (late : Sight M M.Event) × HasWaited pass.old late
+        ensures answer { (late : Sight M M.Event) × HasWaited self.now pass.old late
             × Shared M.step self.now (λ machine answer. CalledAt F.FnMut f.old machine answer f.new) late result pass.new }
     {
         for _ in rt.forever() {
@@ -116,7 +116,7 @@ impl<M: Machine> LaneLock<M> {
         requires other { IsPassOf self.now second.old }
         ensures own { IsPassOf self.now first.new }
         ensures legal { IsLegal M.step self.now.opened.machine first.new.seen }
-        ensures first { TriedToMeet first.old second.old result first.new }
+        ensures first { TriedToMeet self.now first.old second.old result first.new }
         ensures second { second.new ≡ second.old }
     {
         meet_at(

@@ -76,6 +76,7 @@ fn lay<M: Machine>(
     alloc: Global,
     opened: Opened<M>,
 ) -> Result<(Board<M, M::Event>, Place<M, M::Event>), AllocError>
+    requires { 0 < opened.lanes }
     ensures { IfOk result (λ t. (t.0.shared.table_id.words ≡ 1) × (t.0.shared.table_id.slots ≡ 1)
         × (t.1.table_id ≡ t.0.shared.table_id) × (t.0.shared.key.value ≡ opened) × (t.1.me ≡ (first_view opened, []))) }
 {

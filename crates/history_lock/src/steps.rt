@@ -4,6 +4,7 @@ ghost use Rattle.std.specs.Prelude.{◌≡◌, ◌≢◌, ℕ, ◌+◌, ◌≤�
 ghost use Rattle.history_lock.specs.declared.view.Role.TheVariants.{Lane};
 ghost use Rattle.history_lock.specs.Histories.{replay, GrowsBy};
 ghost use Rattle.history_lock.specs.Rule.{IsWordOf, IsTaken, taken, turned_away, wrote, gave_back, holder_of};
+ghost use Rattle.history_lock.specs.Seats.{IsRefusedClaim};
 
 use crate::error::{Busy, Holder};
 use crate::rule::{Claim, Common, GiveBack, Place, Publish};
@@ -22,7 +23,8 @@ pub(crate) fn claim<M: Machine>(
     ensures table { place.new.table_id ≡ place.old.table_id }
     ensures answer { MatchResult result
         (λ book. (place.new.me ≡ (taken place.old.me.0 0 word book.history.items, (0, None) ∷ [])) × IsTaken M.step place.old.me.0 book)
-        (λ busy. place.new.me ≡ (record place.old.me.0 { turned = place.old.me.0.turned ++ busy ∷ [] }, [])) }
+        (λ busy. (place.new.me ≡ (record place.old.me.0 { turned = place.old.me.0.turned ++ busy ∷ [] }, []))
+        × IsRefusedClaim place.old.me.0 busy) }
 {
     let found = common.compare_exchange::<Claim>(place, 0, 0, word);
     if found == 0 {

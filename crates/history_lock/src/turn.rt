@@ -57,7 +57,7 @@ pub(crate) fn write_at<M: Machine, F: FnMut() -> M::Event>(
         (λ answer. Wrote M.step (lock_at common.now.table_id common.now.key.value) (λ event. F.step make.old event make.new) (make.new ≡ make.old)
         (sight place.old.table_id lane place.old.me.0) answer (sight place.new.table_id lane place.new.me.0))
         (λ busy. (make.new ≡ make.old)
-        × IsTurnedAway (sight place.old.table_id lane place.old.me.0) busy (sight place.new.table_id lane place.new.me.0)) }
+        × IsTurnedAway (lock_at common.now.table_id common.now.key.value) (sight place.old.table_id lane place.old.me.0) busy (sight place.new.table_id lane place.new.me.0)) }
 {
     let mut book = claim(common, place, lane + 2)?;
     match take_event(&mut book, lane, limit, make) {
@@ -115,7 +115,7 @@ pub(crate) fn meet_at<M: Machine>(
     ensures legal { SeesLegal M.step first.new.me.0 }
     ensures opened { first.new.me.0.opened ≡ first.old.me.0.opened }
     ensures other { (second.new.table_id ≡ second.old.table_id) × (second.new.me ≡ second.old.me) }
-    ensures answer { TriedToMeet (sight first.old.table_id _lane first.old.me.0) (sight second.old.table_id _other second.old.me.0)
+    ensures answer { TriedToMeet (lock_at common.now.table_id common.now.key.value) (sight first.old.table_id _lane first.old.me.0) (sight second.old.table_id _other second.old.me.0)
         result (sight first.new.table_id _lane first.new.me.0) }
 {
     let news = common.split_seat::<Tell>(second);

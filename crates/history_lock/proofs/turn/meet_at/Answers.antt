@@ -1,6 +1,7 @@
 use Rattle.std.proofs.Common.{rules, arith, refl, ap, ◌∙◌, inl}
 use Rattle.history_lock.proofs.Deals.{tells, meets}
 use Rattle.history_lock.proofs.Legal.{legal_back}
+use Rattle.history_lock.proofs.Told.{held_by_other}
 use Rattle.history_lock.proofs.turn.meet_at.Goals as goal
 
 pub split_seat-news-requires : goal.split_seat-news-requires
@@ -15,3 +16,7 @@ claim-requires-clause-word g c = (c.args._lane, ap (λ m. m.0.role) c.join_seat.
 
 pub returns-clause-legal : goal.returns-clause-legal
 returns-clause-legal g c = let k = c.in_ok-book.ensures.answer in legal_back g.M.Machine.step c.join_seat.new.seat.me.0 c.in_ok-book.book _ _ _ _ _ k.1 k.0 c.give_back.ensures.back
+
+pub returns-in_err-book-clause-answer : goal.returns-in_err-book-clause-answer
+returns-in_err-book-clause-answer g c =
+    let held = held_by_other c.args.common.now.table_id c.args.common.now.key.value c.args._lane c.join_seat.new.seat.me.0 c.in_err-book.field-0.0 (ap (λ m. m.0.opened) c.join_seat.ensures.2 ∙ c.requires.opened) (ap (λ m. m.0.role) c.join_seat.ensures.2 ∙ c.requires.rests.role) c.in_err-book.ensures.answer.1 in search rules

@@ -1,7 +1,7 @@
 use Rattle.std.proofs.Common.{rules, ap, sym, ◌∙◌, subst}
 use Rattle.history_lock.specs.Histories.{GrowsBy}
 use Rattle.history_lock.proofs.Legal.{legal_back, legal_new}
-use Rattle.history_lock.proofs.Told.{unwritten, new_legal, new_grows, written}
+use Rattle.history_lock.proofs.Told.{held_by_other, unwritten, new_legal, new_grows, written}
 use Rattle.history_lock.proofs.turn.write_at.Goals as goal
 
 pub publish-requires-clause-grows : goal.publish-requires-clause-grows
@@ -30,3 +30,7 @@ returns-in-Ok-clause-legal g c = let k = c.in_ok-book.ensures.answer in let v = 
 
 pub returns-in-Err-clause-legal : goal.returns-in-Err-clause-legal
 returns-in-Err-clause-legal g c = let k = c.in_ok-book.ensures.answer in legal_back g.M.Machine.step c.args.place.now.me.0 c.in_ok-book.book _ _ _ _ _ k.1 k.0 c.give_back.ensures.back
+
+pub returns-in_err-book-clause-answer : goal.returns-in_err-book-clause-answer
+returns-in_err-book-clause-answer g c =
+    let held = held_by_other c.args.common.now.table_id c.args.common.now.key.value c.args.lane c.args.place.now.me.0 c.in_err-book.field-0.0 c.requires.opened.0 c.requires.rests.role c.in_err-book.ensures.answer.1 in search rules
