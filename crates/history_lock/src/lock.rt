@@ -3,7 +3,7 @@
 ghost use Rattle.std.specs.Prelude.{◌≡◌, Ok, MatchResult};
 ghost use Rattle.std.specs.Fn.{CalledAt, TakesAt};
 ghost use Rattle.history_lock.specs.Histories.{IsLegal};
-ghost use Rattle.history_lock.specs.Passes.{Sight, IsPassOf};
+ghost use Rattle.history_lock.specs.Passes.{PassView, IsPassOf};
 ghost use Rattle.history_lock.specs.Answers.{HasWaited, IsTurnedAway, Wrote, TriedToWrite, Shared, TriedToShare, TriedToMeet};
 
 use crate::error::{Busy, LockError, WriteError};
@@ -70,7 +70,7 @@ impl<M: Machine> LaneLock<M> {
         requires may { F.pre make.old }
         ensures own { IsPassOf self.now pass.new }
         ensures legal { IsLegal M.step self.now.opened.machine pass.new.seen }
-        ensures answer { (late : Sight M M.Event) × HasWaited self.now pass.old late
+        ensures answer { (late : PassView M M.Event) × HasWaited self.now pass.old late
             × Wrote M.step self.now (λ event. F.step make.old event make.new) (make.new ≡ make.old) late result pass.new }
     {
         for _ in rt.forever() {
@@ -99,7 +99,7 @@ impl<M: Machine> LaneLock<M> {
         requires may { (machine : M) → TakesAt F.FnMut f.old machine }
         ensures own { IsPassOf self.now pass.new }
         ensures legal { IsLegal M.step self.now.opened.machine pass.new.seen }
-        ensures answer { (late : Sight M M.Event) × HasWaited self.now pass.old late
+        ensures answer { (late : PassView M M.Event) × HasWaited self.now pass.old late
             × Shared M.step self.now (λ machine answer. CalledAt F.FnMut f.old machine answer f.new) late result pass.new }
     {
         for _ in rt.forever() {

@@ -9,7 +9,7 @@ split_seat-news-requires g c = (c.requires.other, search rules, tells g.M.Machin
 
 pub join_seat-requires : goal.join_seat-requires
 join_seat-requires g c = let s = c.split_seat-news.ensures in
-    (c.requires.table.0, s.3 ∙ c.requires.other, ap (λ m. m.1) s.4, search rules, meets g.M.Machine.step c.args.common.now.key.value _ _ _ _ c.requires.rests.idle (let from = ap (λ m. m.0.from) s.4 in let to = ap (λ m. m.0.to) s.4 in omega arith))
+    (c.requires.table.0, s.3 ∙ c.requires.other, ap (λ m. m.1) s.4, search rules, meets g.M.Machine.step c.args.common.now.key.value _ _ _ _ c.requires.rests.idle (let from = ap (λ m. m.0.start) s.4 in let to = ap (λ m. m.0.end) s.4 in omega arith))
 
 pub claim-requires-clause-word : goal.claim-requires-clause-word
 claim-requires-clause-word g c = (c.args._lane, ap (λ m. m.0.role) c.join_seat.ensures.2 ∙ c.requires.rests.role, inl refl)

@@ -1,9 +1,9 @@
 use Rattle.std.proofs.Common.{rules, ◌≡◌, Some, refl, sym, ◌∙◌, subst}
 use mathlib.Core.Option.{some-injective}
 use Rattle.std.specs.Option.{IsSome}
-use Rattle.history_lock.specs.Closing.{IsEnd}
+use Rattle.history_lock.specs.Inside.Gathering.{IsEnd}
 use Rattle.history_lock.proofs.Ends.{ends}
-use Rattle.history_lock.proofs.close.end.Goals as goal
+use Rattle.history_lock.proofs.close.close_table.Goals as goal
 
 pub unwrap-book-requires : goal.unwrap-book-requires
 unwrap-book-requires g c = let p = c.args.place in
