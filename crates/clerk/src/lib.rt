@@ -12,8 +12,3 @@ pub use call::{ClerkCall, ClerkReply};
 pub use error::{ClerkError, Unknown};
 pub use laws::learnt_law;
 pub use machine::ClerkEvent;
-
-#[cfg(test)]
-mod tests;
-#[cfg(test)]
-mod thread_tests;

@@ -40,7 +40,8 @@ impl<M: Machine> LaneLock<M> {
     ///
     /// `make` is called once, while the lock is held; on `Busy` and `HistoryFull` it is not called.
     /// In the order of the refusals: the lock is held ([`LockError::Busy`]), the history is full, the
-    /// machine refuses the event; want of memory may come in place of the last, or of a reply.
+    /// machine refuses the event. Want of memory may come in place of the last, or of a reply, as long
+    /// as `make` was not called; afterwards only where the machine would take the event.
     pub fn try_write<F: FnMut() -> M::Event>(
         &self,
         pass: &mut Pass<M>,
