@@ -13,7 +13,11 @@ fn reply(clerk: &mut Clerk, ticket: u64, call: ClerkCall) -> Result<ClerkReply, 
     if event.ticket != ticket {
         return Err("a copy has the ticket".into());
     }
-    Ok(clerk.apply(&event).map_err(|_| "the clerk takes the event")?)
+    Ok(
+        clerk
+            .apply(&event)
+            .map_err(|_| "the clerk takes the event")?,
+    )
 }
 
 #[test]
@@ -25,7 +29,10 @@ fn answers_each_call(rt: HostRuntime) -> Result<(), Fail> {
     let copied = Machine::copy(&clerk)?;
     assert!(rt; copied.look(key).is_ok());
     assert_eq!(rt; copied.look(key), clerk.look(key));
-    assert_eq!(rt; reply(&mut clerk, 2, ClerkCall::Forget)?, ClerkReply::Forgotten);
+    assert_eq!(rt;
+        reply(&mut clerk, 2, ClerkCall::Forget)?,
+        ClerkReply::Forgotten
+    );
     assert_eq!(rt; clerk.look(key), Err(Unknown));
     Ok(())
 }

@@ -1,5 +1,5 @@
-use clerk::{Clerk, ClerkCall, ClerkError, ClerkEvent, ClerkReply, Unknown};
 use assignment::{Assignment, AssignmentError, Listed, Slice};
+use clerk::{Clerk, ClerkCall, ClerkError, ClerkEvent, ClerkReply, Unknown};
 use key_hash::{SliceKey, slice_key};
 use machines::{Machine, Trouble};
 use std::alloc::Global;

@@ -3,8 +3,8 @@
 ghost use Rattle.std.specs.Prelude.{◌≡◌, ◌+◌, ◌≤◌, length};
 ghost use Rattle.history_lock.specs.Passes.{IsPassOf};
 
-use clerk::{Clerk, ClerkCall, ClerkEvent};
 use assignment::{Assignment, Listed, Slice};
+use clerk::{Clerk, ClerkCall, ClerkEvent};
 use history_lock::{LaneLock, Pass};
 use std::alloc::Global;
 use std::sync::Wait;

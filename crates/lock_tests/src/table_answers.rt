@@ -25,7 +25,11 @@ fn reply(table: &mut LeaseTable, ticket: u64, call: TableCall) -> Result<TableRe
     if event.ticket != ticket {
         return Err("a copy has the ticket".into());
     }
-    Ok(table.apply(&event).map_err(|_| "the table takes the event")?)
+    Ok(
+        table
+            .apply(&event)
+            .map_err(|_| "the table takes the event")?,
+    )
 }
 
 fn term(table: &mut LeaseTable, ticket: u64, call: TableCall) -> Result<JobTerm, Fail> {
@@ -88,9 +92,11 @@ fn freed(table: &mut LeaseTable) -> Result<u64, Fail> {
 
 // Whether two tables show the same.
 fn are_alike(first: &LeaseTable, second: &LeaseTable) -> Result<bool, Fail> {
-    Ok(first.job() == second.job()
-        && first.phase() == second.phase()
-        && first.rows()?.as_slice() == second.rows()?.as_slice())
+    Ok(
+        first.job() == second.job()
+            && first.phase() == second.phase()
+            && first.rows()?.as_slice() == second.rows()?.as_slice(),
+    )
 }
 
 #[test]
@@ -98,7 +104,10 @@ fn answers_each_call(rt: HostRuntime) -> Result<(), Fail> {
     let mut table = table_of(rt.alloc())?;
     let [taken, renewed] = terms(&mut table)?;
     assert_eq!(rt; (taken.number, taken.assigner, taken.until), (1, 5, 1000));
-    assert_eq!(rt; (renewed.number, renewed.assigner, renewed.until), (1, 5, 1010));
+    assert_eq!(rt;
+        (renewed.number, renewed.assigner, renewed.until),
+        (1, 5, 1010)
+    );
     assert_eq!(rt; committed(rt.alloc(), &mut table)?, 1);
     assert_eq!(rt; granted(&mut table)?, (1, 120));
     assert_eq!(rt; freed(&mut table)?, 1);

@@ -3,8 +3,8 @@
 ghost use Rattle.std.specs.Prelude.{IfOk};
 ghost use Rattle.history_lock.specs.Passes.{IsPassOf, ArePassesOf};
 
-use lease_table::{LeaseTable, Policy, TableCall, TableError, TableEvent, TableReply};
 use history_lock::{Busy, Holder, LaneLock, LockError, NewLockError, Pass, WriteError};
+use lease_table::{LeaseTable, Policy, TableCall, TableError, TableEvent, TableReply};
 use std::alloc::Global;
 use std::sync::Wait;
 use std::test::Fail;
