@@ -8,71 +8,45 @@ use std::sync::Wait;
 use std::sync::atomic::AtomicU64;
 use std::test::Fail;
 
-// What the calls of two passes are answered.
-#[derive(Clone, Copy, Debug, PartialEq, Eq)]
-struct Answers {
-    written: Option<u64>,
-    met: bool,
-    shared: Option<u64>,
-    refused: bool,
-    tried: Option<u64>,
-    full: bool,
-    tried_full: bool,
-    last: u64,
-}
-
-fn count(counter: &Counter) -> u64 {
-    counter.count
-}
-
-fn play<R: Wait>(
-    rt: &R,
-    lock: &LaneLock<Counter>,
-    p0: &mut Pass<Counter>,
-    p1: &mut Pass<Counter>,
-) -> Answers
-    requires first { IsPassOf lock.now p0.old }
-    requires second { IsPassOf lock.now p1.old }
-    ensures first { IsPassOf lock.now p0.new }
-    ensures second { IsPassOf lock.now p1.new }
-{
-    let written = lock.write(rt, p0, &mut || 5).ok();
-    let met = lock.try_meet(p1, p0).is_ok();
-    let shared = lock.try_shared(p1, &mut count).ok();
-    let large = lock.write(rt, p1, &mut || 5000);
-    let tried = lock.try_write(p1, &mut || 7).ok();
-    let late = lock.write(rt, p0, &mut || 7);
-    let tried_late = lock.try_write(p1, &mut || 7);
-    Answers {
-        written,
-        met,
-        shared,
-        refused: matches!(large, Err(WriteError::Refused(TooLarge))),
-        tried,
-        full: matches!(late, Err(WriteError::HistoryFull)),
-        tried_full: matches!(tried_late, Err(LockError::Write(WriteError::HistoryFull))),
-        last: lock.shared(rt, p0, &mut count),
-    }
-}
-
 #[test]
 fn answers_in_the_order_of_the_calls(rt: HostRuntime) -> Result<(), Fail> {
     let made = LaneLock::new(rt.alloc(), Counter { count: 0 }, 2, 2);
     let (lock, mut passes) = made.map_err(|_| "two lanes and two entries")?;
     let mut p1 = passes.pop().expect(&rt, "the pass of lane 1");
     let mut p0 = passes.pop().expect(&rt, "the pass of lane 0");
-    assert_eq!(rt; (p0.lane(), p1.lane()), (0, 1));
-    let wanted = Answers {
-        written: Some(5),
-        met: true,
-        shared: Some(5),
-        refused: true,
-        tried: Some(12),
-        full: true,
-        tried_full: true,
-        last: 12,
-    };
-    assert_eq!(rt; play(&rt, &lock, &mut p0, &mut p1), wanted);
+    assert_eq!(rt; p0.lane(), 0);
+    assert_eq!(rt; p1.lane(), 1);
+
+    assert!(rt; matches!(lock.write(&rt, &mut p0, &mut || 5), Ok(5)));
+    assert!(rt; lock.try_meet(&mut p1, &mut p0).is_ok());
+    assert_eq!(rt;
+        lock.try_shared(&mut p1, &mut |counter: &Counter| counter.count),
+        Ok(5)
+    );
+    assert!(rt;
+        matches!(
+            lock.write(&rt, &mut p1, &mut || 5000),
+            Err(WriteError::Refused(TooLarge))
+        )
+    );
+    assert!(rt; matches!(lock.try_write(&mut p1, &mut || 7), Ok(12)));
+    assert!(rt;
+        matches!(
+            lock.write(&rt, &mut p0, &mut || 7),
+            Err(WriteError::HistoryFull)
+        )
+    );
+    assert!(rt;
+        matches!(
+            lock.try_write(&mut p1, &mut || 7),
+            Err(LockError::Write(WriteError::HistoryFull))
+        )
+    );
+    assert_eq!(rt;
+        lock.shared(&rt, &mut p0, &mut |counter: &Counter| counter.count),
+        12
+    );
+
     passes.push(p0)?;
     let missing = lock
         .close(passes)
@@ -83,6 +57,7 @@ fn answers_in_the_order_of_the_calls(rt: HostRuntime) -> Result<(), Fail> {
     passes.push(p1)?;
     let closed = lock.close(passes).ok().expect(&rt, "all passes are there");
     assert_eq!(rt; closed.machine.count, 12);
+    assert_eq!(rt; closed.history.len(), 2);
     let lanes_and_events = closed
         .history
         .entries()
