@@ -1,1 +1,1 @@
-pub mod Newest
+pub mod GreatestAssignment

@@ -1,5 +1,5 @@
 -- The calls of one clerk with their answers, newest first, and where they lead.
-use Rattle.std.specs.Prelude.{◌≡◌, List, [], ◌∷◌, Option, None, Result, Ok, Err}
+use Rattle.std.specs.Prelude.{◌≡◌, List, [], ◌∷◌, Option, None, Result, Ok}
 use Rattle.assignment.specs.Slices.{Slicing}
 use Rattle.clerk.specs.declared.call.ClerkCall.{ClerkCall}
 use Rattle.clerk.specs.declared.call.ClerkCall.TheVariants.{Learn, Forget}
@@ -13,12 +13,12 @@ use Rattle.clerk.specs.Steps.{learn_step}
 
 -- what a call answers and leaves, by its step
 abbrev pub clerk_step : Option Slicing → ClerkCall → Result (Option Slicing × ClerkReply) ClerkError
-clerk_step kept (Learn slicing) = replied (λ _. Learnt) (learn_step kept slicing)
-clerk_step kept Forget = Ok (None, Forgotten)
+clerk_step state (Learn slicing) = replied (λ _. Learnt) (learn_step state slicing)
+clerk_step state Forget = Ok (None, Forgotten)
 
 -- an event is its call, whatever its ticket
 abbrev pub event_step : Option Slicing → Event ClerkCall → Result (Option Slicing × ClerkReply) ClerkError
-event_step kept event = clerk_step kept event.call
+event_step state event = clerk_step state event.call
 
 -- a call of the clerk with its answer
 abbrev pub AnsweredClerkCall : Type 0
@@ -26,5 +26,5 @@ AnsweredClerkCall = AnsweredCall ClerkCall ClerkReply ClerkError
 
 -- a new clerk that was asked these calls and gave these answers keeps this assignment
 abbrev pub LeadsTo : List AnsweredClerkCall → Option Slicing → Type 0
-LeadsTo [] kept = kept ≡ None
-LeadsTo (e ∷ past) kept = (before : Option Slicing) × LeadsTo past before × Answers (clerk_step before e.call) before e.answer kept
+LeadsTo [] state = state ≡ None
+LeadsTo (e ∷ past) state = (before : Option Slicing) × LeadsTo past before × Answers (clerk_step before e.call) before e.answer state

@@ -1,6 +1,6 @@
 pub mod Steps
 pub mod Calls
-pub mod Learnt
+pub mod Knowledge
 pub use Rattle.machines.specs.Refusals
 pub use Rattle.assignment.specs.Slices
 pub use Rattle.assignment.specs.Owners

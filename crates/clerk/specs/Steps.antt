@@ -11,14 +11,14 @@ use Rattle.clerk.specs.declared.error.ClerkError.TheVariants.{Old}
 -- an assignment is not above the one that is kept, whose generation is told
 abbrev pub not_above : Option Slicing → Slicing → Option ClerkError
 not_above None slicing = None
-not_above (Some kept) slicing = when (nat_le slicing.generation kept.generation) (Old kept.generation)
+not_above (Some incumbent) slicing = when (nat_le slicing.generation incumbent.generation) (Old incumbent.generation)
 
 -- `learn`
 abbrev pub learn_checks : Option Slicing → Slicing → List (Option ClerkError)
-learn_checks kept slicing = not_above kept slicing ∷ []
+learn_checks state slicing = not_above state slicing ∷ []
 
 abbrev pub learn_step : Option Slicing → Slicing → Result (Option Slicing × Unit {0}) ClerkError
-learn_step kept slicing = answer (learn_checks kept slicing) (Some slicing, tt)
+learn_step state slicing = answer (learn_checks state slicing) (Some slicing, tt)
 
 -- `look`: the generation of an assignment, and the owners of a key in it
 abbrev pub found_in : Slicing → ℕ → Found
@@ -26,4 +26,4 @@ found_in slicing key = record { generation = slicing.generation; owners = record
 
 abbrev pub look_at : Option Slicing → ℕ → Result Found Unknown
 look_at None key = Err record {}
-look_at (Some kept) key = Ok (found_in kept key)
+look_at (Some incumbent) key = Ok (found_in incumbent key)

@@ -16,7 +16,7 @@ use std::marker::Model;
 /// forgot.
 #[derive(Drop)]
 pub struct Clerk {
-    newest: Option<Assignment>,
+    assignment: Option<Assignment>,
 }
 
 impl Model for Clerk {
@@ -25,11 +25,11 @@ impl Model for Clerk {
 
     ghost Value = { Option Slicing };
 
-    ghost view = { λ c. c.newest };
+    ghost view = { λ c. c.assignment };
 }
 
 /// Who owns a key.
-#[derive(Debug, Drop)]
+#[derive(Debug, PartialEq, Eq, Drop)]
 pub struct Found {
     /// The generation of the assignment that says so.
     pub generation: u64,
@@ -58,7 +58,7 @@ impl Clerk {
     pub fn new() -> Self
         ensures { result ≡ None }
     {
-        Clerk { newest: None }
+        Clerk { assignment: None }
     }
 
     /// Keeps an assignment in place of the one that is kept.
@@ -68,14 +68,14 @@ impl Clerk {
     pub fn learn(&mut self, assignment: &Assignment) -> Result<(), Trouble<ClerkError>>
         ensures { Takes (learn_step self.old assignment.now) self.old result self.new }
     {
-        if let Some(kept) = &self.newest
-            && assignment.generation() <= kept.generation()
+        if let Some(incumbent) = &self.assignment
+            && assignment.generation() <= incumbent.generation()
         {
             return Err(Trouble::Refused(ClerkError::Old {
-                generation: kept.generation(),
+                generation: incumbent.generation(),
             }));
         }
-        self.newest = Some(assignment.copy()?);
+        self.assignment = Some(assignment.copy()?);
         Ok(())
     }
 
@@ -84,10 +84,10 @@ impl Clerk {
     pub fn look(&self, key: SliceKey) -> Result<Found, Unknown>
         ensures { result ≡ look_at self.now key }
     {
-        match &self.newest {
-            Some(kept) => Ok(Found {
-                generation: kept.generation(),
-                owners: kept.owners(key),
+        match &self.assignment {
+            Some(incumbent) => Ok(Found {
+                generation: incumbent.generation(),
+                owners: incumbent.owners(key),
             }),
             None => Err(Unknown),
         }
@@ -97,16 +97,16 @@ impl Clerk {
     pub fn forget(&mut self)
         ensures { self.new ≡ None }
     {
-        self.newest = None;
+        self.assignment = None;
     }
 
     /// A clerk that equals this one.
     pub fn copy(&self) -> Result<Self, AllocError>
         ensures { IfOk result (λ clerk. clerk ≡ self.now) }
     {
-        match &self.newest {
-            Some(kept) => Ok(Clerk {
-                newest: Some(kept.copy()?),
+        match &self.assignment {
+            Some(incumbent) => Ok(Clerk {
+                assignment: Some(incumbent.copy()?),
             }),
             None => Ok(Clerk::new()),
         }

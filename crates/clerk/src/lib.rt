@@ -4,14 +4,11 @@
 mod call;
 mod clerk;
 mod error;
+mod laws;
 mod machine;
 
 pub use crate::clerk::{Clerk, Found};
-pub use call::{ClerkCall, ClerkReply, learnt_law};
+pub use call::{ClerkCall, ClerkReply};
 pub use error::{ClerkError, Unknown};
+pub use laws::learnt_law;
 pub use machine::ClerkEvent;
-
-#[cfg(test)]
-mod tests;
-#[cfg(test)]
-mod thread_tests;

@@ -8,37 +8,38 @@ use Rattle.history_lock.specs.declared.entry.Entry.{Entry}
 use Rattle.history_lock.specs.declared.view.Opened.{Opened}
 use Rattle.history_lock.specs.declared.view.Role.{Role}
 use Rattle.history_lock.specs.declared.view.Role.TheVariants.{Dealer, Lane, Bare}
-use Rattle.history_lock.specs.declared.view.Gone.{Gone}
+use Rattle.history_lock.specs.declared.view.GatheredPass.{GatheredPass}
 use Rattle.history_lock.specs.declared.view.View.{View}
 use Rattle.history_lock.specs.declared.view.Book.{Book}
-use Rattle.history_lock.specs.Rule.{Books, HasLane, KnowsRole, KnowsGone, Knows, IsAtHome, Kept, first_view, spent, role_after, dealt_role, dealer_after, dealt, telling, met, lane_of, gathered}
-use Rattle.history_lock.proofs.Lists.{put, put_here, put_else, each_set, at_end}
+use Rattle.history_lock.specs.Rule.{LockState, HasLane, KnowsRole, KnowsPasses, Knows, IsAtHome, HasOneHistory}
+use Rattle.history_lock.specs.Inside.Views.{first_view, spent_view, role_after, dealt_role, dealer_after, dealt_view, news_view, view_after_meeting, lane_of, view_after_gathering}
+use Rattle.history_lock.proofs.Lists.{update, update_here, update_else, each_set, at_end}
 use Rattle.history_lock.proofs.Keeps.{holds_none}
 
 -- lanes below k keep their owners where that of k changes
 module _ {E : Type 0} (log : List (Entry E)) (next next' dealer k x : ℕ) (owner : ℕ → ℕ) (up : next ≤ next') (seat : ℕ) (new : next ≤ k) where
-  lane_kept : (n : ℕ) (mine : List E) → HasLane log next dealer owner seat n mine → HasLane log next' dealer (put owner k x) seat n mine
-  lane_kept n mine h = let below : n < next = h.1 in let ne : n ≢ k = λ e. omega arith in (put_else owner k x n ne ∙ h.0, omega arith, h.2)
+  lane_kept : (n : ℕ) (mine : List E) → HasLane log next dealer owner seat n mine → HasLane log next' dealer (update owner k x) seat n mine
+  lane_kept n mine h = let below : n < next = h.1 in let ne : n ≢ k = λ e. omega arith in (update_else owner k x n ne ∙ h.0, omega arith, h.2)
 
-  gone_kept : (gs : List (Gone E)) → KnowsGone log next dealer owner seat gs → KnowsGone log next' dealer (put owner k x) seat gs
-  gone_kept [] h = tt
-  gone_kept (g ∷ gs) h = ((lane_kept g.lane g.mine h.0.0, h.0.1), gone_kept gs h.1)
+  passes_kept : (gs : List (GatheredPass E)) → KnowsPasses log next dealer owner seat gs → KnowsPasses log next' dealer (update owner k x) seat gs
+  passes_kept [] h = tt
+  passes_kept (g ∷ gs) h = ((lane_kept g.lane g.mine h.0.0, h.0.1), passes_kept gs h.1)
 
-  role_kept : (role : Role) (mine : List E) → seat ≢ dealer → KnowsRole log next dealer owner seat role mine → KnowsRole log next' dealer (put owner k x) seat role mine
+  role_kept : (role : Role) (mine : List E) → seat ≢ dealer → KnowsRole log next dealer owner seat role mine → KnowsRole log next' dealer (update owner k x) seat role mine
   role_kept (Dealer m) mine ne h = absurd (ne h.0)
   role_kept (Lane m) mine ne h = lane_kept m mine h
   role_kept Bare mine ne h = tt
 
 -- lanes keep their owners where that of n, which the seat does not have, changes
 module _ {E : Type 0} (log : List (Entry E)) (next dealer n x : ℕ) (owner : ℕ → ℕ) (seat : ℕ) (away : owner n ≢ seat) where
-  lane_owned : (m : ℕ) (mine : List E) → HasLane log next dealer owner seat m mine → HasLane log next dealer (put owner n x) seat m mine
-  lane_owned m mine h = (put_else owner n x m (λ e. away (ap owner (sym e) ∙ h.0)) ∙ h.0, h.1, h.2)
+  lane_owned : (m : ℕ) (mine : List E) → HasLane log next dealer owner seat m mine → HasLane log next dealer (update owner n x) seat m mine
+  lane_owned m mine h = (update_else owner n x m (λ e. away (ap owner (sym e) ∙ h.0)) ∙ h.0, h.1, h.2)
 
-  gone_owned : (gs : List (Gone E)) → KnowsGone log next dealer owner seat gs → KnowsGone log next dealer (put owner n x) seat gs
-  gone_owned [] h = tt
-  gone_owned (g ∷ gs) h = ((lane_owned g.lane g.mine h.0.0, h.0.1), gone_owned gs h.1)
+  passes_owned : (gs : List (GatheredPass E)) → KnowsPasses log next dealer owner seat gs → KnowsPasses log next dealer (update owner n x) seat gs
+  passes_owned [] h = tt
+  passes_owned (g ∷ gs) h = ((lane_owned g.lane g.mine h.0.0, h.0.1), passes_owned gs h.1)
 
-  role_owned : (role : Role) (mine : List E) → KnowsRole log next dealer owner seat role mine → KnowsRole log next dealer (put owner n x) seat role mine
+  role_owned : (role : Role) (mine : List E) → KnowsRole log next dealer owner seat role mine → KnowsRole log next dealer (update owner n x) seat role mine
   role_owned (Dealer m) mine h = h
   role_owned (Lane m) mine h = lane_owned m mine h
   role_owned Bare mine h = tt
@@ -52,7 +53,7 @@ module _ {M E R F : Type 0} (step : M → E → Result (M × R) F) (opened : Ope
 
   first_known : (j : ℕ) (v : View M E) → get_elem? (first_view opened ∷ []) j ≡ some v → Knows opened (0 ∷ []) [] (λ l. 0) 0 0 (λ n. 0) j v
   first_known zero v e = subst (Knows opened (0 ∷ []) [] (λ l. 0) 0 0 (λ n. 0) 0) (some-injective (first_view opened) v e)
-      record { opens = λ o h. sym (some_is o h); before = ([], refl); heard = ([], refl); out = λ l low high. absurd (omega arith); role = (refl, refl); gone = tt }
+      record { opens = λ o h. sym (some_is o h); before = ([], refl); heard = ([], refl); out = λ l low high. absurd (omega arith); role = (refl, refl); passes = tt }
   first_known (suc j) v e = absurd (some-ne-none v (sym e))
 
   only_lane : (b : Book M E) → b.machine ≡ opened.machine → b.history.items ≡ [] → (l : ℕ) → l < 1 → IsAtHome step opened [] (opening (0 ∷ []) (Some b ∷ []) (first_view opened)) l
@@ -66,8 +67,8 @@ module _ {M E R F : Type 0} (step : M → E → Result (M × R) F) (opened : Ope
   word_is zero below = refl
   word_is (suc l) below = absurd (omega arith)
 
-  pub starts : (b : Book M E) → b.machine ≡ opened.machine → b.history.items ≡ [] → Kept step opened (opening (0 ∷ []) (Some b ∷ []) (first_view opened))
-  starts b is empty = record {
+  pub starts : 0 < opened.lanes → (b : Book M E) → b.machine ≡ opened.machine → b.history.items ≡ [] → HasOneHistory step opened (opening (0 ∷ []) (Some b ∷ []) (first_view opened))
+  starts lanes b is empty = record {
     log = [];
     holder = λ l. 0;
     next = 0;
@@ -76,6 +77,7 @@ module _ {M E R F : Type 0} (step : M → E → Result (M × R) F) (opened : Ope
     few = omega arith;
     short = omega arith;
     wide = refl;
+    each_lane = lanes;
     home = λ l below z. only_lane b is empty l below;
     away = λ l below busy. absurd (busy (word_is l below));
     undealt = λ n h. refl;
@@ -83,11 +85,11 @@ module _ {M E R F : Type 0} (step : M → E → Result (M × R) F) (opened : Ope
   }
 
   -- the seat that deals gives out the next lane
-  pub deals : (id k : ℕ) (v : View M E) → v.role ≡ Dealer k → v.to ≤ v.from → k < opened.lanes → Splits (Kept step opened) id v (dealer_after v) (dealt v)
+  pub deals : (id k : ℕ) (v : View M E) → v.role ≡ Dealer k → v.end ≤ v.start → k < opened.lanes → Splits (HasOneHistory step opened) id v (dealer_after v) (dealt_view v)
   deals id k v role idle room s r at =
-      let n : ℕ = length s.views in let q = r.each id v at in let w : View M E = dealer_after v in let u : View M E = dealt v in
+      let n : ℕ = length s.views in let q = r.each id v at in let w : View M E = dealer_after v in let u : View M E = dealt_view v in
       let mine : (id ≡ r.dealer) × (k ≡ r.next) = subst (λ (x : Role). KnowsRole r.log r.next r.dealer r.owner id x v.mine) role q.role in
-      let next : ℕ = k + 1 in let is : k ≡ r.next = mine.1 in let owner = put r.owner k n in
+      let next : ℕ = k + 1 in let is : k ≡ r.next = mine.1 in let owner = update r.owner k n in
       record {
         log = r.log;
         holder = r.holder;
@@ -97,25 +99,26 @@ module _ {M E R F : Type 0} (step : M → E → Result (M × R) F) (opened : Ope
         few = omega arith;
         short = r.short;
         wide = r.wide;
+        each_lane = r.each_lane;
         home = r.home;
         away = λ l below busy. let h = r.away l below busy in let t = h.1 in
             (h.0, (t.0, at_longer (set s.views id w) (u ∷ []) (r.holder l) t.0 (set_else s.views id (r.holder l) w (holds_none step opened s r id v at idle l h) ∙ t.1), t.2, t.3));
         undealt = λ m h. r.undealt m (omega arith);
         each = λ j y e. ⊎_elim
             (λ (f : get_elem? (set s.views id w) j ≡ some y). each_set (Knows opened s.words r.log r.holder next r.dealer owner) s.views id w
-            record { opens = q.opens; before = q.before; heard = q.heard; out = λ l low high. absurd (omega arith); role = subst (λ (x : Role). KnowsRole r.log next r.dealer owner id (role_after x) v.mine) (sym role) (mine.0, refl); gone = gone_kept r.log r.next next r.dealer k n r.owner (omega arith) id (omega arith) v.gone q.gone }
-            (λ i z ne g. let p = r.each i z g in let away : i ≢ r.dealer = λ d. ne (d ∙ sym mine.0) in record { opens = p.opens; before = p.before; heard = p.heard; out = p.out; role = role_kept r.log r.next next r.dealer k n r.owner (omega arith) i (omega arith) z.role z.mine away p.role; gone = gone_kept r.log r.next next r.dealer k n r.owner (omega arith) i (omega arith) z.gone p.gone })
+            record { opens = q.opens; before = q.before; heard = q.heard; out = λ l low high. absurd (omega arith); role = subst (λ (x : Role). KnowsRole r.log next r.dealer owner id (role_after x) v.mine) (sym role) (mine.0, refl); passes = passes_kept r.log r.next next r.dealer k n r.owner (omega arith) id (omega arith) v.passes q.passes }
+            (λ i z ne g. let p = r.each i z g in let away : i ≢ r.dealer = λ d. ne (d ∙ sym mine.0) in record { opens = p.opens; before = p.before; heard = p.heard; out = p.out; role = role_kept r.log r.next next r.dealer k n r.owner (omega arith) i (omega arith) z.role z.mine away p.role; passes = passes_kept r.log r.next next r.dealer k n r.owner (omega arith) i (omega arith) z.passes p.passes })
             j y f)
             (λ (f : (j ≡ length (set s.views id w)) × (u ≡ y)). subst (λ (x : ℕ × View M E). Knows opened s.words r.log r.holder next r.dealer owner x.0 x.1) (λ i. ((sym (f.0 ∙ length-set s.views id w)) i, f.1 i))
-            record { opens = q.opens; before = (r.log, refl); heard = (r.log, refl); out = λ l low high. absurd (omega arith); role = subst (λ (x : Role). KnowsRole r.log next r.dealer owner n (dealt_role x) []) (sym role) (put_here r.owner k n, omega arith, r.undealt k (omega arith)); gone = tt })
+            record { opens = q.opens; before = (r.log, refl); heard = (r.log, refl); out = λ l low high. absurd (omega arith); role = subst (λ (x : Role). KnowsRole r.log next r.dealer owner n (dealt_role x) []) (sym role) (update_here r.owner k n, omega arith, r.undealt k (omega arith)); passes = tt })
             (at_end (set s.views id w) u y j e);
       }
 
   -- a pass tells what it has seen
-  pub tells : (id : ℕ) (v : View M E) → Splits (Kept step opened) id v v (telling v)
+  pub tells : (id : ℕ) (v : View M E) → Splits (HasOneHistory step opened) id v v (news_view v)
   tells id v s r at =
-      let q = r.each id v at in let u : View M E = telling v in let same : set s.views id v ≡ s.views = set_again s.views id v at in
-      subst (λ (l : List (View M E)). Kept step opened record { words = s.words; homes = s.homes; views = l ++ u ∷ [] }) (sym same) record {
+      let q = r.each id v at in let u : View M E = news_view v in let same : set s.views id v ≡ s.views = set_again s.views id v at in
+      subst (λ (l : List (View M E)). HasOneHistory step opened record { words = s.words; homes = s.homes; views = l ++ u ∷ [] }) (sym same) record {
         log = r.log;
         holder = r.holder;
         next = r.next;
@@ -124,24 +127,25 @@ module _ {M E R F : Type 0} (step : M → E → Result (M × R) F) (opened : Ope
         few = r.few;
         short = r.short;
         wide = r.wide;
+        each_lane = r.each_lane;
         home = r.home;
         away = λ l below busy. let h = r.away l below busy in let t = h.1 in (h.0, (t.0, at_longer s.views (u ∷ []) (r.holder l) t.0 t.1, t.2, t.3));
         undealt = r.undealt;
         each = λ j y e. ⊎_elim (λ (f : get_elem? s.views j ≡ some y). r.each j y f)
             (λ (f : (j ≡ length s.views) × (u ≡ y)). subst (Knows opened s.words r.log r.holder r.next r.dealer r.owner j) f.1
-            record { opens = λ o h. absurd (none_some o h); before = q.before; heard = (r.log, refl); out = λ l low high. absurd (omega arith); role = tt; gone = tt })
+            record { opens = λ o h. absurd (none_some o h); before = q.before; heard = (r.log, refl); out = λ l low high. absurd (omega arith); role = tt; passes = tt })
             (at_end s.views u y j e);
       }
 
-  spent_known : (words : List ℕ) (log : List (Entry E)) (holder : ℕ → ℕ) (next dealer : ℕ) (owner : ℕ → ℕ) (j : ℕ) → Knows opened words log holder next dealer owner j spent
-  spent_known words log holder next dealer owner j = record { opens = λ o h. absurd (none_some o h); before = (log, refl); heard = (log, refl); out = λ l low high. absurd (omega arith); role = tt; gone = tt }
+  spent_known : (words : List ℕ) (log : List (Entry E)) (holder : ℕ → ℕ) (next dealer : ℕ) (owner : ℕ → ℕ) (j : ℕ) → Knows opened words log holder next dealer owner j spent_view
+  spent_known words log holder next dealer owner j = record { opens = λ o h. absurd (none_some o h); before = (log, refl); heard = (log, refl); out = λ l low high. absurd (omega arith); role = tt; passes = tt }
 
   -- two seats that hold no lane change their views alone, and lanes their owners
-  rejoined : (s : Books M E) (r : Kept step opened s) (id other : ℕ) (v w both : View M E) (owner : ℕ → ℕ) → get_elem? s.views id ≡ some v → ¬ (other ≡ id) → get_elem? (set s.views id both) other ≡ some w
-      → v.to ≤ v.from → w.to ≤ w.from → Knows opened s.words r.log r.holder r.next r.dealer owner id both
+  joining_keeps : (s : LockState M E) (r : HasOneHistory step opened s) (id other : ℕ) (v w both : View M E) (owner : ℕ → ℕ) → get_elem? s.views id ≡ some v → ¬ (other ≡ id) → get_elem? (set s.views id both) other ≡ some w
+      → v.end ≤ v.start → w.end ≤ w.start → Knows opened s.words r.log r.holder r.next r.dealer owner id both
       → ((j : ℕ) (u : View M E) → j ≢ id → j ≢ other → get_elem? s.views j ≡ some u → Knows opened s.words r.log r.holder r.next r.dealer owner j u)
-      → Kept step opened record { words = s.words; homes = s.homes; views = set (set s.views id both) other spent }
-  rejoined s r id other v w both owner at apart there idle idle' known others =
+      → HasOneHistory step opened record { words = s.words; homes = s.homes; views = set (set s.views id both) other spent_view }
+  joining_keeps s r id other v w both owner at apart there idle idle' known others =
       let at' : get_elem? s.views other ≡ some w = sym (set_else s.views id other both apart) ∙ there in record {
         log = r.log;
         holder = r.holder;
@@ -151,44 +155,45 @@ module _ {M E R F : Type 0} (step : M → E → Result (M × R) F) (opened : Ope
         few = r.few;
         short = r.short;
         wide = r.wide;
+        each_lane = r.each_lane;
         home = r.home;
         away = λ l below busy. let h = r.away l below busy in let t = h.1 in
             let not_id = holds_none step opened s r id v at idle l h in
             let not_other = holds_none step opened s r other w at' idle' l h in
-            (h.0, (t.0, set_else (set s.views id both) other (r.holder l) spent not_other ∙ (set_else s.views id (r.holder l) both not_id ∙ t.1), t.2, t.3));
+            (h.0, (t.0, set_else (set s.views id both) other (r.holder l) spent_view not_other ∙ (set_else s.views id (r.holder l) both not_id ∙ t.1), t.2, t.3));
         undealt = r.undealt;
-        each = each_set (Knows opened s.words r.log r.holder r.next r.dealer owner) (set s.views id both) other spent (spent_known s.words r.log r.holder r.next r.dealer owner other)
+        each = each_set (Knows opened s.words r.log r.holder r.next r.dealer owner) (set s.views id both) other spent_view (spent_known s.words r.log r.holder r.next r.dealer owner other)
             (λ j u ne e. ⊎_elim (λ (t : (j ≡ id) × (both ≡ u)). subst (λ (x : ℕ × View M E). Knows opened s.words r.log r.holder r.next r.dealer owner x.0 x.1) (λ i. (sym t.0 i, t.1 i)) known)
             (λ (t : (j ≢ id) × (get_elem? s.views j ≡ some u)). others j u t.0 ne t.1) (at_set s.views id j both u e));
       }
 
   -- a pass is told what another has seen
-  pub meets : (id other : ℕ) (v w : View M E) → v.to ≤ v.from → w.to ≤ w.from → Joins (Kept step opened) id v other w (met v w) spent
+  pub meets : (id other : ℕ) (v w : View M E) → v.end ≤ v.start → w.end ≤ w.start → Joins (HasOneHistory step opened) id v other w (view_after_meeting v w) spent_view
   meets id other v w idle idle' s r at apart there =
-      let at' : get_elem? s.views other ≡ some w = sym (set_else s.views id other (met v w) apart) ∙ there in
+      let at' : get_elem? s.views other ≡ some w = sym (set_else s.views id other (view_after_meeting v w) apart) ∙ there in
       let q = r.each id v at in let p = r.each other w at' in
-      rejoined s r id other v w (met v w) r.owner at apart there idle idle'
-      record { opens = q.opens; before = q.before; heard = p.before; out = λ l low high. absurd (omega arith); role = q.role; gone = q.gone }
+      joining_keeps s r id other v w (view_after_meeting v w) r.owner at apart there idle idle'
+      record { opens = q.opens; before = q.before; heard = p.before; out = λ l low high. absurd (omega arith); role = q.role; passes = q.passes }
       (λ j u _ _ e. r.each j u e)
 
   -- the lane of a pass that is taken in goes to the seat that takes it
-  pub gathers : (id other : ℕ) (v w : View M E) (n : ℕ) → v.to ≤ v.from → w.to ≤ w.from → w.role ≡ Lane n → Joins (Kept step opened) id v other w (gathered v w) spent
+  pub gathers : (id other : ℕ) (v w : View M E) (n : ℕ) → v.end ≤ v.start → w.end ≤ w.start → w.role ≡ Lane n → Joins (HasOneHistory step opened) id v other w (view_after_gathering v w) spent_view
   gathers id other v w n idle idle' lane s r at apart there =
-      let both : View M E = gathered v w in
+      let both : View M E = view_after_gathering v w in
       let at' : get_elem? s.views other ≡ some w = sym (set_else s.views id other both apart) ∙ there in
       let q = r.each id v at in let p = r.each other w at' in
       let mine : HasLane r.log r.next r.dealer r.owner other n w.mine = subst (λ (x : Role). KnowsRole r.log r.next r.dealer r.owner other x w.mine) lane p.role in
-      let owner = put r.owner n id in
-      rejoined s r id other v w both owner at apart there idle idle'
+      let owner = update r.owner n id in
+      joining_keeps s r id other v w both owner at apart there idle idle'
       record {
         opens = q.opens;
         before = q.before;
         heard = q.heard;
         out = λ l low high. absurd (omega arith);
         role = role_owned r.log r.next r.dealer n id r.owner id (λ e. apart (sym mine.0 ∙ e)) v.role v.mine q.role;
-        gone = (
-          (subst (λ (x : Role). HasLane r.log r.next r.dealer owner id (lane_of x) w.mine) (sym lane) (put_here r.owner n id, mine.1, mine.2), p.before),
-          gone_owned r.log r.next r.dealer n id r.owner id (λ e. apart (sym mine.0 ∙ e)) v.gone q.gone,
+        passes = (
+          (subst (λ (x : Role). HasLane r.log r.next r.dealer owner id (lane_of x) w.mine) (sym lane) (update_here r.owner n id, mine.1, mine.2), p.before),
+          passes_owned r.log r.next r.dealer n id r.owner id (λ e. apart (sym mine.0 ∙ e)) v.passes q.passes,
         );
       }
       (λ j u _ ne e. let z = r.each j u e in let away : r.owner n ≢ j = λ x. ne (sym x ∙ mine.0) in record {
@@ -197,5 +202,5 @@ module _ {M E R F : Type 0} (step : M → E → Result (M × R) F) (opened : Ope
         heard = z.heard;
         out = z.out;
         role = role_owned r.log r.next r.dealer n id r.owner j away u.role u.mine z.role;
-        gone = gone_owned r.log r.next r.dealer n id r.owner j away u.gone z.gone;
+        passes = passes_owned r.log r.next r.dealer n id r.owner j away u.passes z.passes;
       })

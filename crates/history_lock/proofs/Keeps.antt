@@ -12,13 +12,13 @@ use Rattle.history_lock.specs.declared.entry.Entry.{Entry}
 use Rattle.history_lock.specs.declared.view.Opened.{Opened}
 use Rattle.history_lock.specs.declared.view.Role.{Role}
 use Rattle.history_lock.specs.declared.view.Role.TheVariants.{Dealer, Lane, Bare}
-use Rattle.history_lock.specs.declared.view.Gone.{Gone}
+use Rattle.history_lock.specs.declared.view.GatheredPass.{GatheredPass}
 use Rattle.history_lock.specs.declared.view.View.{View}
 use Rattle.history_lock.specs.declared.view.Book.{Book}
 use Rattle.history_lock.specs.Histories.{replay, of_lane, StartsWith, GrowsBy}
-use Rattle.history_lock.specs.Rule.{Books, Sat, IsWordOf, HasLane, KnowsRole, KnowsGone, Holds, Knows, IsAway, Kept, mine_of, taken, turned_away, wrote, gave_back, claimed, published, given_back}
+use Rattle.history_lock.specs.Rule.{LockState, SeatState, IsWordOf, HasLane, KnowsRole, KnowsPasses, Holds, Knows, IsAway, HasOneHistory, IsHeldByAnother, mine_of, view_after_claim, view_after_refusal, view_after_write, view_after_return, Claims, Publishes, GivesBack}
 use Rattle.history_lock.proofs.Histories.{starts_itself, starts_through}
-use Rattle.history_lock.proofs.Lists.{put, put_here, put_else, inside, each_set}
+use Rattle.history_lock.proofs.Lists.{update, update_here, update_else, inside, each_set}
 
 word_some : (role : Role) (word : ℕ) → IsWordOf role word → word ≢ 0
 word_some role word h z = ⊎_elim (λ (e : word ≡ 1). absurd (omega arith)) (λ (e : word ≡ h.0 + 2). let n : ℕ = h.0 in let f : word ≡ n + 2 = e in absurd (omega arith)) h.2
@@ -33,9 +33,9 @@ module _ {E : Type 0} (log log' : List (Entry E)) (n next dealer : ℕ) (owner :
   role_stays (Lane k) mine h = lane_stays k mine h
   role_stays Bare mine h = tt
 
-  gone_stay : (gs : List (Gone E)) → KnowsGone log next dealer owner seat gs → KnowsGone log' next dealer owner seat gs
-  gone_stay [] h = tt
-  gone_stay (g ∷ gs) h = ((lane_stays g.lane g.mine h.0.0, starts_through log' log g.seen grows.0 h.0.1), gone_stay gs h.1)
+  passes_stay : (gs : List (GatheredPass E)) → KnowsPasses log next dealer owner seat gs → KnowsPasses log' next dealer owner seat gs
+  passes_stay [] h = tt
+  passes_stay (g ∷ gs) h = ((lane_stays g.lane g.mine h.0.0, starts_through log' log g.seen grows.0 h.0.1), passes_stay gs h.1)
 
 mine_kept : {E : Type 0} (items log : List (Entry E)) (next dealer id : ℕ) (owner : ℕ → ℕ) (role : Role) (mine : List E) → items ≡ log → KnowsRole log next dealer owner id role mine → mine_of role mine items ≡ mine
 mine_kept items log next dealer id owner (Dealer n) mine same k = refl
@@ -44,14 +44,14 @@ mine_kept items log next dealer id owner Bare mine same k = refl
 
 module _ {M E R F : Type 0} (step : M → E → Result (M × R) F) (opened : Opened M) where
   -- a seat that holds no lane has none of the books that are out
-  pub holds_none : (s : Books M E) (r : Kept step opened s) (id : ℕ) (v : View M E) → get_elem? s.views id ≡ some v → v.to ≤ v.from → (l : ℕ) → IsAway step r.holder s l → r.holder l ≢ id
+  pub holds_none : (s : LockState M E) (r : HasOneHistory step opened s) (id : ℕ) (v : View M E) → get_elem? s.views id ≡ some v → v.end ≤ v.start → (l : ℕ) → IsAway step r.holder s l → r.holder l ≢ id
   holds_none s r id v at idle l h e = let t = h.1 in let one : t.0 ≡ v = some-injective t.0 v (sym t.1 ∙ (ap (get_elem? s.views) e ∙ at)) in
-      let low : v.from ≤ l = subst (λ (x : View M E). x.from ≤ l) one t.2 in let high : l < v.to = subst (λ (x : View M E). l < x.to) one t.3 in absurd (omega arith)
+      let low : v.start ≤ l = subst (λ (x : View M E). x.start ≤ l) one t.2 in let high : l < v.end = subst (λ (x : View M E). l < x.end) one t.3 in absurd (omega arith)
 
   -- a seat that holds no lane changes its view alone
-  reviewed : (s : Books M E) (r : Kept step opened s) (id : ℕ) (v w : View M E) → get_elem? s.views id ≡ some v → v.to ≤ v.from
-      → Knows opened s.words r.log r.holder r.next r.dealer r.owner id w → Kept step opened record { words = s.words; homes = s.homes; views = set s.views id w }
-  reviewed s r id v w at idle known = record {
+  view_change_keeps : (s : LockState M E) (r : HasOneHistory step opened s) (id : ℕ) (v w : View M E) → get_elem? s.views id ≡ some v → v.end ≤ v.start
+      → Knows opened s.words r.log r.holder r.next r.dealer r.owner id w → HasOneHistory step opened record { words = s.words; homes = s.homes; views = set s.views id w }
+  view_change_keeps s r id v w at idle known = record {
     log = r.log;
     holder = r.holder;
     next = r.next;
@@ -60,6 +60,7 @@ module _ {M E R F : Type 0} (step : M → E → Result (M × R) F) (opened : Ope
     few = r.few;
     short = r.short;
     wide = r.wide;
+    each_lane = r.each_lane;
     home = r.home;
     away = λ l below busy. let h = r.away l below busy in let t = h.1 in
         (h.0, (t.0, set_else s.views id (r.holder l) w (holds_none s r id v at idle l h) ∙ t.1, t.2, t.3));
@@ -68,67 +69,68 @@ module _ {M E R F : Type 0} (step : M → E → Result (M × R) F) (opened : Ope
   }
 
   -- a seat that holds the lanes from a on, below l, takes the lane l, whose word was 0
-  taking : (s : Books M E) (r : Kept step opened s) (id l a new : ℕ) (v : View M E) → get_elem? s.views id ≡ some v → l < length s.words → get_or s.words l 0 ≡ 0 → IsWordOf v.role new → a ≤ l
-      → ((k : ℕ) → v.from ≤ k → k < v.to → (a ≤ k) × (k < l)) → ((k : ℕ) → a ≤ k → k < l → (v.from ≤ k) × (k < v.to) × (v.shows ≡ new))
+  claim_keeps : (s : LockState M E) (r : HasOneHistory step opened s) (id l a new : ℕ) (v : View M E) → get_elem? s.views id ≡ some v → l < length s.words → get_or s.words l 0 ≡ 0 → IsWordOf v.role new → a ≤ l
+      → ((k : ℕ) → v.start ≤ k → k < v.end → (a ≤ k) × (k < l)) → ((k : ℕ) → a ≤ k → k < l → (v.start ≤ k) × (k < v.end) × (v.word ≡ new))
       → (b : Book M E) → b.history.items ≡ r.log
-      → Kept step opened record { words = set s.words l new; homes = set s.homes l none; views = set s.views id (record v { from = a; to = l + 1; shows = new; seen = b.history.items }) }
-  taking s r id l a new v at lt zero_is word low held covers b same =
-      let w : View M E = record v { from = a; to = l + 1; shows = new; seen = b.history.items } in let ws : List ℕ = set s.words l new in
+      → HasOneHistory step opened record { words = set s.words l new; homes = set s.homes l none; views = set s.views id (record v { start = a; end = l + 1; word = new; seen = b.history.items }) }
+  claim_keeps s r id l a new v at lt zero_is word low held covers b same =
+      let w : View M E = record v { start = a; end = l + 1; word = new; seen = b.history.items } in let ws : List ℕ = set s.words l new in
       let wide = r.wide in let long = length-set s.words l new in let deep = length-set s.homes l none in
       let here : get_or ws l 0 ≡ new = get_or-set_same s.words l new 0 lt in
       let k = r.each id v at in
       let elsewhere : (j : ℕ) → j ≢ l → get_or ws j 0 ≡ get_or s.words j 0 = λ j ne. get_or-set_other s.words l j new 0 ne in record {
         log = r.log;
-        holder = put r.holder l id;
+        holder = update r.holder l id;
         next = r.next;
         dealer = r.dealer;
         owner = r.owner;
         few = r.few;
         short = r.short;
         wide = omega arith;
+        each_lane = (let lanes = r.each_lane in omega arith);
         home = λ j below free. let ne : j ≢ l = λ e. word_some v.role new word (sym here ∙ (ap (λ (x : ℕ). get_or ws x 0) (sym e) ∙ free)) in
             let h = r.home j (omega arith) (sym (elsewhere j ne) ∙ free) in (h.0, set_else s.homes l j none ne ∙ h.1, h.2, h.3);
         away = λ j below busy. dite (ℕ_discrete j l)
-            (λ e. (ap (get_elem? (set s.homes l none)) e ∙ set_here s.homes l none (omega arith), (w, ap (get_elem? (set s.views id w)) (ap (put r.holder l id) e ∙ put_here r.holder l id) ∙ set_here s.views id w (inside s.views id v at), (omega arith), (omega arith))))
+            (λ e. (ap (get_elem? (set s.homes l none)) e ∙ set_here s.homes l none (omega arith), (w, ap (get_elem? (set s.views id w)) (ap (update r.holder l id) e ∙ update_here r.holder l id) ∙ set_here s.views id w (inside s.views id v at), (omega arith), (omega arith))))
             (λ ne. let h = r.away j (omega arith) (λ z. busy (elsewhere j ne ∙ z)) in let t = h.1 in
-            let same_holder = put_else r.holder l id j ne in (
+            let same_holder = update_else r.holder l id j ne in (
               set_else s.homes l j none ne ∙ h.0,
               dite (ℕ_discrete (r.holder j) id)
                   (λ e. let one : t.0 ≡ v = some-injective t.0 v (sym t.1 ∙ (ap (get_elem? s.views) e ∙ at)) in
-                  let f = held j (subst (λ (x : View M E). x.from ≤ j) one t.2) (subst (λ (x : View M E). j < x.to) one t.3) in let f1 : j < l = f.1 in
+                  let f = held j (subst (λ (x : View M E). x.start ≤ j) one t.2) (subst (λ (x : View M E). j < x.end) one t.3) in let f1 : j < l = f.1 in
                   (w, ap (get_elem? (set s.views id w)) (same_holder ∙ e) ∙ set_here s.views id w (inside s.views id v at), f.0, (omega arith)))
                   (λ other. (t.0, ap (get_elem? (set s.views id w)) same_holder ∙ (set_else s.views id (r.holder j) w other ∙ t.1), t.2, t.3)),
             ));
         undealt = r.undealt;
-        each = each_set (Knows opened ws r.log (put r.holder l id) r.next r.dealer r.owner) s.views id w
+        each = each_set (Knows opened ws r.log (update r.holder l id) r.next r.dealer r.owner) s.views id w
             record {
               opens = k.opens;
               before = subst (StartsWith r.log) (sym same) (starts_itself r.log);
               heard = k.heard;
               out = λ j from to. dite (ℕ_discrete j l)
-                  (λ e. record { inside = (omega arith); shown = ap (λ (x : ℕ). get_or ws x 0) e ∙ here; held = ap (put r.holder l id) e ∙ put_here r.holder l id; whole = same; word = word })
+                  (λ e. record { inside = (omega arith); shown = ap (λ (x : ℕ). get_or ws x 0) e ∙ here; held = ap (update r.holder l id) e ∙ update_here r.holder l id; whole = same; word = word })
                   (λ ne. let c = covers j from (omega arith) in let q = k.out j c.0 c.1 in let q0 : j < length s.words = q.inside in
-                  record { inside = (omega arith); shown = elsewhere j ne ∙ (q.shown ∙ c.2); held = put_else r.holder l id j ne ∙ q.held; whole = same; word = word });
+                  record { inside = (omega arith); shown = elsewhere j ne ∙ (q.shown ∙ c.2); held = update_else r.holder l id j ne ∙ q.held; whole = same; word = word });
               role = k.role;
-              gone = k.gone;
+              passes = k.passes;
             }
             (λ j u _ e. let z = r.each j u e in record {
               opens = z.opens;
               before = z.before;
               heard = z.heard;
               out = λ i from to. let q = z.out i from to in let q0 : i < length s.words = q.inside in
-                  let ne : i ≢ l = λ h. word_some u.role u.shows q.word (sym q.shown ∙ (ap (λ (x : ℕ). get_or s.words x 0) h ∙ zero_is)) in
-                  record { inside = (omega arith); shown = elsewhere i ne ∙ q.shown; held = put_else r.holder l id i ne ∙ q.held; whole = q.whole; word = q.word };
+                  let ne : i ≢ l = λ h. word_some u.role u.word q.word (sym q.shown ∙ (ap (λ (x : ℕ). get_or s.words x 0) h ∙ zero_is)) in
+                  record { inside = (omega arith); shown = elsewhere i ne ∙ q.shown; held = update_else r.holder l id i ne ∙ q.held; whole = q.whole; word = q.word };
               role = z.role;
-              gone = z.gone;
+              passes = z.passes;
             });
       }
 
   -- the last lane that a seat holds goes back, with a book of the history that the seat has seen
-  returning : (s : Books M E) (r : Kept step opened s) (id l : ℕ) (v : View M E) (b : Book M E) → get_elem? s.views id ≡ some v → v.from ≤ l → v.to ≡ l + 1 → b.history.items ≡ v.seen → replay step opened.machine b.history.items ≡ Some b.machine
-      → Kept step opened record { words = set s.words l 0; homes = set s.homes l (some (Some b)); views = set s.views id (gave_back v l) }
-  returning s r id l v b at from to same legal =
-      let ws : List ℕ = set s.words l 0 in let w : View M E = gave_back v l in let wide = r.wide in let long = length-set s.words l 0 in let deep = length-set s.homes l (some (Some b)) in
+  return_keeps : (s : LockState M E) (r : HasOneHistory step opened s) (id l : ℕ) (v : View M E) (b : Book M E) → get_elem? s.views id ≡ some v → v.start ≤ l → v.end ≡ l + 1 → b.history.items ≡ v.seen → replay step opened.machine b.history.items ≡ Some b.machine
+      → HasOneHistory step opened record { words = set s.words l 0; homes = set s.homes l (some (Some b)); views = set s.views id (view_after_return v l) }
+  return_keeps s r id l v b at from to same legal =
+      let ws : List ℕ = set s.words l 0 in let w : View M E = view_after_return v l in let wide = r.wide in let long = length-set s.words l 0 in let deep = length-set s.homes l (some (Some b)) in
       let k = r.each id v at in let last = k.out l from (omega arith) in let lt : l < length s.words = last.inside in
       let here : get_or ws l 0 ≡ 0 = get_or-set_same s.words l 0 0 lt in
       let elsewhere : (j : ℕ) → j ≢ l → get_or ws j 0 ≡ get_or s.words j 0 = λ j ne. get_or-set_other s.words l j 0 0 ne in record {
@@ -140,6 +142,7 @@ module _ {M E R F : Type 0} (step : M → E → Result (M × R) F) (opened : Ope
         few = r.few;
         short = r.short;
         wide = omega arith;
+        each_lane = (let lanes = r.each_lane in omega arith);
         home = λ j below free. dite (ℕ_discrete j l)
             (λ e. (b, ap (get_elem? (set s.homes l (some (Some b)))) e ∙ set_here s.homes l (some (Some b)) (omega arith), same ∙ last.whole, subst (λ x. replay step opened.machine x ≡ Some b.machine) (same ∙ last.whole) legal))
             (λ ne. let h = r.home j (omega arith) (sym (elsewhere j ne) ∙ free) in (h.0, set_else s.homes l j (some (Some b)) ne ∙ h.1, h.2, h.3));
@@ -147,7 +150,7 @@ module _ {M E R F : Type 0} (step : M → E → Result (M × R) F) (opened : Ope
           set_else s.homes l j (some (Some b)) ne ∙ h.0,
           dite (ℕ_discrete (r.holder j) id)
               (λ e. let one : t.0 ≡ v = some-injective t.0 v (sym t.1 ∙ (ap (get_elem? s.views) e ∙ at)) in
-              let f : v.from ≤ j = subst (λ (x : View M E). x.from ≤ j) one t.2 in let f1 : j < v.to = subst (λ (x : View M E). j < x.to) one t.3 in
+              let f : v.start ≤ j = subst (λ (x : View M E). x.start ≤ j) one t.2 in let f1 : j < v.end = subst (λ (x : View M E). j < x.end) one t.3 in
               (w, ap (get_elem? (set s.views id w)) e ∙ set_here s.views id w (inside s.views id v at), f, (omega arith)))
               (λ other. (t.0, set_else s.views id (r.holder j) w other ∙ t.1, t.2, t.3)),
         );
@@ -160,7 +163,7 @@ module _ {M E R F : Type 0} (step : M → E → Result (M × R) F) (opened : Ope
               out = λ j low high. let q = k.out j low (omega arith) in let q0 : j < length s.words = q.inside in let ne : j ≢ l = λ e. omega arith in
                   record { inside = (omega arith); shown = elsewhere j ne ∙ q.shown; held = q.held; whole = q.whole; word = q.word };
               role = k.role;
-              gone = k.gone;
+              passes = k.passes;
             }
             (λ j u ne e. let z = r.each j u e in record {
               opens = z.opens;
@@ -169,16 +172,16 @@ module _ {M E R F : Type 0} (step : M → E → Result (M × R) F) (opened : Ope
               out = λ i low high. let q = z.out i low high in let q0 : i < length s.words = q.inside in let other : i ≢ l = λ h. ne (sym q.held ∙ (ap r.holder h ∙ last.held)) in
                   record { inside = (omega arith); shown = elsewhere i other ∙ q.shown; held = q.held; whole = q.whole; word = q.word };
               role = z.role;
-              gone = z.gone;
+              passes = z.passes;
             });
       }
 
   -- the writer of the lane n, which holds each lane, gives back the last with a longer history
-  publishing : (s : Books M E) (r : Kept step opened s) (id n l : ℕ) (v : View M E) (b : Book M E) → get_elem? s.views id ≡ some v → v.from ≡ 0 → v.to ≡ l + 1 → length s.words ≡ l + 1 → v.role ≡ Lane n → v.gone ≡ []
+  publication_keeps : (s : LockState M E) (r : HasOneHistory step opened s) (id n l : ℕ) (v : View M E) (b : Book M E) → get_elem? s.views id ≡ some v → v.start ≡ 0 → v.end ≡ l + 1 → length s.words ≡ l + 1 → v.role ≡ Lane n → v.passes ≡ []
       → GrowsBy n v.seen b.history.items → replay step opened.machine b.history.items ≡ Some b.machine → length b.history.items ≤ opened.limit
-      → Kept step opened record { words = set s.words l 0; homes = set s.homes l (some (Some b)); views = set s.views id (wrote v l b.history.items) }
-  publishing s r id n l v b at from to all lane alone grows legal short =
-      let log : List (Entry E) = b.history.items in let ws : List ℕ = set s.words l 0 in let w : View M E = wrote v l log in
+      → HasOneHistory step opened record { words = set s.words l 0; homes = set s.homes l (some (Some b)); views = set s.views id (view_after_write v l b.history.items) }
+  publication_keeps s r id n l v b at from to all lane alone grows legal short =
+      let log : List (Entry E) = b.history.items in let ws : List ℕ = set s.words l 0 in let w : View M E = view_after_write v l log in
       let wide = r.wide in let long = length-set s.words l 0 in let deep = length-set s.homes l (some (Some b)) in
       let k = r.each id v at in
       let here : get_or ws l 0 ≡ 0 = get_or-set_same s.words l 0 0 (omega arith) in
@@ -195,9 +198,10 @@ module _ {M E R F : Type 0} (step : M → E → Result (M × R) F) (opened : Ope
         few = r.few;
         short = short;
         wide = omega arith;
+        each_lane = (let lanes = r.each_lane in omega arith);
         home = λ j below free. dite (ℕ_discrete j l)
             (λ e. (b, ap (get_elem? (set s.homes l (some (Some b)))) e ∙ set_here s.homes l (some (Some b)) (omega arith), refl, legal))
-            (λ ne. let m = mine j (omega arith) in absurd (word_some v.role v.shows m.word (sym m.shown ∙ (sym (elsewhere j ne) ∙ free))));
+            (λ ne. let m = mine j (omega arith) in absurd (word_some v.role v.word m.word (sym m.shown ∙ (sym (elsewhere j ne) ∙ free))));
         away = λ j below busy. let ne : j ≢ l = λ e. busy (ap (λ (x : ℕ). get_or ws x 0) e ∙ here) in let h = r.away j (omega arith) (λ z. busy (elsewhere j ne ∙ z)) in
             (set_else s.homes l j (some (Some b)) ne ∙ h.0, (w, ap (get_elem? (set s.views id w)) (mine j (omega arith)).held ∙ set_here s.views id w (inside s.views id v at), (omega arith), (omega arith)));
         undealt = λ m later. let apart : m ≢ n = λ e. (let x = at_lane.1 in omega arith) in more.1 m apart ∙ r.undealt m later;
@@ -205,41 +209,58 @@ module _ {M E R F : Type 0} (step : M → E → Result (M × R) F) (opened : Ope
             record {
               opens = k.opens;
               before = starts_itself log;
-              heard = starts_through log r.log v.told more.0 k.heard;
+              heard = starts_through log r.log v.news more.0 k.heard;
               out = λ j low high. let m = mine j (omega arith) in let m0 : j < length s.words = m.inside in let ne : j ≢ l = λ e. omega arith in
                   record { inside = (omega arith); shown = elsewhere j ne ∙ m.shown; held = m.held; whole = refl; word = m.word };
               role = subst (λ (x : Role). KnowsRole log r.next r.dealer r.owner id x (mine_of x v.mine log)) (sym lane) (at_lane.0, at_lane.1, refl);
-              gone = subst (KnowsGone log r.next r.dealer r.owner id) (sym alone) tt;
+              passes = subst (KnowsPasses log r.next r.dealer r.owner id) (sym alone) tt;
             }
             (λ j u ne e. let q = r.each j u e in let apart : r.owner n ≢ j = λ x. ne (sym x ∙ at_lane.0) in record {
               opens = q.opens;
               before = starts_through log r.log u.seen more.0 q.before;
-              heard = starts_through log r.log u.told more.0 q.heard;
+              heard = starts_through log r.log u.news more.0 q.heard;
               out = λ i low high. let z = q.out i low high in let z0 : i < length s.words = z.inside in absurd (ne (sym z.held ∙ (mine i (omega arith)).held));
               role = role_stays r.log log n r.next r.dealer r.owner more j apart u.role u.mine q.role;
-              gone = gone_stay r.log log n r.next r.dealer r.owner more j apart u.gone q.gone;
+              passes = passes_stay r.log log n r.next r.dealer r.owner more j apart u.passes q.passes;
             });
       }
 
-  pub claims : (slots id l new : ℕ) (me : Sat M E) → l < slots → me.0.to ≤ me.0.from → IsWordOf me.0.role new
-      → Allows (Kept step opened) slots id me l (λ x. either (eqb x 0) new x) (claimed step (one_step slots l 0 new none) me)
+  -- a word that is not 0 is another's, if the seat that meets it holds no lane
+  held_by_another : (s : LockState M E) (r : HasOneHistory step opened s) (id l : ℕ) (v : View M E) → get_elem? s.views id ≡ some v → v.end ≤ v.start → l < length s.words → get_or s.words l 0 ≢ 0
+      → IsHeldByAnother v l (get_or s.words l 0)
+  held_by_another s r id l v at idle lt miss =
+      let h = r.away l lt miss in let t = h.1 in let u : View M E = t.0 in let z = r.each (r.holder l) u t.1 in let out = z.out l t.2 t.3 in let m : ℕ = out.word.0 in
+      let has : HasLane r.log r.next r.dealer r.owner (r.holder l) m u.mine = subst (λ (x : Role). KnowsRole r.log r.next r.dealer r.owner (r.holder l) x u.mine) out.word.1 z.role in
+      let k = r.each id v at in let lanes = r.each_lane in let few = r.few in let shown = out.shown in
+      let same : (n : ℕ) → get_or s.words l 0 ≡ n + 2 → n ≡ m = λ n is. ⊎_elim (λ (e : u.word ≡ 1). absurd (omega arith)) (λ (e : u.word ≡ m + 2). omega arith) out.word.2 in record {
+        apart = λ inside. (let low : v.start ≤ l = inside.0 in let high : l < v.end = inside.1 in absurd (omega arith));
+        lane = λ o e. subst (λ (x : Opened M). l < x.lanes) (sym (k.opens o e)) (omega arith);
+        writer = λ n is. (
+          λ role. (let mine : HasLane r.log r.next r.dealer r.owner id n v.mine = subst (λ (x : Role). KnowsRole r.log r.next r.dealer r.owner id x v.mine) role k.role in
+              holds_none s r id v at idle l h (sym has.0 ∙ (ap r.owner (sym (same n is)) ∙ mine.0))),
+          λ o e. subst (λ (x : Opened M). n < x.lanes) (sym (k.opens o e)) (let below : m < r.next = has.1 in let e : n ≡ m = same n is in omega arith),
+        );
+      }
+
+  pub claims : (slots id l new : ℕ) (me : SeatState M E) → l < slots → me.0.end ≤ me.0.start → IsWordOf me.0.role new
+      → Allows (HasOneHistory step opened) slots id me l (λ x. either (eqb x 0) new x) (Claims step (one_step slots l 0 new none) me)
   claims slots id l new me below idle word s r deep at small =
       let wide = r.wide in let lt : l < length s.words = omega arith in let k = r.each id me.0 at in
       dite (ℕ_discrete (get_or s.words l 0) 0)
-      (λ hit. let h = r.home l lt hit in let b : Book M E = h.0 in let same : b.history.items ≡ r.log = h.2 in let w : View M E = taken me.0 l new b.history.items in
+      (λ hit. let h = r.home l lt hit in let b : Book M E = h.0 in let same : b.history.items ≡ r.log = h.2 in let w : View M E = view_after_claim me.0 l new b.history.items in
       let legal : replay step opened.machine b.history.items ≡ Some b.machine = subst (λ x. replay step opened.machine x ≡ Some b.machine) (sym same) h.3 in (
         w,
         takes l (Some b),
         h.1,
-        subst (λ t. Kept step opened record { words = set s.words l (either t new (get_or s.words l 0)); homes = set s.homes l none; views = set s.views id w }) (sym (eq-eqb (get_or s.words l 0) 0 hit))
-            (taking s r id l l new me.0 at lt hit word (omega arith) (λ j low high. absurd (omega arith)) (λ j low high. absurd (omega arith)) b same),
+        subst (λ t. HasOneHistory step opened record { words = set s.words l (either t new (get_or s.words l 0)); homes = set s.homes l none; views = set s.views id w }) (sym (eq-eqb (get_or s.words l 0) 0 hit))
+            (claim_keeps s r id l l new me.0 at lt hit word (omega arith) (λ j low high. absurd (omega arith)) (λ j low high. absurd (omega arith)) b same),
         (
           (λ _. (
             b,
             refl,
             record {
               begins = subst (λ x. StartsWith x me.0.seen) (sym same) k.before;
-              told = subst (λ x. StartsWith x me.0.told) (sym same) k.heard;
+              news = subst (λ x. StartsWith x me.0.news) (sym same) k.heard;
               mine = mine_kept b.history.items r.log r.next r.dealer id r.owner me.0.role me.0.mine same k.role;
               legal = λ o e. subst (λ (x : Opened M). replay step x.machine b.history.items ≡ Some b.machine) (sym (k.opens o e)) legal;
               short = λ o e. subst (λ (x : Opened M). length b.history.items ≤ x.limit) (sym (k.opens o e)) (subst (λ x. length x ≤ opened.limit) (sym same) r.short);
@@ -248,22 +269,22 @@ module _ {M E R F : Type 0} (step : M → E → Result (M × R) F) (opened : Ope
           λ miss. absurd (miss hit),
         ),
       ))
-      (λ miss. let w : View M E = turned_away me.0 l (get_or s.words l 0) in (
+      (λ miss. let w : View M E = view_after_refusal me.0 l (get_or s.words l 0) in (
         w,
         keeps,
         tt,
-        subst (λ t. Kept step opened record { words = set s.words l (either t new (get_or s.words l 0)); homes = s.homes; views = set s.views id w }) (sym (ne_eqb (get_or s.words l 0) 0 miss))
-            (subst (λ ws. Kept step opened record { words = ws; homes = s.homes; views = set s.views id w }) (sym (set-get_or s.words l 0))
-            (reviewed s r id me.0 w at idle record { opens = k.opens; before = k.before; heard = k.heard; out = λ j low high. absurd (omega arith); role = k.role; gone = k.gone })),
-        ((λ hit. absurd (miss hit)), λ _. refl),
+        subst (λ t. HasOneHistory step opened record { words = set s.words l (either t new (get_or s.words l 0)); homes = s.homes; views = set s.views id w }) (sym (ne_eqb (get_or s.words l 0) 0 miss))
+            (subst (λ ws. HasOneHistory step opened record { words = ws; homes = s.homes; views = set s.views id w }) (sym (set-get_or s.words l 0))
+            (view_change_keeps s r id me.0 w at idle record { opens = k.opens; before = k.before; heard = k.heard; out = λ j low high. absurd (omega arith); role = k.role; passes = k.passes })),
+        ((λ hit. absurd (miss hit)), λ _. (refl, held_by_another s r id l me.0 at idle lt miss)),
       ))
 
-  pub gives_back : (slots id l : ℕ) (v : View M E) (b : Book M E) → v.from ≤ l → v.to ≡ l + 1 → b.history.items ≡ v.seen → replay step opened.machine b.history.items ≡ Some b.machine
-      → Allows (Kept step opened) slots id (v, (l, Some b) ∷ []) l (λ _. 0) (λ _. given_back (one_step slots l 0 0 none) (v, (l, Some b) ∷ []) 0)
-  gives_back slots id l v b from to same legal s r deep at small = (gave_back v l, gives, tt, returning s r id l v b at from to same legal, refl)
+  pub gives_back : (slots id l : ℕ) (v : View M E) (b : Book M E) → v.start ≤ l → v.end ≡ l + 1 → b.history.items ≡ v.seen → replay step opened.machine b.history.items ≡ Some b.machine
+      → Allows (HasOneHistory step opened) slots id (v, (l, Some b) ∷ []) l (λ _. 0) (λ _. GivesBack (one_step slots l 0 0 none) (v, (l, Some b) ∷ []) 0)
+  gives_back slots id l v b from to same legal s r deep at small = (view_after_return v l, gives, tt, return_keeps s r id l v b at from to same legal, refl)
 
-  pub publishes : (slots id n l : ℕ) (v : View M E) (b : Book M E) → slots ≡ l + 1 → v.from ≡ 0 → v.to ≡ l + 1 → v.role ≡ Lane n → v.gone ≡ []
+  pub publishes : (slots id n l : ℕ) (v : View M E) (b : Book M E) → slots ≡ l + 1 → v.start ≡ 0 → v.end ≡ l + 1 → v.role ≡ Lane n → v.passes ≡ []
       → GrowsBy n v.seen b.history.items → replay step opened.machine b.history.items ≡ Some b.machine → length b.history.items ≤ opened.limit
-      → Allows (Kept step opened) slots id (v, (l, Some b) ∷ []) l (λ _. 0) (λ _. published (one_step slots l 0 0 none) (v, (l, Some b) ∷ []) 0)
+      → Allows (HasOneHistory step opened) slots id (v, (l, Some b) ∷ []) l (λ _. 0) (λ _. Publishes (one_step slots l 0 0 none) (v, (l, Some b) ∷ []) 0)
   publishes slots id n l v b all from to lane alone grows legal short s r deep at small = let wide = r.wide in
-      (wrote v l b.history.items, gives, tt, publishing s r id n l v b at from to (omega arith) lane alone grows legal short, refl)
+      (view_after_write v l b.history.items, gives, tt, publication_keeps s r id n l v b at from to (omega arith) lane alone grows legal short, refl)

@@ -2,8 +2,9 @@
 
 ghost use Rattle.std.specs.Prelude.{◌≡◌, ◌⊎◌, ℕ, ◌<◌, [], ◌∷◌, true, false, IfOk, OnOk, IfErr, MatchBool, map};
 ghost use Rattle.history_lock.specs.Passes.{ArePassesOf};
-ghost use Rattle.history_lock.specs.Seats.{IsTaking};
-ghost use Rattle.history_lock.specs.Closing.{has_lane, IsWhole, AreAt, IsGone, IsEnd, gone, gone_pass};
+ghost use Rattle.history_lock.specs.Inside.Seats.{IsTaking};
+ghost use Rattle.history_lock.specs.Closing.{has_lane, IsWhole};
+ghost use Rattle.history_lock.specs.Inside.Gathering.{AreAt, IsGathered, IsEnd, gathered_pass, gathered_pass_of};
 
 use crate::entry::History;
 use crate::pass::{LaneLock, Pass};
@@ -29,9 +30,9 @@ pub struct PassesMissing<M: Machine> {
 }
 
 impl<M: Machine> Model for PassesMissing<M> {
-    ghost use Rattle.history_lock.specs.Passes.{HandedBack};
+    ghost use Rattle.history_lock.specs.Passes.{LockAndPasses};
 
-    ghost Value = { HandedBack M M.Event };
+    ghost Value = { LockAndPasses M M.Event };
 
     ghost view = { λ p. record { lock = p.lock; passes = p.passes.items } };
 }
@@ -77,7 +78,7 @@ impl<M: Machine> LaneLock<M> {
         } = self;
         let Pass { mut place, lane } = passes.pop().unwrap();
         take_in(&board.shared, &mut place, lane, passes);
-        let book = end(board, place, lane);
+        let book = close_table(board, place, lane);
         Closed {
             machine: book.machine,
             history: History::of(book.history),
@@ -116,7 +117,7 @@ fn take_in<M: Machine>(
     requires own { AreAt common.now.table_id passes.items }
     requires place { IsTaking place.old.me lane [] }
     ensures table { place.new.table_id ≡ place.old.table_id }
-    ensures taken { IsTaking place.new.me lane (map gone_pass passes.items) }
+    ensures taken { IsTaking place.new.me lane (map gathered_pass_of passes.items) }
     ensures same { (place.new.me.0.seen ≡ place.old.me.0.seen) × (place.new.me.0.mine ≡ place.old.me.0.mine) }
 {
     while let Some(pass) = passes.pop() {
@@ -132,9 +133,9 @@ fn take_one<M: Machine>(
     pass: Pass<M>,
 )
     requires table { (place.old.table_id ≡ common.now.table_id) × (common.now.table_id.words ≡ 1) × (pass.table ≡ common.now.table_id) }
-    requires place { IsTaking place.old.me _lane place.old.me.0.gone }
+    requires place { IsTaking place.old.me _lane place.old.me.0.passes }
     ensures table { place.new.table_id ≡ place.old.table_id }
-    ensures taken { IsTaking place.new.me _lane (gone_pass pass ∷ place.old.me.0.gone) }
+    ensures taken { IsTaking place.new.me _lane (gathered_pass_of pass ∷ place.old.me.0.passes) }
     ensures same { (place.new.me.0.seen ≡ place.old.me.0.seen) × (place.new.me.0.mine ≡ place.old.me.0.mine) }
 {
     let Pass {
@@ -145,15 +146,15 @@ fn take_one<M: Machine>(
 }
 
 // The book of a table at which no seat but this one holds a lane.
-fn end<M: Machine>(
+fn close_table<M: Machine>(
     board: Board<M, M::Event>,
     place: Place<M, M::Event>,
     _lane: u64,
 ) -> Book<M, M::Event>
     requires table { (place.table_id ≡ board.shared.table_id) × (board.shared.table_id.slots ≡ 1) }
-    requires place { IsTaking place.me _lane place.me.0.gone }
-    requires all { (n : ℕ) → n < board.shared.key.value.lanes → (n ≡ _lane) ⊎ IsGone n place.me.0.gone }
-    ensures { IsEnd M.step board.shared.key.value (gone _lane place.me.0.seen place.me.0.mine ∷ place.me.0.gone) result }
+    requires place { IsTaking place.me _lane place.me.0.passes }
+    requires all { (n : ℕ) → n < board.shared.key.value.lanes → (n ≡ _lane) ⊎ IsGathered n place.me.0.passes }
+    ensures { IsEnd M.step board.shared.key.value (gathered_pass _lane place.me.0.seen place.me.0.mine ∷ place.me.0.passes) result }
 {
     let mut closed = board.close_with(place);
     let book = closed.take(0).unwrap();

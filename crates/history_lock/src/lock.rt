@@ -3,7 +3,7 @@
 ghost use Rattle.std.specs.Prelude.{◌≡◌, Ok, MatchResult};
 ghost use Rattle.std.specs.Fn.{CalledAt, TakesAt};
 ghost use Rattle.history_lock.specs.Histories.{IsLegal};
-ghost use Rattle.history_lock.specs.Passes.{Sight, IsPassOf};
+ghost use Rattle.history_lock.specs.Passes.{PassView, IsPassOf};
 ghost use Rattle.history_lock.specs.Answers.{HasWaited, IsTurnedAway, Wrote, TriedToWrite, Shared, TriedToShare, TriedToMeet};
 
 use crate::error::{Busy, LockError, WriteError};
@@ -25,7 +25,7 @@ impl<M: Machine> LaneLock<M> {
         ensures legal { IsLegal M.step self.now.opened.machine pass.new.seen }
         ensures answer { MatchResult result
             (λ answer. Wrote M.step self.now (λ event. F.step make.old event make.new) (make.new ≡ make.old) pass.old answer pass.new)
-            (λ busy. (make.new ≡ make.old) × IsTurnedAway pass.old busy pass.new) }
+            (λ busy. (make.new ≡ make.old) × IsTurnedAway self.now pass.old busy pass.new) }
     {
         write_at(
             &self.board.shared,
@@ -40,7 +40,8 @@ impl<M: Machine> LaneLock<M> {
     ///
     /// `make` is called once, while the lock is held; on `Busy` and `HistoryFull` it is not called.
     /// In the order of the refusals: the lock is held ([`LockError::Busy`]), the history is full, the
-    /// machine refuses the event; want of memory may come in place of the last, or of a reply.
+    /// machine refuses the event. Want of memory may come in place of the last, or of a reply, as long
+    /// as `make` was not called; afterwards only where the machine would take the event.
     pub fn try_write<F: FnMut() -> M::Event>(
         &self,
         pass: &mut Pass<M>,
@@ -70,7 +71,7 @@ impl<M: Machine> LaneLock<M> {
         requires may { F.pre make.old }
         ensures own { IsPassOf self.now pass.new }
         ensures legal { IsLegal M.step self.now.opened.machine pass.new.seen }
-        ensures answer { (late : Sight M M.Event) × HasWaited pass.old late
+        ensures answer { (late : PassView M M.Event) × HasWaited self.now pass.old late
             × Wrote M.step self.now (λ event. F.step make.old event make.new) (make.new ≡ make.old) late result pass.new }
     {
         for _ in rt.forever() {
@@ -99,7 +100,7 @@ impl<M: Machine> LaneLock<M> {
         requires may { (machine : M) → TakesAt F.FnMut f.old machine }
         ensures own { IsPassOf self.now pass.new }
         ensures legal { IsLegal M.step self.now.opened.machine pass.new.seen }
-        ensures answer { (late : Sight M M.Event) × HasWaited pass.old late
+        ensures answer { (late : PassView M M.Event) × HasWaited self.now pass.old late
             × Shared M.step self.now (λ machine answer. CalledAt F.FnMut f.old machine answer f.new) late result pass.new }
     {
         for _ in rt.forever() {
@@ -116,7 +117,7 @@ impl<M: Machine> LaneLock<M> {
         requires other { IsPassOf self.now second.old }
         ensures own { IsPassOf self.now first.new }
         ensures legal { IsLegal M.step self.now.opened.machine first.new.seen }
-        ensures first { TriedToMeet first.old second.old result first.new }
+        ensures first { TriedToMeet self.now first.old second.old result first.new }
         ensures second { second.new ≡ second.old }
     {
         meet_at(

@@ -3,8 +3,8 @@
 ghost use Rattle.std.specs.Prelude.{◌≡◌, ◌+◌, ◌<◌, ◌≤◌, [], ◌∷◌, true, Some, IfOk, OnOk, IfErr, if◌then◌else◌, vec_len, vec_capacity};
 ghost use Rattle.history_lock.specs.declared.error.NewLockError.TheVariants as new_lock_error;
 ghost use Rattle.history_lock.specs.Passes.{lock_at, new_pass, AreNewFrom, is_allowed};
-ghost use Rattle.history_lock.specs.Rule.{first_view};
-ghost use Rattle.history_lock.specs.Seats.{IsDealing};
+ghost use Rattle.history_lock.specs.Inside.Views.{first_view};
+ghost use Rattle.history_lock.specs.Inside.Seats.{IsDealing};
 
 use crate::error::NewLockError;
 use crate::pass::{LaneLock, Pass};
@@ -61,7 +61,7 @@ fn open<M: Machine>(
         lanes,
         limit,
     };
-    let (board, mut dealer) = lay(alloc, opened)?;
+    let (board, mut dealer) = new_table(alloc, opened)?;
     let passes = deal(alloc, &board.shared, &mut dealer, lanes)?;
     let lock = LaneLock {
         board,
@@ -72,10 +72,11 @@ fn open<M: Machine>(
 }
 
 // The table with one word and one book, and the seat that deals the lanes.
-fn lay<M: Machine>(
+fn new_table<M: Machine>(
     alloc: Global,
     opened: Opened<M>,
 ) -> Result<(Board<M, M::Event>, Place<M, M::Event>), AllocError>
+    requires { 0 < opened.lanes }
     ensures { IfOk result (λ t. (t.0.shared.table_id.words ≡ 1) × (t.0.shared.table_id.slots ≡ 1)
         × (t.1.table_id ≡ t.0.shared.table_id) × (t.0.shared.key.value ≡ opened) × (t.1.me ≡ (first_view opened, []))) }
 {
@@ -100,7 +101,7 @@ fn deal<M: Machine>(
 ) -> Result<Vec<Pass<M>>, AllocError>
     requires table { (dealer.old.table_id ≡ common.now.table_id) × (common.now.table_id.words ≡ 1) }
     requires first { dealer.old.me ≡ (first_view common.now.key.value, []) }
-    requires few { (lanes ≤ 8) × (lanes ≡ common.now.key.value.lanes) }
+    requires few { (lanes ≤ MOST_LANES) × (lanes ≡ common.now.key.value.lanes) }
     ensures { IfOk result (λ passes. (vec_len passes ≡ lanes)
         × AreNewFrom 0 (lock_at common.now.table_id common.now.key.value) passes.items) }
 {
@@ -120,7 +121,7 @@ fn deal_one<M: Machine>(
 ) -> Pass<M>
     requires table { (dealer.old.table_id ≡ common.now.table_id) × (common.now.table_id.words ≡ 1) }
     requires dealer { IsDealing dealer.old.me common.now.key.value lane }
-    requires few { (lane < 8) × (lane < common.now.key.value.lanes) }
+    requires few { (lane < MOST_LANES) × (lane < common.now.key.value.lanes) }
     ensures table { dealer.new.table_id ≡ dealer.old.table_id }
     ensures dealer { IsDealing dealer.new.me common.now.key.value (lane + 1) }
     ensures pass { result ≡ new_pass (lock_at common.now.table_id common.now.key.value) lane }

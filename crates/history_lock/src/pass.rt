@@ -19,7 +19,7 @@ pub struct LaneLock<M: Machine> {
 
 impl<M: Machine> Model for LaneLock<M> {
     ghost use Rattle.history_lock.specs.Passes.{Lock, lock_at};
-    ghost use Rattle.history_lock.specs.Seats.{IsOfOneWord};
+    ghost use Rattle.history_lock.specs.Inside.Seats.{IsOfOneWord};
 
     ghost Value = { Lock M };
 
@@ -39,12 +39,12 @@ pub struct Pass<M: Machine> {
 }
 
 impl<M: Machine> Model for Pass<M> {
-    ghost use Rattle.history_lock.specs.Passes.{Sight, sight};
-    ghost use Rattle.history_lock.specs.Seats.{IsResting, SeesLegal};
+    ghost use Rattle.history_lock.specs.Passes.{PassView, pass_view};
+    ghost use Rattle.history_lock.specs.Inside.Seats.{IsResting, SeesLegal};
 
-    ghost Value = { Sight M M.Event };
+    ghost Value = { PassView M M.Event };
 
-    ghost view = { λ p. sight p.place.table_id p.lane p.place.me.0 };
+    ghost view = { λ p. pass_view p.place.table_id p.lane p.place.me.0 };
 
     ghost invariant = { λ p. IsResting p.place.me p.lane × SeesLegal M.step p.place.me.0 };
 }

@@ -21,9 +21,10 @@ pub struct Lanes;
 
 impl<M: Machine> TableRule<Option<Book<M, M::Event>>, View<M, M::Event>, Snapshot<Opened<M>>>
     for Lanes {
-    ghost use Rattle.history_lock.specs.Rule.{Kept, first_view};
+    ghost use Rattle.history_lock.specs.Rule.{HasOneHistory};
+    ghost use Rattle.history_lock.specs.Inside.Views.{first_view};
 
-    ghost holds = { λ key. Kept M.step key.value };
+    ghost holds = { λ key. HasOneHistory M.step key.value };
 
     ghost first = { λ key. first_view key.value };
 }
@@ -32,69 +33,69 @@ impl<M: Machine> TableRule<Option<Book<M, M::Event>>, View<M, M::Event>, Snapsho
 pub struct Claim;
 
 impl<M: Machine> Play<Option<Book<M, M::Event>>, View<M, M::Event>> for Claim {
-    ghost use Rattle.history_lock.specs.Rule.{claimed};
+    ghost use Rattle.history_lock.specs.Rule.{Claims};
 
-    ghost then = { claimed M.step };
+    ghost then = { Claims M.step };
 }
 
 /// A writer gives back a lane with a new book. This is when its event happens.
 pub struct Publish;
 
 impl<M: Machine> Play<Option<Book<M, M::Event>>, View<M, M::Event>> for Publish {
-    ghost use Rattle.history_lock.specs.Rule.{published};
+    ghost use Rattle.history_lock.specs.Rule.{Publishes};
 
-    ghost then = { published };
+    ghost then = { Publishes };
 }
 
 /// A lane is given back with the book as it was.
 pub struct GiveBack;
 
 impl<M: Machine> Play<Option<Book<M, M::Event>>, View<M, M::Event>> for GiveBack {
-    ghost use Rattle.history_lock.specs.Rule.{given_back};
+    ghost use Rattle.history_lock.specs.Rule.{GivesBack};
 
-    ghost then = { given_back };
+    ghost then = { GivesBack };
 }
 
 /// A lane is dealt.
 pub struct Deal;
 
 impl<M: Machine> Split<View<M, M::Event>> for Deal {
-    ghost use Rattle.history_lock.specs.Rule.{dealer_after, dealt};
+    ghost use Rattle.history_lock.specs.Inside.Views.{dealer_after, dealt_view};
 
     ghost left = { dealer_after };
 
-    ghost right = { dealt };
+    ghost right = { dealt_view };
 }
 
 /// A pass tells what it has seen.
 pub struct Tell;
 
 impl<M: Machine> Split<View<M, M::Event>> for Tell {
-    ghost use Rattle.history_lock.specs.Rule.{telling};
+    ghost use Rattle.history_lock.specs.Inside.Views.{news_view};
 
     ghost left = { λ v. v };
 
-    ghost right = { telling };
+    ghost right = { news_view };
 }
 
 /// A pass is told what another has seen.
 pub struct Meet;
 
 impl<M: Machine> Join<View<M, M::Event>> for Meet {
-    ghost use Rattle.history_lock.specs.Rule.{met, spent};
+    ghost use Rattle.history_lock.specs.Inside.Views.{view_after_meeting, spent_view};
 
-    ghost both = { met };
+    ghost both = { view_after_meeting };
 
-    ghost spent = { spent };
+    ghost spent = { spent_view };
 }
 
 /// A pass is taken in, when the lock closes.
 pub struct Gather;
 
 impl<M: Machine> Join<View<M, M::Event>> for Gather {
-    ghost use Rattle.history_lock.specs.Rule.{gathered, spent};
+    ghost use Rattle.history_lock.specs.Inside.Views.{view_after_gathering, spent_view};
 
-    ghost both = { gathered };
+    ghost both = { view_after_gathering };
 
-    ghost spent = { spent };
+    ghost spent = { spent_view };
 }

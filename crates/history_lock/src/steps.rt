@@ -3,7 +3,8 @@
 ghost use Rattle.std.specs.Prelude.{◌≡◌, ◌≢◌, ℕ, ◌+◌, ◌≤◌, [], ◌∷◌, ◌++◌, Some, None, MatchResult, length};
 ghost use Rattle.history_lock.specs.declared.view.Role.TheVariants.{Lane};
 ghost use Rattle.history_lock.specs.Histories.{replay, GrowsBy};
-ghost use Rattle.history_lock.specs.Rule.{IsWordOf, IsTaken, taken, turned_away, wrote, gave_back, holder_of};
+ghost use Rattle.history_lock.specs.Rule.{IsWordOf, IsTaken, view_after_claim, view_after_refusal, view_after_write, view_after_return, holder_of};
+ghost use Rattle.history_lock.specs.Inside.Seats.{IsRefusedClaim};
 
 use crate::error::{Busy, Holder};
 use crate::rule::{Claim, Common, GiveBack, Place, Publish};
@@ -17,12 +18,13 @@ pub(crate) fn claim<M: Machine>(
     word: u64,
 ) -> Result<Book<M, M::Event>, Busy>
     requires table { (place.old.table_id ≡ common.now.table_id) × (common.now.table_id.words ≡ 1) × (common.now.table_id.slots ≡ 1) }
-    requires idle { (place.old.me.0.to ≤ place.old.me.0.from) × (place.old.me.1 ≡ []) }
+    requires idle { (place.old.me.0.end ≤ place.old.me.0.start) × (place.old.me.1 ≡ []) }
     requires word { IsWordOf place.old.me.0.role word }
     ensures table { place.new.table_id ≡ place.old.table_id }
     ensures answer { MatchResult result
-        (λ book. (place.new.me ≡ (taken place.old.me.0 0 word book.history.items, (0, None) ∷ [])) × IsTaken M.step place.old.me.0 book)
-        (λ busy. place.new.me ≡ (record place.old.me.0 { turned = place.old.me.0.turned ++ busy ∷ [] }, [])) }
+        (λ book. (place.new.me ≡ (view_after_claim place.old.me.0 0 word book.history.items, (0, None) ∷ [])) × IsTaken M.step place.old.me.0 book)
+        (λ busy. (place.new.me ≡ (record place.old.me.0 { turned = place.old.me.0.turned ++ busy ∷ [] }, []))
+        × IsRefusedClaim place.old.me.0 busy) }
 {
     let found = common.compare_exchange::<Claim>(place, 0, 0, word);
     if found == 0 {
@@ -54,11 +56,11 @@ pub(crate) fn give_back<M: Machine>(
     book: Book<M, M::Event>,
 )
     requires table { (place.old.table_id ≡ common.now.table_id) × (common.now.table_id.words ≡ 1) × (common.now.table_id.slots ≡ 1) }
-    requires out { (place.old.me.1 ≡ (0, None) ∷ []) × (place.old.me.0.from ≡ 0) × (place.old.me.0.to ≡ 1) }
+    requires out { (place.old.me.1 ≡ (0, None) ∷ []) × (place.old.me.0.start ≡ 0) × (place.old.me.0.end ≡ 1) }
     requires same { book.history.items ≡ place.old.me.0.seen }
     requires legal { replay M.step common.now.key.value.machine book.history.items ≡ Some book.machine }
     ensures table { place.new.table_id ≡ place.old.table_id }
-    ensures back { place.new.me ≡ (gave_back place.old.me.0 0, []) }
+    ensures back { place.new.me ≡ (view_after_return place.old.me.0 0, []) }
 {
     drop(common.exchange(place, 0, Some(book)));
     common.store::<GiveBack>(place, 0, 0);
@@ -71,12 +73,12 @@ pub(crate) fn publish<M: Machine>(
     book: Book<M, M::Event>,
 )
     requires table { (place.old.table_id ≡ common.now.table_id) × (common.now.table_id.words ≡ 1) × (common.now.table_id.slots ≡ 1) }
-    requires out { (place.old.me.1 ≡ (0, None) ∷ []) × (place.old.me.0.from ≡ 0) × (place.old.me.0.to ≡ 1) × (place.old.me.0.gone ≡ []) }
-    requires grows { (n : ℕ) × (place.old.me.0.role ≡ Lane n) × (place.old.me.0.shows ≡ n + 2) × GrowsBy n place.old.me.0.seen book.history.items }
+    requires out { (place.old.me.1 ≡ (0, None) ∷ []) × (place.old.me.0.start ≡ 0) × (place.old.me.0.end ≡ 1) × (place.old.me.0.passes ≡ []) }
+    requires grows { (n : ℕ) × (place.old.me.0.role ≡ Lane n) × (place.old.me.0.word ≡ n + 2) × GrowsBy n place.old.me.0.seen book.history.items }
     requires legal { replay M.step common.now.key.value.machine book.history.items ≡ Some book.machine }
     requires short { length book.history.items ≤ common.now.key.value.limit }
     ensures table { place.new.table_id ≡ place.old.table_id }
-    ensures back { place.new.me ≡ (wrote place.old.me.0 0 book.history.items, []) }
+    ensures back { place.new.me ≡ (view_after_write place.old.me.0 0 book.history.items, []) }
 {
     drop(common.exchange(place, 0, Some(book)));
     common.store::<Publish>(place, 0, 0);

@@ -2,10 +2,10 @@
 
 ghost use Rattle.std.specs.Prelude.{◌≡◌, ◌⊎◌, ◌<◌, ◌≤◌, [], Some, MatchResult};
 ghost use Rattle.std.specs.Fn.{CalledAt, TakesAt};
-ghost use Rattle.history_lock.specs.Passes.{lock_at, sight};
+ghost use Rattle.history_lock.specs.Passes.{lock_at, pass_view};
 ghost use Rattle.history_lock.specs.Answers.{Wrote, Shared, IsTurnedAway, TriedToShare, TriedToMeet};
-ghost use Rattle.history_lock.specs.Turns.{Turn};
-ghost use Rattle.history_lock.specs.Seats.{IsResting, SeesLegal};
+ghost use Rattle.history_lock.specs.Inside.Turns.{IsTurn};
+ghost use Rattle.history_lock.specs.Inside.Seats.{IsResting, SeesLegal};
 
 use crate::entry::Entry;
 use crate::error::{Busy, WriteError};
@@ -22,7 +22,7 @@ fn take_event<M: Machine, F: FnMut() -> M::Event>(
     make: &mut F,
 ) -> Result<M::Reply, WriteError<M::Fault>>
     requires { F.pre make.old }
-    ensures { Turn M.step lane limit (λ event. F.step make.old event make.new) (make.new ≡ make.old) book.old result book.new }
+    ensures { IsTurn M.step lane limit (λ event. F.step make.old event make.new) (make.new ≡ make.old) book.old result book.new }
 {
     if book.history.len() >= limit {
         return Err(WriteError::HistoryFull);
@@ -55,9 +55,9 @@ pub(crate) fn write_at<M: Machine, F: FnMut() -> M::Event>(
     ensures opened { place.new.me.0.opened ≡ place.old.me.0.opened }
     ensures answer { MatchResult result
         (λ answer. Wrote M.step (lock_at common.now.table_id common.now.key.value) (λ event. F.step make.old event make.new) (make.new ≡ make.old)
-        (sight place.old.table_id lane place.old.me.0) answer (sight place.new.table_id lane place.new.me.0))
+        (pass_view place.old.table_id lane place.old.me.0) answer (pass_view place.new.table_id lane place.new.me.0))
         (λ busy. (make.new ≡ make.old)
-        × IsTurnedAway (sight place.old.table_id lane place.old.me.0) busy (sight place.new.table_id lane place.new.me.0)) }
+        × IsTurnedAway (lock_at common.now.table_id common.now.key.value) (pass_view place.old.table_id lane place.old.me.0) busy (pass_view place.new.table_id lane place.new.me.0)) }
 {
     let mut book = claim(common, place, lane + 2)?;
     match take_event(&mut book, lane, limit, make) {
@@ -89,7 +89,7 @@ pub(crate) fn share_at<M: Machine, T, F: FnMut(&M) -> T>(
     ensures legal { SeesLegal M.step place.new.me.0 }
     ensures opened { place.new.me.0.opened ≡ place.old.me.0.opened }
     ensures answer { TriedToShare M.step (lock_at common.now.table_id common.now.key.value) (λ machine answer. CalledAt F.FnMut f.old machine answer f.new) (f.new ≡ f.old)
-        (sight place.old.table_id _lane place.old.me.0) result (sight place.new.table_id _lane place.new.me.0) }
+        (pass_view place.old.table_id _lane place.old.me.0) result (pass_view place.new.table_id _lane place.new.me.0) }
 {
     let book = claim(common, place, 1)?;
     let answer = f(&book.machine);
@@ -115,8 +115,8 @@ pub(crate) fn meet_at<M: Machine>(
     ensures legal { SeesLegal M.step first.new.me.0 }
     ensures opened { first.new.me.0.opened ≡ first.old.me.0.opened }
     ensures other { (second.new.table_id ≡ second.old.table_id) × (second.new.me ≡ second.old.me) }
-    ensures answer { TriedToMeet (sight first.old.table_id _lane first.old.me.0) (sight second.old.table_id _other second.old.me.0)
-        result (sight first.new.table_id _lane first.new.me.0) }
+    ensures answer { TriedToMeet (lock_at common.now.table_id common.now.key.value) (pass_view first.old.table_id _lane first.old.me.0) (pass_view second.old.table_id _other second.old.me.0)
+        result (pass_view first.new.table_id _lane first.new.me.0) }
 {
     let news = common.split_seat::<Tell>(second);
     common.join_seat::<Meet>(first, news);

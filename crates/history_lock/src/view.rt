@@ -33,7 +33,7 @@ pub enum Role {
 }
 
 /// What is known of a pass that was taken in when the lock closes. No value of it is made.
-pub struct Gone<E> {
+pub struct GatheredPass<E> {
     pub lane: u64,
     pub seen: LinkedList<Entry<E>>,
     pub mine: LinkedList<E>,
@@ -45,19 +45,19 @@ pub struct View<M, E> {
     pub opened: Option<Opened<M>>,
     pub role: Role,
     /// The lanes that it holds are those from this one on,
-    pub from: u64,
+    pub start: u64,
     /// below this one,
-    pub to: u64,
+    pub end: u64,
     /// and their words show this.
-    pub shows: u64,
+    pub word: u64,
     /// A beginning of the history.
     pub seen: LinkedList<Entry<E>>,
     /// A beginning of the history that another pass had seen.
-    pub told: LinkedList<Entry<E>>,
+    pub news: LinkedList<Entry<E>>,
     /// Its own events.
     pub mine: LinkedList<E>,
     /// Its refused claims.
     pub turned: LinkedList<Busy>,
     /// The passes that it took in.
-    pub gone: LinkedList<Gone<E>>,
+    pub passes: LinkedList<GatheredPass<E>>,
 }

@@ -22,6 +22,4 @@ pub use table::{LeaseTable, READINGS};
 pub use values::{Grant, JobTerm, Phase, ReleaseNote, Row};
 
 #[cfg(test)]
-mod lock_tests;
-#[cfg(test)]
 mod tests;
