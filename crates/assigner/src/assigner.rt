@@ -1,0 +1,87 @@
+//! An assigner.
+
+ghost use Rattle.std.specs.Prelude.{◌≡◌, None};
+ghost use Rattle.lease_table.specs.Tables.{last_number};
+ghost use Rattle.assigner.specs.Terms.{opening, is_above_kept, is_adopted, adopted_term};
+
+use lease_table::JobTerm;
+use std::marker::Model;
+
+/// An assigner, and the term of the job lease that it keeps.
+#[derive(Clone, Copy, Debug, PartialEq, Eq)]
+pub struct Assigner {
+    id: u64,
+    job_term: u64,
+    term: Option<JobTerm>,
+}
+
+impl Model for Assigner {
+    ghost use Rattle.assigner.specs.Terms.{Keeping};
+
+    ghost Value = { Keeping };
+
+    ghost view = { λ a. record { id = a.id; job_term = a.job_term; term = a.term } };
+
+    ghost inverse = { λ k. record { id = k.id; job_term = k.job_term; term = k.term } };
+}
+
+impl Assigner {
+    /// The assigner of this number, which keeps no term; a job lease lasts `job_term` ticks.
+    pub fn new(id: u64, job_term: u64) -> Self
+        ensures { result ≡ opening id job_term }
+    {
+        Assigner {
+            id,
+            job_term,
+            term: None,
+        }
+    }
+
+    /// Keeps a term where it is the assigner's own and its pair of number and `until` is above that
+    /// of the term that it keeps; answers whether it does.
+    pub fn adopt(&mut self, term: JobTerm) -> bool
+        ensures adopts { result ≡ is_adopted self.old.id term self.old.term }
+        ensures kept { self.new ≡ record self.old { term = adopted_term self.old.id term self.old.term } }
+    {
+        let is_adopted = term.assigner == self.id && self.is_above_kept(term);
+        if is_adopted {
+            self.term = Some(term);
+        }
+        is_adopted
+    }
+
+    /// Forgets the term.
+    pub fn restart(&mut self)
+        ensures { self.new ≡ record self.old { term = None } }
+    {
+        self.term = None;
+    }
+
+    /// The term that is kept.
+    pub fn term(&self) -> Option<JobTerm>
+        ensures { result ≡ self.now.term }
+    {
+        self.term
+    }
+
+    /// The number of the term that is kept, 0 for none.
+    pub fn number(&self) -> u64
+        ensures { result ≡ last_number self.now.term }
+    {
+        match self.term {
+            Some(term) => term.number,
+            None => 0,
+        }
+    }
+
+    fn is_above_kept(&self, term: JobTerm) -> bool
+        ensures { result ≡ is_above_kept term self.now.term }
+    {
+        match self.term {
+            None => true,
+            Some(kept) => {
+                kept.number < term.number || kept.number == term.number && kept.until < term.until
+            }
+        }
+    }
+}
