@@ -6,7 +6,7 @@ ghost use Rattle.slice_ranges.specs.Sets.{keys_where};
 ghost use Rattle.assignment.specs.Owners.{owns};
 ghost use Rattle.lease_table.specs.Tables.{opening, phase_of, generation_of, slices_of, last_number};
 ghost use Rattle.machines.specs.Answers.{Answers, Takes};
-ghost use Rattle.lease_table.specs.Steps.{standing_at, propose_checks, grant_with, with_row, take_step, renew_step, propose_step, commit_step, grant_step, free_step};
+ghost use Rattle.lease_table.specs.Steps.{grant_checks, standing_at, propose_checks, grant_with, with_row, take_step, renew_step, propose_step, commit_step, grant_step, free_step};
 
 mod checks;
 
@@ -199,6 +199,14 @@ impl LeaseTable {
         let grant = self.next_grant(task, life, at)?;
         self.add_row(grant.row(), at)?;
         Ok(grant)
+    }
+
+    /// Why a grant at a reading is refused, if it is: the refusals of [`grant`](Self::grant) in their
+    /// order.
+    pub fn grant_refusal(&self, at: u64) -> Option<TableError>
+        ensures { result ≡ first_of (grant_checks self.now at) }
+    {
+        self.check_grant(at).err()
     }
 
     /// Frees the rows that a note closes and that have not ended, and answers how many they are.

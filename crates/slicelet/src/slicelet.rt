@@ -121,6 +121,14 @@ impl Slicelet {
         })
     }
 
+    /// Why the release of the lease of a kind is refused, if it is: the refusals of
+    /// [`release`](Self::release) in their order.
+    pub fn release_refusal(&self, kind: Kind, at: u64) -> Option<SliceletError>
+        ensures { result ≡ first_of (release_checks self.now.calls kind at) }
+    {
+        self.check_release(kind, at).err()
+    }
+
     /// Whether the task may serve a key at a reading of its clock, in ticks, by the written rule
     /// over its calls.
     pub fn serve(&self, key: SliceKey, at: u64) -> Verdict

@@ -1,0 +1,14 @@
+pub mod Answering
+pub mod ActorLists
+pub mod TaskCalls
+pub mod AssignerTerms
+pub mod ClerkCalls
+pub mod TableCalls
+pub mod Keeping
+pub mod Sending
+pub mod Tying
+pub mod Refusing
+pub mod Checking
+pub mod Playing
+pub mod Publishing
+pub mod Timing

@@ -1,0 +1,44 @@
+-- What holds of every run, in the words of whoever runs a service.
+use Rattle.std.specs.Prelude.{◌≡◌, ℕ, Bool, false, IsTrue, List, ◌∷◌, ◌↔◌}
+use Rattle.key_hash.specs.Hash.{slice_key}
+use Rattle.assignment.specs.Owners.{owns}
+use Rattle.lease_table.specs.Policies.{is_within}
+use Rattle.lease_table.specs.Tables.{slices_of}
+use Rattle.lease_table.specs.declared.values.ReleaseNote.{ReleaseNote}
+use Rattle.slicelet.specs.Accepted.{notes_sent}
+use Rattle.key_handle.specs.declared.handle.KeyHandle.{KeyHandle}
+use Rattle.slicelet.specs.Rules.{is_allowed}
+use Rattle.slicelet.specs.Continuity.{IsContinuous}
+use Rattle.world.specs.Jobs.{Job}
+use Rattle.world.specs.declared.step.Step.TheVariants as step
+use Rattle.world.specs.declared.reply.Reply.{Reply}
+use Rattle.world.specs.declared.reply.Reply.TheVariants as reply
+use Rattle.world.specs.Pasts.{Past, steps_of, IsTimely, IsAmong}
+use Rattle.world.specs.Told.{standing, task_calls}
+use Rattle.world.specs.Replies.{covers_in, rule_in, reply_to}
+
+-- a request is served exactly when the written rule allows its key on what the task was told, and each denial names its ground
+abbrev pub IsServedByRule : Job → Past → ℕ → List ℕ → ℕ → Reply → Type 0
+IsServedByRule job past task key at answer = IsTrue (is_within task job.tasks) → answer ≡ reply.Verdict (rule_in job past task (slice_key key) at)
+
+-- a handle is continuous exactly when no step since took its key away, and else it is broken
+pub record IsCheckedByHistory (job : Job) (past : Past) (task : ℕ) (handle : KeyHandle) (at : ℕ) (answer : Reply) : Type 0 where
+  pub continuous : (answer ≡ reply.Continuous) ↔ IsContinuous (covers_in job past handle.key) (task_calls job.policy task past) handle at
+  pub broken : (answer ≡ reply.Broken) ↔ (IsContinuous (covers_in job past handle.key) (task_calls job.policy task past) handle at → ⊥)
+
+-- a reply serves a key
+abbrev pub is_served : Reply → Bool
+is_served (reply.Verdict verdict) = is_allowed verdict
+is_served _ = false
+
+-- a task may serve a key now: at some reading a `serve` would be timely, and allowed
+abbrev pub MayServe : Job → Past → ℕ → List ℕ → Type 0
+MayServe job past task key = (at : ℕ) × IsTimely job.policy.skew (step.Serve task key at ∷ steps_of past) × IsTrue (is_served (reply_to job past (step.Serve task key at) false))
+
+-- a task owns a key in the committed assignment
+abbrev pub IsOwner : Job → Past → ℕ → List ℕ → Type 0
+IsOwner job past task key = IsTrue (owns (slices_of (standing job.policy past).committed) (slice_key key) task)
+
+-- a note was sent by its task
+abbrev pub IsNoteOf : Job → Past → ReleaseNote → Type 0
+IsNoteOf job past note = IsAmong note (notes_sent note.task (task_calls job.policy note.task past))

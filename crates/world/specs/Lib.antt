@@ -1,0 +1,11 @@
+pub mod Jobs
+pub mod Pasts
+pub mod Told
+pub mod Troubles
+pub mod Judging
+pub mod Replies
+pub mod Runs
+pub mod Headline
+pub mod Proposals
+pub mod Worlds
+pub mod Latest

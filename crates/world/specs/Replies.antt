@@ -1,0 +1,123 @@
+-- What each step is answered, by the steps before it.
+use Rattle.std.specs.Prelude.{ℕ, ◌+◌, Bool, true, false, length, Option, Some, None, Result, Ok, Err, if◌then◌else◌}
+use Rattle.key_hash.specs.Hash.{slice_key}
+use Rattle.assignment.specs.declared.error.AssignmentError.{AssignmentError}
+use Rattle.assignment.specs.Slices.{Slicing, refusal_of}
+use Rattle.assignment.specs.Owners.{owners_of}
+use Rattle.policy_rules.specs.declared.answer.Ground.{Ground}
+use Rattle.policy_rules.specs.declared.answer.Verdict.{Verdict}
+use Rattle.policy_rules.specs.declared.answer.Verdict.TheVariants.{Deny}
+use Rattle.lease_table.specs.declared.values.Grant.{Grant}
+use Rattle.lease_table.specs.Policies.{is_within}
+use Rattle.lease_table.specs.Tables.{phase_of}
+use Rattle.lease_table.specs.Generations.{covers_by_owners}
+use Rattle.lease_table.specs.Steps.{take_step, renew_step, propose_step, commit_step, grant_step, free_step}
+use Rattle.key_handle.specs.declared.handle.KeyHandle.{KeyHandle}
+use Rattle.slicelet.specs.Steps.{History, start_step, hear_step, release_step}
+use Rattle.slicelet.specs.Rules.{rule_after}
+use Rattle.slicelet.specs.Continuity.{handle_on, held_by, is_strange}
+use Rattle.clerk.specs.declared.clerk.Found.{Found}
+use Rattle.clerk.specs.declared.error.Unknown.{Unknown}
+use Rattle.clerk.specs.Steps.{learn_step, look_at}
+use Rattle.clerk.specs.Knowledge.{greatest_of}
+use Rattle.world.specs.Jobs.{Job}
+use Rattle.world.specs.declared.step.Step.{Step}
+use Rattle.world.specs.declared.step.Step.TheVariants as step
+use Rattle.world.specs.declared.reply.Reply.{Reply}
+use Rattle.world.specs.declared.reply.Reply.TheVariants as reply
+use Rattle.world.specs.declared.reply.Refusal.{Refusal}
+use Rattle.world.specs.declared.reply.Refusal.TheVariants as refusal
+use Rattle.world.specs.Pasts.{Past}
+use Rattle.world.specs.Told.{numbered, draft_of, notes_made, handles_made, kept_number, table_calls, standing, grants, task_calls, published, learnt_by}
+use Rattle.world.specs.Judging.{judge_reply}
+
+-- an actor of the job answers, and there is no other
+abbrev pub by_actor : ℕ → ℕ → Reply → Reply
+by_actor number most answer = if is_within number most then answer else reply.Refused refusal.NoActor
+
+-- what was made is delivered, and nothing else can be
+abbrev pub if_sent : {A : Type 0} → Option A → (A → Reply) → Reply
+if_sent None answer = reply.Refused refusal.NotSent
+if_sent (Some made) answer = answer made
+
+-- an answer of a layer below as a reply
+abbrev pub from_layer : {M A E : Type 0} → (E → Refusal) → (A → Reply) → Result (M × A) E → Reply
+from_layer refused name (Ok p) = name p.1
+from_layer refused name (Err why) = reply.Refused (refused why)
+
+-- `assign` and `propose` build an assignment first
+abbrev pub if_built : Option AssignmentError → Reply → Reply
+if_built None answer = answer
+if_built (Some why) answer = reply.Refused (refusal.Slices why)
+
+-- `owners`, under this draft or none
+abbrev pub owners_reply : Option Slicing → ℕ → Reply
+owners_reply None key = reply.Refused refusal.NoDraft
+owners_reply (Some draft) key = reply.Owners (owners_of draft.slices key)
+
+-- a grant, as it is told
+abbrev pub granted : Grant → Reply
+granted grant = reply.Granted grant.number grant.lease.kind grant.lease.generation grant.table_ends grant.lease.ends
+
+-- what a task was told: the calls that it accepted
+abbrev pub history : Job → ℕ → Past → History
+history job task past = record { task = task; calls = task_calls job.policy task past }
+
+-- what a grant covers: what its task owns in the generations that it is for
+abbrev pub covers_in : Job → Past → ℕ → Grant → Bool
+covers_in job past key grant = covers_by_owners (table_calls job.policy past) key grant
+
+-- what a clerk answers by: the assignment of greatest generation that it accepted since it last forgot
+abbrev pub newest_learnt : Job → ℕ → Past → Option Slicing
+newest_learnt job clerk past = greatest_of (learnt_by job.policy clerk past)
+
+-- the written rule on what a task was told
+abbrev pub rule_in : Job → Past → ℕ → ℕ → ℕ → Verdict
+rule_in job past task key at = rule_after (covers_in job past key) (task_calls job.policy task past) at
+
+-- `hold`: a handle of the next number, or why the key is not served
+abbrev pub holding : ℕ → Result KeyHandle Ground → Reply
+holding number (Ok handle) = reply.Holding number handle
+holding number (Err why) = reply.Verdict (Deny why)
+
+-- `check` of a handle that the task can have given, where it is continuous or not
+abbrev pub checked : Bool → Bool → Reply
+checked true kept = reply.Refused refusal.Stranger
+checked false true = reply.Continuous
+checked false false = reply.Broken
+
+-- `look`
+abbrev pub looked : Result Found Unknown → Reply
+looked (Ok found) = reply.Found found
+looked (Err unknown) = reply.Refused refusal.Unknown
+
+-- what a step is answered; of a `check`, where it is known whether the handle is continuous
+abbrev pub reply_to : Job → Past → Step → Bool → Reply
+reply_to job past (step.Hash key) kept = reply.Key (slice_key key)
+reply_to job past (step.Assign generation slices) kept = if_built (refusal_of slices) (reply.Assigned generation (length slices))
+reply_to job past (step.Owners key) kept = owners_reply (draft_of past) (slice_key key)
+reply_to job past (step.Judge question) kept = judge_reply question (slice_key question.key)
+reply_to job past (step.Take assigner at) kept = by_actor assigner job.assigners (from_layer refusal.Table reply.Term (take_step (standing job.policy past) assigner at))
+reply_to job past (step.Renew assigner at) kept = by_actor assigner job.assigners (from_layer refusal.Table reply.Renewed (renew_step (standing job.policy past) (kept_number assigner past) at))
+reply_to job past (step.Propose assigner generation slices at) kept =
+    by_actor assigner job.assigners (if_built (refusal_of slices)
+    (from_layer refusal.Table (λ _. reply.Proposed generation) (propose_step (standing job.policy past) (kept_number assigner past) (record { generation = generation; slices = slices }) at)))
+reply_to job past (step.Commit assigner at) kept = by_actor assigner job.assigners (from_layer refusal.Table reply.Committed (commit_step (standing job.policy past) (kept_number assigner past) at))
+reply_to job past step.Phase kept = reply.Phase (phase_of (standing job.policy past))
+reply_to job past step.Rows kept = reply.Rows (standing job.policy past).rows
+reply_to job past (step.Grant task life at) kept = by_actor task job.tasks (from_layer refusal.Table granted (grant_step (standing job.policy past) task life at))
+reply_to job past (step.Free note at) kept = if_sent (numbered note (notes_made past)) (λ given. from_layer refusal.Table reply.Freed (free_step (standing job.policy past) given at))
+reply_to job past (step.Start task life at) kept = by_actor task job.tasks (from_layer refusal.Slicelet (λ _. reply.Started life) (start_step (history job task past) life at))
+reply_to job past (step.Hear task number at) kept =
+    by_actor task job.tasks (if_sent (numbered number (grants job.policy past)) (λ grant. from_layer refusal.Slicelet (λ _. reply.Heard number) (hear_step (history job task past) grant at)))
+reply_to job past (step.Release task kind at) kept = by_actor task job.tasks (from_layer refusal.Slicelet (reply.Released (length (notes_made past) + 1)) (release_step (history job task past) kind at))
+reply_to job past (step.Serve task key at) kept = by_actor task job.tasks (reply.Verdict (rule_in job past task (slice_key key) at))
+reply_to job past (step.Hold task key at) kept =
+    by_actor task job.tasks (holding (length (handles_made past) + 1) (held_by (rule_in job past task (slice_key key) at) (handle_on (slice_key key) (history job task past))))
+reply_to job past (step.Check task number at) kept = by_actor task job.tasks (if_sent (numbered number (handles_made past)) (λ handle. checked (is_strange (history job task past) handle) kept))
+reply_to job past (step.Learn clerk generation) kept =
+    by_actor clerk job.clerks (if_sent (published job.policy generation past)
+    (λ slicing. from_layer refusal.Clerk (λ _. reply.Learnt generation) (learn_step (newest_learnt job clerk past) slicing)))
+reply_to job past (step.Look clerk key) kept = by_actor clerk job.clerks (looked (look_at (newest_learnt job clerk past) (slice_key key)))
+reply_to job past (step.Forget clerk) kept = by_actor clerk job.clerks reply.Forgotten
+reply_to job past (step.Restart assigner) kept = by_actor assigner job.assigners reply.Restarted

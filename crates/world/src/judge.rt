@@ -1,0 +1,96 @@
+//! The written rule over leases that a step hands in.
+
+ghost use Rattle.std.specs.Prelude.{◌≡◌};
+ghost use Rattle.slice_ranges.specs.Sets.{refusal_of};
+ghost use Rattle.world.specs.Judging.{leases_refusal, judge_reply, trouble_of, IsJudged};
+
+use crate::reply::{Refusal, Reply};
+use assignment::Listed;
+use key_hash::SliceKey;
+use machines::Trouble;
+use policy_rules::{Holding, Kind, Lease, verdict};
+use slice_ranges::{Ranges, RangesError};
+use std::alloc::Global;
+
+/// A lease as a script writes it.
+#[derive(Debug, Drop)]
+pub struct WrittenLease {
+    /// What the lease is for.
+    pub kind: Kind,
+    /// The generation that it was granted for.
+    pub generation: u64,
+    /// The keys that it covers, each pair a start and an end.
+    pub ranges: Listed<(u64, u64)>,
+    /// The first reading at which it is not live any more, in ticks.
+    pub ends: u64,
+}
+
+/// What a step asks the rule: what a task holds, a key and a reading.
+#[derive(Debug, Drop)]
+pub struct Question {
+    /// Whether the task was started.
+    pub up: bool,
+    /// The task's last reading, in ticks.
+    pub last: u64,
+    /// The leases that it holds, at most one of each kind.
+    pub leases: Listed<WrittenLease>,
+    /// The bytes of the key.
+    pub key: Listed<u8>,
+    /// The reading at which the key is to be served, in ticks.
+    pub at: u64,
+}
+
+// Why pairs make no set, if they make none.
+fn refusal(alloc: Global, pairs: &[(u64, u64)]) -> Option<RangesError>
+    ensures { result ≡ refusal_of pairs.now }
+{
+    let why = match Ranges::build(alloc, pairs) {
+        Ok(_) => return None,
+        Err(why) => why,
+    };
+    match why {
+        RangesError::NoMemory => None,
+        why => Some(why),
+    }
+}
+
+// The refusal of the first of these leases that has one, or else want of memory.
+fn first_refusal(alloc: Global, leases: &[WrittenLease]) -> Trouble<Refusal>
+    ensures { result ≡ trouble_of (leases_refusal leases.now) }
+{
+    for lease in leases {
+        if let Some(why) = refusal(alloc, lease.ranges.as_slice()) {
+            return Trouble::Refused(Refusal::Ranges(why));
+        }
+    }
+    Trouble::NoMemory
+}
+
+/// What the rule says of a slice key, or why the first lease at fault is refused.
+pub fn judge(alloc: Global, question: &Question, key: SliceKey) -> Result<Reply, Trouble<Refusal>>
+    ensures { IsJudged question.now key result }
+{
+    let mut holding = Holding {
+        up: question.up,
+        last: question.last,
+        guard: None,
+        bridge: None,
+    };
+    for lease in question.leases.as_slice() {
+        let ranges = match Ranges::build(alloc, lease.ranges.as_slice()) {
+            Ok(ranges) => ranges,
+            Err(_) => return Err(first_refusal(alloc, question.leases.as_slice())),
+        };
+        let held = Lease {
+            kind: lease.kind,
+            generation: lease.generation,
+            ranges,
+            ends: lease.ends,
+        };
+        match lease.kind {
+            Kind::Guard => holding.guard = Some(held),
+            Kind::Bridge => holding.bridge = Some(held),
+        }
+    }
+    Ok(Reply::Verdict(verdict(&holding, key, question.at)))
+}

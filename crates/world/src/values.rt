@@ -1,0 +1,47 @@
+//! The steps on values alone.
+
+ghost use Rattle.std.specs.Prelude.{◌≡◌, ◌∷◌, IfOk};
+ghost use Rattle.world.specs.Jobs.{Job};
+ghost use Rattle.world.specs.declared.step.Step.TheVariants as step;
+ghost use Rattle.world.specs.Judging.{judge_reply};
+ghost use Rattle.world.specs.Pasts.{Past};
+ghost use Rattle.world.specs.Worlds.{Keeps, Played};
+
+use crate::reply::{OwnerList, Refusal, Reply};
+use crate::world::World;
+use assignment::{Assignment, AssignmentError, Slice};
+use key_hash::slice_key;
+use machines::Trouble;
+
+impl World {
+    pub(crate) fn assign(
+        &mut self,
+        generation: u64,
+        slices: &[Slice],
+    ) -> Result<Reply, Trouble<Refusal>>
+        ensures { (job : Job) (past : Past) → Keeps job past self.old
+            → Played job past (step.Assign generation slices.now) result self.new }
+    {
+        match Assignment::build(self.alloc, generation, slices) {
+            Ok(draft) => {
+                self.draft = Some(draft);
+                Ok(Reply::Assigned {
+                    generation,
+                    slices: slices.len(),
+                })
+            }
+            Err(AssignmentError::NoMemory) => Err(Trouble::NoMemory),
+            Err(why) => Err(Trouble::Refused(Refusal::Slices(why))),
+        }
+    }
+
+    pub(crate) fn owners(&self, key: &[u8]) -> Result<Reply, Trouble<Refusal>>
+        ensures { (job : Job) (past : Past) → Keeps job past self.now
+            → Played job past (step.Owners key.now) result self.now }
+    {
+        match &self.draft {
+            Some(draft) => Ok(Reply::Owners(OwnerList::new(draft.owners(slice_key(key))))),
+            None => Err(Trouble::Refused(Refusal::NoDraft)),
+        }
+    }
+}

@@ -1,0 +1,169 @@
+//! The step machine.
+
+ghost use Rattle.std.specs.Prelude.{◌≡◌, ◌∷◌, [], None, length, IfOk};
+ghost use Rattle.world.specs.Jobs.{Job};
+ghost use Rattle.assigner.specs.Terms.{Keeping};
+ghost use Rattle.world.specs.declared.step.Step.{Step};
+ghost use Rattle.world.specs.Pasts.{Past, event};
+ghost use Rattle.world.specs.Runs.{IsRun, past_after};
+ghost use Rattle.world.specs.Worlds.{AreActors, Keeps, LeadsTo, Played};
+
+use crate::job::Job;
+use crate::judge::judge;
+use crate::reply::{Refusal, Reply};
+use crate::step::Step;
+use assigner::Assigner;
+use assignment::{Assignment, TaskId};
+use clerk::Clerk;
+use key_handle::KeyHandle;
+use key_hash::slice_key;
+use lease_table::{Grant, LeaseTable, ReleaseNote, policy_law};
+use machines::Trouble;
+use slicelet::Slicelet;
+use std::alloc::{AllocError, Global};
+
+/// Every actor of a job, and everything that was made so far: grants, notes, handles and
+/// proposals, each of which may be delivered later, again and in any order.
+#[derive(Drop)]
+pub struct World {
+    pub(crate) alloc: Global,
+    pub(crate) job: Job,
+    pub(crate) draft: Option<Assignment>,
+    pub(crate) table: LeaseTable,
+    pub(crate) assigners: Vec<Assigner>,
+    pub(crate) tasks: Vec<Slicelet>,
+    pub(crate) clerks: Vec<Clerk>,
+    pub(crate) grants: Vec<Grant>,
+    pub(crate) notes: Vec<ReleaseNote>,
+    pub(crate) handles: Vec<KeyHandle>,
+    pub(crate) proposals: Vec<Assignment>,
+}
+
+fn assigners_of(alloc: Global, job: Job) -> Result<Vec<Assigner>, AllocError>
+    ensures { IfOk result (λ assigners. AreActors
+        (λ n. record { id = n; job_term = job.policy.job; term = None }) job.assigners assigners.items) }
+{
+    let mut assigners = Vec::new(alloc);
+    let term = job.policy().job();
+    for place in 0..job.assigners() {
+        assigners.push(Assigner::new(place + 1, term))?;
+    }
+    Ok(assigners)
+}
+
+fn tasks_of(alloc: Global, job: Job) -> Result<Vec<Slicelet>, AllocError>
+    ensures { IfOk result (λ tasks. AreActors (λ n. record { task = n; calls = [] }) job.tasks tasks.items) }
+{
+    let mut tasks = Vec::new(alloc);
+    for place in 0..job.tasks() {
+        tasks.push(Slicelet::new(alloc, TaskId::new(place + 1).unwrap()))?;
+    }
+    Ok(tasks)
+}
+
+fn clerks_of(alloc: Global, job: Job) -> Result<Vec<Clerk>, AllocError>
+    ensures { IfOk result (λ clerks. AreActors (λ n. None) job.clerks clerks.items) }
+{
+    let mut clerks = Vec::new(alloc);
+    for _place in 0..job.clerks() {
+        clerks.push(Clerk::new())?;
+    }
+    Ok(clerks)
+}
+
+impl World {
+    /// A world before its first step.
+    #[tactic(auto, unfolding(crate::specs::Worlds::LeadsTo))]
+    pub fn new(alloc: Global, job: Job) -> Result<Self, AllocError>
+        ensures { IfOk result (λ world. LeadsTo job [] world) }
+    {
+        let policy = job.policy();
+        policy_law(policy);
+        Ok(World {
+            alloc,
+            job,
+            draft: None,
+            table: LeaseTable::new(alloc, policy),
+            assigners: assigners_of(alloc, job)?,
+            tasks: tasks_of(alloc, job)?,
+            clerks: clerks_of(alloc, job)?,
+            grants: Vec::new(alloc),
+            notes: Vec::new(alloc),
+            handles: Vec::new(alloc),
+            proposals: Vec::new(alloc),
+        })
+    }
+
+    /// Runs steps, one after another, and answers each: by the steps before it, those of earlier calls
+    /// among them. Where there is no room for the replies, no step is run.
+    pub fn run(&mut self, steps: &[Step]) -> Result<Vec<Reply>, AllocError>
+        ensures leads { (job : Job) (past : Past) → LeadsTo job past self.old
+            → IfOk result (λ replies. LeadsTo job (past_after past steps.now replies.items) self.new) }
+        ensures answers { IfOk result (λ replies. length replies.items ≡ length steps.now) }
+        ensures run { (job : Job) (past : Past) → LeadsTo job past self.old
+            → IfOk result (λ replies. IsRun job (past_after past steps.now replies.items)) }
+    {
+        let mut replies = Vec::with_capacity(self.alloc, steps.len())?;
+        for step in steps {
+            let reply = self.play(step);
+            replies.push_reserved(reply);
+        }
+        self.run_law();
+        Ok(replies)
+    }
+
+    /// A past that leads to a world is a run.
+    #[tactic(auto, unfolding(crate::specs::Worlds::LeadsTo))]
+    pub fn run_law(&self)
+        ensures { (job : Job) (past : Past) → LeadsTo job past self.now → IsRun job past }
+    {}
+
+    // Plays one more step, and answers it.
+    #[tactic(auto, unfolding(crate::specs::Worlds::LeadsTo))]
+    fn play(&mut self, step: &Step) -> Reply
+        ensures { (job : Job) (past : Past) → LeadsTo job past self.old
+            → LeadsTo job (event step.now result ∷ past) self.new }
+    {
+        match self.answer(step) {
+            Ok(reply) => reply,
+            Err(Trouble::Refused(why)) => Reply::Refused(why),
+            Err(Trouble::NoMemory) => Reply::NoMemory,
+        }
+    }
+
+    fn answer(&mut self, step: &Step) -> Result<Reply, Trouble<Refusal>>
+        ensures { (job : Job) (past : Past) → Keeps job past self.old → Played job past step.now result self.new }
+    {
+        match step {
+            Step::Hash { key } => Ok(Reply::Key(slice_key(key.as_slice()))),
+            Step::Assign { generation, slices } => self.assign(*generation, slices.as_slice()),
+            Step::Owners { key } => self.owners(key.as_slice()),
+            Step::Judge { question } => {
+                judge(self.alloc, question, slice_key(question.key.as_slice()))
+            }
+            Step::Take { assigner, at } => self.take(*assigner, *at),
+            Step::Renew { assigner, at } => self.renew(*assigner, *at),
+            Step::Propose {
+                assigner,
+                generation,
+                slices,
+                at,
+            } => self.propose(*assigner, *generation, slices.as_slice(), *at),
+            Step::Commit { assigner, at } => self.commit(*assigner, *at),
+            Step::Phase => self.phase(),
+            Step::Rows => self.rows(),
+            Step::Grant { task, life, at } => self.grant(*task, *life, *at),
+            Step::Free { note, at } => self.free(*note, *at),
+            Step::Start { task, life, at } => self.start(*task, *life, *at),
+            Step::Hear { task, number, at } => self.hear(*task, *number, *at),
+            Step::Release { task, kind, at } => self.release(*task, *kind, *at),
+            Step::Serve { task, key, at } => self.serve(*task, key.as_slice(), *at),
+            Step::Hold { task, key, at } => self.hold(*task, key.as_slice(), *at),
+            Step::Check { task, handle, at } => self.check(*task, *handle, *at),
+            Step::Learn { clerk, generation } => self.learn(*clerk, *generation),
+            Step::Look { clerk, key } => self.look(*clerk, key.as_slice()),
+            Step::Forget { clerk } => self.forget(*clerk),
+            Step::Restart { assigner } => self.restart(*assigner),
+        }
+    }
+}
