@@ -1,11 +1,11 @@
 pub mod Reading
 pub mod Members
 pub mod Jobs
-pub mod Judging
+pub mod Questions
 pub mod Steps
 pub mod Scripts
-pub mod Replies
 pub mod Lines
+pub mod Output
 pub mod Streams
 pub mod Service
 pub mod Status

@@ -1,22 +1,30 @@
 -- The lines that are written for the replies.
-use Rattle.std.specs.Prelude.{ℕ, ◌-◌, List, [], ◌∷◌, ◌++◌, length, replicate, codes, decimal, false}
+use Rattle.std.specs.Prelude.{ℕ, ◌-◌, Bool, List, [], ◌∷◌, ◌++◌, length, replicate, codes, decimal, false, if◌then◌else◌}
 use Rattle.std.specs.List.{flat_map}
 use Rattle.std.specs.Fmt.{radix_digits}
 use Rattle.assignment.specs.declared.error.AssignmentError.{AssignmentError}
-use Rattle.assignment.specs.declared.error.AssignmentError.TheVariants.{NoSlices, FirstNotZero, NotRising, PastEnd, NoOwner, TooManyOwners, OwnerTwice, BadTask, TooManySlices, NoMemory}
+use Rattle.assignment.specs.declared.error.AssignmentError.TheVariants as assignment
 use Rattle.slice_ranges.specs.declared.error.RangesError.{RangesError}
 use Rattle.slice_ranges.specs.declared.error.RangesError.TheVariants as ranges
 use Rattle.policy_rules.specs.declared.lease.Kind.{Kind}
 use Rattle.policy_rules.specs.declared.lease.Kind.TheVariants.{Guard, Bridge}
 use Rattle.policy_rules.specs.declared.answer.Ground.{Ground}
-use Rattle.policy_rules.specs.declared.answer.Ground.TheVariants.{Down, ClockBack, Ended, NotOwned, NoLease}
+use Rattle.policy_rules.specs.declared.answer.Ground.TheVariants as ground
 use Rattle.policy_rules.specs.declared.answer.Verdict.{Verdict}
 use Rattle.policy_rules.specs.declared.answer.Verdict.TheVariants.{Allow, Deny}
-use Rattle.service.specs.declared.reply.Refusal.{Refusal}
-use Rattle.service.specs.declared.reply.Refusal.TheVariants.{Slices, Ranges, NoDraft}
-use Rattle.service.specs.declared.reply.Reply.{Reply}
-use Rattle.service.specs.declared.reply.Reply.TheVariants as reply
-use Rattle.service.specs.declared.reply.Reply.TheVariants.{Key, Assigned, Owners, Refused}
+use Rattle.lease_table.specs.declared.values.Phase.{Phase}
+use Rattle.lease_table.specs.declared.values.Phase.TheVariants.{Steady, Bridging}
+use Rattle.lease_table.specs.declared.values.Row.{Row}
+use Rattle.lease_table.specs.declared.error.TableError.{TableError}
+use Rattle.lease_table.specs.declared.error.TableError.TheVariants as table
+use Rattle.slicelet.specs.declared.error.SliceletError.{SliceletError}
+use Rattle.slicelet.specs.declared.error.SliceletError.TheVariants as slicelet
+use Rattle.clerk.specs.declared.error.ClerkError.{ClerkError}
+use Rattle.clerk.specs.declared.error.ClerkError.TheVariants as clerk
+use Rattle.world.specs.declared.reply.Refusal.{Refusal}
+use Rattle.world.specs.declared.reply.Refusal.TheVariants as refusal
+use Rattle.world.specs.declared.reply.Reply.{Reply}
+use Rattle.world.specs.declared.reply.Reply.TheVariants as reply
 
 -- a number in 16 hexadecimal digits, in lower case, with zeros in front
 abbrev pub hex_16 : ℕ → List ℕ
@@ -24,16 +32,16 @@ hex_16 n = let digits = radix_digits 16 false n in replicate (16 - length digits
 
 -- the words for slices that make no assignment; the last is in no reply
 abbrev pub slices_words : AssignmentError → List ℕ
-slices_words NoSlices = codes "no-slices"
-slices_words FirstNotZero = codes "first-not-zero"
-slices_words NotRising = codes "not-rising"
-slices_words PastEnd = codes "past-end"
-slices_words NoOwner = codes "no-owner"
-slices_words TooManyOwners = codes "too-many-owners"
-slices_words OwnerTwice = codes "owner-twice"
-slices_words BadTask = codes "bad-task"
-slices_words TooManySlices = codes "too-many-slices"
-slices_words NoMemory = codes "no-memory"
+slices_words assignment.NoSlices = codes "no-slices"
+slices_words assignment.FirstNotZero = codes "first-not-zero"
+slices_words assignment.NotRising = codes "not-rising"
+slices_words assignment.PastEnd = codes "past-end"
+slices_words assignment.NoOwner = codes "no-owner"
+slices_words assignment.TooManyOwners = codes "too-many-owners"
+slices_words assignment.OwnerTwice = codes "owner-twice"
+slices_words assignment.BadTask = codes "bad-task"
+slices_words assignment.TooManySlices = codes "too-many-slices"
+slices_words assignment.NoMemory = codes "no-memory"
 
 -- the words for pairs that make no set; the last is in no reply
 abbrev pub ranges_words : RangesError → List ℕ
@@ -49,22 +57,60 @@ kind_word Bridge = codes "bridge"
 
 -- the words for why a key is not served
 abbrev pub ground_words : Ground → List ℕ
-ground_words Down = codes "down"
-ground_words ClockBack = codes "clock-back"
-ground_words Ended = codes "ended"
-ground_words (NotOwned generation) = codes "not-owned " ++ decimal generation
-ground_words NoLease = codes "no-lease"
+ground_words ground.Down = codes "down"
+ground_words ground.ClockBack = codes "clock-back"
+ground_words ground.Ended = codes "ended"
+ground_words (ground.NotOwned generation) = codes "not-owned " ++ decimal generation
+ground_words ground.NoLease = codes "no-lease"
 
 -- the words of a verdict
 abbrev pub verdict_words : Verdict → List ℕ
 verdict_words (Allow kind generation) = codes "served " ++ kind_word kind ++ codes " " ++ decimal generation
 verdict_words (Deny why) = codes "denied " ++ ground_words why
 
--- the words for a refusal
+-- the words for why the table refuses
+abbrev pub table_words : TableError → List ℕ
+table_words table.ReadingRange = codes "reading-range"
+table_words table.ClockBack = codes "clock-back"
+table_words (table.JobHeld until) = codes "job-held " ++ decimal until
+table_words (table.NotHolder term) = codes "not-holder " ++ decimal term
+table_words (table.StaleBase generation) = codes "stale-base " ++ decimal generation
+table_words table.Pending = codes "pending"
+table_words table.NothingPending = codes "nothing-pending"
+table_words table.TooManyOwnersForJob = codes "too-many-owners-for-job"
+table_words (table.Held task kind number) = codes "held " ++ decimal task ++ codes " " ++ kind_word kind ++ codes " " ++ decimal number
+table_words table.NoRow = codes "no-row"
+table_words table.NoAssignment = codes "no-assignment"
+table_words table.NumbersSpent = codes "numbers-spent"
+
+-- the words for why a slicelet refuses
+abbrev pub slicelet_words : SliceletError → List ℕ
+slicelet_words slicelet.NotStarted = codes "not-started"
+slicelet_words slicelet.OldLife = codes "old-life"
+slicelet_words slicelet.ClockBack = codes "clock-back"
+slicelet_words slicelet.OtherTask = codes "other-task"
+slicelet_words slicelet.OtherLife = codes "other-life"
+slicelet_words (slicelet.Old heard) = codes "old " ++ decimal heard
+slicelet_words slicelet.TooLate = codes "too-late"
+slicelet_words slicelet.NothingHeld = codes "nothing-held"
+slicelet_words slicelet.HistoryFull = codes "history-full"
+
+-- the words for why a clerk refuses
+abbrev pub clerk_words : ClerkError → List ℕ
+clerk_words (clerk.Old generation) = codes "old " ++ decimal generation
+
+-- the words for a refusal; the first is in no reply to a script, whose actors are all of its job
 abbrev pub refusal_words : Refusal → List ℕ
-refusal_words (Slices error) = slices_words error
-refusal_words (Ranges error) = ranges_words error
-refusal_words NoDraft = codes "no-draft"
+refusal_words refusal.NoActor = codes "no-actor"
+refusal_words refusal.NotSent = codes "not-sent"
+refusal_words refusal.NoDraft = codes "no-draft"
+refusal_words (refusal.Slices error) = slices_words error
+refusal_words (refusal.Ranges error) = ranges_words error
+refusal_words (refusal.Table error) = table_words error
+refusal_words (refusal.Slicelet error) = slicelet_words error
+refusal_words refusal.Stranger = codes "stranger"
+refusal_words (refusal.Clerk error) = clerk_words error
+refusal_words refusal.Unknown = codes "unknown"
 
 -- a task after another one
 abbrev pub next_owner : ℕ → List ℕ
@@ -75,18 +121,62 @@ abbrev pub owners_text : List ℕ → List ℕ
 owners_text [] = []
 owners_text (task ∷ tasks) = decimal task ++ flat_map next_owner tasks
 
--- the words of a reply
+-- the words of the table's phase
+abbrev pub phase_words : Phase → List ℕ
+phase_words (Steady generation) = codes "steady " ++ decimal generation
+phase_words (Bridging from to) = codes "bridging " ++ decimal from ++ codes " " ++ decimal to
+
+-- a row: its number, task, life, kind, generation and the table's deadline, joined by colons
+unfoldable pub row_text : Row → List ℕ
+row_text row =
+    (decimal row.number ++ codes ":" ++ decimal row.task ++ codes ":" ++ decimal row.life)
+    ++ (codes ":" ++ kind_word row.kind ++ codes ":" ++ decimal row.generation ++ codes ":" ++ decimal row.table_ends)
+
+-- a row after another one
+abbrev pub next_row : Row → List ℕ
+next_row row = codes " " ++ row_text row
+
+-- rows, joined by spaces
+unfoldable pub rows_text : List Row → List ℕ
+rows_text [] = []
+rows_text (row ∷ rows) = row_text row ++ flat_map next_row rows
+
+-- the words of a reply; the last are never written
 abbrev pub reply_text : Reply → List ℕ
-reply_text (Key key) = codes "key " ++ hex_16 key
-reply_text (Assigned generation slices) = codes "assigned " ++ decimal generation ++ codes " slices " ++ decimal slices
-reply_text (Owners tasks) = codes "owners " ++ owners_text tasks
+reply_text (reply.Key key) = codes "key " ++ hex_16 key
+reply_text (reply.Assigned generation slices) = codes "assigned " ++ decimal generation ++ codes " slices " ++ decimal slices
+reply_text (reply.Owners tasks) = codes "owners " ++ owners_text tasks
 reply_text (reply.Verdict verdict) = verdict_words verdict
-reply_text (Refused refusal) = codes "refused " ++ refusal_words refusal
+reply_text (reply.Term term) = codes "term " ++ decimal term.number ++ codes " until " ++ decimal term.until
+reply_text (reply.Renewed term) = codes "renewed " ++ decimal term.number ++ codes " until " ++ decimal term.until
+reply_text (reply.Proposed generation) = codes "proposed " ++ decimal generation
+reply_text (reply.Committed generation) = codes "committed " ++ decimal generation
+reply_text (reply.Phase phase) = codes "phase " ++ phase_words phase
+reply_text (reply.Rows rows) = codes "rows [" ++ rows_text rows ++ codes "]"
+reply_text (reply.Granted number kind generation table_ends ends) =
+    codes "grant " ++ decimal number ++ codes " " ++ kind_word kind ++ codes " " ++ decimal generation ++ codes " until " ++ decimal table_ends ++ codes " " ++ decimal ends
+reply_text (reply.Freed rows) = codes "freed " ++ decimal rows
+reply_text (reply.Started life) = codes "started " ++ decimal life
+reply_text (reply.Heard number) = codes "heard " ++ decimal number
+reply_text (reply.Released number note) = codes "released note " ++ decimal number ++ codes " number " ++ decimal note.number
+reply_text (reply.Holding number handle) = codes "handle " ++ decimal number
+reply_text reply.Continuous = codes "continuous"
+reply_text reply.Broken = codes "broken"
+reply_text (reply.Learnt generation) = codes "learnt " ++ decimal generation
+reply_text (reply.Found found) = codes "found generation " ++ decimal found.generation ++ codes " owners " ++ owners_text found.owners.items
+reply_text reply.Forgotten = codes "forgotten"
+reply_text reply.Restarted = codes "restarted"
+reply_text (reply.Refused refusal) = codes "refused " ++ refusal_words refusal
+reply_text reply.NoMemory = codes "no-memory"
 
 -- the line of a reply
 abbrev pub line_of : Reply → List ℕ
 line_of reply = reply_text reply ++ codes "\n"
 
--- the lines of the replies and the last line, since no step that has no reading is late
-abbrev pub text_of : List Reply → List ℕ
-text_of replies = flat_map line_of replies ++ codes "timely yes\n"
+-- the last line: whether the steps are timely
+abbrev pub timely_line : Bool → List ℕ
+timely_line timely = if timely then codes "timely yes\n" else codes "timely no\n"
+
+-- the lines of the replies and the last line
+abbrev pub text_of : List Reply → Bool → List ℕ
+text_of replies timely = flat_map line_of replies ++ timely_line timely

@@ -1,10 +1,13 @@
 -- What a JSON value says: each word is what is read of it, or that it has not the form that is wanted.
-use Rattle.std.specs.Prelude.{◌≡◌, ℕ, ◌==◌, ◌&&◌, Bool, List, [], ◌∷◌, length, ⊤, Result, Ok, Err, nat_le, is_some, option_and_then, option_map}
+use Rattle.std.specs.Prelude.{◌≡◌, ℕ, ◌^◌, ◌==◌, ◌&&◌, Bool, List, [], ◌∷◌, length, codes, ⊤, Result, Ok, Err, nat_le, nat_lt, is_some, option_and_then, option_map, if◌then◌else◌}
 use Rattle.std.specs.List.{list_all}
 use Rattle.std.specs.Option.{ok_or}
+use Rattle.std.specs.Str.{bytes_eq}
 use Rattle.serde_json.specs.Data.{Data, Items, no_items, item}
 use Rattle.serde_json.specs.Events.{members_len}
 use Rattle.serde_json.specs.Find.{get, as_bool, as_number, as_u64, as_str, as_array, as_object}
+use Rattle.policy_rules.specs.declared.lease.Kind.{Kind}
+use Rattle.policy_rules.specs.declared.lease.Kind.TheVariants.{Guard, Bridge}
 use Rattle.service.specs.declared.fault.WrongForm.{WrongForm}
 use Rattle.service.specs.Reading.{◌>>=◌, ◌>>◌, check, in_turn}
 
@@ -46,6 +49,13 @@ number_in low high name d = do
   check (nat_le low n && nat_le n high) wrong
   Ok n
 
+-- the member of this name, as the number of a life, below 2^32
+abbrev pub life_at : List ℕ → Data → Result ℕ WrongForm
+life_at name d = do
+  n ← number_at name d
+  check (nat_lt n (2 ^ 32)) wrong
+  Ok n
+
 -- the member of this name, as true or false
 abbrev pub flag_at : List ℕ → Data → Result Bool WrongForm
 flag_at name d = do
@@ -64,6 +74,14 @@ key_at name d = do
   text ← text_at name d
   check (nat_le (length text) 4096) wrong
   Ok text
+
+-- the kind of this name
+abbrev kind_named : List ℕ → Result Kind WrongForm
+kind_named name = if bytes_eq name (codes "guard") then Ok Guard else (if bytes_eq name (codes "bridge") then Ok Bridge else Err wrong)
+
+-- the member of this name, as a kind of lease
+abbrev pub kind_at : List ℕ → Data → Result Kind WrongForm
+kind_at name d = text_at name d >>= kind_named
 
 -- data items as a list
 abbrev pub elements : Items → List Data
@@ -90,3 +108,7 @@ unfoldable pub list_of : {A : Type 0} → (Data → Result A WrongForm) → Data
 list_of read d = do
   ds ← array_of d
   in_turn (λ _ d. read d) 0 ds
+
+-- the member of this name, as an array with each of its elements read
+unfoldable pub list_at : {A : Type 0} → (Data → Result A WrongForm) → List ℕ → Data → Result (List A) WrongForm
+list_at read name d = member_at name d >>= list_of read

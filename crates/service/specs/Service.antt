@@ -9,18 +9,13 @@ use Rattle.service.specs.declared.fault.ScriptError.{ScriptError}
 use Rattle.service.specs.declared.fault.ScriptError.TheVariants.{NotJson}
 use Rattle.service.specs.declared.script.Script.{Script}
 use Rattle.service.specs.Scripts.{script_of}
-use Rattle.service.specs.Replies.{replies_to}
-use Rattle.service.specs.Lines.{text_of}
+use Rattle.service.specs.Output.{IsOutput}
 use Rattle.service.specs.Streams.{ReadsAll}
 
 -- the bytes are a text of this JSON value
 pub record IsJson (bytes : List ℕ) (value : Data) : Type 0 where
   pub utf8 : IsUtf8 bytes
   pub reads : read bytes ≡ Some value
-
--- what is written for a script
-abbrev pub output_of : Script → List ℕ
-output_of s = text_of (replies_to s.steps)
 
 -- the bytes say this script
 pub record SaysScript (bytes : List ℕ) (script : Script) : Type 0 where
@@ -45,22 +40,26 @@ IsUnread bytes fault.Read = ⊥
 IsUnread bytes fault.Write = ⊥
 IsUnread bytes fault.Memory = ⊤
 
--- all was read, it is a script, and its answer was written
+-- all was read, it is a script, and its text was written
 pub record Answered (before after held holds : Option (List ℕ)) : Type 0 where
   pub bytes : List ℕ
   pub reads : ReadsAll before after bytes
   pub script : Script
   pub says : SaysScript bytes script
-  pub wrote : Appends held holds (output_of script)
+  pub text : List ℕ
+  pub is : IsOutput script text
+  pub wrote : Appends held holds text
 
--- all was read, it is a script, and the answer was written up to a place
+-- all was read, it is a script, and its text was written up to a place
 pub record Cut (before after held holds : Option (List ℕ)) : Type 0 where
   pub bytes : List ℕ
   pub reads : ReadsAll before after bytes
   pub script : Script
   pub says : SaysScript bytes script
+  pub text : List ℕ
+  pub is : IsOutput script text
   pub len : ℕ
-  pub wrote : Appends held holds (take len (output_of script))
+  pub wrote : Appends held holds (take len text)
 
 -- all was read, and it is refused for this
 pub record Refused (before after : Option (List ℕ)) (f : ScriptError) : Type 0 where

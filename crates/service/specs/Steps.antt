@@ -1,14 +1,15 @@
--- What an element of a script says as a step.
+-- What an element of a script says as a step, in a script of this job.
 use Rattle.std.specs.Prelude.{ℕ, List, [], ◌∷◌, codes, Result, Ok, Err, if◌then◌else◌}
 use Rattle.std.specs.Str.{bytes_eq}
 use Rattle.serde_json.specs.Data.{Data}
 use Rattle.assignment.specs.declared.slice.Slice.{Slice}
+use Rattle.world.specs.Jobs.{Job}
+use Rattle.world.specs.declared.step.Step.{Step}
+use Rattle.world.specs.declared.step.Step.TheVariants.{Hash, Assign, Owners, Judge, Take, Renew, Propose, Commit, Phase, Rows, Grant, Free, Start, Hear, Release, Serve, Hold, Check, Learn, Look, Forget, Restart}
 use Rattle.service.specs.declared.fault.WrongForm.{WrongForm}
-use Rattle.service.specs.declared.step.Step.{Step}
-use Rattle.service.specs.declared.step.Step.TheVariants.{Hash, Assign, Owners, Judge}
-use Rattle.service.specs.Judging.{judge_step}
 use Rattle.service.specs.Reading.{◌>>=◌, ◌>>◌}
-use Rattle.service.specs.Members.{wrong, exactly, member_at, number_at, number_of, list_of, text_at, key_at, pair_of}
+use Rattle.service.specs.Members.{wrong, exactly, number_at, number_in, number_of, life_at, kind_at, text_at, key_at, pair_of, list_of, list_at}
+use Rattle.service.specs.Questions.{question_of}
 
 -- a slice, written as `[start, [owner, ..]]`
 unfoldable pub slice_of : Data → Result Slice WrongForm
@@ -30,7 +31,7 @@ unfoldable pub assign_step : Data → Result Step WrongForm
 assign_step d = do
   exactly (codes "do" ∷ codes "generation" ∷ codes "slices" ∷ []) d
   generation ← number_at (codes "generation") d
-  slices ← member_at (codes "slices") d >>= list_of slice_of
+  slices ← list_at slice_of (codes "slices") d
   Ok (Assign generation slices)
 
 -- an `owners` has a key
@@ -41,21 +42,187 @@ owners_step d = do
   Ok (Owners key)
 
 -- a `judge` asks a question
-abbrev pub question_step : Data → Result Step WrongForm
-question_step d = do
-  question ← judge_step d
+abbrev pub judge_step : Data → Result Step WrongForm
+judge_step d = do
+  question ← question_of d
   Ok (Judge question)
 
+-- a `take` has an assigner and a reading
+unfoldable pub take_step : Job → Data → Result Step WrongForm
+take_step job d = do
+  exactly (codes "do" ∷ codes "assigner" ∷ codes "at" ∷ []) d
+  assigner ← number_in 1 job.assigners (codes "assigner") d
+  at ← number_at (codes "at") d
+  Ok (Take assigner at)
+
+-- a `renew` has an assigner and a reading
+unfoldable pub renew_step : Job → Data → Result Step WrongForm
+renew_step job d = do
+  exactly (codes "do" ∷ codes "assigner" ∷ codes "at" ∷ []) d
+  assigner ← number_in 1 job.assigners (codes "assigner") d
+  at ← number_at (codes "at") d
+  Ok (Renew assigner at)
+
+-- a `propose` has an assigner, a generation, slices and a reading
+unfoldable pub propose_step : Job → Data → Result Step WrongForm
+propose_step job d = do
+  exactly (codes "do" ∷ codes "assigner" ∷ codes "generation" ∷ codes "slices" ∷ codes "at" ∷ []) d
+  assigner ← number_in 1 job.assigners (codes "assigner") d
+  generation ← number_at (codes "generation") d
+  slices ← list_at slice_of (codes "slices") d
+  at ← number_at (codes "at") d
+  Ok (Propose assigner generation slices at)
+
+-- a `commit` has an assigner and a reading
+unfoldable pub commit_step : Job → Data → Result Step WrongForm
+commit_step job d = do
+  exactly (codes "do" ∷ codes "assigner" ∷ codes "at" ∷ []) d
+  assigner ← number_in 1 job.assigners (codes "assigner") d
+  at ← number_at (codes "at") d
+  Ok (Commit assigner at)
+
+-- a `phase` has nothing more
+unfoldable pub phase_step : Data → Result Step WrongForm
+phase_step d = do
+  exactly (codes "do" ∷ []) d
+  Ok Phase
+
+-- a `rows` has nothing more
+unfoldable pub rows_step : Data → Result Step WrongForm
+rows_step d = do
+  exactly (codes "do" ∷ []) d
+  Ok Rows
+
+-- a `grant` has a task, a life of it and a reading
+unfoldable pub grant_step : Job → Data → Result Step WrongForm
+grant_step job d = do
+  exactly (codes "do" ∷ codes "task" ∷ codes "life" ∷ codes "at" ∷ []) d
+  task ← number_in 1 job.tasks (codes "task") d
+  life ← life_at (codes "life") d
+  at ← number_at (codes "at") d
+  Ok (Grant task life at)
+
+-- a `free` has the number of a note and a reading
+unfoldable pub free_step : Data → Result Step WrongForm
+free_step d = do
+  exactly (codes "do" ∷ codes "note" ∷ codes "at" ∷ []) d
+  note ← number_at (codes "note") d
+  at ← number_at (codes "at") d
+  Ok (Free note at)
+
+-- a `start` has a task, a life of it and a reading
+unfoldable pub start_step : Job → Data → Result Step WrongForm
+start_step job d = do
+  exactly (codes "do" ∷ codes "task" ∷ codes "life" ∷ codes "at" ∷ []) d
+  task ← number_in 1 job.tasks (codes "task") d
+  life ← life_at (codes "life") d
+  at ← number_at (codes "at") d
+  Ok (Start task life at)
+
+-- a `hear` has a task, the number of a grant and a reading
+unfoldable pub hear_step : Job → Data → Result Step WrongForm
+hear_step job d = do
+  exactly (codes "do" ∷ codes "task" ∷ codes "number" ∷ codes "at" ∷ []) d
+  task ← number_in 1 job.tasks (codes "task") d
+  number ← number_at (codes "number") d
+  at ← number_at (codes "at") d
+  Ok (Hear task number at)
+
+-- a `release` has a task, a kind of lease and a reading
+unfoldable pub release_step : Job → Data → Result Step WrongForm
+release_step job d = do
+  exactly (codes "do" ∷ codes "task" ∷ codes "kind" ∷ codes "at" ∷ []) d
+  task ← number_in 1 job.tasks (codes "task") d
+  kind ← kind_at (codes "kind") d
+  at ← number_at (codes "at") d
+  Ok (Release task kind at)
+
+-- a `serve` has a task, a key and a reading
+unfoldable pub serve_step : Job → Data → Result Step WrongForm
+serve_step job d = do
+  exactly (codes "do" ∷ codes "task" ∷ codes "key" ∷ codes "at" ∷ []) d
+  task ← number_in 1 job.tasks (codes "task") d
+  key ← key_at (codes "key") d
+  at ← number_at (codes "at") d
+  Ok (Serve task key at)
+
+-- a `hold` has a task, a key and a reading
+unfoldable pub hold_step : Job → Data → Result Step WrongForm
+hold_step job d = do
+  exactly (codes "do" ∷ codes "task" ∷ codes "key" ∷ codes "at" ∷ []) d
+  task ← number_in 1 job.tasks (codes "task") d
+  key ← key_at (codes "key") d
+  at ← number_at (codes "at") d
+  Ok (Hold task key at)
+
+-- a `check` has a task, the number of a handle and a reading
+unfoldable pub check_step : Job → Data → Result Step WrongForm
+check_step job d = do
+  exactly (codes "do" ∷ codes "task" ∷ codes "handle" ∷ codes "at" ∷ []) d
+  task ← number_in 1 job.tasks (codes "task") d
+  handle ← number_at (codes "handle") d
+  at ← number_at (codes "at") d
+  Ok (Check task handle at)
+
+-- a `learn` has a clerk and a generation
+unfoldable pub learn_step : Job → Data → Result Step WrongForm
+learn_step job d = do
+  exactly (codes "do" ∷ codes "clerk" ∷ codes "generation" ∷ []) d
+  clerk ← number_in 1 job.clerks (codes "clerk") d
+  generation ← number_at (codes "generation") d
+  Ok (Learn clerk generation)
+
+-- a `look` has a clerk and a key
+unfoldable pub look_step : Job → Data → Result Step WrongForm
+look_step job d = do
+  exactly (codes "do" ∷ codes "clerk" ∷ codes "key" ∷ []) d
+  clerk ← number_in 1 job.clerks (codes "clerk") d
+  key ← key_at (codes "key") d
+  Ok (Look clerk key)
+
+-- a `forget` has a clerk
+unfoldable pub forget_step : Job → Data → Result Step WrongForm
+forget_step job d = do
+  exactly (codes "do" ∷ codes "clerk" ∷ []) d
+  clerk ← number_in 1 job.clerks (codes "clerk") d
+  Ok (Forget clerk)
+
+-- a `restart` has an assigner
+unfoldable pub restart_step : Job → Data → Result Step WrongForm
+restart_step job d = do
+  exactly (codes "do" ∷ codes "assigner" ∷ []) d
+  assigner ← number_in 1 job.assigners (codes "assigner") d
+  Ok (Restart assigner)
+
 -- the step of this name
-abbrev step_named : List ℕ → Data → Result Step WrongForm
-step_named name d =
+abbrev step_named : Job → List ℕ → Data → Result Step WrongForm
+step_named job name d =
     if bytes_eq name (codes "hash") then hash_step d else
     (if bytes_eq name (codes "assign") then assign_step d else
     (if bytes_eq name (codes "owners") then owners_step d else
-    (if bytes_eq name (codes "judge") then question_step d else Err wrong)))
+    (if bytes_eq name (codes "judge") then judge_step d else
+    (if bytes_eq name (codes "take") then take_step job d else
+    (if bytes_eq name (codes "renew") then renew_step job d else
+    (if bytes_eq name (codes "propose") then propose_step job d else
+    (if bytes_eq name (codes "commit") then commit_step job d else
+    (if bytes_eq name (codes "phase") then phase_step d else
+    (if bytes_eq name (codes "rows") then rows_step d else
+    (if bytes_eq name (codes "grant") then grant_step job d else
+    (if bytes_eq name (codes "free") then free_step d else
+    (if bytes_eq name (codes "start") then start_step job d else
+    (if bytes_eq name (codes "hear") then hear_step job d else
+    (if bytes_eq name (codes "release") then release_step job d else
+    (if bytes_eq name (codes "serve") then serve_step job d else
+    (if bytes_eq name (codes "hold") then hold_step job d else
+    (if bytes_eq name (codes "check") then check_step job d else
+    (if bytes_eq name (codes "learn") then learn_step job d else
+    (if bytes_eq name (codes "look") then look_step job d else
+    (if bytes_eq name (codes "forget") then forget_step job d else
+    (if bytes_eq name (codes "restart") then restart_step job d else
+    Err wrong)))))))))))))))))))))
 
 -- a step, named by its member `do`
-unfoldable pub step_of : Data → Result Step WrongForm
-step_of d = do
+unfoldable pub step_of : Job → Data → Result Step WrongForm
+step_of job d = do
   name ← text_at (codes "do") d
-  step_named name d
+  step_named job name d

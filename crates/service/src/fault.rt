@@ -120,3 +120,14 @@ impl<T: Drop> From<AllocFailed<T>> for Fault {
         Fault::Memory
     }
 }
+
+/// Why the program `slicer_run` does not answer. Its words are what it says on the standard error.
+#[derive(Clone, Copy, Debug, PartialEq, Eq, Error)]
+pub enum ProgramError {
+    /// It was given an argument beside its name.
+    #[error("slicer_run: no arguments taken")]
+    Arguments,
+    /// It did not answer the script.
+    #[error("slicer_run: {0}")]
+    Fault(Fault),
+}

@@ -3,50 +3,13 @@
 ghost use Rattle.std.specs.Prelude.{◌≡◌};
 ghost use Rattle.serde_json.specs.View.{view};
 ghost use Rattle.service.specs.Members.{IsRead};
-ghost use Rattle.service.specs.Jobs.{job_member, job_of};
+ghost use Rattle.service.specs.Jobs.{job_member, policy_of, job_of};
 
 use crate::fault::WrongForm;
-use crate::members::{exactly, member_at, number_at, number_in};
-use assignment::TASKS;
+use crate::members::{exactly, member_at, number_at};
+use lease_table::Policy;
 use serde_json::Value;
-
-/// How many tasks a slice may have as its owners, at the most.
-const MOST_REDUNDANCY: u64 = 3;
-
-/// How many ticks a lease lasts at the most.
-const LONGEST_TERM: u64 = 1 << 32;
-
-/// How many numbers of grants there are at the most.
-const MOST_NUMBERS: u64 = 1 << 32;
-
-/// How many assigners there are at the most.
-const MOST_ASSIGNERS: u64 = 8;
-
-/// How many clerks there are at the most.
-const MOST_CLERKS: u64 = 16;
-
-/// What a script says of its job.
-#[derive(Clone, Copy, Debug, PartialEq, Eq)]
-pub struct Job {
-    /// How many tasks a slice may have as its owners, from 1 to 3.
-    pub redundancy: u64,
-    /// How many ticks two clocks are apart at the most; below `guard` and below `bridge`.
-    pub skew: u64,
-    /// How many ticks a guard lease lasts, from 1 to 2^32.
-    pub guard: u64,
-    /// How many ticks a bridge lease lasts, from 1 to 2^32.
-    pub bridge: u64,
-    /// How many ticks a job lease lasts, from 1 to 2^32.
-    pub job: u64,
-    /// How many numbers of grants there are, from 1 to 2^32.
-    pub numbers: u64,
-    /// How many assigners there are, from 1 to 8.
-    pub assigners: u64,
-    /// How many tasks there are, from 1 to 64.
-    pub tasks: u64,
-    /// How many clerks there are, from 1 to 16.
-    pub clerks: u64,
-}
+use world::Job;
 
 /// The one member of the job line.
 #[tactic(auto, unfolding(crate::specs::Jobs::job_member))]
@@ -55,6 +18,23 @@ pub fn job_member(line: &Value) -> Result<&Value, WrongForm>
 {
     exactly(&["job"], line)?;
     member_at("job", line)
+}
+
+// What the table and its leases are held to.
+#[tactic(auto, unfolding(crate::specs::Jobs::policy_of))]
+fn policy_of(job: &Value) -> Result<Policy, WrongForm>
+    ensures { result ≡ policy_of (view job.now) }
+{
+    let redundancy = number_at("redundancy", job)?;
+    let skew = number_at("skew", job)?;
+    let guard = number_at("guard", job)?;
+    let bridge = number_at("bridge", job)?;
+    let term = number_at("job", job)?;
+    let numbers = number_at("numbers", job)?;
+    match Policy::new(redundancy, skew, guard, bridge, term, numbers) {
+        Some(policy) => Ok(policy),
+        None => Err(WrongForm),
+    }
 }
 
 /// The job that the member says.
@@ -76,27 +56,12 @@ pub fn job_of(job: &Value) -> Result<Job, WrongForm>
         ],
         job,
     )?;
-    let redundancy = number_in(1, MOST_REDUNDANCY, "redundancy", job)?;
-    let guard = number_in(1, LONGEST_TERM, "guard", job)?;
-    let bridge = number_in(1, LONGEST_TERM, "bridge", job)?;
-    let term = number_in(1, LONGEST_TERM, "job", job)?;
-    let numbers = number_in(1, MOST_NUMBERS, "numbers", job)?;
-    let assigners = number_in(1, MOST_ASSIGNERS, "assigners", job)?;
-    let tasks = number_in(1, TASKS, "tasks", job)?;
-    let clerks = number_in(1, MOST_CLERKS, "clerks", job)?;
-    let skew = number_at("skew", job)?;
-    if skew >= guard || skew >= bridge {
-        return Err(WrongForm);
+    let policy = policy_of(job)?;
+    let assigners = number_at("assigners", job)?;
+    let tasks = number_at("tasks", job)?;
+    let clerks = number_at("clerks", job)?;
+    match Job::new(policy, assigners, tasks, clerks) {
+        Some(job) => Ok(job),
+        None => Err(WrongForm),
     }
-    Ok(Job {
-        redundancy,
-        skew,
-        guard,
-        bridge,
-        job: term,
-        numbers,
-        assigners,
-        tasks,
-        clerks,
-    })
 }

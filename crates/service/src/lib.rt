@@ -1,21 +1,27 @@
 //! Scripts of steps, from the bytes of a script to the bytes of its replies.
 #![tactic(auto)]
 
+mod clerk_steps;
 mod fault;
 mod job;
-mod judge;
+mod line;
 mod members;
+mod output;
 mod program;
-mod reply;
+mod question;
 mod run;
 mod script;
-mod session;
 mod step;
 mod streams;
+mod table_steps;
+mod task_steps;
+mod words;
 
-pub use fault::{Fault, ScriptError};
+pub use fault::{Fault, ProgramError, ScriptError};
 pub use program::slicer_run;
 pub use run::run_script;
 
+#[cfg(test)]
+mod script_tests;
 #[cfg(test)]
 mod tests;

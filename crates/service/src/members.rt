@@ -7,15 +7,19 @@ ghost use Rattle.serde_json.specs.Data.{Data};
 ghost use Rattle.serde_json.specs.View.{view};
 ghost use Rattle.service.specs.declared.fault.WrongForm.{WrongForm};
 ghost use Rattle.service.specs.Reading.{Gives};
-ghost use Rattle.service.specs.Members.{IsRead, count_of, exactly, member_at, number_of, number_at, number_in, flag_at, text_at, key_at, array_of, pair_of, list_of};
+ghost use Rattle.service.specs.Members.{IsRead, count_of, exactly, member_at, number_of, number_at, number_in, flag_at, text_at, key_at, array_of, pair_of, list_of, list_at, kind_at, life_at};
 
 use crate::fault::{Unread, WrongForm};
 use assignment::Listed;
+use policy_rules::Kind;
 use serde_json::Value;
 use std::alloc::Global;
 
 /// How many bytes a key has at the most.
 const MOST_KEY_BYTES: usize = 4096;
+
+/// How many lives there are.
+const LIVES: u64 = 1 << 32;
 
 // How many members an object has.
 #[tactic(auto, using(crate::proofs::Forms::members_len_view))]
@@ -79,6 +83,18 @@ pub fn number_in(low: u64, high: u64, name: &str, value: &Value) -> Result<u64, 
     }
 }
 
+/// The member of this name, as the number of a life.
+pub fn life_at(name: &str, value: &Value) -> Result<u32, WrongForm>
+    ensures { result ≡ life_at name.now (view value.now) }
+{
+    let life = number_at(name, value)?;
+    if life < LIVES {
+        Ok(life as u32)
+    } else {
+        Err(WrongForm)
+    }
+}
+
 /// The member of this name, as true or false.
 pub fn flag_at(name: &str, value: &Value) -> Result<bool, WrongForm>
     ensures { result ≡ flag_at name.now (view value.now) }
@@ -103,6 +119,17 @@ pub fn key_at(alloc: Global, name: &str, value: &Value) -> Result<Listed<u8>, Un
     }
     let bytes = Vec::from_slice(alloc, text.as_bytes())?;
     Ok(Listed::from_vec(bytes))
+}
+
+/// The member of this name, as a kind of lease.
+pub fn kind_at(name: &str, value: &Value) -> Result<Kind, WrongForm>
+    ensures { result ≡ kind_at name.now (view value.now) }
+{
+    match text_at(name, value)? {
+        "guard" => Ok(Kind::Guard),
+        "bridge" => Ok(Kind::Bridge),
+        _ => Err(WrongForm),
+    }
 }
 
 /// The elements of an array.
@@ -155,4 +182,12 @@ pub fn list_of<T: Form>(alloc: Global, value: &Value) -> Result<Listed<T>, Unrea
         list.push(T::read(alloc, element)?)?;
     }
     Ok(list)
+}
+
+/// The member of this name, as an array with each of its elements read.
+#[tactic(auto, unfolding(crate::specs::Members::list_at))]
+pub fn list_at<T: Form>(alloc: Global, name: &str, value: &Value) -> Result<Listed<T>, Unread>
+    ensures { Gives result (list_at T.form name.now (view value.now)) }
+{
+    list_of(alloc, member_at(name, value)?)
 }

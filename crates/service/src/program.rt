@@ -3,6 +3,7 @@
 ghost use Rattle.std.specs.Process.{exit_status};
 ghost use Rattle.service.specs.Status.{Ends};
 
+use crate::fault::ProgramError;
 use crate::run::run_script;
 use std::env::{Env, FillError};
 use std::io::{Eprint, Read, Write};
@@ -26,13 +27,13 @@ pub fn slicer_run<R: Read, W: Write>(
         (W.contents writer.old) (W.contents writer.new) (exit_status result) }
 {
     if has_arguments(rt) {
-        let _ = eprintln!(rt; "slicer_run: no arguments taken");
+        let _ = eprintln!(rt; "{}", ProgramError::Arguments);
         return ExitCode::from(2);
     }
     match run_script(rt.alloc(), reader, writer) {
         Ok(()) => ExitCode::SUCCESS,
         Err(fault) => {
-            let _ = eprintln!(rt; "slicer_run: {fault}");
+            let _ = eprintln!(rt; "{}", ProgramError::Fault(fault));
             ExitCode::from(fault.status())
         }
     }

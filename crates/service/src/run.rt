@@ -5,8 +5,8 @@ ghost use Rattle.serde_json.specs.View.{view};
 ghost use Rattle.service.specs.Service.{IsJson, SaysScript, IsUnread, Answered, Failed};
 
 use crate::fault::{Fault, ScriptError};
+use crate::output::output_of;
 use crate::script::{Script, script_of};
-use crate::session::text_of;
 use crate::streams::{read_all, write_all};
 use serde_json::{Category, Value};
 use std::alloc::Global;
@@ -54,6 +54,6 @@ pub fn run_script<R: Read, W: Write>(
 {
     let bytes = read_all(alloc, reader)?;
     let script = parsed(alloc, bytes.as_slice())?;
-    let text = text_of(alloc, script.steps.as_slice())?;
+    let text = output_of(alloc, &script)?;
     write_all(writer, text.as_str().as_bytes())
 }

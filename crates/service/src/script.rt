@@ -2,15 +2,16 @@
 
 ghost use Rattle.std.specs.Prelude.{map};
 ghost use Rattle.serde_json.specs.View.{view};
-ghost use Rattle.service.specs.Scripts.{Answers, steps_of, script_of};
+ghost use Rattle.service.specs.Scripts.{IsReadOrRefused, Answers, AnswersScript, head_of, steps_of, script_of};
 
 use crate::fault::{Fault, ScriptError, Unread};
-use crate::job::{Job, job_member, job_of};
+use crate::job::{job_member, job_of};
 use crate::members::array_of;
-use crate::step::{Step, step_of};
+use crate::step::step_of;
 use assignment::Listed;
 use serde_json::Value;
 use std::alloc::Global;
+use world::{Job, Step};
 
 /// How many steps a script has at the most.
 const MOST_STEPS: usize = 4096;
@@ -22,14 +23,37 @@ pub struct Script {
     pub steps: Listed<Step>,
 }
 
+// The job, and the elements after the job line.
+#[tactic(auto, unfolding(crate::specs::Scripts::head_of))]
+fn head_of(value: &Value) -> Result<(Job, &[Value]), ScriptError>
+    ensures { IsReadOrRefused (λ p. (p.0, map view p.1.now)) result (head_of (view value.now)) }
+{
+    let Ok(elements) = array_of(value) else {
+        return Err(ScriptError::NotArray);
+    };
+    let [line, elements @ ..] = elements else {
+        return Err(ScriptError::NoJob);
+    };
+    let Ok(line) = job_member(line) else {
+        return Err(ScriptError::NoJob);
+    };
+    let Ok(job) = job_of(line) else {
+        return Err(ScriptError::BadJob);
+    };
+    if elements.len() > MOST_STEPS {
+        return Err(ScriptError::TooManySteps);
+    }
+    Ok((job, elements))
+}
+
 // The steps that the elements after the job line say, or the first that says none.
 #[tactic(auto, unfolding(crate::specs::Scripts::steps_of))]
-fn steps_of(alloc: Global, elements: &[Value]) -> Result<Listed<Step>, Fault>
-    ensures { Answers result (steps_of (map view elements.now)) }
+fn steps_of(alloc: Global, job: Job, elements: &[Value]) -> Result<Listed<Step>, Fault>
+    ensures { Answers result (steps_of job (map view elements.now)) }
 {
     let mut steps = Listed::new(alloc);
     for (i, element) in elements.iter().enumerate() {
-        match step_of(alloc, element) {
+        match step_of(alloc, job, element) {
             Ok(step) => steps.push(step)?,
             Err(Unread::WrongForm) => return Err(Fault::Script(ScriptError::BadStep(i + 1))),
             Err(Unread::Memory) => return Err(Fault::Memory),
@@ -38,26 +62,16 @@ fn steps_of(alloc: Global, elements: &[Value]) -> Result<Listed<Step>, Fault>
     Ok(steps)
 }
 
-/// The script that a JSON value says, or the first fault of it.
+/// The script that a JSON value says, or the first fault of it. Only steps take memory: each other
+/// fault is found without any.
 #[tactic(auto, unfolding(crate::specs::Scripts::script_of))]
 pub fn script_of(alloc: Global, value: &Value) -> Result<Script, Fault>
-    ensures { Answers result (script_of (view value.now)) }
+    ensures { AnswersScript result (view value.now) }
 {
-    let Ok(elements) = array_of(value) else {
-        return Err(Fault::Script(ScriptError::NotArray));
+    let (job, elements) = match head_of(value) {
+        Ok(head) => head,
+        Err(refusal) => return Err(Fault::Script(refusal)),
     };
-    let [line, steps @ ..] = elements else {
-        return Err(Fault::Script(ScriptError::NoJob));
-    };
-    let Ok(line) = job_member(line) else {
-        return Err(Fault::Script(ScriptError::NoJob));
-    };
-    let Ok(job) = job_of(line) else {
-        return Err(Fault::Script(ScriptError::BadJob));
-    };
-    if steps.len() > MOST_STEPS {
-        return Err(Fault::Script(ScriptError::TooManySteps));
-    }
-    let steps = steps_of(alloc, steps)?;
+    let steps = steps_of(alloc, job, elements)?;
     Ok(Script { job, steps })
 }

@@ -5,36 +5,21 @@ ghost use Rattle.serde_json.specs.View.{view};
 ghost use Rattle.service.specs.Reading.{Gives};
 ghost use Rattle.service.specs.Steps.{slice_of, hash_step, assign_step, owners_step, step_of};
 
+use crate::clerk_steps::{forget_step, learn_step, look_step};
 use crate::fault::Unread;
-use crate::judge::{Question, question_of};
 use crate::members::{
-    Form, exactly, key_at, list_of, member_at, number_at, number_of, pair_of, text_at,
+    Form, exactly, key_at, list_at, list_of, number_at, number_of, pair_of, text_at,
 };
-use assignment::{Listed, Slice};
+use crate::question::question_of;
+use crate::table_steps::{
+    commit_step, free_step, grant_step, phase_step, propose_step, renew_step, restart_step,
+    rows_step, take_step,
+};
+use crate::task_steps::{check_step, hear_step, hold_step, release_step, serve_step, start_step};
+use assignment::Slice;
 use serde_json::Value;
 use std::alloc::Global;
-
-/// One step of a script.
-#[derive(Debug, Drop)]
-pub enum Step {
-    /// The slice key of a key is asked for.
-    Hash {
-        key: Listed<u8>,
-    },
-    /// An assignment is built; where it is not refused, it becomes the draft.
-    Assign {
-        generation: u64,
-        slices: Listed<Slice>,
-    },
-    /// The tasks that own a key are asked for, by the draft.
-    Owners {
-        key: Listed<u8>,
-    },
-    /// The rule is asked, over leases that the script hands in.
-    Judge {
-        question: Question,
-    },
-}
+use world::{Job, Step};
 
 impl Form for Slice {
     ghost form = { slice_of };
@@ -66,7 +51,7 @@ fn assign_step(alloc: Global, step: &Value) -> Result<Step, Unread>
     exactly(&["do", "generation", "slices"], step)?;
     Ok(Step::Assign {
         generation: number_at("generation", step)?,
-        slices: list_of(alloc, member_at("slices", step)?)?,
+        slices: list_at(alloc, "slices", step)?,
     })
 }
 
@@ -80,10 +65,10 @@ fn owners_step(alloc: Global, step: &Value) -> Result<Step, Unread>
     })
 }
 
-/// The step that an element of a script says.
+/// The step that an element of a script of this job says.
 #[tactic(auto, unfolding(crate::specs::Steps::step_of))]
-pub fn step_of(alloc: Global, step: &Value) -> Result<Step, Unread>
-    ensures { Gives result (step_of (view step.now)) }
+pub fn step_of(alloc: Global, job: Job, step: &Value) -> Result<Step, Unread>
+    ensures { Gives result (step_of job (view step.now)) }
 {
     match text_at("do", step)? {
         "hash" => hash_step(alloc, step),
@@ -92,6 +77,24 @@ pub fn step_of(alloc: Global, step: &Value) -> Result<Step, Unread>
         "judge" => Ok(Step::Judge {
             question: question_of(alloc, step)?,
         }),
+        "take" => Ok(take_step(job, step)?),
+        "renew" => Ok(renew_step(job, step)?),
+        "propose" => propose_step(alloc, job, step),
+        "commit" => Ok(commit_step(job, step)?),
+        "phase" => Ok(phase_step(step)?),
+        "rows" => Ok(rows_step(step)?),
+        "grant" => Ok(grant_step(job, step)?),
+        "free" => Ok(free_step(step)?),
+        "start" => Ok(start_step(job, step)?),
+        "hear" => Ok(hear_step(job, step)?),
+        "release" => Ok(release_step(job, step)?),
+        "serve" => serve_step(alloc, job, step),
+        "hold" => hold_step(alloc, job, step),
+        "check" => Ok(check_step(job, step)?),
+        "learn" => Ok(learn_step(job, step)?),
+        "look" => look_step(alloc, job, step),
+        "forget" => Ok(forget_step(job, step)?),
+        "restart" => Ok(restart_step(job, step)?),
         _ => Err(Unread::WrongForm),
     }
 }

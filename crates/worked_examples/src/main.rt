@@ -1,18 +1,37 @@
 //! Plays the scripts of `data/`, and compares what each gives with the files beside it: NAME.json
 //! is the script, NAME.stdout the text that is written, NAME.stderr what is said of a fault, and
-//! NAME.status the exit status.
+//! NAME.status the exit status. The stories of `examples/` are among them, under the same names.
 #![tactic(auto)]
 
 use anyhow::Result;
-use service::run_script;
+use service::{ProgramError, run_script};
 use std::alloc::Global;
 use std::fs;
 use std::rt::Files;
 
-const NAMES: [&str; 23] = [
+const NAMES: [&str; 48] = [
+    "owners",
     "hash-of-empty-and-hello",
     "hash-vectors",
     "draft-assignment-and-its-owners",
+    "serve-inside-outside-and-before",
+    "serve-at-the-deadline",
+    "commit-held-until-guard-ends",
+    "release-and-free-let-commit-pass",
+    "released-grant-is-not-heard-again",
+    "new-life-refuses-older-grant",
+    "handle-lives-over-a-renewed-guard",
+    "handle-breaks-when-guard-ended-before-renewal",
+    "handle-breaks-when-key-left-and-came-back",
+    "bridge-carries-a-key-over-a-change",
+    "late-serve-is-denied-when-clocks-agree",
+    "late-serve-with-a-slow-clock-is-untimely",
+    "clerk-learns-and-forgets",
+    "table-refusals-in-order",
+    "grant-numbers-are-spent",
+    "hear-and-release-refusals",
+    "handles-of-strangers-and-older-lives",
+    "rows-and-phase",
     "judge-names-the-first-ground",
     "empty-input",
     "empty-array",
@@ -21,6 +40,7 @@ const NAMES: [&str; 23] = [
     "assignment-refusals",
     "four-owners-are-too-many-before-the-range",
     "judge-guard-then-bridge",
+    "restarted-assigner-waits-for-its-old-term",
     "object-in-place-of-an-array",
     "number-in-place-of-a-job",
     "job-without-members",
@@ -33,6 +53,11 @@ const NAMES: [&str; 23] = [
     "step-with-a-member-more",
     "serve-at-minus-one",
     "two-hundred-nested-arrays",
+    "newer-grant-replaces-and-frees-both",
+    "late-free-spares-a-newer-grant",
+    "old-bridge-holds-up-the-next-commit",
+    "slow-clock-finds-its-handle-continuous",
+    "handle-is-broken-when-clocks-agree",
 ];
 
 /// What a script gave, or what it is to give.
@@ -67,7 +92,10 @@ fn played(alloc: Global, script: &[u8]) -> Result<Outcome> {
     let mut written = Vec::new(alloc);
     let (said, status) = match run_script(alloc, &mut reader, &mut written) {
         Ok(()) => (String::new(alloc), 0),
-        Err(fault) => (format!(in alloc; "slicer_run: {fault}\n")?, fault.status()),
+        Err(fault) => (
+            format!(in alloc; "{}\n", ProgramError::Fault(fault))?,
+            fault.status(),
+        ),
     };
     Ok(Outcome {
         written: String::from_utf8(written)?,

@@ -12,14 +12,14 @@ loop-i-init c = rw c.new-steps.ensures (starts _)
 pub returns-in-Err-WrongForm : goal.returns-in-Err-WrongForm
 returns-in-Err-WrongForm c =
     let wrong = rw c.in-Err-WrongForm.field-0-is at c.in-Err-WrongForm.ensures in
-    let read : step_at (1 + c.loop-i.i) (view c.index-elements-i.result) ≡ Err (BadStep (1 + c.loop-i.i)) = rw wrong in
-    ends view step_at 1 c.loop-i.i c.args.elements.now c.index-elements-i.result (BadStep (1 + c.loop-i.i)) c.loop-i.steps (steps_of (map view c.args.elements.now)) c.loop-i-test.true c.index-elements-i.is read c.loop-i.invariant
+    let read : step_at c.args.job (1 + c.loop-i.i) (view c.index-elements-i.result) ≡ Err (BadStep (1 + c.loop-i.i)) = rw wrong in
+    ends view (step_at c.args.job) 1 c.loop-i.i c.args.elements.now c.index-elements-i.result (BadStep (1 + c.loop-i.i)) c.loop-i.steps (steps_of c.args.job (map view c.args.elements.now)) c.loop-i-test.true c.index-elements-i.is read c.loop-i.invariant
     ∙ ap (λ (m : ℕ). Err (BadStep m)) (add_comm 1 c.loop-i.i)
 
 pub loop-i-preserved : goal.loop-i-preserved
 loop-i-preserved c =
-    let read : step_at (1 + c.loop-i.i) (view c.index-elements-i.result) ≡ Ok c.in-Ok.step = rw c.in-Ok.ensures in
-    rw c.in_ok-push-in-Ok.ensures.ok (goes_on view step_at 1 c.loop-i.i c.args.elements.now c.index-elements-i.result c.in-Ok.step c.loop-i.steps (steps_of (map view c.args.elements.now)) c.loop-i-test.true c.index-elements-i.is read c.loop-i.invariant)
+    let read : step_at c.args.job (1 + c.loop-i.i) (view c.index-elements-i.result) ≡ Ok c.in-Ok.step = rw c.in-Ok.ensures in
+    rw c.in_ok-push-in-Ok.ensures.ok (goes_on view (step_at c.args.job) 1 c.loop-i.i c.args.elements.now c.index-elements-i.result c.in-Ok.step c.loop-i.steps (steps_of c.args.job (map view c.args.elements.now)) c.loop-i-test.true c.index-elements-i.is read c.loop-i.invariant)
 
 pub returns : goal.returns
-returns c = is_done view step_at 1 c.loop-i.i c.args.elements.now c.loop-i.steps (steps_of (map view c.args.elements.now)) c.loop-i-test.false c.loop-i.invariant
+returns c = is_done view (step_at c.args.job) 1 c.loop-i.i c.args.elements.now c.loop-i.steps (steps_of c.args.job (map view c.args.elements.now)) c.loop-i-test.false c.loop-i.invariant

@@ -6,4 +6,4 @@ use Rattle.service.proofs.Turns.{with_front}
 use Rattle.service.proofs.script.steps_of.Given as goal
 
 abbrev pub invariant-loop-i : goal.invariant-loop-i
-invariant-loop-i l = with_front l.steps (in_turn step_at (1 + l.i) (map view (drop l.i l.elements))) ≡ steps_of (map view l.elements)
+invariant-loop-i l = with_front l.steps (in_turn (step_at l.job) (1 + l.i) (map view (drop l.i l.elements))) ≡ steps_of l.job (map view l.elements)

@@ -1,0 +1,24 @@
+-- What makes the output of a script.
+use Rattle.std.proofs.Common.{◌≡◌, ℕ, Bool, true, MatchBool, List, [], length, reverse}
+use Rattle.std.specs.List.{list_all}
+use Rattle.world.specs.declared.reply.Reply.{Reply}
+use Rattle.world.specs.declared.step.Step.{Step}
+use Rattle.world.specs.Pasts.{IsTimely}
+use Rattle.world.specs.Runs.{IsRun, past_after}
+use Rattle.service.specs.declared.script.Script.{Script}
+use Rattle.service.specs.Lines.{text_of}
+use Rattle.service.specs.Output.{is_answer, IsOutput}
+
+pub is_output : (script : Script) (steps : List Step) (skew : ℕ) (replies shown : List Reply) (timely : Bool) (text : List ℕ)
+    → steps ≡ script.steps → skew ≡ script.job.policy.skew → shown ≡ replies
+    → length replies ≡ length steps → IsRun script.job (past_after [] steps replies) → list_all is_answer shown ≡ true
+    → MatchBool timely (IsTimely skew (reverse steps)) (IsTimely skew (reverse steps) → ⊥) → text ≡ text_of shown timely → IsOutput script text
+is_output script steps skew replies shown timely text steps_is skew_is shown_is many run answers by_readings lines = record {
+  replies = replies;
+  many = rw (← steps_is) many;
+  run = rw (← steps_is) run;
+  answers = rw (← shown_is) answers;
+  timely = timely;
+  by_readings = rw (← skew_is, ← steps_is) by_readings;
+  lines = rw (← shown_is) lines;
+}

@@ -1,0 +1,45 @@
+-- The questions about the written rule that a script asks.
+use Rattle.std.specs.Prelude.{ℕ, ◌&&◌, Bool, nat_le, List, [], ◌∷◌, codes, count_by, Result, Ok}
+use Rattle.serde_json.specs.Data.{Data}
+use Rattle.policy_rules.specs.declared.lease.Kind.{Kind}
+use Rattle.policy_rules.specs.declared.lease.Kind.TheVariants.{Guard, Bridge}
+use Rattle.policy_rules.specs.Leases.{same_kind}
+use Rattle.world.specs.declared.judge.WrittenLease.{WrittenLease}
+use Rattle.world.specs.declared.judge.Question.{Question}
+use Rattle.service.specs.declared.fault.WrongForm.{WrongForm}
+use Rattle.service.specs.Reading.{◌>>=◌, ◌>>◌, check}
+use Rattle.service.specs.Members.{wrong, exactly, flag_at, number_at, number_of, key_at, kind_at, list_at, pair_of}
+
+-- a range, written as `[start, end]`
+unfoldable pub range_of : Data → Result (ℕ × ℕ) WrongForm
+range_of d = do
+  pair ← pair_of d
+  start ← number_of pair.0
+  end ← number_of pair.1
+  Ok (start, end)
+
+-- a lease: four members and no other
+unfoldable pub lease_of : Data → Result WrittenLease WrongForm
+lease_of d = do
+  exactly (codes "kind" ∷ codes "generation" ∷ codes "ranges" ∷ codes "ends" ∷ []) d
+  kind ← kind_at (codes "kind") d
+  generation ← number_at (codes "generation") d
+  ranges ← list_at range_of (codes "ranges") d
+  ends ← number_at (codes "ends") d
+  Ok (record { kind = kind; generation = generation; ranges = ranges; ends = ends })
+
+-- at most one of the leases is of this kind
+abbrev pub has_one_at_most : Kind → List WrittenLease → Bool
+has_one_at_most kind leases = nat_le (count_by (λ lease. same_kind kind lease.kind) leases) 1
+
+-- a `judge` has what a task holds, a key and a reading
+unfoldable pub question_of : Data → Result Question WrongForm
+question_of d = do
+  exactly (codes "do" ∷ codes "up" ∷ codes "last" ∷ codes "leases" ∷ codes "key" ∷ codes "at" ∷ []) d
+  up ← flag_at (codes "up") d
+  last ← number_at (codes "last") d
+  leases ← list_at lease_of (codes "leases") d
+  key ← key_at (codes "key") d
+  at ← number_at (codes "at") d
+  check (has_one_at_most Guard leases && has_one_at_most Bridge leases) wrong
+  Ok (record { up = up; last = last; leases = leases; key = key; at = at })

@@ -1,0 +1,62 @@
+//! The text that is written for a script.
+
+ghost use Rattle.std.specs.Prelude.{◌≡◌, [], true, IfOk, length, string_bytes};
+ghost use Rattle.std.specs.List.{flat_map, list_all};
+ghost use Rattle.world.specs.Runs.{IsRun, past_after};
+ghost use Rattle.service.specs.Lines.{line_of, text_of};
+ghost use Rattle.service.specs.Output.{is_answer, IsOutput};
+
+use crate::line::Line;
+use crate::script::Script;
+use std::alloc::{AllocError, Global};
+use world::{Job, Reply, Step, World, timely};
+
+// The replies to the steps, which are the first of their job.
+fn replies_of(alloc: Global, job: Job, steps: &[Step]) -> Result<Vec<Reply>, AllocError>
+    ensures many { IfOk result (λ replies. length replies.items ≡ length steps.now) }
+    ensures run { IfOk result (λ replies. IsRun job (past_after [] steps.now replies.items)) }
+{
+    let mut world = World::new(alloc, job)?;
+    let replies = world.run(steps)?;
+    Ok(replies)
+}
+
+// The lines of the replies, none of which is for want of memory.
+fn lines_of(alloc: Global, replies: &[Reply]) -> Result<String, AllocError>
+    ensures lines { IfOk result (λ text. string_bytes text ≡ flat_map line_of replies.now) }
+    ensures answers { IfOk result (λ text. list_all is_answer replies.now ≡ true) }
+{
+    let mut text = String::new(alloc);
+    for reply in replies {
+        if matches!(reply, Reply::NoMemory) {
+            return Err(AllocError);
+        }
+        writeln!(text, "{}", Line(reply))?;
+    }
+    Ok(text)
+}
+
+// The lines of the replies, none of which is for want of memory, and the last line.
+fn text_of(alloc: Global, replies: &[Reply], timely: bool) -> Result<String, AllocError>
+    ensures text { IfOk result (λ text. string_bytes text ≡ text_of replies.now timely) }
+    ensures answers { IfOk result (λ text. list_all is_answer replies.now ≡ true) }
+{
+    let mut text = lines_of(alloc, replies)?;
+    if timely {
+        writeln!(text, "timely yes")?;
+    } else {
+        writeln!(text, "timely no")?;
+    }
+    Ok(text)
+}
+
+/// Plays the steps of a script, and gives the text of their replies with its last line.
+pub fn output_of(alloc: Global, script: &Script) -> Result<String, AllocError>
+    ensures { IfOk result (λ text. IsOutput script.now (string_bytes text)) }
+{
+    let steps = script.steps.as_slice();
+    let replies = replies_of(alloc, script.job, steps)?;
+    let timely = timely(steps, script.job.policy().skew());
+    let text = text_of(alloc, replies.as_slice(), timely)?;
+    Ok(text)
+}

@@ -1,0 +1,74 @@
+//! The questions about the written rule that a script asks.
+
+ghost use Rattle.std.specs.Prelude.{◌≡◌, nat_le, count_by};
+ghost use Rattle.serde_json.specs.View.{view};
+ghost use Rattle.policy_rules.specs.Leases.{same_kind};
+ghost use Rattle.service.specs.Reading.{Gives};
+ghost use Rattle.service.specs.Questions.{range_of, lease_of, question_of};
+
+use crate::fault::Unread;
+use crate::members::{
+    Form, exactly, flag_at, key_at, kind_at, list_at, number_at, number_of, pair_of,
+};
+use assignment::Listed;
+use policy_rules::Kind;
+use serde_json::Value;
+use std::alloc::Global;
+use world::{Question, WrittenLease};
+
+impl Form for (u64, u64) {
+    ghost form = { range_of };
+
+    #[tactic(auto, unfolding(crate::specs::Questions::range_of))]
+    fn read(_alloc: Global, value: &Value) -> Result<(u64, u64), Unread> {
+        let (start, end) = pair_of(value)?;
+        Ok((number_of(start)?, number_of(end)?))
+    }
+}
+
+impl Form for WrittenLease {
+    ghost form = { lease_of };
+
+    #[tactic(auto, unfolding(crate::specs::Questions::lease_of))]
+    fn read(alloc: Global, value: &Value) -> Result<WrittenLease, Unread> {
+        exactly(&["kind", "generation", "ranges", "ends"], value)?;
+        Ok(WrittenLease {
+            kind: kind_at("kind", value)?,
+            generation: number_at("generation", value)?,
+            ranges: list_at(alloc, "ranges", value)?,
+            ends: number_at("ends", value)?,
+        })
+    }
+}
+
+// Whether at most one of the leases is of this kind.
+fn has_one_at_most(kind: Kind, leases: &[WrittenLease]) -> bool
+    ensures { result ≡ nat_le (count_by (λ lease. same_kind kind lease.kind) leases.now) 1 }
+{
+    leases.iter().filter(|lease| lease.kind == kind).count() <= 1
+}
+
+/// The question that a `judge` asks.
+#[tactic(auto, unfolding(crate::specs::Questions::question_of))]
+pub fn question_of(alloc: Global, step: &Value) -> Result<Question, Unread>
+    ensures { Gives result (question_of (view step.now)) }
+{
+    exactly(&["do", "up", "last", "leases", "key", "at"], step)?;
+    let up = flag_at("up", step)?;
+    let last = number_at("last", step)?;
+    let leases: Listed<WrittenLease> = list_at(alloc, "leases", step)?;
+    let key = key_at(alloc, "key", step)?;
+    let at = number_at("at", step)?;
+    if !has_one_at_most(Kind::Guard, leases.as_slice())
+        || !has_one_at_most(Kind::Bridge, leases.as_slice())
+    {
+        return Err(Unread::WrongForm);
+    }
+    Ok(Question {
+        up,
+        last,
+        leases,
+        key,
+        at,
+    })
+}

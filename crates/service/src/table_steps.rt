@@ -1,0 +1,107 @@
+//! The steps of the table and its assigners.
+
+ghost use Rattle.std.specs.Prelude.{◌≡◌};
+ghost use Rattle.serde_json.specs.View.{view};
+ghost use Rattle.service.specs.Reading.{Gives};
+ghost use Rattle.service.specs.Steps.{take_step, renew_step, propose_step, commit_step, phase_step, rows_step, grant_step, free_step, restart_step};
+
+use crate::fault::{Unread, WrongForm};
+use crate::members::{exactly, life_at, list_at, number_at, number_in};
+use serde_json::Value;
+use std::alloc::Global;
+use world::{Job, Step};
+
+#[tactic(auto, unfolding(crate::specs::Steps::take_step))]
+pub fn take_step(job: Job, step: &Value) -> Result<Step, WrongForm>
+    ensures { result ≡ take_step job (view step.now) }
+{
+    exactly(&["do", "assigner", "at"], step)?;
+    Ok(Step::Take {
+        assigner: number_in(1, job.assigners(), "assigner", step)?,
+        at: number_at("at", step)?,
+    })
+}
+
+#[tactic(auto, unfolding(crate::specs::Steps::renew_step))]
+pub fn renew_step(job: Job, step: &Value) -> Result<Step, WrongForm>
+    ensures { result ≡ renew_step job (view step.now) }
+{
+    exactly(&["do", "assigner", "at"], step)?;
+    Ok(Step::Renew {
+        assigner: number_in(1, job.assigners(), "assigner", step)?,
+        at: number_at("at", step)?,
+    })
+}
+
+#[tactic(auto, unfolding(crate::specs::Steps::propose_step))]
+pub fn propose_step(alloc: Global, job: Job, step: &Value) -> Result<Step, Unread>
+    ensures { Gives result (propose_step job (view step.now)) }
+{
+    exactly(&["do", "assigner", "generation", "slices", "at"], step)?;
+    Ok(Step::Propose {
+        assigner: number_in(1, job.assigners(), "assigner", step)?,
+        generation: number_at("generation", step)?,
+        slices: list_at(alloc, "slices", step)?,
+        at: number_at("at", step)?,
+    })
+}
+
+#[tactic(auto, unfolding(crate::specs::Steps::commit_step))]
+pub fn commit_step(job: Job, step: &Value) -> Result<Step, WrongForm>
+    ensures { result ≡ commit_step job (view step.now) }
+{
+    exactly(&["do", "assigner", "at"], step)?;
+    Ok(Step::Commit {
+        assigner: number_in(1, job.assigners(), "assigner", step)?,
+        at: number_at("at", step)?,
+    })
+}
+
+#[tactic(auto, unfolding(crate::specs::Steps::phase_step))]
+pub fn phase_step(step: &Value) -> Result<Step, WrongForm>
+    ensures { result ≡ phase_step (view step.now) }
+{
+    exactly(&["do"], step)?;
+    Ok(Step::Phase)
+}
+
+#[tactic(auto, unfolding(crate::specs::Steps::rows_step))]
+pub fn rows_step(step: &Value) -> Result<Step, WrongForm>
+    ensures { result ≡ rows_step (view step.now) }
+{
+    exactly(&["do"], step)?;
+    Ok(Step::Rows)
+}
+
+#[tactic(auto, unfolding(crate::specs::Steps::grant_step))]
+pub fn grant_step(job: Job, step: &Value) -> Result<Step, WrongForm>
+    ensures { result ≡ grant_step job (view step.now) }
+{
+    exactly(&["do", "task", "life", "at"], step)?;
+    Ok(Step::Grant {
+        task: number_in(1, job.tasks(), "task", step)?,
+        life: life_at("life", step)?,
+        at: number_at("at", step)?,
+    })
+}
+
+#[tactic(auto, unfolding(crate::specs::Steps::free_step))]
+pub fn free_step(step: &Value) -> Result<Step, WrongForm>
+    ensures { result ≡ free_step (view step.now) }
+{
+    exactly(&["do", "note", "at"], step)?;
+    Ok(Step::Free {
+        note: number_at("note", step)?,
+        at: number_at("at", step)?,
+    })
+}
+
+#[tactic(auto, unfolding(crate::specs::Steps::restart_step))]
+pub fn restart_step(job: Job, step: &Value) -> Result<Step, WrongForm>
+    ensures { result ≡ restart_step job (view step.now) }
+{
+    exactly(&["do", "assigner"], step)?;
+    Ok(Step::Restart {
+        assigner: number_in(1, job.assigners(), "assigner", step)?,
+    })
+}

@@ -1,0 +1,84 @@
+//! The steps of tasks.
+
+ghost use Rattle.std.specs.Prelude.{◌≡◌};
+ghost use Rattle.serde_json.specs.View.{view};
+ghost use Rattle.service.specs.Reading.{Gives};
+ghost use Rattle.service.specs.Steps.{start_step, hear_step, release_step, serve_step, hold_step, check_step};
+
+use crate::fault::{Unread, WrongForm};
+use crate::members::{exactly, key_at, kind_at, life_at, number_at, number_in};
+use serde_json::Value;
+use std::alloc::Global;
+use world::{Job, Step};
+
+#[tactic(auto, unfolding(crate::specs::Steps::start_step))]
+pub fn start_step(job: Job, step: &Value) -> Result<Step, WrongForm>
+    ensures { result ≡ start_step job (view step.now) }
+{
+    exactly(&["do", "task", "life", "at"], step)?;
+    Ok(Step::Start {
+        task: number_in(1, job.tasks(), "task", step)?,
+        life: life_at("life", step)?,
+        at: number_at("at", step)?,
+    })
+}
+
+#[tactic(auto, unfolding(crate::specs::Steps::hear_step))]
+pub fn hear_step(job: Job, step: &Value) -> Result<Step, WrongForm>
+    ensures { result ≡ hear_step job (view step.now) }
+{
+    exactly(&["do", "task", "number", "at"], step)?;
+    Ok(Step::Hear {
+        task: number_in(1, job.tasks(), "task", step)?,
+        number: number_at("number", step)?,
+        at: number_at("at", step)?,
+    })
+}
+
+#[tactic(auto, unfolding(crate::specs::Steps::release_step))]
+pub fn release_step(job: Job, step: &Value) -> Result<Step, WrongForm>
+    ensures { result ≡ release_step job (view step.now) }
+{
+    exactly(&["do", "task", "kind", "at"], step)?;
+    Ok(Step::Release {
+        task: number_in(1, job.tasks(), "task", step)?,
+        kind: kind_at("kind", step)?,
+        at: number_at("at", step)?,
+    })
+}
+
+#[tactic(auto, unfolding(crate::specs::Steps::serve_step))]
+pub fn serve_step(alloc: Global, job: Job, step: &Value) -> Result<Step, Unread>
+    ensures { Gives result (serve_step job (view step.now)) }
+{
+    exactly(&["do", "task", "key", "at"], step)?;
+    Ok(Step::Serve {
+        task: number_in(1, job.tasks(), "task", step)?,
+        key: key_at(alloc, "key", step)?,
+        at: number_at("at", step)?,
+    })
+}
+
+#[tactic(auto, unfolding(crate::specs::Steps::hold_step))]
+pub fn hold_step(alloc: Global, job: Job, step: &Value) -> Result<Step, Unread>
+    ensures { Gives result (hold_step job (view step.now)) }
+{
+    exactly(&["do", "task", "key", "at"], step)?;
+    Ok(Step::Hold {
+        task: number_in(1, job.tasks(), "task", step)?,
+        key: key_at(alloc, "key", step)?,
+        at: number_at("at", step)?,
+    })
+}
+
+#[tactic(auto, unfolding(crate::specs::Steps::check_step))]
+pub fn check_step(job: Job, step: &Value) -> Result<Step, WrongForm>
+    ensures { result ≡ check_step job (view step.now) }
+{
+    exactly(&["do", "task", "handle", "at"], step)?;
+    Ok(Step::Check {
+        task: number_in(1, job.tasks(), "task", step)?,
+        handle: number_at("handle", step)?,
+        at: number_at("at", step)?,
+    })
+}

@@ -1,0 +1,125 @@
+//! The words for why a step is refused.
+
+ghost use Rattle.std.specs.Prelude.{◌≡◌, Some};
+ghost use Rattle.service.specs.Lines.{slices_words, ranges_words, kind_word, table_words, slicelet_words, refusal_words};
+
+use assignment::AssignmentError;
+use clerk::ClerkError;
+use lease_table::TableError;
+use policy_rules::Kind;
+use slice_ranges::RangesError;
+use slicelet::SliceletError;
+use std::fmt;
+use world::Refusal;
+
+// The words for slices that make no assignment. No reply is for want of memory.
+fn slices_words(error: AssignmentError) -> &'static str
+    ensures { result.now ≡ slices_words error }
+{
+    match error {
+        AssignmentError::NoSlices => "no-slices",
+        AssignmentError::FirstNotZero => "first-not-zero",
+        AssignmentError::NotRising => "not-rising",
+        AssignmentError::PastEnd => "past-end",
+        AssignmentError::NoOwner => "no-owner",
+        AssignmentError::TooManyOwners => "too-many-owners",
+        AssignmentError::OwnerTwice => "owner-twice",
+        AssignmentError::BadTask => "bad-task",
+        AssignmentError::TooManySlices => "too-many-slices",
+        AssignmentError::NoMemory => "no-memory",
+    }
+}
+
+// The words for pairs that make no set. No reply is for want of memory.
+fn ranges_words(error: RangesError) -> &'static str
+    ensures { result.now ≡ ranges_words error }
+{
+    match error {
+        RangesError::Unsorted => "unsorted",
+        RangesError::Empty => "empty",
+        RangesError::PastEnd => "past-end",
+        RangesError::NoMemory => "no-memory",
+    }
+}
+
+/// The word for a kind of lease.
+pub fn kind_word(kind: Kind) -> &'static str
+    ensures { result.now ≡ kind_word kind }
+{
+    match kind {
+        Kind::Guard => "guard",
+        Kind::Bridge => "bridge",
+    }
+}
+
+/// The words for why the table refuses.
+#[derive(Clone, Copy, Debug, PartialEq, Eq)]
+struct TableWords(TableError);
+
+impl fmt::Display for TableWords {
+    ghost output = { λ w. Some (table_words w.0) };
+
+    fn fmt<W: fmt::Write>(&self, f: &mut fmt::Formatter<W>) -> fmt::Result {
+        match self.0 {
+            TableError::ReadingRange => f.write_str("reading-range"),
+            TableError::ClockBack => f.write_str("clock-back"),
+            TableError::JobHeld { until } => write!(f, "job-held {until}"),
+            TableError::NotHolder { term } => write!(f, "not-holder {term}"),
+            TableError::StaleBase { generation } => write!(f, "stale-base {generation}"),
+            TableError::Pending => f.write_str("pending"),
+            TableError::NothingPending => f.write_str("nothing-pending"),
+            TableError::TooManyOwnersForJob => f.write_str("too-many-owners-for-job"),
+            TableError::Held { task, kind, number } => {
+                write!(f, "held {task} {} {number}", kind_word(kind))
+            }
+            TableError::NoRow => f.write_str("no-row"),
+            TableError::NoAssignment => f.write_str("no-assignment"),
+            TableError::NumbersSpent => f.write_str("numbers-spent"),
+        }
+    }
+}
+
+/// The words for why a slicelet refuses.
+#[derive(Clone, Copy, Debug, PartialEq, Eq)]
+struct SliceletWords(SliceletError);
+
+impl fmt::Display for SliceletWords {
+    ghost output = { λ w. Some (slicelet_words w.0) };
+
+    fn fmt<W: fmt::Write>(&self, f: &mut fmt::Formatter<W>) -> fmt::Result {
+        match self.0 {
+            SliceletError::NotStarted => f.write_str("not-started"),
+            SliceletError::OldLife => f.write_str("old-life"),
+            SliceletError::ClockBack => f.write_str("clock-back"),
+            SliceletError::OtherTask => f.write_str("other-task"),
+            SliceletError::OtherLife => f.write_str("other-life"),
+            SliceletError::Old { heard } => write!(f, "old {heard}"),
+            SliceletError::TooLate => f.write_str("too-late"),
+            SliceletError::NothingHeld => f.write_str("nothing-held"),
+            SliceletError::HistoryFull => f.write_str("history-full"),
+        }
+    }
+}
+
+/// The words for why a step is refused. No step of a script has an actor that is not of the job.
+#[derive(Clone, Copy, Debug, PartialEq, Eq)]
+pub struct RefusalWords(pub Refusal);
+
+impl fmt::Display for RefusalWords {
+    ghost output = { λ w. Some (refusal_words w.0) };
+
+    fn fmt<W: fmt::Write>(&self, f: &mut fmt::Formatter<W>) -> fmt::Result {
+        match self.0 {
+            Refusal::NoActor => f.write_str("no-actor"),
+            Refusal::NotSent => f.write_str("not-sent"),
+            Refusal::NoDraft => f.write_str("no-draft"),
+            Refusal::Slices(error) => f.write_str(slices_words(error)),
+            Refusal::Ranges(error) => f.write_str(ranges_words(error)),
+            Refusal::Table(error) => write!(f, "{}", TableWords(error)),
+            Refusal::Slicelet(error) => write!(f, "{}", SliceletWords(error)),
+            Refusal::Stranger => f.write_str("stranger"),
+            Refusal::Clerk(ClerkError::Old { generation }) => write!(f, "old {generation}"),
+            Refusal::Unknown => f.write_str("unknown"),
+        }
+    }
+}
