@@ -1,0 +1,126 @@
+//! What all tasks counted.
+
+ghost use Rattle.std.specs.Prelude.{◌≡◌, ◌+◌, ◌≤◌, ℕ, [], None, IfErr, length, sum};
+ghost use Rattle.machines.specs.Answers.{Takes};
+ghost use Rattle.machines.specs.Refusals.{first_of};
+ghost use Rattle.load_ledger.specs.Books.{book_of, book_with, gather_checks, gather_step, shares_total, task_total, without_shares};
+
+use crate::error::LoadError;
+use crate::loads::loads_of;
+use crate::share::{LoadShare, MOST_TOTAL};
+use assignment::{Assignment, Listed, TaskId};
+use machines::Trouble;
+use std::alloc::Global;
+use std::marker::Model;
+
+// How many tasks a job has at the most.
+const TASKS: usize = assignment::TASKS as usize;
+
+/// Shares that were not gathered.
+#[derive(Debug, Drop)]
+pub struct Ungathered {
+    /// Why they were not.
+    pub why: Trouble<LoadError>,
+    /// The shares, as they were.
+    pub shares: Listed<LoadShare>,
+}
+
+/// How much work each task has done, by the shares that were gathered. Contracts see the totals of
+/// the tasks in the order of their numbers.
+#[derive(Debug, Drop)]
+pub struct LoadBook {
+    totals: [u64; TASKS],
+}
+
+impl Model for LoadBook {
+    ghost use Rattle.std.specs.Prelude.{◌≡◌, ◌≤◌, ℕ, List, length, sum};
+    ghost use Rattle.load_ledger.specs.declared.share.TheConstants.{MOST_TOTAL};
+
+    ghost Value = { List ℕ };
+
+    ghost view = { λ b. b.totals };
+
+    ghost invariant = { λ b. (length b.totals ≡ 64) × (sum b.totals ≤ MOST_TOTAL) };
+}
+
+impl LoadBook {
+    /// A book in which nothing is gathered.
+    pub fn new() -> Self
+        ensures { result ≡ book_of [] }
+    {
+        LoadBook { totals: [0; TASKS] }
+    }
+
+    /// Adds shares to the totals of their tasks, and answers the load of each slice of an assignment
+    /// by these shares.
+    ///
+    /// Refused by `TotalRange` where all totals together would be above [`MOST_TOTAL`]; want of
+    /// memory comes last. Either way nothing changes, and the shares are handed back.
+    pub fn gather(
+        &mut self,
+        alloc: Global,
+        shares: Listed<LoadShare>,
+        assignment: &Assignment,
+    ) -> Result<Listed<u64>, Ungathered>
+        ensures gathers { Takes (gather_step shares assignment.now.slices self.old) self.old
+            (without_shares result) self.new }
+        ensures handed_back { IfErr result (λ refused. refused.shares ≡ shares) }
+    {
+        if let Some(refusal) = self.gather_refusal(shares.as_slice()) {
+            let why = Trouble::Refused(refusal);
+            return Err(Ungathered { why, shares });
+        }
+        match loads_of(alloc, shares.as_slice(), assignment.slices()) {
+            Ok(loads) => {
+                add_totals(&mut self.totals, shares.as_slice());
+                Ok(Listed::from_vec(loads))
+            }
+            Err(_) => Err(Ungathered {
+                why: Trouble::NoMemory,
+                shares,
+            }),
+        }
+    }
+
+    /// Why a gather of shares is refused, if it is.
+    pub fn gather_refusal(&self, shares: &[LoadShare]) -> Option<LoadError>
+        ensures { result ≡ first_of (gather_checks shares.now self.now) }
+    {
+        let mut left = MOST_TOTAL - self.totals.iter().sum::<u64>();
+        for share in shares {
+            if left < share.total() {
+                return Some(LoadError::TotalRange);
+            }
+            left -= share.total();
+        }
+        None
+    }
+
+    /// How much work a task has done.
+    pub fn total(&self, task: TaskId) -> u64
+        ensures { result ≡ task_total self.now task }
+    {
+        self.totals[task.number() as usize - 1]
+    }
+
+    /// A book that equals this one.
+    pub fn copy(&self) -> Self
+        ensures { result ≡ self.now }
+    {
+        LoadBook {
+            totals: self.totals,
+        }
+    }
+}
+
+// Adds shares to the totals of their tasks.
+fn add_totals(totals: &mut [u64], shares: &[LoadShare])
+    requires each { length totals.old ≡ 64 }
+    requires small { sum totals.old + shares_total shares.now ≤ MOST_TOTAL }
+    ensures totals { totals.new ≡ book_with shares.now totals.old }
+    ensures sum { sum totals.new ≡ sum totals.old + shares_total shares.now }
+{
+    for share in shares {
+        totals[share.task().number() as usize - 1] += share.total();
+    }
+}

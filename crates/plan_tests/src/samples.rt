@@ -1,0 +1,120 @@
+//! What the tests speak of, and plans in words.
+
+use assignment::{Assignment, Listed, Slice, TaskId};
+use key_hash::slice_key;
+use load_ledger::LoadShare;
+use std::alloc::{AllocError, Global};
+use std::test::Fail;
+use weighted_move::{Move, Plan, PlanError, PlanPolicy, TaskSet, plan};
+
+// A quarter and the half of the key space.
+pub const QUARTER: u64 = 1 << 61;
+
+pub const HALF: u64 = 1 << 62;
+
+// As many keys as there are.
+pub const ALL: u64 = 1 << 63;
+
+pub type Listing<'a> = &'a [(u64, &'a [u64])];
+
+pub fn task_of(number: u64) -> Result<TaskId, Fail> {
+    Ok(TaskId::new(number).ok_or("it is a task")?)
+}
+
+// The assignment of a listing, if there is memory for it.
+pub fn built(alloc: Global, listing: Listing<'_>) -> Option<Assignment> {
+    let mut slices = Vec::new(alloc);
+    for (start, owners) in listing {
+        slices
+            .push(Slice {
+                start: *start,
+                owners: Listed::from_vec(Vec::from_slice(alloc, owners).ok()?),
+            })
+            .ok()?;
+    }
+    Assignment::build(alloc, 1, &slices).ok()
+}
+
+pub fn assignment_of(alloc: Global, listing: Listing<'_>) -> Result<Assignment, Fail> {
+    Ok(built(alloc, listing).ok_or("the slices make an assignment")?)
+}
+
+pub fn set_of(numbers: &[u64]) -> Result<TaskSet, Fail> {
+    let mut set = TaskSet::empty();
+    for number in numbers {
+        set = set.with(task_of(*number)?);
+    }
+    Ok(set)
+}
+
+// A share of a task with one record for each key and weight, if there is memory for it.
+pub fn filled(alloc: Global, task: TaskId, records: &[(&[u8], u64)]) -> Option<LoadShare> {
+    let mut share = LoadShare::new(alloc, task);
+    for (key, weight) in records {
+        share.add(slice_key(key), *weight).ok()?;
+    }
+    Some(share)
+}
+
+pub fn share_of(alloc: Global, task: u64, records: &[(&[u8], u64)]) -> Result<LoadShare, Fail> {
+    Ok(filled(alloc, task_of(task)?, records).ok_or("there is room")?)
+}
+
+// Slices as they lie, each with one owner and a load.
+pub fn plan_of(
+    alloc: Global,
+    listing: Listing<'_>,
+    loads: &[u64],
+    tasks: &[u64],
+    policy: &PlanPolicy,
+) -> Result<Result<Plan, PlanError>, Fail> {
+    let assignment = assignment_of(alloc, listing)?;
+    let set = set_of(tasks)?;
+    Ok(plan(alloc, &assignment, loads, &set, policy))
+}
+
+// Slices and moves, one after another, if there is memory for them.
+pub fn words_of(alloc: Global, plan: &Plan) -> Option<String> {
+    let mut words = String::new(alloc);
+    for slice in plan.slices.as_slice() {
+        let start = slice.start;
+        words
+            .push_str(format!(in alloc; "{start}:").ok()?.as_str())
+            .ok()?;
+        for owner in slice.owners.as_slice() {
+            words
+                .push_str(format!(in alloc; "{owner},").ok()?.as_str())
+                .ok()?;
+        }
+        words.push_str(" ").ok()?;
+    }
+    for made in plan.moves.as_slice() {
+        words.push_str(move_words(alloc, made).ok()?.as_str()).ok()?;
+    }
+    Some(words)
+}
+
+fn move_words(alloc: Global, made: &Move) -> Result<String, AllocError> {
+    let start = made.start;
+    let giver = made.giver;
+    let taker = made.taker;
+    let gain = made.gain;
+    let churn = made.churn;
+    format!(in alloc; "{start}:{giver}>{taker} gain {gain} churn {churn} ")
+}
+
+// The words of a plan that there is.
+pub fn planned(
+    alloc: Global,
+    listing: Listing<'_>,
+    loads: &[u64],
+    tasks: &[u64],
+    policy: &PlanPolicy,
+) -> Result<String, Fail> {
+    let made = plan_of(alloc, listing, loads, tasks, policy)?.map_err(|_| "there is a plan")?;
+    Ok(words_of(alloc, &made).ok_or("there is memory")?)
+}
+
+pub fn policy_of(redundancy: u64, churn: u64, cold: u64, hot: u64) -> Result<PlanPolicy, Fail> {
+    Ok(PlanPolicy::new(redundancy, churn, cold, hot, 1024).ok_or("it is a policy")?)
+}

@@ -1,0 +1,15 @@
+pub mod Weights
+pub mod Owning
+pub mod Moves
+pub mod Chains
+pub mod Merging
+pub mod Halving
+pub mod Settling
+pub mod Weighing
+pub mod Policies
+pub mod Plans
+pub mod Keys
+pub use Rattle.assignment.specs.Slices
+pub use Rattle.assignment.specs.Owners
+pub use Rattle.machines.specs.Refusals
+pub use Rattle.slice_ranges.specs.Sets
