@@ -1,5 +1,6 @@
 -- The term of the job lease that an assigner keeps.
-use Rattle.std.specs.Prelude.{◌≡◌, ℕ, ◌==◌, ◌&&◌, ◌||◌, Bool, true, false, nat_lt, List, [], ◌∷◌, All, Contains, Option, Some, None, if◌then◌else◌}
+use Rattle.std.specs.Prelude.{◌≡◌, ℕ, ◌==◌, ◌&&◌, ◌||◌, Bool, true, false, nat_lt, List, [], ◌∷◌, Contains, Option, Some, None, if◌then◌else◌}
+use Rattle.std.specs.List.{AllByRecursion}
 use Rattle.lease_table.specs.declared.values.JobTerm.{JobTerm}
 
 -- an assigner: its number, how many ticks a job lease lasts, and the term that it keeps
@@ -42,16 +43,16 @@ abbrev pub kept_after : ℕ → List Call → Option JobTerm
 kept_after id [] = None
 kept_after id (call ∷ calls) = kept_with id call (kept_after id calls)
 
--- the terms that it adopted since its last `restart`, the last one first
-abbrev pub adopted_with : ℕ → Call → Option JobTerm → List JobTerm → List JobTerm
-adopted_with id (Offer term) kept before = if is_adopted id term kept then term ∷ before else before
-adopted_with id Restart kept before = []
+-- its own terms that were offered to it since its last `restart`, the last one first
+abbrev pub offered_with : ℕ → Call → List JobTerm → List JobTerm
+offered_with id (Offer term) before = if term.assigner == id then term ∷ before else before
+offered_with id Restart before = []
 
-abbrev pub adopted_since_restart : ℕ → List Call → List JobTerm
-adopted_since_restart id [] = []
-adopted_since_restart id (call ∷ calls) = adopted_with id call (kept_after id calls) (adopted_since_restart id calls)
+abbrev pub offered_since_restart : ℕ → List Call → List JobTerm
+offered_since_restart id [] = []
+offered_since_restart id (call ∷ calls) = offered_with id call (offered_since_restart id calls)
 
--- a term is one of these, and none of them is above it
-pub record IsGreatest (terms : List JobTerm) (term : JobTerm) : Type 0 where
-  pub listed : Contains terms term
-  pub greatest : All (λ other. is_above other term ≡ false) terms
+-- what is kept of some terms is the greatest: one of them that none of them is above; and nothing where there are none
+abbrev pub IsGreatest : List JobTerm → Option JobTerm → Type 0
+IsGreatest terms None = terms ≡ []
+IsGreatest terms (Some term) = Contains terms term × AllByRecursion (λ other. is_above other term ≡ false) terms

@@ -2,9 +2,11 @@
 
 ghost use Rattle.std.specs.Prelude.{◌≡◌, None};
 ghost use Rattle.lease_table.specs.Tables.{last_number};
+ghost use Rattle.assigner.specs.Actions.{next_action};
 ghost use Rattle.assigner.specs.Terms.{opening, is_above_kept, is_adopted, adopted_term};
 
-use lease_table::JobTerm;
+use crate::action::{Action, View};
+use lease_table::{JobTerm, Phase};
 use std::marker::Model;
 
 /// An assigner, and the term of the job lease that it keeps.
@@ -71,6 +73,28 @@ impl Assigner {
         match self.term {
             Some(term) => term.number,
             None => 0,
+        }
+    }
+
+    /// What to do next: take the job lease where no term is kept or it has ended; renew it where at
+    /// most half of the length of a job lease, rounded down, is left; commit while an assignment is
+    /// proposed; propose where another one is wanted; and else rest.
+    pub fn next(&self, view: &View) -> Action
+        ensures { result ≡ next_action self.now view.now }
+    {
+        let Some(term) = self.term else {
+            return Action::Take;
+        };
+        if view.reading >= term.until {
+            Action::Take
+        } else if term.until - view.reading <= self.job_term / 2 {
+            Action::Renew
+        } else if matches!(view.phase, Phase::Bridging(..)) {
+            Action::Commit
+        } else if view.wanted {
+            Action::Propose
+        } else {
+            Action::Rest
         }
     }
 

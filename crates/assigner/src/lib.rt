@@ -1,6 +1,10 @@
 //! Assigners: which term of the job lease an assigner holds.
 #![tactic(auto)]
 
+mod action;
 mod assigner;
+mod laws;
 
 pub use crate::assigner::Assigner;
+pub use action::{Action, View};
+pub use laws::terms_law;
