@@ -8,6 +8,8 @@ mod hashes;
 #[cfg(test)]
 mod owners;
 #[cfg(test)]
+mod samples;
+#[cfg(test)]
 mod sets;
 #[cfg(test)]
 mod verdicts;

@@ -1,11 +1,16 @@
-use assignment::{Assignment, Listed, Slice, TaskId};
-use key_hash::SliceKey;
+//! Tasks, assignments and the owners of a key.
+
+use crate::samples::key_of;
+use assignment::{Assignment, Listed, OwnedSlice, Slice, TaskId};
 use machines::Duplicate;
 use std::alloc::Global;
 use std::test::Fail;
 
 // The half of the key space.
 const HALF: u64 = 1 << 62;
+
+// The end of the key space.
+const END: u64 = 1 << 63;
 
 fn slices_of(alloc: Global, listed: &[(u64, &[u64])]) -> Result<Vec<Slice>, Fail> {
     let mut slices = Vec::new(alloc);
@@ -18,6 +23,20 @@ fn slices_of(alloc: Global, listed: &[(u64, &[u64])]) -> Result<Vec<Slice>, Fail
     Ok(slices)
 }
 
+fn assignment_of(
+    alloc: Global,
+    generation: u64,
+    listed: &[(u64, &[u64])],
+) -> Result<Assignment, Fail> {
+    let slices = slices_of(alloc, listed)?;
+    let built = Assignment::build(alloc, generation, &slices);
+    Ok(built.ok().ok_or("slices make an assignment")?)
+}
+
+fn task_of(number: u64) -> Result<TaskId, Fail> {
+    Ok(TaskId::new(number).ok_or("a number from 1 to 64")?)
+}
+
 #[test]
 fn takes_numbers_of_tasks(rt: HostRuntime) {
     for (number, is_task) in [(0, false), (1, true), (64, true), (65, false)] {
@@ -28,87 +47,122 @@ fn takes_numbers_of_tasks(rt: HostRuntime) {
     }
 }
 
+// Whether these are the tasks of these numbers, in this order.
+fn are_tasks(alloc: Global, tasks: &[TaskId], numbers: &[u64]) -> Result<bool, Fail> {
+    let found: Vec<u64> = tasks.iter().map(|task| task.number()).collect(alloc)?;
+    Ok(found.as_slice() == numbers)
+}
+
+// The first key that other tasks own.
+fn first_at_fault(
+    alloc: Global,
+    assignment: &Assignment,
+    cases: &[(u64, &[u64])],
+) -> Result<Option<u64>, Fail> {
+    for (number, owners) in cases {
+        let found = assignment.owners(key_of(*number)?);
+        if !are_tasks(alloc, &found, owners)? {
+            return Ok(Some(*number));
+        }
+    }
+    Ok(None)
+}
+
+#[test]
+fn names_the_owner_of_every_key(rt: HostRuntime) -> Result<(), Fail> {
+    let whole = assignment_of(rt.alloc(), 1, &[(0, &[1])])?;
+    let fault = first_at_fault(rt.alloc(), &whole, &[(0, &[1]), (END - 1, &[1])])?;
+    assert_eq!(rt; fault, None);
+    Ok(())
+}
+
 #[test]
 fn names_owners(rt: HostRuntime) -> Result<(), Fail> {
-    let alloc = rt.alloc();
-    let whole = Assignment::build(alloc, 1, &slices_of(alloc, &[(0, &[1])])?).map_err(
-        |_| "one slice makes an assignment",
-    )?;
-    let shared = Assignment::build(
-        alloc,
-        7,
-        &slices_of(alloc, &[(0, &[64, 9, 10]), (HALF, &[2])])?,
-    )
-    .map_err(|_| "two slices make an assignment")?;
-    let cases: [(&Assignment, u64, &[u64]); 6] = [
-        (&whole, 0, &[1]),
-        (&whole, (1 << 63) - 1, &[1]),
-        (&shared, 0, &[9, 10, 64]),
-        (&shared, HALF - 1, &[9, 10, 64]),
-        (&shared, HALF, &[2]),
-        (&shared, (1 << 63) - 1, &[2]),
+    let cases: [(u64, &[u64]); 4] = [
+        (0, &[9, 10, 64]),
+        (HALF - 1, &[9, 10, 64]),
+        (HALF, &[2]),
+        (END - 1, &[2]),
     ];
-    for (assignment, key, owners) in cases {
-        let key = SliceKey::new(key).ok_or("a number of 63 bits is a key")?;
-        let found: Vec<u64> = assignment
-            .owners(key)
-            .iter()
-            .map(|task| task.number())
-            .collect(alloc)?;
-        assert_eq!(rt; found.as_slice(), owners);
-    }
+    let shared = assignment_of(rt.alloc(), 7, &[(0, &[64, 9, 10]), (HALF, &[2])])?;
+    assert_eq!(rt; first_at_fault(rt.alloc(), &shared, &cases)?, None);
     Ok(())
+}
+
+fn is_slice(alloc: Global, slice: &OwnedSlice, start: u64, owners: &[u64]) -> Result<bool, Fail> {
+    Ok(slice.start().value() == start && are_tasks(alloc, slice.owners(), owners)?)
+}
+
+// Whether it is of generation 9, with two slices.
+fn is_kept(alloc: Global, assignment: &Assignment) -> Result<bool, Fail> {
+    match assignment.slices() {
+        [first, second] => Ok(
+            assignment.generation() == 9
+                && is_slice(alloc, first, 0, &[3, 1])?
+                && is_slice(alloc, second, 5, &[2])?,
+        ),
+        _ => Ok(false),
+    }
+}
+
+// Whether a copy equals the assignment and keeps the same.
+fn is_kept_by_a_copy(alloc: Global, assignment: &Assignment) -> Result<bool, Fail> {
+    let copied = assignment.copy()?;
+    Ok(copied == *assignment && is_kept(alloc, &copied)?)
 }
 
 #[test]
 fn keeps_what_it_is_given(rt: HostRuntime) -> Result<(), Fail> {
-    let alloc = rt.alloc();
-    let given = slices_of(alloc, &[(0, &[3, 1]), (5, &[2])])?;
-    let built = Assignment::build(alloc, 9, &given).map_err(|_| "two slices make an assignment")?;
-    let copied = built.copy()?;
-    assert!(rt; copied == built);
-    for assignment in [&built, &copied] {
-        assert_eq!(rt; assignment.generation(), 9);
-        assert_eq!(rt; assignment.slices().len(), 2);
-        for (slice, (start, owners)) in assignment
-            .slices()
-            .iter()
-            .zip([(0u64, [3u64, 1].as_slice()), (5, [2].as_slice())])
-        {
-            assert_eq!(rt; slice.start().value(), start);
-            let found: Vec<u64> = slice
-                .owners()
-                .iter()
-                .map(|task| task.number())
-                .collect(alloc)?;
-            assert_eq!(rt; found.as_slice(), owners);
-        }
-    }
+    let built = assignment_of(rt.alloc(), 9, &[(0, &[3, 1]), (5, &[2])])?;
+    let is_kept = is_kept(rt.alloc(), &built)?;
+    let is_copied = is_kept_by_a_copy(rt.alloc(), &built)?;
+    assert!(rt; is_kept);
+    assert!(rt; is_copied);
     Ok(())
+}
+
+fn width_of(assignment: &Assignment, task: TaskId) -> Result<u64, Fail> {
+    Ok(assignment.of_task(task)?.width())
+}
+
+// How many keys tasks 2 and 1 own in the new assignment, and task 2 in the old one.
+fn widths(old: &Assignment, new: &Assignment) -> Result<[u64; 3], Fail> {
+    let (first, second) = (task_of(1)?, task_of(2)?);
+    Ok([
+        width_of(new, second)?,
+        width_of(new, first)?,
+        width_of(old, second)?,
+    ])
+}
+
+// How many keys bridges of tasks 1 and 2 have, and whether that of task 1 has three keys.
+fn bridges(old: &Assignment, new: &Assignment) -> Result<([u64; 2], [bool; 3]), Fail> {
+    let (low, mid, high) = (key_of(0)?, key_of(HALF - 1)?, key_of(HALF)?);
+    let none = old.bridge(new, task_of(2)?)?.width();
+    let bridge = old.bridge(new, task_of(1)?)?;
+    let has = [low, mid, high].map(|key| bridge.contains(key));
+    Ok(([bridge.width(), none], has))
 }
 
 #[test]
 fn bridges_two_generations(rt: HostRuntime) -> Result<(), Fail> {
-    let alloc = rt.alloc();
-    let old = Assignment::build(alloc, 1, &slices_of(alloc, &[(0, &[1]), (HALF, &[2])])?).map_err(
-        |_| "two slices make an assignment",
-    )?;
-    let new = Assignment::build(alloc, 2, &slices_of(alloc, &[(0, &[1])])?).map_err(
-        |_| "one slice makes an assignment",
-    )?;
-    let first = TaskId::new(1).ok_or("1 is a task")?;
-    let second = TaskId::new(2).ok_or("2 is a task")?;
-    assert_eq!(rt; new.of_task(second)?.width(), 0);
-    assert_eq!(rt; new.of_task(first)?.width(), 1 << 63);
-    assert_eq!(rt; old.of_task(second)?.width(), HALF);
-    let bridge = old.bridge(&new, first)?;
-    assert_eq!(rt; bridge.width(), HALF);
-    for (number, bridged) in [(0, true), (HALF - 1, true), (HALF, false)] {
-        let key = SliceKey::new(number).ok_or("a number of 63 bits is a key")?;
-        assert_eq!(rt; bridge.contains(key), bridged);
-    }
-    assert_eq!(rt; old.bridge(&new, second)?.width(), 0);
+    let new = assignment_of(rt.alloc(), 2, &[(0, &[1])])?;
+    let old = assignment_of(rt.alloc(), 1, &[(0, &[1]), (HALF, &[2])])?;
+    let found = (widths(&old, &new)?, bridges(&old, &new)?);
+    assert_eq!(rt; found, ([0, END, HALF], ([HALF, 0], [true, true, false])));
     Ok(())
+}
+
+// Whether a copy of the slice equals it, and no longer so with one more owner.
+fn slice_is_copied(slice: &Slice) -> Result<bool, Fail> {
+    let mut copied = slice.copy()?;
+    let is_same = copied == *slice;
+    copied.owners.push(2)?;
+    Ok(is_same && copied != *slice)
+}
+
+fn is_copied<T: Duplicate + PartialEq + Drop>(listed: &T) -> Result<bool, Fail> {
+    Ok(listed.copy()? == *listed)
 }
 
 #[test]
@@ -118,13 +172,9 @@ fn copies_what_is_written(rt: HostRuntime) -> Result<(), Fail> {
         start: 5,
         owners: Listed::from_slice(alloc, &[3, 1])?,
     };
-    let mut copied = slice.copy()?;
-    assert!(rt; copied == slice);
-    copied.owners.push(2)?;
-    assert!(rt; copied != slice);
-    let bytes = Listed::from_slice(alloc, b"key")?;
-    assert!(rt; bytes.copy()? == bytes);
-    let pairs = Listed::from_vec(Vec::from_array(alloc, [(1u64, 2u64), (3, 4)])?);
-    assert!(rt; pairs.copy()? == pairs);
+    assert!(rt; slice_is_copied(&slice)?);
+    assert!(rt; is_copied(&Listed::from_slice(alloc, b"key")?)?);
+    let pairs = Vec::from_array(alloc, [(1u64, 2u64), (3, 4)])?;
+    assert!(rt; is_copied(&Listed::from_vec(pairs))?);
     Ok(())
 }

@@ -1,39 +1,71 @@
-use key_hash::SliceKey;
+//! Sets of keys.
+
+use crate::samples::key_of;
 use slice_ranges::{Ranges, RangesError};
+use std::alloc::Global;
 use std::test::Fail;
+
+fn set_of(alloc: Global, pairs: &[(u64, u64)]) -> Result<Ranges, Fail> {
+    Ok(
+        Ranges::build(alloc, pairs)
+            .ok()
+            .ok_or("pairs in order make a set")?,
+    )
+}
+
+// The first of these keys that the set does not have where it should, or has where it should not.
+fn first_at_fault(set: &Ranges, cases: &[(u64, bool)]) -> Result<Option<u64>, Fail> {
+    for (number, is_in) in cases {
+        if set.contains(key_of(*number)?) != *is_in {
+            return Ok(Some(*number));
+        }
+    }
+    Ok(None)
+}
+
+fn last() -> u64 {
+    (1 << 63) - 1
+}
 
 #[test]
 fn joins_pairs_that_touch(rt: HostRuntime) -> Result<(), Fail> {
-    let alloc = rt.alloc();
-    let joined = Ranges::build(alloc, &[(0, 5), (5, 9)]).map_err(|_| "pairs in order make a set")?;
-    let apart = Ranges::build(alloc, &[(0, 5), (6, 1 << 63)]).map_err(
-        |_| "pairs in order make a set",
-    )?;
-    let none = Ranges::build(alloc, &[]).map_err(|_| "no pairs make a set")?;
-    let last = (1 << 63) - 1;
-    for (number, in_joined, in_apart) in [
-        (0, true, true),
-        (4, true, true),
-        (5, true, false),
-        (6, true, true),
-        (8, true, true),
-        (9, false, true),
-        (last, false, true),
-    ] {
-        let key = SliceKey::new(number).ok_or("a number of 63 bits is a key")?;
-        assert_eq!(rt; joined.contains(key), in_joined, "{number} in [0, 9)");
-        assert_eq!(rt;
-            joined.copy()?.contains(key),
-            in_joined,
-            "{number} in a copy"
-        );
-        assert_eq!(rt;
-            apart.contains(key),
-            in_apart,
-            "{number} in [0, 5) and [6, 2^63)"
-        );
-        assert!(rt; !none.contains(key));
-    }
+    let cases = [
+        (0, true),
+        (4, true),
+        (5, true),
+        (6, true),
+        (8, true),
+        (9, false),
+        (last(), false),
+    ];
+    let joined = set_of(rt.alloc(), &[(0, 5), (5, 9)])?;
+    let fault = first_at_fault(&joined, &cases)?;
+    let fault_of_copy = first_at_fault(&joined.copy()?, &cases)?;
+    assert_eq!(rt; [fault, fault_of_copy], [None, None]);
+    Ok(())
+}
+
+#[test]
+fn leaves_pairs_apart(rt: HostRuntime) -> Result<(), Fail> {
+    let cases = [
+        (0, true),
+        (4, true),
+        (5, false),
+        (6, true),
+        (8, true),
+        (9, true),
+        (last(), true),
+    ];
+    let apart = set_of(rt.alloc(), &[(0, 5), (6, 1 << 63)])?;
+    assert_eq!(rt; first_at_fault(&apart, &cases)?, None);
+    Ok(())
+}
+
+#[test]
+fn has_no_key_without_a_pair(rt: HostRuntime) -> Result<(), Fail> {
+    let cases = [0, 4, 5, 6, 8, 9, last()].map(|number| (number, false));
+    let none = set_of(rt.alloc(), &[])?;
+    assert_eq!(rt; first_at_fault(&none, &cases)?, None);
     Ok(())
 }
 
@@ -60,52 +92,66 @@ fn refuses_the_first_pair_at_fault(rt: HostRuntime) {
 // Whether a set has each of these keys and no other one below 14.
 fn has_only(set: &Ranges, keys: &[u64]) -> Result<bool, Fail> {
     for number in 0..14 {
-        let key = SliceKey::new(number).ok_or("a number of 63 bits is a key")?;
-        if set.contains(key) != keys.contains(&number) {
+        if set.contains(key_of(number)?) != keys.contains(&number) {
             return Ok(false);
         }
     }
     Ok(true)
 }
 
+// Whether a set has these keys alone below 14, and how many keys it has.
+fn shown(set: &Ranges, keys: &[u64]) -> Result<(bool, u64), Fail> {
+    Ok((has_only(set, keys)?, set.width()))
+}
+
+// Intersection, union and difference of two sets.
+fn combined(first: &Ranges, second: &Ranges) -> Result<[(bool, u64); 3], Fail> {
+    let both = shown(&first.intersect(second)?, &[3, 8])?;
+    let either = shown(
+        &first.union(second)?,
+        &[0, 1, 2, 3, 4, 5, 6, 7, 8, 9, 10, 11],
+    )?;
+    let first_alone = shown(&first.without(second)?, &[0, 1, 2, 4, 5, 6, 7])?;
+    Ok([both, either, first_alone])
+}
+
 #[test]
 fn combines_two_sets(rt: HostRuntime) -> Result<(), Fail> {
-    let alloc = rt.alloc();
-    let first = Ranges::build(alloc, &[(0, 5), (5, 9)]).map_err(|_| "pairs in order make a set")?;
-    let second = Ranges::build(alloc, &[(3, 4), (8, 12)]).map_err(|_| "pairs in order make a set")?;
-    assert_eq!(rt; first.width(), 9);
-    let both = first.intersect(&second)?;
-    assert!(rt; has_only(&both, &[3, 8])?);
-    assert_eq!(rt; both.width(), 2);
-    let either = first.union(&second)?;
-    assert!(rt; has_only(&either, &[0, 1, 2, 3, 4, 5, 6, 7, 8, 9, 10, 11])?);
-    assert_eq!(rt; either.width(), 12);
-    let first_alone = first.without(&second)?;
-    assert!(rt; has_only(&first_alone, &[0, 1, 2, 4, 5, 6, 7])?);
-    assert_eq!(rt; first_alone.width(), 7);
+    let first = set_of(rt.alloc(), &[(0, 5), (5, 9)])?;
+    let second = set_of(rt.alloc(), &[(3, 4), (8, 12)])?;
+    let found = (first.width(), combined(&first, &second)?);
+    assert_eq!(rt; found, (9, [(true, 2), (true, 12), (true, 7)]));
     Ok(())
 }
 
 #[test]
 fn takes_the_keys_of_levels(rt: HostRuntime) -> Result<(), Fail> {
-    let alloc = rt.alloc();
     let levels = [(2, true), (3, true), (5, false), (7, false), (9, true)];
-    let set = Ranges::from_levels(alloc, &levels)?;
-    assert!(rt; has_only(&set, &[2, 3, 4, 9, 10, 11, 12, 13])?);
-    assert_eq!(rt; set.width(), (1 << 63) - 6);
-    assert_eq!(rt; Ranges::from_levels(alloc, &[(0, true)])?.width(), 1 << 63);
-    assert_eq!(rt; Ranges::from_levels(alloc, &[])?.width(), 0);
+    let whole = Ranges::from_levels(rt.alloc(), &[(0, true)])?.width();
+    let none = Ranges::from_levels(rt.alloc(), &[])?.width();
+    let set = Ranges::from_levels(rt.alloc(), &levels)?;
+    let found = (shown(&set, &[2, 3, 4, 9, 10, 11, 12, 13])?, whole, none);
+    assert_eq!(rt; found, ((true, (1 << 63) - 6), 1 << 63, 0));
     Ok(())
+}
+
+// Whether a set equals that of these pairs.
+fn equals(alloc: Global, set: &Ranges, pairs: &[(u64, u64)]) -> Result<bool, Fail> {
+    Ok(set_of(alloc, pairs)? == *set)
+}
+
+// Whether it equals a copy, and the empty set.
+fn equals_copy_and_empty(alloc: Global, set: &Ranges) -> Result<(bool, bool), Fail> {
+    Ok((set.copy()? == *set, Ranges::empty(alloc) == *set))
 }
 
 #[test]
 fn compares_sets_by_their_keys(rt: HostRuntime) -> Result<(), Fail> {
     let alloc = rt.alloc();
-    let set = |pairs| Ranges::build(alloc, pairs).map_err(|_| "pairs in order make a set");
-    let whole = set(&[(0, 9)])?;
-    assert_eq!(rt; set(&[(0, 5), (5, 9)])?, whole);
-    assert_eq!(rt; whole.copy()?, whole);
-    assert_ne!(rt; set(&[(0, 5), (6, 9)])?, whole);
-    assert_ne!(rt; Ranges::empty(alloc), whole);
+    let whole = set_of(alloc, &[(0, 9)])?;
+    let touching = equals(alloc, &whole, &[(0, 5), (5, 9)])?;
+    let apart = equals(alloc, &whole, &[(0, 5), (6, 9)])?;
+    let others = equals_copy_and_empty(alloc, &whole)?;
+    assert_eq!(rt; (touching, apart, others), (true, false, (true, false)));
     Ok(())
 }

@@ -1,4 +1,6 @@
-use key_hash::SliceKey;
+//! The written rule.
+
+use crate::samples::key_of;
 use policy_rules::{Ground, Holding, Kind, Lease, Verdict, verdict};
 use slice_ranges::Ranges;
 use std::alloc::Global;
@@ -11,7 +13,9 @@ fn lease_of(
     end: u64,
     ends: u64,
 ) -> Result<Option<Lease>, Fail> {
-    let ranges = Ranges::build(alloc, &[(0, end)]).map_err(|_| "one pair makes a set")?;
+    let ranges = Ranges::build(alloc, &[(0, end)])
+        .ok()
+        .ok_or("one pair makes a set")?;
     Ok(Some(Lease {
         kind,
         generation,
@@ -22,18 +26,26 @@ fn lease_of(
 
 // A guard of generation 1 over the lower half of the keys, which ends at 95, and a bridge of
 // generation 2 over the key 0, which ends at 200.
-#[test]
-fn names_the_first_case_that_holds(rt: HostRuntime) -> Result<(), Fail> {
-    let alloc = rt.alloc();
-    let holding = Holding {
+fn holding_of(alloc: Global) -> Result<Holding, Fail> {
+    Ok(Holding {
         up: true,
         last: 6,
         guard: lease_of(alloc, Kind::Guard, 1, 1 << 62, 95)?,
         bridge: lease_of(alloc, Kind::Bridge, 2, 1, 200)?,
-    };
-    let allowed = |kind, generation| Verdict::Allow { kind, generation };
-    let not_owned = |generation| Verdict::Deny(Ground::NotOwned { generation });
-    let cases = [
+    })
+}
+
+fn allowed(kind: Kind, generation: u64) -> Verdict {
+    Verdict::Allow { kind, generation }
+}
+
+fn not_owned(generation: u64) -> Verdict {
+    Verdict::Deny(Ground::NotOwned { generation })
+}
+
+// Keys, readings and what the holding is answered.
+fn cases() -> [(u64, u64, Verdict); 9] {
+    [
         (0, 5, Verdict::Deny(Ground::ClockBack)),
         (0, 6, allowed(Kind::Guard, 1)),
         (1, 94, allowed(Kind::Guard, 1)),
@@ -43,21 +55,48 @@ fn names_the_first_case_that_holds(rt: HostRuntime) -> Result<(), Fail> {
         (1 << 62, 100, not_owned(2)),
         (0, 200, Verdict::Deny(Ground::Ended)),
         (1 << 62, 200, Verdict::Deny(Ground::NoLease)),
-    ];
-    let mut copied = holding.copy()?;
-    for (number, at, answer) in cases {
-        let key = SliceKey::new(number).ok_or("a number of 63 bits is a key")?;
-        assert_eq!(rt; verdict(&holding, key, at), answer, "key {number} at {at}");
-        assert_eq!(rt;
-            verdict(&copied, key, at),
-            answer,
-            "key {number} at {at}, of a copy"
-        );
+    ]
+}
+
+// The first case that is answered otherwise, and the answer.
+fn first_at_fault(holding: &Holding) -> Result<Option<(u64, u64, Verdict)>, Fail> {
+    for (number, at, wanted) in cases() {
+        let found = verdict(holding, key_of(number)?, at);
+        if found != wanted {
+            return Ok(Some((number, at, found)));
+        }
     }
-    assert!(rt; copied == holding);
+    Ok(None)
+}
+
+#[test]
+fn names_the_first_case_that_holds(rt: HostRuntime) -> Result<(), Fail> {
+    let holding = holding_of(rt.alloc())?;
+    assert_eq!(rt; first_at_fault(&holding)?, None);
+    Ok(())
+}
+
+// The same of a copy, and whether the copy equals the holding.
+fn of_a_copy(holding: &Holding) -> Result<(Option<(u64, u64, Verdict)>, bool), Fail> {
+    let copied = holding.copy()?;
+    let is_same = copied == *holding;
+    Ok((first_at_fault(&copied)?, is_same))
+}
+
+// What a copy is answered where the task is down, and whether it equals the holding.
+fn of_a_copy_that_is_down(holding: &Holding) -> Result<(Verdict, bool), Fail> {
+    let key = key_of(0)?;
+    let mut copied = holding.copy()?;
     copied.up = false;
-    assert!(rt; copied != holding);
-    let key = SliceKey::new(0).ok_or("a number of 63 bits is a key")?;
-    assert_eq!(rt; verdict(&copied, key, 7), Verdict::Deny(Ground::Down));
+    Ok((verdict(&copied, key, 7), copied == *holding))
+}
+
+#[test]
+fn copies_holdings(rt: HostRuntime) -> Result<(), Fail> {
+    let holding = holding_of(rt.alloc())?;
+    let copied = of_a_copy(&holding)?;
+    let down = of_a_copy_that_is_down(&holding)?;
+    assert_eq!(rt; copied, (None, true));
+    assert_eq!(rt; down, (Verdict::Deny(Ground::Down), false));
     Ok(())
 }

@@ -20,6 +20,3 @@ pub use machine::TableEvent;
 pub use policy::{LONGEST_TERM, MOST_GRANTS, Policy};
 pub use table::{LeaseTable, READINGS};
 pub use values::{Grant, JobTerm, Phase, ReleaseNote, Row};
-
-#[cfg(test)]
-mod tests;

@@ -1,0 +1,124 @@
+//! What the tests share: assignments, and tables with and without a first grant.
+
+use assignment::{Assignment, Listed, Slice, TaskId};
+use lease_table::{LeaseTable, Policy, ReleaseNote, TableError};
+use machines::Trouble;
+use policy_rules::Kind;
+use std::alloc::Global;
+use std::test::Fail;
+
+// The half of the key space.
+pub const HALF: u64 = 1 << 62;
+
+// None where memory is wanting.
+pub fn built(alloc: Global, generation: u64, listed: &[(u64, &[u64])]) -> Option<Assignment> {
+    let mut slices = Vec::new(alloc);
+    for (start, owners) in listed {
+        let owners = Listed::from_vec(Vec::from_slice(alloc, owners).ok()?);
+        slices
+            .push(Slice {
+                start: *start,
+                owners,
+            })
+            .ok()?;
+    }
+    Assignment::build(alloc, generation, &slices).ok()
+}
+
+pub fn assignment_of(
+    alloc: Global,
+    generation: u64,
+    listed: &[(u64, &[u64])],
+) -> Result<Assignment, Fail> {
+    Ok(built(alloc, generation, listed).ok_or("slices make an assignment")?)
+}
+
+pub fn task_of(number: u64) -> Result<TaskId, Fail> {
+    Ok(TaskId::new(number).ok_or("a number from 1 to 64")?)
+}
+
+// A table with terms of 1000, 100 and 100 ticks, a skew of 10, and so many numbers of grants.
+pub fn table_of(alloc: Global, numbers: u64) -> Result<LeaseTable, Fail> {
+    let policy = Policy::new(1, 10, 100, 100, 1000, numbers).ok_or("within the limits")?;
+    Ok(LeaseTable::new(alloc, policy))
+}
+
+// Whether assigner 1 takes the job lease, and proposes and commits the first assignment.
+fn opens(table: &mut LeaseTable, first: &Assignment) -> bool {
+    table.job_take(1, 0).is_ok() && table.propose(1, first, 1).is_ok() && table.commit(1, 2).is_ok()
+}
+
+// Whether grant 1 is a guard for life 1 of the task, until 105 for the table and 95 for the task.
+fn has_first_grant(table: &mut LeaseTable, task: TaskId) -> bool {
+    table.grant(task, 1, 5).is_ok_and(|grant| {
+        (
+            grant.number,
+            grant.lease.kind,
+            grant.table_ends,
+            grant.lease.ends,
+        ) == (1, Kind::Guard, 105, 95)
+    })
+}
+
+// Generation 1 gives the lower half to task 1 and the upper half to task 2; task 1 has grant 1.
+pub fn base_of(alloc: Global, numbers: u64) -> Result<LeaseTable, Fail> {
+    let task = task_of(1)?;
+    let mut table = table_of(alloc, numbers)?;
+    let first = assignment_of(alloc, 1, &[(0, &[1]), (HALF, &[2])])?;
+    if !opens(&mut table, &first) || !has_first_grant(&mut table, task) {
+        return Err("grant 1 guard 1 until 105 95".into());
+    }
+    Ok(table)
+}
+
+// The note that gives grant 1 back.
+pub fn note_1() -> Result<ReleaseNote, Fail> {
+    Ok(ReleaseNote {
+        task: task_of(1)?,
+        life: 1,
+        kind: Kind::Guard,
+        number: 1,
+    })
+}
+
+pub fn refusal(answer: Result<(), Trouble<TableError>>) -> Option<TableError> {
+    match answer {
+        Err(Trouble::Refused(error)) => Some(error),
+        _ => None,
+    }
+}
+
+// How a proposal of these slices is refused.
+fn proposal(
+    alloc: Global,
+    table: &mut LeaseTable,
+    (number, at): (u64, u64),
+    generation: u64,
+    listed: &[(u64, &[u64])],
+) -> Result<Option<TableError>, Fail> {
+    let next = assignment_of(alloc, generation, listed)?;
+    Ok(refusal(table.propose(number, &next, at)))
+}
+
+// How proposals under a term at a reading are refused: of a generation that is committed, with too
+// many owners, one that is taken, and a second one while the first waits.
+pub fn proposals(
+    alloc: Global,
+    table: &mut LeaseTable,
+    under: (u64, u64),
+) -> Result<[Option<TableError>; 4], Fail> {
+    let stale = proposal(alloc, table, under, 1, &[(0, &[1])])?;
+    let too_many = proposal(alloc, table, under, 2, &[(0, &[1, 2])])?;
+    let taken = proposal(alloc, table, under, 2, &[(0, &[1])])?;
+    let pending = proposal(alloc, table, under, 2, &[(0, &[1])])?;
+    Ok([stale, too_many, taken, pending])
+}
+
+pub fn wanted_of_proposals() -> [Option<TableError>; 4] {
+    [
+        Some(TableError::StaleBase { generation: 1 }),
+        Some(TableError::TooManyOwnersForJob),
+        None,
+        Some(TableError::Pending),
+    ]
+}
