@@ -21,6 +21,10 @@ use Rattle.slicelet.specs.declared.error.SliceletError.{SliceletError}
 use Rattle.slicelet.specs.declared.error.SliceletError.TheVariants as slicelet
 use Rattle.clerk.specs.declared.error.ClerkError.{ClerkError}
 use Rattle.clerk.specs.declared.error.ClerkError.TheVariants as clerk
+use Rattle.load_ledger.specs.declared.error.LoadError.{LoadError}
+use Rattle.load_ledger.specs.declared.error.LoadError.TheVariants as load
+use Rattle.assigner.specs.declared.action.Action.{Action}
+use Rattle.assigner.specs.declared.action.Action.TheVariants as action
 use Rattle.world.specs.declared.reply.Refusal.{Refusal}
 use Rattle.world.specs.declared.reply.Refusal.TheVariants as refusal
 use Rattle.world.specs.declared.reply.Reply.{Reply}
@@ -99,6 +103,11 @@ slicelet_words slicelet.HistoryFull = codes "history-full"
 abbrev pub clerk_words : ClerkError → List ℕ
 clerk_words (clerk.Old generation) = codes "old " ++ decimal generation
 
+-- the words for why work is not counted
+abbrev pub load_words : LoadError → List ℕ
+load_words load.WeightRange = codes "weight-range"
+load_words load.TotalRange = codes "total-range"
+
 -- the words for a refusal; the first is in no reply to a script, whose actors are all of its job
 abbrev pub refusal_words : Refusal → List ℕ
 refusal_words refusal.NoActor = codes "no-actor"
@@ -111,6 +120,7 @@ refusal_words (refusal.Slicelet error) = slicelet_words error
 refusal_words refusal.Stranger = codes "stranger"
 refusal_words (refusal.Clerk error) = clerk_words error
 refusal_words refusal.Unknown = codes "unknown"
+refusal_words (refusal.Load error) = load_words error
 
 -- a task after another one
 abbrev pub next_owner : ℕ → List ℕ
@@ -141,6 +151,18 @@ unfoldable pub rows_text : List Row → List ℕ
 rows_text [] = []
 rows_text (row ∷ rows) = row_text row ++ flat_map next_row rows
 
+-- a number after a space
+abbrev pub next_number : ℕ → List ℕ
+next_number number = codes " " ++ decimal number
+
+-- the word for what an assigner does next
+abbrev pub action_word : Action → List ℕ
+action_word action.Take = codes "take"
+action_word action.Renew = codes "renew"
+action_word action.Commit = codes "commit"
+action_word action.Propose = codes "propose"
+action_word action.Rest = codes "rest"
+
 -- the words of a reply; the last are never written
 abbrev pub reply_text : Reply → List ℕ
 reply_text (reply.Key key) = codes "key " ++ hex_16 key
@@ -165,6 +187,9 @@ reply_text reply.Broken = codes "broken"
 reply_text (reply.Learnt generation) = codes "learnt " ++ decimal generation
 reply_text (reply.Found found) = codes "found generation " ++ decimal found.generation ++ codes " owners " ++ owners_text found.owners.items
 reply_text reply.Forgotten = codes "forgotten"
+reply_text (reply.Recorded total) = codes "recorded " ++ decimal total
+reply_text (reply.Gathered loads totals) = codes "loads" ++ flat_map next_number loads ++ codes " totals" ++ flat_map next_number totals
+reply_text (reply.Next action) = codes "next " ++ action_word action
 reply_text reply.Restarted = codes "restarted"
 reply_text (reply.Refused refusal) = codes "refused " ++ refusal_words refusal
 reply_text reply.NoMemory = codes "no-memory"

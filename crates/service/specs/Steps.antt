@@ -5,10 +5,10 @@ use Rattle.serde_json.specs.Data.{Data}
 use Rattle.assignment.specs.declared.slice.Slice.{Slice}
 use Rattle.world.specs.Jobs.{Job}
 use Rattle.world.specs.declared.step.Step.{Step}
-use Rattle.world.specs.declared.step.Step.TheVariants.{Hash, Assign, Owners, Judge, Take, Renew, Propose, Commit, Phase, Rows, Grant, Free, Start, Hear, Release, Serve, Hold, Check, Learn, Look, Forget, Restart}
+use Rattle.world.specs.declared.step.Step.TheVariants.{Hash, Assign, Owners, Judge, Take, Renew, Propose, Commit, Phase, Rows, Grant, Free, Start, Hear, Release, Serve, Hold, Check, Learn, Look, Forget, Load, Gather, Next, Restart}
 use Rattle.service.specs.declared.fault.WrongForm.{WrongForm}
 use Rattle.service.specs.Reading.{◌>>=◌, ◌>>◌}
-use Rattle.service.specs.Members.{wrong, exactly, number_at, number_in, number_of, life_at, kind_at, text_at, key_at, pair_of, list_of, list_at}
+use Rattle.service.specs.Members.{wrong, exactly, number_at, number_in, number_of, life_at, flag_at, kind_at, text_at, key_at, pair_of, list_of, list_at}
 use Rattle.service.specs.Questions.{question_of}
 
 -- a slice, written as `[start, [owner, ..]]`
@@ -194,6 +194,30 @@ restart_step job d = do
   assigner ← number_in 1 job.assigners (codes "assigner") d
   Ok (Restart assigner)
 
+-- a `load` has a task, a key and a weight
+unfoldable pub load_step : Job → Data → Result Step WrongForm
+load_step job d = do
+  exactly (codes "do" ∷ codes "task" ∷ codes "key" ∷ codes "weight" ∷ []) d
+  task ← number_in 1 job.tasks (codes "task") d
+  key ← key_at (codes "key") d
+  weight ← number_at (codes "weight") d
+  Ok (Load task key weight)
+
+-- a `gather` has nothing more
+unfoldable pub gather_step : Data → Result Step WrongForm
+gather_step d = do
+  exactly (codes "do" ∷ []) d
+  Ok Gather
+
+-- a `next` has an assigner, a reading, and whether another assignment is wanted
+unfoldable pub next_step : Job → Data → Result Step WrongForm
+next_step job d = do
+  exactly (codes "do" ∷ codes "assigner" ∷ codes "at" ∷ codes "wanted" ∷ []) d
+  assigner ← number_in 1 job.assigners (codes "assigner") d
+  at ← number_at (codes "at") d
+  wanted ← flag_at (codes "wanted") d
+  Ok (Next assigner at wanted)
+
 -- the step of this name
 abbrev step_named : Job → List ℕ → Data → Result Step WrongForm
 step_named job name d =
@@ -218,8 +242,11 @@ step_named job name d =
     (if bytes_eq name (codes "learn") then learn_step job d else
     (if bytes_eq name (codes "look") then look_step job d else
     (if bytes_eq name (codes "forget") then forget_step job d else
+    (if bytes_eq name (codes "load") then load_step job d else
+    (if bytes_eq name (codes "gather") then gather_step d else
+    (if bytes_eq name (codes "next") then next_step job d else
     (if bytes_eq name (codes "restart") then restart_step job d else
-    Err wrong)))))))))))))))))))))
+    Err wrong))))))))))))))))))))))))
 
 -- a step, named by its member `do`
 unfoldable pub step_of : Job → Data → Result Step WrongForm

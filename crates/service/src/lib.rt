@@ -5,6 +5,7 @@ mod clerk_steps;
 mod fault;
 mod job;
 mod line;
+mod load_steps;
 mod members;
 mod output;
 mod program;
@@ -20,8 +21,3 @@ mod words;
 pub use fault::{Fault, ProgramError, ScriptError};
 pub use program::slicer_run;
 pub use run::run_script;
-
-#[cfg(test)]
-mod script_tests;
-#[cfg(test)]
-mod tests;

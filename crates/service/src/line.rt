@@ -1,9 +1,10 @@
 //! The lines that are written for replies.
 
 ghost use Rattle.std.specs.Prelude.{◌≡◌, Some};
-ghost use Rattle.service.specs.Lines.{hex_16, verdict_words, phase_words, owners_text, row_text, rows_text, reply_text};
+ghost use Rattle.std.specs.List.{flat_map};
+ghost use Rattle.service.specs.Lines.{hex_16, verdict_words, phase_words, owners_text, row_text, rows_text, next_number, reply_text};
 
-use crate::words::{RefusalWords, kind_word};
+use crate::words::{RefusalWords, action_word, kind_word};
 use assignment::TaskId;
 use lease_table::{Phase, Row};
 use policy_rules::{Ground, Verdict};
@@ -123,6 +124,21 @@ impl fmt::Display for PhaseWords {
     }
 }
 
+/// Numbers, each after a space.
+#[derive(Clone, Copy, Debug)]
+struct Spaced<'a>(&'a [u64]);
+
+impl fmt::Display for Spaced<'_> {
+    ghost output = { λ n. Some (flat_map next_number n.0.now) };
+
+    fn fmt<W: fmt::Write>(&self, f: &mut fmt::Formatter<W>) -> fmt::Result {
+        for number in self.0 {
+            write!(f, " {number}")?;
+        }
+        Ok(())
+    }
+}
+
 /// The line of a reply, without its end. No line is written for want of memory.
 #[derive(Clone, Copy, Debug)]
 pub struct Line<'a>(pub &'a Reply);
@@ -172,6 +188,12 @@ impl fmt::Display for Line<'_> {
                 write!(f, "found generation {} owners {owners}", found.generation)
             }
             Reply::Forgotten => f.write_str("forgotten"),
+            Reply::Recorded(total) => write!(f, "recorded {total}"),
+            Reply::Gathered { loads, totals } => {
+                let loads = Spaced(loads.as_slice());
+                write!(f, "loads{loads} totals{}", Spaced(totals.as_slice()))
+            }
+            Reply::Next(action) => write!(f, "next {}", action_word(*action)),
             Reply::Restarted => f.write_str("restarted"),
             Reply::Refused(refusal) => write!(f, "refused {}", RefusalWords(*refusal)),
             Reply::NoMemory => f.write_str("no-memory"),

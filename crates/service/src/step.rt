@@ -7,6 +7,7 @@ ghost use Rattle.service.specs.Steps.{slice_of, hash_step, assign_step, owners_s
 
 use crate::clerk_steps::{forget_step, learn_step, look_step};
 use crate::fault::Unread;
+use crate::load_steps::{gather_step, load_step, next_step};
 use crate::members::{
     Form, exactly, key_at, list_at, list_of, number_at, number_of, pair_of, text_at,
 };
@@ -94,6 +95,9 @@ pub fn step_of(alloc: Global, job: Job, step: &Value) -> Result<Step, Unread>
         "learn" => Ok(learn_step(job, step)?),
         "look" => look_step(alloc, job, step),
         "forget" => Ok(forget_step(job, step)?),
+        "load" => load_step(alloc, job, step),
+        "gather" => Ok(gather_step(step)?),
+        "next" => Ok(next_step(job, step)?),
         "restart" => Ok(restart_step(job, step)?),
         _ => Err(Unread::WrongForm),
     }

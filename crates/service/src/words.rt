@@ -1,11 +1,13 @@
 //! The words for why a step is refused.
 
 ghost use Rattle.std.specs.Prelude.{◌≡◌, Some};
-ghost use Rattle.service.specs.Lines.{slices_words, ranges_words, kind_word, table_words, slicelet_words, refusal_words};
+ghost use Rattle.service.specs.Lines.{slices_words, ranges_words, kind_word, table_words, slicelet_words, load_words, action_word, refusal_words};
 
+use assigner::Action;
 use assignment::AssignmentError;
 use clerk::ClerkError;
 use lease_table::TableError;
+use load_ledger::LoadError;
 use policy_rules::Kind;
 use slice_ranges::RangesError;
 use slicelet::SliceletError;
@@ -49,6 +51,29 @@ pub fn kind_word(kind: Kind) -> &'static str
     match kind {
         Kind::Guard => "guard",
         Kind::Bridge => "bridge",
+    }
+}
+
+/// The word for what an assigner does next.
+pub fn action_word(action: Action) -> &'static str
+    ensures { result.now ≡ action_word action }
+{
+    match action {
+        Action::Take => "take",
+        Action::Renew => "renew",
+        Action::Commit => "commit",
+        Action::Propose => "propose",
+        Action::Rest => "rest",
+    }
+}
+
+// The words for why work is not counted.
+fn load_words(error: LoadError) -> &'static str
+    ensures { result.now ≡ load_words error }
+{
+    match error {
+        LoadError::WeightRange => "weight-range",
+        LoadError::TotalRange => "total-range",
     }
 }
 
@@ -120,6 +145,7 @@ impl fmt::Display for RefusalWords {
             Refusal::Stranger => f.write_str("stranger"),
             Refusal::Clerk(ClerkError::Old { generation }) => write!(f, "old {generation}"),
             Refusal::Unknown => f.write_str("unknown"),
+            Refusal::Load(error) => f.write_str(load_words(error)),
         }
     }
 }

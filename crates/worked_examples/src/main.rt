@@ -9,7 +9,7 @@ use std::alloc::Global;
 use std::fs;
 use std::rt::Files;
 
-const NAMES: [&str; 48] = [
+const NAMES: [&str; 53] = [
     "owners",
     "hash-of-empty-and-hello",
     "hash-vectors",
@@ -33,6 +33,11 @@ const NAMES: [&str; 48] = [
     "handles-of-strangers-and-older-lives",
     "rows-and-phase",
     "judge-names-the-first-ground",
+    "next-action-of-an-assigner",
+    "next-action-when-nothing-is-wanted-after-proposing",
+    "loads-are-recorded-and-gathered",
+    "share-total-reaches-its-limit",
+    "gather-past-the-total-leaves-the-shares",
     "empty-input",
     "empty-array",
     "script-cut-off-in-its-third-step",

@@ -16,7 +16,8 @@ within_at place number most e l =
     let last : nat_le number most ≡ true = grind (arith, nat_tests) in
     rw (first, last) refl
 
-pub of_job : {A : Type 0} (f : ℕ → A) (many : ℕ) (actors : List A) → AreActors f many actors → (place number : ℕ) → place + 1 ≡ number → place < length actors → is_within number many ≡ true
+pub of_job : {A : Type 0} (f : ℕ → A) (many : ℕ) (actors : List A) → AreActors f many actors → (place number : ℕ) → place + 1 ≡ number
+    → place < length actors → is_within number many ≡ true
 of_job f many actors are place number e inside = within_at place number many e (subst (λ (n : ℕ). place < n) are.0 inside)
 
 pub get_left : {A : Type 0} (xs ys : List A) (i : ℕ) → i < length xs → slice_get (xs ++ ys) i ≡ slice_get xs i
@@ -57,7 +58,8 @@ module _ {A : Type 0} (f g : ℕ → A) (many : ℕ) (actors : List A) (are : Ar
               are.1 i a (slice_get-get_or actors i a within ∙ ap (λ (x : A). Some x) old) ∙ others i other
 
 -- one actor more
-pub actors_push : {A : Type 0} (f : ℕ → A) (many : ℕ) (actors : List A) (new : A) → AreActors f many actors → new ≡ f (many + 1) → AreActors f (many + 1) (actors ++ new ∷ [])
+pub actors_push : {A : Type 0} (f : ℕ → A) (many : ℕ) (actors : List A) (new : A) → AreActors f many actors → new ≡ f (many + 1)
+    → AreActors f (many + 1) (actors ++ new ∷ [])
 actors_push f many actors new are is = (length-append actors (new ∷ []) ∙ ap (λ (n : ℕ). n + 1) are.0, each)
   where
     each : (i : ℕ) (a : _) → slice_get (actors ++ new ∷ []) i ≡ Some a → a ≡ f (i + 1)

@@ -33,7 +33,8 @@ module _ (job : Job) (past : Past) (s : Step) (told : IsTold job past s false) w
   replied_as answer e = (false, told, inl (sym e))
 
   -- memory is wanting for a step that would be accepted
-  pub replied_without_memory : takes_memory s ≡ true → (answer : Reply) → reply_to job past s false ≡ answer → is_accepted answer ≡ true → IsReply job past (event s reply.NoMemory)
+  pub replied_without_memory : takes_memory s ≡ true → (answer : Reply) → reply_to job past s false ≡ answer → is_accepted answer ≡ true
+      → IsReply job past (event s reply.NoMemory)
   replied_without_memory takes answer e ok = (false, told, inr (refl, takes, subst (λ (r : Reply). is_accepted r ≡ true) (sym e) ok))
 
   module _ {M A E : Type 0} (refused : E → Refusal) (name : A → Reply) (step : Result (M × A) E) (is : reply_to job past s false ≡ from_layer refused name step) where
@@ -59,7 +60,8 @@ troubled job past s world refused name step old new NoMemory told is takes each 
 
 -- where the step's own memory is wanting, the layer's refusal comes first
 pub unmade : {M A E : Type 0} (job : Job) (past : Past) (s : Step) (world : World) (refused : E → Refusal) (name : A → Reply) (o : Option E) (p : M × A)
-    → IsTold job past s false → reply_to job past s false ≡ from_layer refused name (unless_refused o p) → takes_memory s ≡ true → ((x : A) → is_accepted (name x) ≡ true)
+    → IsTold job past s false → reply_to job past s false ≡ from_layer refused name (unless_refused o p) → takes_memory s ≡ true
+    → ((x : A) → is_accepted (name x) ≡ true)
     → Keeps job past world → Played job past s (Err (unless_refused_for refused o)) world
 unmade {M = M} {A = A} {E = E} job past s world refused name None p told is takes each k = let step : Result (M × A) E = Ok p in (k, wants_memory job past s told refused name step is takes each refl)
 unmade {M = M} {A = A} {E = E} job past s world refused name (Some why) p told is takes each k = let step : Result (M × A) E = Err why in let same : step ≡ Err why = refl in (k, refuses job past s told refused name step is why same)

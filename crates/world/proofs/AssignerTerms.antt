@@ -9,7 +9,8 @@ use Rattle.assigner.specs.Terms.{Keeping}
 use Rattle.world.specs.Jobs.{Job}
 use Rattle.world.specs.Pasts.{Past}
 use Rattle.world.specs.Told.{kept_term}
-use Rattle.world.specs.Worlds.{AreActors, assigner_of}
+use Rattle.world.specs.Worlds.{AreActors}
+use Rattle.world.specs.Replies.{assigner_of}
 use Rattle.world.proofs.ActorLists.{within_at, actor_at, actors_set}
 
 -- what an assigner keeps after one of them was told something
@@ -19,7 +20,8 @@ told_with job past by told n = record { id = n; job_term = job.policy.job; term 
 abbrev pub with_told : (ℕ → Option JobTerm → Option JobTerm) → Keeping → Keeping
 with_told told a = record a { term = told a.id a.term }
 
-own_term : (job : Job) (past : Past) (by n : ℕ) (told : ℕ → Option JobTerm → Option JobTerm) → n ≡ by → with_told told (assigner_of job past n) ≡ told_with job past by told n
+own_term : (job : Job) (past : Past) (by n : ℕ) (told : ℕ → Option JobTerm → Option JobTerm) → n ≡ by
+    → with_told told (assigner_of job past n) ≡ told_with job past by told n
 own_term job past by n told same = let test : (by == n) ≡ true = grind (arith, nat_tests) in rw test refl
 
 other_term : (job : Job) (past : Past) (by n : ℕ) (told : ℕ → Option JobTerm → Option JobTerm) → n ≢ by → assigner_of job past n ≡ told_with job past by told n
@@ -29,9 +31,11 @@ other_term job past by n told other = let test : (by == n) ≡ false = grind (ar
 pub record OwnAssigner (job : Job) (past : Past) (assigners : List Keeping) (by place : ℕ) (old : Keeping) : Type 0 where
   pub inside : is_within by job.assigners ≡ true
   pub keeps : old ≡ assigner_of job past by
-  pub told : (new : Keeping) (told : ℕ → Option JobTerm → Option JobTerm) → new ≡ with_told told old → AreActors (told_with job past by told) job.assigners (set assigners place new)
+  pub told : (new : Keeping) (told : ℕ → Option JobTerm → Option JobTerm) → new ≡ with_told told old
+      → AreActors (told_with job past by told) job.assigners (set assigners place new)
 
-pub own_assigner : (job : Job) (past : Past) (assigners : List Keeping) (by place : ℕ) (old : Keeping) → AreActors (assigner_of job past) job.assigners assigners → place + 1 ≡ by → place < length assigners
+pub own_assigner : (job : Job) (past : Past) (assigners : List Keeping) (by place : ℕ) (old : Keeping)
+    → AreActors (assigner_of job past) job.assigners assigners → place + 1 ≡ by → place < length assigners
     → old ≡ get_or assigners place old → OwnAssigner job past assigners by place old
 own_assigner job past assigners by place old are number inside at =
     let here : old ≡ assigner_of job past (place + 1) = actor_at (assigner_of job past) (assigner_of job past) job.assigners assigners are place inside old at in

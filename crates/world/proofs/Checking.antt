@@ -16,7 +16,8 @@ use Rattle.world.proofs.Answering.{by_own}
 
 module _ (job : Job) (past : Past) (task number at : ℕ) (handle : KeyHandle) (given : numbered number (handles_made past) ≡ Some handle) (inside : is_within task job.tasks ≡ true) where
   -- the reply where the handle is strange or not, and continuous or not
-  replied : (strange kept : Bool) → is_strange (history job task past) handle ≡ strange → reply_to job past (step.Check task number at) kept ≡ checked strange kept
+  replied : (strange kept : Bool) → is_strange (history job task past) handle ≡ strange
+      → reply_to job past (step.Check task number at) kept ≡ checked strange kept
   replied strange kept e =
       by_own task job.tasks _ inside
       ∙ ap (λ (o : Option KeyHandle). if_sent o (λ made. checked (is_strange (history job task past) made) kept)) given
@@ -25,14 +26,18 @@ module _ (job : Job) (past : Past) (task number at : ℕ) (handle : KeyHandle) (
   same_handle : (other : KeyHandle) → numbered number (handles_made past) ≡ Some other → handle ≡ other
   same_handle other e = let both : Some handle ≡ Some other = sym given ∙ e in cc
 
-  pub kept_reply : is_strange (history job task past) handle ≡ false → IsContinuous (covers_in job past handle.key) (task_calls job.policy task past) handle at → IsReply job past (event (step.Check task number at) reply.Continuous)
+  pub kept_reply : is_strange (history job task past) handle ≡ false
+      → IsContinuous (covers_in job past handle.key) (task_calls job.policy task past) handle at
+      → IsReply job past (event (step.Check task number at) reply.Continuous)
   kept_reply own continuous = (
     true,
     λ within other e familiar. (λ yes. subst (λ (h : KeyHandle). IsContinuous (covers_in job past h.key) (task_calls job.policy task past) h at) (same_handle other e) continuous, λ h. refl),
     inl (sym (replied false true own)),
   )
 
-  pub broken_reply : is_strange (history job task past) handle ≡ false → (IsContinuous (covers_in job past handle.key) (task_calls job.policy task past) handle at → ⊥) → IsReply job past (event (step.Check task number at) reply.Broken)
+  pub broken_reply : is_strange (history job task past) handle ≡ false
+      → (IsContinuous (covers_in job past handle.key) (task_calls job.policy task past) handle at → ⊥)
+      → IsReply job past (event (step.Check task number at) reply.Broken)
   broken_reply own broken = (
     false,
     λ within other e familiar. (

@@ -19,7 +19,8 @@ use Rattle.world.proofs.ActorLists.{within_at, actor_at, actors_set}
 use Rattle.world.proofs.Answering.{answer_is}
 
 -- an assignment that is learnt is above the greatest before it
-pub learnt_greatest : (slicing : Slicing) (before : List Slicing) (new : Option Slicing) (x : Unit {0}) → learn_step (greatest_of before) slicing ≡ Ok (new, x) → new ≡ greatest_of (slicing ∷ before)
+pub learnt_greatest : (slicing : Slicing) (before : List Slicing) (new : Option Slicing) (x : Unit {0})
+    → learn_step (greatest_of before) slicing ≡ Ok (new, x) → new ≡ greatest_of (slicing ∷ before)
 learnt_greatest slicing before new x e = by_greatest (greatest_of before) e
   where
     by_greatest : (g : Option Slicing) → learn_step g slicing ≡ Ok (new, x) → new ≡ Some (greater slicing g)
@@ -38,7 +39,8 @@ learnt_greatest slicing before new x e = by_greatest (greatest_of before) e
 abbrev pub newest_with : Job → Past → ℕ → ClerkCall → ℕ → Option Slicing
 newest_with job past clerk c n = greatest_of (with_clerk_call n (Some (clerk, c)) (learnt_by job.policy n past))
 
-own_newest : (job : Job) (past : Past) (clerk n : ℕ) (c : ClerkCall) → n ≡ clerk → greatest_of (accepted_with c (learnt_by job.policy n past)) ≡ newest_with job past clerk c n
+own_newest : (job : Job) (past : Past) (clerk n : ℕ) (c : ClerkCall) → n ≡ clerk
+    → greatest_of (accepted_with c (learnt_by job.policy n past)) ≡ newest_with job past clerk c n
 own_newest job past clerk n c same = let test : (clerk == n) ≡ true = grind (arith, nat_tests) in rw test refl
 
 other_newest : (job : Job) (past : Past) (clerk n : ℕ) (c : ClerkCall) → n ≢ clerk → newest_learnt job n past ≡ newest_with job past clerk c n
@@ -49,9 +51,11 @@ pub record OwnClerk (job : Job) (past : Past) (clerks : List (Option Slicing)) (
   pub inside : is_within clerk job.clerks ≡ true
   pub keeps : old ≡ newest_learnt job clerk past
   pub same : (new : Option Slicing) → new ≡ old → AreActors (λ n. newest_learnt job n past) job.clerks (set clerks place new)
-  pub called : (new : Option Slicing) (c : ClerkCall) → new ≡ greatest_of (accepted_with c (learnt_by job.policy clerk past)) → AreActors (newest_with job past clerk c) job.clerks (set clerks place new)
+  pub called : (new : Option Slicing) (c : ClerkCall) → new ≡ greatest_of (accepted_with c (learnt_by job.policy clerk past))
+      → AreActors (newest_with job past clerk c) job.clerks (set clerks place new)
 
-pub own_clerk : (job : Job) (past : Past) (clerks : List (Option Slicing)) (clerk place : ℕ) (old : Option Slicing) → AreActors (λ n. newest_learnt job n past) job.clerks clerks → place + 1 ≡ clerk → place < length clerks
+pub own_clerk : (job : Job) (past : Past) (clerks : List (Option Slicing)) (clerk place : ℕ) (old : Option Slicing)
+    → AreActors (λ n. newest_learnt job n past) job.clerks clerks → place + 1 ≡ clerk → place < length clerks
     → old ≡ get_or clerks place old → OwnClerk job past clerks clerk place old
 own_clerk job past clerks clerk place old are number inside at =
     let here : old ≡ newest_learnt job (place + 1) past = actor_at (λ n. newest_learnt job n past) (λ n. newest_learnt job n past) job.clerks clerks are place inside old at in

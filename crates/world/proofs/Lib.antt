@@ -12,3 +12,13 @@ pub mod Checking
 pub mod Playing
 pub mod Publishing
 pub mod Timing
+pub mod HeldLeases
+pub mod TaskAcceptance
+pub mod Noting
+pub mod TableReadings
+pub mod Lengthening
+pub mod Ruling
+pub mod Owning
+pub mod TaskShares
+pub mod TicketTotals
+pub mod Drawing

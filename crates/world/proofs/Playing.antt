@@ -26,6 +26,7 @@ module _ (job : Job) (past : Past) (s : Step) (world : World) (k : Keeps job pas
     assigners = k.assigners;
     tasks = k.tasks;
     clerks = k.clerks;
+    loads = k.loads;
   }
 
   -- nor does one without memory
@@ -43,10 +44,12 @@ module _ (job : Job) (past : Past) (s : Step) (world : World) (k : Keeps job pas
     assigners = k.assigners;
     tasks = k.tasks;
     clerks = k.clerks;
+    loads = k.loads;
   }
 
 -- one step more, with its reply
-pub past_after-push : (past : Past) (steps : List Step) (replies : List Reply) (s : Step) (r : Reply) → length replies ≡ length steps → past_after past (steps ++ s ∷ []) (replies ++ r ∷ []) ≡ event s r ∷ past_after past steps replies
+pub past_after-push : (past : Past) (steps : List Step) (replies : List Reply) (s : Step) (r : Reply) → length replies ≡ length steps
+    → past_after past (steps ++ s ∷ []) (replies ++ r ∷ []) ≡ event s r ∷ past_after past steps replies
 past_after-push past [] [] s r e = refl
 past_after-push past [] (x ∷ replies) s r e = absurd (cc)
 past_after-push past (x ∷ steps) [] s r e = absurd (cc)

@@ -44,7 +44,8 @@ record IsPublished (calls : List AnsweredTableCall) : Type 0 where
   each : (generation : ℕ) → published_in generation calls ≡ numbered generation (published_list calls)
 
 -- one more is published
-more : (published : List Slicing) (slicing : Slicing) (commits generation : ℕ) (before : Option Slicing) → length published ≡ commits → before ≡ numbered generation published
+more : (published : List Slicing) (slicing : Slicing) (commits generation : ℕ) (before : Option Slicing) → length published ≡ commits
+    → before ≡ numbered generation published
     → (if commits + 1 == generation then Some slicing else before) ≡ numbered generation (published ++ slicing ∷ [])
 more published slicing commits zero before many e =
     let other : (commits + 1 == 0) ≡ false = grind (arith, nat_tests) in
@@ -75,7 +76,8 @@ more published slicing commits (suc i) before many e = by_test (commits + 1 == s
             slice_get_past (published ++ slicing ∷ []) i (let n = length-append published (slicing ∷ []) in omega (arith, n)) ∙ sym (slice_get_past published i (omega arith))
         by_place false l = get_left published (slicing ∷ []) i (grind (arith, nat_tests))
 
-accepted_step : (policy : Terms) (past : List AnsweredTableCall) (c : TableCall) (reply : TableReply) → IsRun policy past → IsPublished past → IsAccepted (standing_after policy past) c reply → IsPublished (answered c (Ok reply) ∷ past)
+accepted_step : (policy : Terms) (past : List AnsweredTableCall) (c : TableCall) (reply : TableReply) → IsRun policy past → IsPublished past
+    → IsAccepted (standing_after policy past) c reply → IsPublished (answered c (Ok reply) ∷ past)
 accepted_step policy past (call.Propose number slicing at) reply run h a = record {
   all = ap (λ (xs : List Slicing). xs ++ slicing ∷ []) (h.all ∙ ap (λ (p : Option Slicing). published_list past ++ waiting p) a.alone ∙ append_nil (published_list past));
   many = h.many;
@@ -128,14 +130,16 @@ numbered_past xs (suc i) l =
     let place : suc i - 1 ≡ i = omega arith in
     rw (here, place) (slice_get_past xs i (omega arith))
 
-pub published_is : (policy : Terms) (calls : List AnsweredTableCall) → IsRun policy calls → generation_of (committed_in calls) ≡ commits_in calls → (generation : ℕ)
+pub published_is : (policy : Terms) (calls : List AnsweredTableCall) → IsRun policy calls → generation_of (committed_in calls) ≡ commits_in calls
+    → (generation : ℕ)
     → published_of generation (standing_after policy calls) (proposals_in calls) ≡ published_in generation calls
 published_is policy calls run counted generation = by_test (nat_le generation (generation_of (committed_in calls))) refl
   where
     h : IsPublished calls
     h = are_published policy calls run
 
-    by_test : (b : Bool) → b ≡ nat_le generation (generation_of (committed_in calls)) → (if b then numbered generation (proposals_in calls) else None) ≡ published_in generation calls
+    by_test : (b : Bool) → b ≡ nat_le generation (generation_of (committed_in calls))
+        → (if b then numbered generation (proposals_in calls) else None) ≡ published_in generation calls
     by_test true t =
         let low : generation ≤ generation_of (committed_in calls) = grind (arith, nat_tests) in
         let many : length (published_list calls) ≡ commits_in calls = h.many in

@@ -31,7 +31,8 @@ pub table_run : (policy : Terms) (past : Past) → IsTableRun policy (table_call
 table_run policy [] = tt
 table_run policy (e ∷ past) = by_test (is_accepted e.reply) (table_run policy past)
   where
-    by_test : (b : Bool) → IsTableRun policy (table_calls policy past) → IsTableRun policy (if b then with_call policy (table_call past e.step) (table_calls policy past) else table_calls policy past)
+    by_test : (b : Bool) → IsTableRun policy (table_calls policy past)
+        → IsTableRun policy (if b then with_call policy (table_call past e.step) (table_calls policy past) else table_calls policy past)
     by_test true h = answered_run policy (table_call past e.step) (table_calls policy past) h
     by_test false h = h
 
@@ -48,11 +49,13 @@ sent_longer : (answer : Result TableReply TableError) (sent : List Grant) (grant
 sent_longer (Ok (told.Granted other)) sent grant s = Contains-append_left sent (other ∷ []) grant s
 sent_longer _ sent grant s = s
 
-sent_answered : (policy : Terms) (c : Option TableCall) (calls : List AnsweredTableCall) (grant : Grant) → IsSent calls grant → IsSent (with_call policy c calls) grant
+sent_answered : (policy : Terms) (c : Option TableCall) (calls : List AnsweredTableCall) (grant : Grant) → IsSent calls grant
+    → IsSent (with_call policy c calls) grant
 sent_answered policy None calls grant s = s
 sent_answered policy (Some c) calls grant s = sent_longer (answer_of (table_step (standing_after policy calls) c)) (grants_sent calls) grant s
 
-pub sent_later : (policy : Terms) (e : Event) (past : Past) (grant : Grant) → IsSent (table_calls policy past) grant → IsSent (table_calls policy (e ∷ past)) grant
+pub sent_later : (policy : Terms) (e : Event) (past : Past) (grant : Grant) → IsSent (table_calls policy past) grant
+    → IsSent (table_calls policy (e ∷ past)) grant
 sent_later policy e past grant s = by_test (is_accepted e.reply)
   where
     by_test : (b : Bool) → IsSent (if b then with_call policy (table_call past e.step) (table_calls policy past) else table_calls policy past) grant
@@ -65,7 +68,8 @@ HearsSent calls (Start life at) = Unit {0}
 HearsSent calls (Hear grant at) = IsSent calls grant
 HearsSent calls (Release kind at) = Unit {0}
 
-hears_later : (policy : Terms) (e : Event) (past : Past) (c : SliceletCall) → HearsSent (table_calls policy past) c → HearsSent (table_calls policy (e ∷ past)) c
+hears_later : (policy : Terms) (e : Event) (past : Past) (c : SliceletCall) → HearsSent (table_calls policy past) c
+    → HearsSent (table_calls policy (e ∷ past)) c
 hears_later policy e past (Start life at) h = tt
 hears_later policy e past (Hear grant at) h = sent_later policy e past grant h
 hears_later policy e past (Release kind at) h = tt
@@ -74,7 +78,8 @@ MayHear : List AnsweredTableCall → Option (ℕ × SliceletCall) → Type 0
 MayHear calls None = Unit {0}
 MayHear calls (Some made) = HearsSent calls made.1
 
-heard_numbered : (calls : List AnsweredTableCall) (by at : ℕ) (o : Option Grant) → ((grant : Grant) → o ≡ Some grant → IsSent calls grant) → MayHear calls (option_map (λ grant. (by, Hear grant at)) o)
+heard_numbered : (calls : List AnsweredTableCall) (by at : ℕ) (o : Option Grant) → ((grant : Grant) → o ≡ Some grant → IsSent calls grant)
+    → MayHear calls (option_map (λ grant. (by, Hear grant at)) o)
 unfolding MayHear
 heard_numbered calls by at None sent = tt
 heard_numbered calls by at (Some grant) sent = sent grant refl
@@ -86,7 +91,8 @@ step_hears calls (step.Hear by number at) = heard_numbered calls by at (numbered
 step_hears calls (step.Release by kind at) = tt
 step_hears calls _ = tt
 
-all_with : (calls : List AnsweredTableCall) (task : ℕ) (o : Option (ℕ × SliceletCall)) (h : List SliceletCall) → MayHear calls o → AllByRecursion (HearsSent calls) h → AllByRecursion (HearsSent calls) (with_task_call task o h)
+all_with : (calls : List AnsweredTableCall) (task : ℕ) (o : Option (ℕ × SliceletCall)) (h : List SliceletCall) → MayHear calls o
+    → AllByRecursion (HearsSent calls) h → AllByRecursion (HearsSent calls) (with_task_call task o h)
 unfolding MayHear
 all_with calls task None h may a = a
 all_with calls task (Some made) h may a = by_test (made.0 == task)

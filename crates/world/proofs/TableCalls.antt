@@ -12,7 +12,8 @@ use Rattle.world.specs.Told.{with_call}
 use Rattle.world.specs.Proposals.{proposals_with, proposals_in}
 
 module _ (policy : Terms) (calls : List AnsweredTableCall) (c : TableCall) (new : Standing) (r : TableReply) (e : table_step (standing_after policy calls) c ≡ Ok (new, r)) where
-  pub stands_at : LeadsOn (LeadsTo policy) calls (standing_after policy calls) c (table_step (standing_after policy calls) c) → new ≡ standing_after policy (with_call policy (Some c) calls)
+  pub stands_at : LeadsOn (LeadsTo policy) calls (standing_after policy calls) c (table_step (standing_after policy calls) c)
+      → new ≡ standing_after policy (with_call policy (Some c) calls)
   stands_at leads =
       let after : standing_after policy (answered c (Ok r) ∷ calls) ≡ new = subst (LeadsOn (LeadsTo policy) calls (standing_after policy calls) c) e leads in
       sym after ∙ ap (λ (a : Result TableReply TableError). standing_after policy (answered c a ∷ calls)) (sym (ap answer_of e))

@@ -16,7 +16,8 @@ use Rattle.world.proofs.ActorLists.{within_at, actor_at, actors_set}
 use Rattle.world.proofs.Answering.{answer_is}
 
 -- what a step that is answered leaves
-pub left_by : {A E : Type 0} (o : Option E) (c : SliceletCall) (old new : History) (x y : A) → unless_refused {A = History × A} o (with_call old c, x) ≡ Ok (new, y) → new ≡ with_call old c
+pub left_by : {A E : Type 0} (o : Option E) (c : SliceletCall) (old new : History) (x y : A)
+    → unless_refused {A = History × A} o (with_call old c, x) ≡ Ok (new, y) → new ≡ with_call old c
 left_by {A = A} o c old new x y e = sym (ap (λ (p : History × A). p.0) (answer_is o (with_call old c, x) (new, y) e))
 
 -- the history of a task after its call, and of the others
@@ -36,7 +37,8 @@ pub record OwnTask (job : Job) (past : Past) (tasks : List History) (task place 
   pub same : (new : History) → new ≡ old → AreActors (λ n. history job n past) job.tasks (set tasks place new)
   pub called : (new : History) (c : SliceletCall) → new ≡ with_call old c → AreActors (history_with job past task c) job.tasks (set tasks place new)
 
-pub own_task : (job : Job) (past : Past) (tasks : List History) (task place : ℕ) (old : History) → AreActors (λ n. history job n past) job.tasks tasks → place + 1 ≡ task → place < length tasks
+pub own_task : (job : Job) (past : Past) (tasks : List History) (task place : ℕ) (old : History) → AreActors (λ n. history job n past) job.tasks tasks
+    → place + 1 ≡ task → place < length tasks
     → old ≡ get_or tasks place old → OwnTask job past tasks task place old
 own_task job past tasks task place old are number inside at =
     let here : old ≡ history job (place + 1) past = actor_at (λ n. history job n past) (λ n. history job n past) job.tasks tasks are place inside old at in

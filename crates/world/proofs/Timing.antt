@@ -21,7 +21,8 @@ pub record IsLeast (skew least : ℕ) (before : List Step) : Type 0 where
 pub least_of_none : (skew : ℕ) → IsLeast skew 0 []
 least_of_none skew = record { timely = tt; bound = tt; lowest = λ at h. omega arith }
 
-near_from : (skew least : ℕ) (step : Step) (before : List Step) → is_late (task_reading step) least ≡ false → AllByRecursion (IsBelow skew least) before → AllByRecursion (IsNear skew step) before
+near_from : (skew least : ℕ) (step : Step) (before : List Step) → is_late (task_reading step) least ≡ false → AllByRecursion (IsBelow skew least) before
+    → AllByRecursion (IsNear skew step) before
 near_from skew least step before on_time bound = all_weaker (IsBelow skew least) (IsNear skew step) before (λ early below s r e f. each s r (task_reading step) e on_time (below r f)) bound
   where
     each : (s r : ℕ) (o : Option ℕ) → o ≡ Some s → is_late o least ≡ false → r ≤ least + skew → r ≤ s + skew
@@ -44,7 +45,8 @@ least_up_to skew least at None head l = l
 least_up_to skew least at (Some r) head l = let h = head r refl in omega (arith, h, l)
 
 -- after one more step that is not late
-pub least_more : (skew least : ℕ) (step : Step) (before : List Step) → is_late (task_reading step) least ≡ false → IsLeast skew least before → IsLeast skew (least_after (table_reading step) skew least) (step ∷ before)
+pub least_more : (skew least : ℕ) (step : Step) (before : List Step) → is_late (task_reading step) least ≡ false → IsLeast skew least before
+    → IsLeast skew (least_after (table_reading step) skew least) (step ∷ before)
 least_more skew least step before on_time h = record {
   timely = (near_from skew least step before on_time h.bound, h.timely);
   bound = (
@@ -56,7 +58,8 @@ least_more skew least step before on_time h = record {
 }
 
 -- a late step is not timely
-pub late_untimely : (skew least : ℕ) (step : Step) (before : List Step) → is_late (task_reading step) least ≡ true → IsLeast skew least before → IsTimely skew (step ∷ before) → ⊥
+pub late_untimely : (skew least : ℕ) (step : Step) (before : List Step) → is_late (task_reading step) least ≡ true → IsLeast skew least before
+    → IsTimely skew (step ∷ before) → ⊥
 late_untimely skew least step before late h timely = by_reading (task_reading step) refl
   where
     by_reading : (o : Option ℕ) → o ≡ task_reading step → ⊥

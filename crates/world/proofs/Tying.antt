@@ -16,7 +16,8 @@ use Rattle.world.specs.Replies.{covers_in}
 use Rattle.world.proofs.Sending.{HearsSent, all_heard_sent}
 
 -- the two tests agree on all that a task heard
-pub agree : (job : Job) (past : Past) (task key : ℕ) → ((grant : Grant) (key : ℕ) → IsSent (table_calls job.policy past) grant → key < 2 ^ 63 → has grant.lease.ranges key ≡ covers_by_owners (table_calls job.policy past) key grant)
+pub agree : (job : Job) (past : Past) (task key : ℕ)
+    → ((grant : Grant) (key : ℕ) → IsSent (table_calls job.policy past) grant → key < 2 ^ 63 → has grant.lease.ranges key ≡ covers_by_owners (table_calls job.policy past) key grant)
     → key < 2 ^ 63 → AgreeOnHeard (covers_key key) (covers_in job past key) (task_calls job.policy task past)
 agree job past task key covers l =
     all_weaker (HearsSent (table_calls job.policy past)) (AgreeOnCall (covers_key key) (covers_in job past key)) (task_calls job.policy task past) each (all_heard_sent job.policy task past)

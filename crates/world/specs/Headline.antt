@@ -1,5 +1,5 @@
 -- What holds of every run, in the words of whoever runs a service.
-use Rattle.std.specs.Prelude.{◌≡◌, ℕ, Bool, false, IsTrue, List, ◌∷◌, ◌↔◌}
+use Rattle.std.specs.Prelude.{◌≡◌, ℕ, Bool, false, IsTrue, List, ◌∷◌, Some, Contains, ◌↔◌}
 use Rattle.key_hash.specs.Hash.{slice_key}
 use Rattle.assignment.specs.Owners.{owns}
 use Rattle.lease_table.specs.Policies.{is_within}
@@ -13,7 +13,7 @@ use Rattle.world.specs.Jobs.{Job}
 use Rattle.world.specs.declared.step.Step.TheVariants as step
 use Rattle.world.specs.declared.reply.Reply.{Reply}
 use Rattle.world.specs.declared.reply.Reply.TheVariants as reply
-use Rattle.world.specs.Pasts.{Past, steps_of, IsTimely, IsAmong}
+use Rattle.world.specs.Pasts.{Event, Past, steps_of, table_reading, IsTimely}
 use Rattle.world.specs.Told.{standing, task_calls}
 use Rattle.world.specs.Replies.{covers_in, rule_in, reply_to}
 
@@ -41,4 +41,8 @@ IsOwner job past task key = IsTrue (owns (slices_of (standing job.policy past).c
 
 -- a note was sent by its task
 abbrev pub IsNoteOf : Job → Past → ReleaseNote → Type 0
-IsNoteOf job past note = IsAmong note (notes_sent note.task (task_calls job.policy note.task past))
+IsNoteOf job past note = Contains (notes_sent note.task (task_calls job.policy note.task past)) note
+
+-- a step of the table was at this reading
+abbrev pub WasRead : Past → ℕ → Type 0
+WasRead past at = (e : Event) × Contains past e × (table_reading e.step ≡ Some at)

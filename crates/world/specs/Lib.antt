@@ -9,3 +9,6 @@ pub mod Headline
 pub mod Proposals
 pub mod Worlds
 pub mod Latest
+pub mod Tickets
+pub mod TicketRule
+pub mod TicketSeats

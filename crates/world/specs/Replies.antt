@@ -1,5 +1,6 @@
 -- What each step is answered, by the steps before it.
-use Rattle.std.specs.Prelude.{ℕ, ◌+◌, Bool, true, false, length, Option, Some, None, Result, Ok, Err, if◌then◌else◌}
+use Rattle.std.specs.Prelude.{ℕ, ◌+◌, Bool, true, false, List, length, map, Option, Some, None, Result, Ok, Err, if◌then◌else◌}
+use Rattle.std.specs.List.{range_with_len}
 use Rattle.key_hash.specs.Hash.{slice_key}
 use Rattle.assignment.specs.declared.error.AssignmentError.{AssignmentError}
 use Rattle.assignment.specs.Slices.{Slicing, refusal_of}
@@ -28,7 +29,11 @@ use Rattle.world.specs.declared.reply.Reply.TheVariants as reply
 use Rattle.world.specs.declared.reply.Refusal.{Refusal}
 use Rattle.world.specs.declared.reply.Refusal.TheVariants as refusal
 use Rattle.world.specs.Pasts.{Past}
-use Rattle.world.specs.Told.{numbered, draft_of, notes_made, handles_made, kept_number, table_calls, standing, grants, task_calls, published, learnt_by}
+use Rattle.load_ledger.specs.Shares.{Share, add_step}
+use Rattle.load_ledger.specs.Books.{task_total, book_with, book_of, gather_step}
+use Rattle.assigner.specs.Terms.{Keeping}
+use Rattle.assigner.specs.Actions.{next_action}
+use Rattle.world.specs.Told.{numbered, draft_of, notes_made, handles_made, kept_term, kept_number, share_of, shares_in, gathers_in, table_calls, standing, grants, task_calls, published, learnt_by}
 use Rattle.world.specs.Judging.{judge_reply}
 
 -- an actor of the job answers, and there is no other
@@ -91,6 +96,22 @@ abbrev pub looked : Result Found Unknown → Reply
 looked (Ok found) = reply.Found found
 looked (Err unknown) = reply.Refused refusal.Unknown
 
+-- an assigner, with the term that it keeps
+abbrev pub assigner_of : Job → Past → ℕ → Keeping
+assigner_of job past assigner = record { id = assigner; job_term = job.policy.job; term = kept_term assigner past }
+
+-- how much work each task has done, by the shares that were gathered
+abbrev pub book_in : Job → Past → List ℕ
+book_in job past = book_of (gathers_in job.tasks past)
+
+-- `gather`, under this draft or none: the load of each slice, and the totals of so many tasks
+abbrev pub totals_in : ℕ → List ℕ → List ℕ
+totals_in many book = map (task_total book) (range_with_len 1 many)
+
+abbrev pub gather_reply : Option Slicing → ℕ → List Share → List ℕ → Reply
+gather_reply None many shares book = reply.Refused refusal.NoDraft
+gather_reply (Some draft) many shares book = from_layer refusal.Load (λ loads. reply.Gathered loads (totals_in many (book_with shares book))) (gather_step shares draft.slices book)
+
 -- what a step is answered; of a `check`, where it is known whether the handle is continuous
 abbrev pub reply_to : Job → Past → Step → Bool → Reply
 reply_to job past (step.Hash key) kept = reply.Key (slice_key key)
@@ -120,4 +141,8 @@ reply_to job past (step.Learn clerk generation) kept =
     (λ slicing. from_layer refusal.Clerk (λ _. reply.Learnt generation) (learn_step (newest_learnt job clerk past) slicing)))
 reply_to job past (step.Look clerk key) kept = by_actor clerk job.clerks (looked (look_at (newest_learnt job clerk past) (slice_key key)))
 reply_to job past (step.Forget clerk) kept = by_actor clerk job.clerks reply.Forgotten
+reply_to job past (step.Load task key weight) kept = by_actor task job.tasks (from_layer refusal.Load reply.Recorded (add_step (slice_key key) weight (share_of past task)))
+reply_to job past step.Gather kept = gather_reply (draft_of past) job.tasks (shares_in job.tasks past) (book_in job past)
+reply_to job past (step.Next assigner at wanted) kept =
+    by_actor assigner job.assigners (reply.Next (next_action (assigner_of job past assigner) (record { reading = at; phase = phase_of (standing job.policy past); wanted = wanted })))
 reply_to job past (step.Restart assigner) kept = by_actor assigner job.assigners reply.Restarted

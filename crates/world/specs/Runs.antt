@@ -33,6 +33,8 @@ takes_memory (step.Hear task number at) = true
 takes_memory (step.Release task kind at) = true
 takes_memory (step.Hold task key at) = true
 takes_memory (step.Learn clerk generation) = true
+takes_memory (step.Load task key weight) = true
+takes_memory step.Gather = true
 takes_memory _ = false
 
 -- a reply is the one that the steps before it give, or want of memory where the step takes some and would not be refused

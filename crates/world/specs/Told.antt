@@ -1,5 +1,6 @@
 -- What each actor was told so far, and what was made.
-use Rattle.std.specs.Prelude.{ℕ, ◌-◌, ◌==◌, List, [], ◌∷◌, ◌++◌, slice_get, Option, Some, None, option_map, if◌then◌else◌}
+use Rattle.std.specs.Prelude.{ℕ, ◌-◌, ◌==◌, List, [], ◌∷◌, ◌++◌, map, slice_get, Option, Some, None, option_map, if◌then◌else◌}
+use Rattle.std.specs.List.{range_with_len}
 use Rattle.machines.specs.Calls.{answered, answer_of}
 use Rattle.assignment.specs.Slices.{Slicing}
 use Rattle.lease_table.specs.declared.call.TableCall.{TableCall}
@@ -11,6 +12,9 @@ use Rattle.lease_table.specs.Policies.{Terms}
 use Rattle.lease_table.specs.Tables.{Standing, last_number}
 use Rattle.lease_table.specs.Calls.{AnsweredTableCall, standing_after, table_step, grants_sent}
 use Rattle.lease_table.specs.Generations.{published_in}
+use Rattle.key_hash.specs.Hash.{slice_key}
+use Rattle.load_ledger.specs.declared.share.LoadRecord.{LoadRecord}
+use Rattle.load_ledger.specs.Shares.{Share}
 use Rattle.assigner.specs.Terms.{adopted_term}
 use Rattle.key_handle.specs.declared.handle.KeyHandle.{KeyHandle}
 use Rattle.slicelet.specs.declared.call.SliceletCall.{SliceletCall}
@@ -88,6 +92,34 @@ kept_term assigner (e ∷ past) = if is_accepted e.reply then kept_with assigner
 -- the number that it passes to the table, 0 for none
 abbrev pub kept_number : ℕ → Past → ℕ
 kept_number assigner past = last_number (kept_term assigner past)
+
+-- LOADS
+
+-- what a task recorded since the last accepted `gather`, in order
+abbrev pub recorded_with : ℕ → Step → List LoadRecord → List LoadRecord
+recorded_with task (step.Load by key weight) before = if by == task then before ++ record { key = slice_key key; weight = weight } ∷ [] else before
+recorded_with task step.Gather before = []
+recorded_with task _ before = before
+
+abbrev pub recorded_by : ℕ → Past → List LoadRecord
+recorded_by task [] = []
+recorded_by task (e ∷ past) = if is_accepted e.reply then recorded_with task e.step (recorded_by task past) else recorded_by task past
+
+-- the share of a task, and those of the first tasks
+abbrev pub share_of : Past → ℕ → Share
+share_of past task = record { task = task; records = recorded_by task past }
+
+abbrev pub shares_in : ℕ → Past → List Share
+shares_in many past = map (share_of past) (range_with_len 1 many)
+
+-- the shares that each accepted `gather` of so many tasks gathered, the last ones first
+abbrev pub gathered_with : ℕ → Past → Step → List (List Share) → List (List Share)
+gathered_with many past step.Gather before = shares_in many past ∷ before
+gathered_with many past _ before = before
+
+abbrev pub gathers_in : ℕ → Past → List (List Share)
+gathers_in many [] = []
+gathers_in many (e ∷ past) = if is_accepted e.reply then gathered_with many past e.step (gathers_in many past) else gathers_in many past
 
 -- THE TABLE
 

@@ -3,7 +3,6 @@ use Rattle.std.specs.Prelude.{◌≡◌, ℕ, ◌+◌, true, List, ◌∷◌, So
 use Rattle.machines.specs.declared.machine.Trouble.{Trouble}
 use Rattle.machines.specs.declared.machine.Trouble.TheVariants.{Refused, NoMemory}
 use Rattle.lease_table.specs.Policies.{is_policy}
-use Rattle.assigner.specs.Terms.{Keeping}
 use Rattle.world.specs.Jobs.{Job}
 use Rattle.world.specs.declared.step.Step.{Step}
 use Rattle.world.specs.declared.reply.Refusal.{Refusal}
@@ -12,16 +11,17 @@ use Rattle.world.specs.declared.reply.Reply.TheVariants as reply
 use Rattle.world.specs.declared.world.World.{World}
 use Rattle.world.specs.Pasts.{event, Past}
 use Rattle.world.specs.Proposals.{proposals_in}
-use Rattle.world.specs.Told.{draft_of, notes_made, handles_made, kept_term, table_calls, standing, grants}
-use Rattle.world.specs.Replies.{history, newest_learnt}
+use Rattle.world.specs.Told.{draft_of, notes_made, handles_made, share_of, table_calls, standing, grants}
+use Rattle.world.specs.Replies.{assigner_of, book_in, history, newest_learnt}
 use Rattle.world.specs.Runs.{IsReply, IsRun}
 
 -- each actor of a list, the first of number 1, is what the past made of it
 abbrev pub AreActors : {A : Type 0} → (ℕ → A) → ℕ → List A → Type 0
 AreActors actor many actors = (length actors ≡ many) × ((i : ℕ) (a : _) → slice_get actors i ≡ Some a → a ≡ actor (i + 1))
 
-abbrev pub assigner_of : Job → Past → ℕ → Keeping
-assigner_of job past assigner = record { id = assigner; job_term = job.policy.job; term = kept_term assigner past }
+-- the share of each task, and the book of what was gathered
+abbrev pub KeepsLoads : Job → Past → World → Type 0
+KeepsLoads job past world = AreActors (share_of past) job.tasks world.shares.items × (world.book ≡ book_in job past)
 
 -- a run, what each actor was told in it, and what was made in it
 pub record Keeps (job : Job) (past : Past) (world : World) : Type 0 where
@@ -37,6 +37,7 @@ pub record Keeps (job : Job) (past : Past) (world : World) : Type 0 where
   pub assigners : AreActors (λ n. assigner_of job past n) job.assigners world.assigners.items
   pub tasks : AreActors (λ n. history job n past) job.tasks world.tasks.items
   pub clerks : AreActors (λ n. newest_learnt job n past) job.clerks world.clerks.items
+  pub loads : KeepsLoads job past world
 
 -- a step was answered, or refused without a change
 abbrev pub Played : Job → Past → Step → Result Reply (Trouble Refusal) → World → Type 0

@@ -10,6 +10,7 @@ ghost use Rattle.world.specs.Troubles.{of_layer};
 use crate::reply::Refusal;
 use clerk::ClerkError;
 use lease_table::TableError;
+use load_ledger::LoadError;
 use machines::Trouble;
 use slicelet::SliceletError;
 
@@ -52,6 +53,16 @@ pub fn of_table(error: Trouble<TableError>) -> Trouble<Refusal>
 {
     match error {
         Trouble::Refused(why) => Trouble::Refused(Refusal::Table(why)),
+        Trouble::NoMemory => Trouble::NoMemory,
+    }
+}
+
+/// Why work is not counted, as a step's refusal.
+pub fn of_load(error: Trouble<LoadError>) -> Trouble<Refusal>
+    ensures { result ≡ of_layer refusal.Load error }
+{
+    match error {
+        Trouble::Refused(why) => Trouble::Refused(Refusal::Load(why)),
         Trouble::NoMemory => Trouble::NoMemory,
     }
 }

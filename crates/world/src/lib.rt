@@ -3,19 +3,26 @@
 
 mod actors;
 mod clerks;
+mod copies;
 mod job;
 mod judge;
+mod laws;
+mod loads;
 mod readings;
 mod reply;
 mod step;
 mod table;
 mod tasks;
+mod ticket;
+mod ticket_rule;
 mod values;
 mod world;
 
 pub use crate::world::World;
 pub use job::{Job, MOST_ASSIGNERS, MOST_CLERKS};
 pub use judge::{Question, WrittenLease};
+pub use laws::{handle_law, known_generations_law, owner_law, rule_law, sent_law, told_law};
 pub use readings::timely;
 pub use reply::{OwnerList, Refusal, Reply};
 pub use step::Step;
+pub use ticket::{MOST_DRAWS, MOST_PASSES, PassesMissing, Spent, Ticket, TicketError, TicketPass};

@@ -3,14 +3,18 @@
 ghost use Rattle.std.specs.Prelude.{◌≡◌};
 
 use arrayvec::ArrayVec;
+use assigner::Action;
 use assignment::{AssignmentError, Listed, TaskId};
 use clerk::{ClerkError, Found};
 use key_handle::KeyHandle;
 use key_hash::SliceKey;
 use lease_table::{JobTerm, Phase, ReleaseNote, Row, TableError};
+use load_ledger::LoadError;
+use machines::Duplicate;
 use policy_rules::{Kind, Verdict};
 use slice_ranges::RangesError;
 use slicelet::SliceletError;
+use std::alloc::AllocError;
 use std::marker::Model;
 
 /// Why a step is refused.
@@ -36,6 +40,8 @@ pub enum Refusal {
     Clerk(ClerkError),
     /// The clerk has learnt no assignment.
     Unknown,
+    /// The work cannot be counted.
+    Load(LoadError),
 }
 
 /// The owners of a key. Clauses see the list of them.
@@ -65,6 +71,14 @@ impl OwnerList {
         ensures { result.now ≡ self.now }
     {
         self.tasks.as_slice()
+    }
+}
+
+impl Duplicate for OwnerList {
+    fn copy(&self) -> Result<OwnerList, AllocError> {
+        let mut tasks = ArrayVec::new();
+        tasks.try_extend_from_slice(self.tasks.as_slice()).unwrap();
+        Ok(OwnerList { tasks })
     }
 }
 
@@ -128,6 +142,15 @@ pub enum Reply {
     Found(Found),
     /// What was learnt is forgotten.
     Forgotten,
+    /// The work is recorded: the total of the task's records since the last gather.
+    Recorded(u64),
+    /// The load of each slice of the draft, and the total of each task of the job.
+    Gathered {
+        loads: Listed<u64>,
+        totals: Listed<u64>,
+    },
+    /// What the assigner does next.
+    Next(Action),
     /// The assigner keeps no term.
     Restarted,
     /// The step changed nothing.

@@ -13,6 +13,7 @@ ghost use Rattle.world.specs.Worlds.{Keeps, Played};
 use crate::actors::{numbered, of_table, place_of};
 use crate::reply::{Refusal, Reply};
 use crate::world::World;
+use assigner::View;
 use assignment::{Assignment, AssignmentError, Listed, Slice, TaskId};
 use machines::Trouble;
 
@@ -30,6 +31,24 @@ impl World {
             }
             Err(why) => Err(Trouble::Refused(Refusal::Table(why))),
         }
+    }
+
+    pub(crate) fn next(
+        &self,
+        assigner: u64,
+        at: u64,
+        wanted: bool,
+    ) -> Result<Reply, Trouble<Refusal>>
+        ensures { (job : Job) (past : Past) → Keeps job past self.now
+            → Played job past (step.Next assigner at wanted) result self.now }
+    {
+        let place = place_of(assigner, self.assigners.as_slice())?;
+        let view = View {
+            reading: at,
+            phase: self.table.phase(),
+            wanted,
+        };
+        Ok(Reply::Next(self.assigners[place].next(&view)))
     }
 
     pub(crate) fn renew(&mut self, assigner: u64, at: u64) -> Result<Reply, Trouble<Refusal>>

@@ -14,6 +14,13 @@ use key_hash::slice_key;
 use machines::Trouble;
 
 impl World {
+    pub(crate) fn hash(&self, key: &[u8]) -> Result<Reply, Trouble<Refusal>>
+        ensures { (job : Job) (past : Past) → Keeps job past self.now
+            → Played job past (step.Hash key.now) result self.now }
+    {
+        Ok(Reply::Key(slice_key(key)))
+    }
+
     pub(crate) fn assign(
         &mut self,
         generation: u64,

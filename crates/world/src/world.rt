@@ -1,15 +1,25 @@
 //! The step machine.
 
-ghost use Rattle.std.specs.Prelude.{◌≡◌, ◌∷◌, [], None, length, IfOk};
+ghost use Rattle.std.specs.Prelude.{◌≡◌, ℕ, List, ◌∷◌, ◌++◌, [], true, false, IsTrue, None, Some, length, IfOk, OnErr};
+ghost use Rattle.key_handle.specs.declared.handle.KeyHandle.{KeyHandle};
+ghost use Rattle.lease_table.specs.Policies.{is_policy, is_within};
+ghost use Rattle.slicelet.specs.Continuity.{is_strange};
 ghost use Rattle.world.specs.Jobs.{Job};
 ghost use Rattle.assigner.specs.Terms.{Keeping};
 ghost use Rattle.world.specs.declared.step.Step.{Step};
+ghost use Rattle.world.specs.declared.step.Step.TheVariants as step;
+ghost use Rattle.world.specs.declared.reply.Reply.{Reply};
 ghost use Rattle.world.specs.Pasts.{Past, event};
+ghost use Rattle.world.specs.Told.{numbered, handles_made};
+ghost use Rattle.world.specs.Replies.{history};
 ghost use Rattle.world.specs.Runs.{IsRun, past_after};
+ghost use Rattle.world.specs.Headline.{IsServedByRule, IsCheckedByHistory, MayServe, IsOwner};
 ghost use Rattle.world.specs.Worlds.{AreActors, Keeps, LeadsTo, Played};
 
 use crate::job::Job;
 use crate::judge::judge;
+use crate::laws::{handle_law, owner_law, rule_law};
+use crate::loads::shares_of;
 use crate::reply::{Refusal, Reply};
 use crate::step::Step;
 use assigner::Assigner;
@@ -18,6 +28,7 @@ use clerk::Clerk;
 use key_handle::KeyHandle;
 use key_hash::slice_key;
 use lease_table::{Grant, LeaseTable, ReleaseNote, policy_law};
+use load_ledger::{LoadBook, LoadShare};
 use machines::Trouble;
 use slicelet::Slicelet;
 use std::alloc::{AllocError, Global};
@@ -37,6 +48,8 @@ pub struct World {
     pub(crate) notes: Vec<ReleaseNote>,
     pub(crate) handles: Vec<KeyHandle>,
     pub(crate) proposals: Vec<Assignment>,
+    pub(crate) shares: Vec<LoadShare>,
+    pub(crate) book: LoadBook,
 }
 
 fn assigners_of(alloc: Global, job: Job) -> Result<Vec<Assigner>, AllocError>
@@ -91,6 +104,8 @@ impl World {
             notes: Vec::new(alloc),
             handles: Vec::new(alloc),
             proposals: Vec::new(alloc),
+            shares: shares_of(alloc, job)?,
+            book: LoadBook::new(),
         })
     }
 
@@ -102,6 +117,7 @@ impl World {
         ensures answers { IfOk result (λ replies. length replies.items ≡ length steps.now) }
         ensures run { (job : Job) (past : Past) → LeadsTo job past self.old
             → IfOk result (λ replies. IsRun job (past_after past steps.now replies.items)) }
+        ensures refused { OnErr result (self.new ≡ self.old) }
     {
         let mut replies = Vec::with_capacity(self.alloc, steps.len())?;
         for step in steps {
@@ -112,11 +128,36 @@ impl World {
         Ok(replies)
     }
 
-    /// A past that leads to a world is a run.
+    /// A past that leads to a world is a run, of a job whose policy is within its limits.
     #[tactic(auto, unfolding(crate::specs::Worlds::LeadsTo))]
     pub fn run_law(&self)
-        ensures { (job : Job) (past : Past) → LeadsTo job past self.now → IsRun job past }
+        ensures run { (job : Job) (past : Past) → LeadsTo job past self.now → IsRun job past }
+        ensures within { (job : Job) (past : Past) → LeadsTo job past self.now → is_policy job.policy ≡ true }
     {}
+
+    /// At every point of what led to this world: a request was served exactly when the written rule
+    /// allowed its key on what its task had been told, and each denial named its ground; a handle was
+    /// continuous exactly when no step since took its key away; and with timely clocks whoever may serve a
+    /// key owns it in the committed assignment: at redundancy one, never two tasks.
+    pub fn headline_law(&self)
+        ensures rule { (job : Job) (later past : Past) (task : ℕ) (key : List ℕ) (at : ℕ) (answer : Reply)
+            → LeadsTo job (later ++ event (step.Serve task key at) answer ∷ past) self.now
+            → IsServedByRule job past task key at answer }
+        ensures handle { (job : Job) (later past : Past) (task number at : ℕ) (handle : KeyHandle) (answer : Reply)
+            → LeadsTo job (later ++ event (step.Check task number at) answer ∷ past) self.now
+            → IsTrue (is_within task job.tasks) → numbered number (handles_made past) ≡ Some handle
+            → is_strange (history job task past) handle ≡ false
+            → IsCheckedByHistory job past task handle at answer }
+        ensures owner { (job : Job) (later past : Past) (task : ℕ) (key : List ℕ) → LeadsTo job (later ++ past) self.now
+            → MayServe job past task key → IsOwner job past task key }
+        ensures one { (job : Job) (later past : Past) (task other : ℕ) (key : List ℕ) → LeadsTo job (later ++ past) self.now
+            → job.policy.redundancy ≡ 1 → MayServe job past task key → MayServe job past other key → task ≡ other }
+    {
+        self.run_law();
+        rule_law();
+        handle_law();
+        owner_law();
+    }
 
     // Plays one more step, and answers it.
     #[tactic(auto, unfolding(crate::specs::Worlds::LeadsTo))]
@@ -135,7 +176,7 @@ impl World {
         ensures { (job : Job) (past : Past) → Keeps job past self.old → Played job past step.now result self.new }
     {
         match step {
-            Step::Hash { key } => Ok(Reply::Key(slice_key(key.as_slice()))),
+            Step::Hash { key } => self.hash(key.as_slice()),
             Step::Assign { generation, slices } => self.assign(*generation, slices.as_slice()),
             Step::Owners { key } => self.owners(key.as_slice()),
             Step::Judge { question } => {
@@ -163,6 +204,13 @@ impl World {
             Step::Learn { clerk, generation } => self.learn(*clerk, *generation),
             Step::Look { clerk, key } => self.look(*clerk, key.as_slice()),
             Step::Forget { clerk } => self.forget(*clerk),
+            Step::Load { task, key, weight } => self.load(*task, key.as_slice(), *weight),
+            Step::Gather => self.gather(),
+            Step::Next {
+                assigner,
+                at,
+                wanted,
+            } => self.next(*assigner, *at, *wanted),
             Step::Restart { assigner } => self.restart(*assigner),
         }
     }

@@ -35,6 +35,7 @@ returns-in-Ok-true c = λ job past k.
       assigners = k.assigners;
       tasks = k.tasks;
       clerks = k.clerks;
+      loads = k.loads;
     }
 
 pub returns-in-Ok-false : goal.returns-in-Ok-false
@@ -58,6 +59,7 @@ returns-in-Ok-false c = λ job past k.
       assigners = k.assigners;
       tasks = k.tasks;
       clerks = k.clerks;
+      loads = k.loads;
     }
 
 pub returns-in-Err : goal.returns-in-Err

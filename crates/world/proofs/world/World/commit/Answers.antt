@@ -10,7 +10,7 @@ use Rattle.world.specs.declared.reply.Refusal.TheVariants as refusal
 use Rattle.world.specs.declared.reply.Reply.TheVariants as reply
 use Rattle.world.specs.declared.step.Step.TheVariants as step
 use Rattle.world.specs.Told.{table_calls, standing, kept_number}
-use Rattle.world.specs.Worlds.{assigner_of}
+use Rattle.world.specs.Replies.{assigner_of}
 use Rattle.world.proofs.ActorLists.{of_job}
 use Rattle.world.proofs.Answering.{by_own, answers, refuses}
 use Rattle.world.proofs.AssignerTerms.{own_assigner}
@@ -38,12 +38,13 @@ returns-in-Ok c = λ job past k.
       assigners = k.assigners;
       tasks = k.tasks;
       clerks = k.clerks;
+      loads = k.loads;
     }
 
 pub returns-in-Err : goal.returns-in-Err
 returns-in-Err c = λ job past k.
     let number : c.number.result ≡ kept_number c.args.assigner past = c.number.ensures ∙ ap (λ (a : Keeping). last_number a.term) (own_assigner job past c.args.self.now.assigners.items c.args.assigner c.in_ok-place.place c.index.result.now k.assigners c.in_ok-place.ensures.0 (subst (λ (xs : List Keeping). c.in_ok-place.place < length xs) c.as_slice.ensures.value c.in_ok-place.ensures.1) c.index.ensures).keeps in
     let refused = subst (λ (t : Standing). commit_step t (kept_number c.args.assigner past) c.args.at ≡ Err c.in-Err.why) k.table (subst (λ (n : ℕ). commit_step c.args.self.now.table n c.args.at ≡ Err c.in-Err.why) number c.in-Err.ensures.0) in (
-      moved job past c.args.self.now _ k refl refl c.in-Err.ensures.1 refl refl refl refl k.assigners k.tasks k.clerks,
+      moved job past c.args.self.now _ k refl refl c.in-Err.ensures.1 refl refl refl refl k.assigners k.tasks k.clerks k.loads.0 refl,
       refuses job past (step.Commit c.args.assigner c.args.at) tt refusal.Table reply.Committed (commit_step (standing job.policy past) (kept_number c.args.assigner past) c.args.at) (by_own c.args.assigner job.assigners _ (of_job (assigner_of job past) job.assigners c.args.self.now.assigners.items k.assigners c.in_ok-place.place c.args.assigner c.in_ok-place.ensures.0 (subst (λ (xs : List Keeping). c.in_ok-place.place < length xs) c.as_slice.ensures.value c.in_ok-place.ensures.1))) c.in-Err.why refused,
     )

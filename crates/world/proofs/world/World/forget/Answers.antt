@@ -24,4 +24,5 @@ returns c = λ job past k.
       assigners = k.assigners;
       tasks = k.tasks;
       clerks = own.called c.forget.new.self Forget c.forget.ensures;
+      loads = k.loads;
     }

@@ -48,4 +48,5 @@ returns-in-Ok c = λ job past k.
       assigners = k.assigners;
       tasks = k.tasks;
       clerks = k.clerks;
+      loads = k.loads;
     }

@@ -40,6 +40,7 @@ returns-in-Ok c = λ job past k.
       tasks = subst (λ (o : Option Grant). AreActors (λ n. let h : History = record { task = n; calls = with_task_call n (option_map (λ grant. (c.args.task, Hear grant c.args.at)) o) (task_calls job.policy n past) } in h) job.tasks (set c.args.self.now.tasks.items c.in_ok-place.place c.hear.new.self)) (sym given)
           (own.called c.hear.new.self (Hear c.in-Some.grant.now c.args.at) (left_by (first_of (hear_checks c.index_mut.result.now c.in-Some.grant.now c.args.at)) _ _ _ _ _ c.in-Ok.ensures));
       clerks = k.clerks;
+      loads = k.loads;
     }
 
 pub returns-in-Err : goal.returns-in-Err
@@ -50,4 +51,4 @@ returns-in-Err c = λ job past k.
     (troubled job past (step.Hear c.args.task c.args.number c.args.at) _ refusal.Slicelet (λ _. reply.Heard c.args.number) (hear_step (history job c.args.task past) c.in-Some.grant.now c.args.at) c.index_mut.result.now c.hear.new.self c.in-Err.error
     tt (by_own c.args.task job.tasks _ own.inside ∙ ap (λ (o : Option Grant). if_sent o (λ grant. from_layer refusal.Slicelet (λ _. reply.Heard c.args.number) (hear_step (history job c.args.task past) grant c.args.at))) given) refl (λ x. refl)
     (subst (λ (s : History). Takes (hear_step s c.in-Some.grant.now c.args.at) c.index_mut.result.now (Err c.in-Err.error) c.hear.new.self) own.told c.in-Err.ensures)
-    (λ e. moved job past c.args.self.now _ k refl refl refl refl refl refl refl k.assigners (own.same c.hear.new.self e) k.clerks))
+    (λ e. moved job past c.args.self.now _ k refl refl refl refl refl refl refl k.assigners (own.same c.hear.new.self e) k.clerks k.loads.0 refl))

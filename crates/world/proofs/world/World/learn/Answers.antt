@@ -58,6 +58,7 @@ returns-in-Ok c = λ job past k.
       tasks = k.tasks;
       clerks = subst (λ (o : Option Slicing). AreActors (λ n. greatest_of (with_clerk_call n (option_map (λ slicing. (c.args.clerk, Learn slicing)) o) (learnt_by job.policy n past))) job.clerks (set c.args.self.now.clerks.items c.in_ok-place.place c.learn.new.self)) (sym given)
           (own.called c.learn.new.self (Learn c.in-Some.assignment.now) (learnt_greatest c.in-Some.assignment.now (learnt_by job.policy c.args.clerk past) c.learn.new.self _ done));
+      loads = k.loads;
     }
 
 pub returns-in-Err : goal.returns-in-Err
@@ -71,4 +72,4 @@ returns-in-Err c = λ job past k.
     (troubled job past (step.Learn c.args.clerk c.args.generation) _ refusal.Clerk (λ _. reply.Learnt c.args.generation) (learn_step (newest_learnt job c.args.clerk past) c.in-Some.assignment.now) c.index_mut.result.now c.learn.new.self c.in-Err.error
     tt (by_own c.args.clerk job.clerks _ own.inside ∙ ap (λ (o : Option Slicing). if_sent o (λ slicing. from_layer refusal.Clerk (λ _. reply.Learnt c.args.generation) (learn_step (newest_learnt job c.args.clerk past) slicing))) given) refl (λ x. refl)
     (subst (λ (o : Option Slicing). Takes (learn_step o c.in-Some.assignment.now) c.index_mut.result.now (Err c.in-Err.error) c.learn.new.self) own.keeps c.in-Err.ensures)
-    (λ e. moved job past c.args.self.now _ k refl refl refl refl refl refl refl k.assigners k.tasks (own.same c.learn.new.self e)))
+    (λ e. moved job past c.args.self.now _ k refl refl refl refl refl refl refl k.assigners k.tasks (own.same c.learn.new.self e) k.loads.0 refl))

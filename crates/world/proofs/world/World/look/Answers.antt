@@ -27,6 +27,7 @@ returns-in-Ok c = λ job past k.
       assigners = k.assigners;
       tasks = k.tasks;
       clerks = k.clerks;
+      loads = k.loads;
     }
 
 pub returns-in-Err : goal.returns-in-Err

@@ -49,7 +49,7 @@ returns-then-is_err c = λ job past k.
     ap (λ (t : Standing). first_of (propose_checks t c.number-number.result slicing c.args.at)) k.table ∙ ap (λ (n : ℕ). first_of (propose_checks (standing job.policy past) n slicing c.args.at)) number in
     rw (c.unproposed-then-is_err.ensures, checks)
     (unmade job past (step.Propose c.args.assigner c.args.generation c.args.slices.now c.args.at) _ refusal.Table (λ _. reply.Proposed c.args.generation) (first_of (propose_checks (standing job.policy past) (kept_number c.args.assigner past) slicing c.args.at)) _ tt
-    (by_own c.args.assigner job.assigners _ own.inside ∙ ap (λ (o : Option AssignmentError). if_built o (from_layer refusal.Table (λ _. reply.Proposed c.args.generation) (propose_step (standing job.policy past) (kept_number c.args.assigner past) slicing c.args.at))) c.in-Ok.ensures.accepted) refl (λ x. refl) (moved job past c.args.self.now _ k refl refl refl refl refl refl c.reserve.ensures.items k.assigners k.tasks k.clerks))
+    (by_own c.args.assigner job.assigners _ own.inside ∙ ap (λ (o : Option AssignmentError). if_built o (from_layer refusal.Table (λ _. reply.Proposed c.args.generation) (propose_step (standing job.policy past) (kept_number c.args.assigner past) slicing c.args.at))) c.in-Ok.ensures.accepted) refl (λ x. refl) (moved job past c.args.self.now _ k refl refl refl refl refl refl c.reserve.ensures.items k.assigners k.tasks k.clerks k.loads.0 refl))
 
 pub returns-in-Ok-propose : goal.returns-in-Ok-propose
 returns-in-Ok-propose c = λ job past k.
@@ -79,6 +79,7 @@ returns-in-Ok-propose c = λ job past k.
       assigners = k.assigners;
       tasks = k.tasks;
       clerks = k.clerks;
+      loads = k.loads;
     }
 
 pub returns-in-Err-propose : goal.returns-in-Err-propose
@@ -93,4 +94,4 @@ returns-in-Err-propose c = λ job past k.
     rw c.of_table.ensures
     (troubled job past (step.Propose c.args.assigner c.args.generation c.args.slices.now c.args.at) _ refusal.Table (λ _. reply.Proposed c.args.generation) (propose_step (standing job.policy past) (kept_number c.args.assigner past) slicing c.args.at) c.args.self.now.table c.propose.new.self c.in-Err-propose.error
     tt (by_own c.args.assigner job.assigners _ own.inside ∙ ap (λ (o : Option AssignmentError). if_built o (from_layer refusal.Table (λ _. reply.Proposed c.args.generation) (propose_step (standing job.policy past) (kept_number c.args.assigner past) slicing c.args.at))) c.in-Ok.ensures.accepted) refl (λ x. refl) told
-    (λ e. moved job past c.args.self.now _ k refl refl e refl refl refl c.reserve.ensures.items k.assigners k.tasks k.clerks))
+    (λ e. moved job past c.args.self.now _ k refl refl e refl refl refl c.reserve.ensures.items k.assigners k.tasks k.clerks k.loads.0 refl))

@@ -27,14 +27,14 @@ returns-in-Some c = λ job past k.
     let own = own_task job past c.args.self.now.tasks.items c.args.task c.in_ok-place.place c.index.result.now k.tasks c.in_ok-place.ensures.0 (subst (λ (xs : List History). c.in_ok-place.place < length xs) c.as_slice.ensures.value c.in_ok-place.ensures.1) c.index.ensures in
     let first : Some c.in-Some.why ≡ first_of (release_checks (task_calls job.policy c.args.task past) c.args.kind c.args.at) = c.in-Some.ensures ∙ ap (λ (s : History). first_of (release_checks s.calls c.args.kind c.args.at)) own.told in
     unmade job past (step.Release c.args.task c.args.kind c.args.at) _ refusal.Slicelet (reply.Released (length (notes_made past) + 1)) (Some c.in-Some.why) (with_call (history job c.args.task past) (Release c.args.kind c.args.at), note_of (history job c.args.task past) c.args.kind) tt
-    (by_own c.args.task job.tasks _ own.inside ∙ ap (λ (o : Option SliceletError). from_layer refusal.Slicelet (reply.Released (length (notes_made past) + 1)) (unless_refused {A = History × ReleaseNote} o (with_call (history job c.args.task past) (Release c.args.kind c.args.at), note_of (history job c.args.task past) c.args.kind))) (sym first)) refl (λ x. refl) (moved job past c.args.self.now _ k refl refl refl refl c.reserve.ensures.items refl refl k.assigners k.tasks k.clerks)
+    (by_own c.args.task job.tasks _ own.inside ∙ ap (λ (o : Option SliceletError). from_layer refusal.Slicelet (reply.Released (length (notes_made past) + 1)) (unless_refused {A = History × ReleaseNote} o (with_call (history job c.args.task past) (Release c.args.kind c.args.at), note_of (history job c.args.task past) c.args.kind))) (sym first)) refl (λ x. refl) (moved job past c.args.self.now _ k refl refl refl refl c.reserve.ensures.items refl refl k.assigners k.tasks k.clerks k.loads.0 refl)
 
 pub returns-in-None : goal.returns-in-None
 returns-in-None c = λ job past k.
     let own = own_task job past c.args.self.now.tasks.items c.args.task c.in_ok-place.place c.index.result.now k.tasks c.in_ok-place.ensures.0 (subst (λ (xs : List History). c.in_ok-place.place < length xs) c.as_slice.ensures.value c.in_ok-place.ensures.1) c.index.ensures in
     let first : None ≡ first_of (release_checks (task_calls job.policy c.args.task past) c.args.kind c.args.at) = c.in-None.ensures ∙ ap (λ (s : History). first_of (release_checks s.calls c.args.kind c.args.at)) own.told in
     unmade job past (step.Release c.args.task c.args.kind c.args.at) _ refusal.Slicelet (reply.Released (length (notes_made past) + 1)) (None) (with_call (history job c.args.task past) (Release c.args.kind c.args.at), note_of (history job c.args.task past) c.args.kind) tt
-    (by_own c.args.task job.tasks _ own.inside ∙ ap (λ (o : Option SliceletError). from_layer refusal.Slicelet (reply.Released (length (notes_made past) + 1)) (unless_refused {A = History × ReleaseNote} o (with_call (history job c.args.task past) (Release c.args.kind c.args.at), note_of (history job c.args.task past) c.args.kind))) (sym first)) refl (λ x. refl) (moved job past c.args.self.now _ k refl refl refl refl c.reserve.ensures.items refl refl k.assigners k.tasks k.clerks)
+    (by_own c.args.task job.tasks _ own.inside ∙ ap (λ (o : Option SliceletError). from_layer refusal.Slicelet (reply.Released (length (notes_made past) + 1)) (unless_refused {A = History × ReleaseNote} o (with_call (history job c.args.task past) (Release c.args.kind c.args.at), note_of (history job c.args.task past) c.args.kind))) (sym first)) refl (λ x. refl) (moved job past c.args.self.now _ k refl refl refl refl c.reserve.ensures.items refl refl k.assigners k.tasks k.clerks k.loads.0 refl)
 
 pub returns-in-Err : goal.returns-in-Err
 returns-in-Err c = λ job past k.
@@ -43,7 +43,7 @@ returns-in-Err c = λ job past k.
     (troubled job past (step.Release c.args.task c.args.kind c.args.at) _ refusal.Slicelet (reply.Released (length (notes_made past) + 1)) (release_step (history job c.args.task past) c.args.kind c.args.at) c.index_mut.result.now c.release.new.self c.in-Err.error
     tt (by_own c.args.task job.tasks _ own.inside) refl (λ x. refl)
     (subst (λ (s : History). Takes (release_step s c.args.kind c.args.at) c.index_mut.result.now (Err c.in-Err.error) c.release.new.self) own.told c.in-Err.ensures)
-    (λ e. moved job past c.args.self.now _ k refl refl refl refl c.reserve.ensures.items refl refl k.assigners (own.same c.release.new.self e) k.clerks))
+    (λ e. moved job past c.args.self.now _ k refl refl refl refl c.reserve.ensures.items refl refl k.assigners (own.same c.release.new.self e) k.clerks k.loads.0 refl))
 
 pub returns : goal.returns
 returns c = λ job past k.
@@ -65,5 +65,6 @@ returns c = λ job past k.
       assigners = k.assigners;
       tasks = own.called c.release.new.self (Release c.args.kind c.args.at) (left_by (first_of (release_checks c.index_mut.result.now.calls c.args.kind c.args.at)) _ _ _ _ _ c.in-Ok.ensures);
       clerks = k.clerks;
+      loads = k.loads;
     } in
     rw count lead

@@ -23,4 +23,5 @@ returns c = λ job past k.
       assigners = own.told c.restart.new.self (λ n before. None) c.restart.ensures;
       tasks = k.tasks;
       clerks = k.clerks;
+      loads = k.loads;
     }

@@ -35,4 +35,5 @@ returns c = λ job past k.
       assigners = k.assigners;
       tasks = k.tasks;
       clerks = k.clerks;
+      loads = k.loads;
     }

@@ -33,6 +33,7 @@ returns-in-Ok c = λ job past k.
       proposals = k.proposals;
       assigners = k.assigners;
       clerks = k.clerks;
+      loads = k.loads;
       tasks = own.called c.start.new.self (Start c.args.life c.args.at) (left_by (first_of (start_checks c.index_mut.result.now.calls c.args.life c.args.at)) _ _ _ _ _ c.in-Ok.ensures);
     }
 
@@ -42,4 +43,4 @@ returns-in-Err c = λ job past k.
     rw c.of_slicelet.ensures
     (troubled job past (step.Start c.args.task c.args.life c.args.at) _ refusal.Slicelet (λ _. reply.Started c.args.life) (start_step (history job c.args.task past) c.args.life c.args.at) c.index_mut.result.now c.start.new.self c.in-Err.error
     tt (by_own c.args.task job.tasks _ own.inside) refl (λ x. refl)
-    (subst (λ (s : History). Takes (start_step s c.args.life c.args.at) c.index_mut.result.now (Err c.in-Err.error) c.start.new.self) own.told c.in-Err.ensures) (λ e. moved job past c.args.self.now _ k refl refl refl refl refl refl refl k.assigners (own.same c.start.new.self e) k.clerks))
+    (subst (λ (s : History). Takes (start_step s c.args.life c.args.at) c.index_mut.result.now (Err c.in-Err.error) c.start.new.self) own.told c.in-Err.ensures) (λ e. moved job past c.args.self.now _ k refl refl refl refl refl refl refl k.assigners (own.same c.start.new.self e) k.clerks k.loads.0 refl))

@@ -10,7 +10,7 @@ use Rattle.world.specs.declared.reply.Refusal.TheVariants as refusal
 use Rattle.world.specs.declared.reply.Reply.TheVariants as reply
 use Rattle.world.specs.declared.step.Step.TheVariants as step
 use Rattle.world.specs.Told.{table_calls, standing}
-use Rattle.world.specs.Worlds.{assigner_of}
+use Rattle.world.specs.Replies.{assigner_of}
 use Rattle.world.proofs.ActorLists.{of_job}
 use Rattle.world.proofs.Answering.{by_own, answers, refuses}
 use Rattle.world.proofs.AssignerTerms.{own_assigner}
@@ -37,11 +37,12 @@ returns-in-Ok c = λ job past k.
       assigners = own.told c.adopt.new.self (λ n before. adopted_term n c.in-Ok.term before) c.adopt.ensures.kept;
       tasks = k.tasks;
       clerks = k.clerks;
+      loads = k.loads;
     }
 
 pub returns-in-Err : goal.returns-in-Err
 returns-in-Err c = λ job past k.
     let refused = subst (λ (t : Standing). take_step t c.args.assigner c.args.at ≡ Err c.in-Err.why) k.table c.in-Err.ensures.0 in (
-      moved job past c.args.self.now _ k refl refl c.in-Err.ensures.1 refl refl refl refl k.assigners k.tasks k.clerks,
+      moved job past c.args.self.now _ k refl refl c.in-Err.ensures.1 refl refl refl refl k.assigners k.tasks k.clerks k.loads.0 refl,
       refuses job past (step.Take c.args.assigner c.args.at) tt refusal.Table reply.Term (take_step (standing job.policy past) c.args.assigner c.args.at) (by_own c.args.assigner job.assigners _ (of_job (assigner_of job past) job.assigners c.args.self.now.assigners.items k.assigners c.in_ok-place.place c.args.assigner c.in_ok-place.ensures.0 (subst (λ (xs : List Keeping). c.in_ok-place.place < length xs) c.as_slice.ensures.value c.in_ok-place.ensures.1))) c.in-Err.why refused,
     )

@@ -1,4 +1,6 @@
-use super::*;
+//! Readers and writers that fail, give a byte at a time, or have no end.
+
+use service::{Fault, run_script};
 use std::io;
 use std::io::{Read, Write};
 use std::test::Fail;

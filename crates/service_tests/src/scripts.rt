@@ -1,4 +1,6 @@
-use super::*;
+//! What a script is answered.
+
+use service::{Fault, ProgramError, ScriptError, run_script};
 use std::alloc::Global;
 use std::test::Fail;
 
@@ -24,9 +26,9 @@ fn refuses_malformed_steps(rt: HostRuntime) -> Result<(), Fail> {
         r#"{"do":"Phase"}"#,
         r#"{"do":"phase","at":1}"#,
         r#"{"do":"rows","task":1}"#,
-        r#"{"do":"load","task":1,"key":"a","weight":1}"#,
-        r#"{"do":"gather"}"#,
-        r#"{"do":"next","assigner":1,"at":0,"wanted":true}"#,
+        r#"{"do":"load","task":3,"key":"a","weight":1}"#,
+        r#"{"do":"gather","task":1}"#,
+        r#"{"do":"next","assigner":1,"at":0,"wanted":1}"#,
         r#"{"do":"hash"}"#,
         r#"{"do":"hash","key":5}"#,
         r#"{"do":"hash","key":"a","at":1}"#,

@@ -1,0 +1,44 @@
+//! The steps of loads, and what an assigner does next.
+
+ghost use Rattle.std.specs.Prelude.{◌≡◌};
+ghost use Rattle.serde_json.specs.View.{view};
+ghost use Rattle.service.specs.Reading.{Gives};
+ghost use Rattle.service.specs.Steps.{load_step, gather_step, next_step};
+
+use crate::fault::{Unread, WrongForm};
+use crate::members::{exactly, flag_at, key_at, number_at, number_in};
+use serde_json::Value;
+use std::alloc::Global;
+use world::{Job, Step};
+
+#[tactic(auto, unfolding(crate::specs::Steps::load_step))]
+pub fn load_step(alloc: Global, job: Job, step: &Value) -> Result<Step, Unread>
+    ensures { Gives result (load_step job (view step.now)) }
+{
+    exactly(&["do", "task", "key", "weight"], step)?;
+    Ok(Step::Load {
+        task: number_in(1, job.tasks(), "task", step)?,
+        key: key_at(alloc, "key", step)?,
+        weight: number_at("weight", step)?,
+    })
+}
+
+#[tactic(auto, unfolding(crate::specs::Steps::gather_step))]
+pub fn gather_step(step: &Value) -> Result<Step, WrongForm>
+    ensures { result ≡ gather_step (view step.now) }
+{
+    exactly(&["do"], step)?;
+    Ok(Step::Gather)
+}
+
+#[tactic(auto, unfolding(crate::specs::Steps::next_step))]
+pub fn next_step(job: Job, step: &Value) -> Result<Step, WrongForm>
+    ensures { result ≡ next_step job (view step.now) }
+{
+    exactly(&["do", "assigner", "at", "wanted"], step)?;
+    Ok(Step::Next {
+        assigner: number_in(1, job.assigners(), "assigner", step)?,
+        at: number_at("at", step)?,
+        wanted: flag_at("wanted", step)?,
+    })
+}

@@ -1,0 +1,45 @@
+//! Tickets drawn by one thread.
+
+use std::test::Fail;
+use world::{MOST_DRAWS, MOST_PASSES, Spent, Ticket, TicketError};
+
+#[test]
+fn numbers_draws_in_the_order_in_which_they_come(rt: HostRuntime) -> Result<(), Fail> {
+    let (ticket, mut passes) = Ticket::new(rt.alloc(), 2, 1).map_err(|_| "two passes")?;
+    assert_eq!(rt; ticket.draw(&mut passes[1]), Ok(0));
+    assert_eq!(rt; ticket.draw(&mut passes[1]), Err(Spent));
+    assert_eq!(rt; passes[0].left(), 1);
+    assert_eq!(rt; ticket.draw(&mut passes[0]), Ok(1));
+    assert_eq!(rt; passes[0].left(), 0);
+    assert_eq!(rt; ticket.close(passes).ok(), Some(2));
+    Ok(())
+}
+
+#[test]
+fn hands_all_back_where_a_pass_is_missing(rt: HostRuntime) -> Result<(), Fail> {
+    let (ticket, mut passes) = Ticket::new(rt.alloc(), 2, 2).map_err(|_| "two passes")?;
+    assert_eq!(rt; ticket.draw(&mut passes[0]), Ok(0));
+    drop(passes.pop());
+    let mut back = ticket.close(passes).err().ok_or("a pass is missing")?;
+    assert_eq!(rt; back.passes.len(), 1);
+    assert_eq!(rt; back.ticket.draw(&mut back.passes[0]), Ok(1));
+    Ok(())
+}
+
+#[test]
+fn takes_passes_and_draws_up_to_their_limits(rt: HostRuntime) -> Result<(), Fail> {
+    for (passes, quota) in [(0, 1), (129, 1), (1, 0), (1, 4_294_967_297)] {
+        let refused = Ticket::new(rt.alloc(), passes, quota);
+        assert!(rt; matches!(refused, Err(TicketError::Passes)));
+    }
+    for (passes, quota) in [(1, 1), (128, 4_294_967_296)] {
+        let (ticket, dealt) = Ticket::new(rt.alloc(), passes, quota).map_err(
+            |_| "within the limits",
+        )?;
+        assert_eq!(rt; dealt.len() as u64, passes);
+        assert_eq!(rt; dealt[0].left(), quota);
+        assert_eq!(rt; ticket.close(dealt).ok(), Some(0));
+    }
+    assert_eq!(rt; (MOST_PASSES, MOST_DRAWS), (128, 4_294_967_296));
+    Ok(())
+}

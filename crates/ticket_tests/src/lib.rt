@@ -1,0 +1,7 @@
+//! Tests of tickets.
+#![tactic(auto)]
+
+#[cfg(test)]
+mod draws;
+#[cfg(test)]
+mod threads;

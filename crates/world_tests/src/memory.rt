@@ -1,0 +1,49 @@
+//! A world where memory is refused.
+
+use crate::acts::step_of;
+use crate::stories::{AFTER, BASE, CHANGE, Told, VALUES, job_of, text_of};
+use std::alloc::Global;
+use std::process::Abort;
+use std::test::Fail;
+use world::{Reply, Step, World};
+
+// What a step is answered, where there is memory for it and for its reply.
+fn answer(alloc: Global, world: &mut World, step: Step) -> Option<Reply> {
+    let steps = Vec::from_array(alloc, [step]).ok()?;
+    match world.run(steps.as_slice()).ok()?.pop()? {
+        Reply::NoMemory => None,
+        reply => Some(reply),
+    }
+}
+
+// Plays a story a step at a time, and a step once more where there was no memory for it.
+fn play_at_last(
+    rt: &impl Abort,
+    alloc: Global,
+    world: &mut World,
+    story: &[Told],
+) -> Result<(), Fail> {
+    for (act, wanted) in story {
+        let step = step_of(alloc, *act).or_else(|_| step_of(alloc, *act))?;
+        let reply = match answer(alloc, world, step) {
+            Some(reply) => reply,
+            None => answer(alloc, world, step_of(alloc, *act)?).ok_or("a second time")?,
+        };
+        let text = text_of(alloc, &reply).or_else(|_| text_of(alloc, &reply))?;
+        assert_eq!(rt; text.as_str(), *wanted, "{act:?}");
+    }
+    Ok(())
+}
+
+// Where one allocation is refused (`rt try --test --fail-alloc N`), the step that wanted it leaves
+// the world as it was, and is answered the next time as with ample memory.
+#[test]
+fn stays_as_it_was_without_memory(rt: HostRuntime) -> Result<(), Fail> {
+    let alloc = rt.alloc();
+    let job = job_of()?;
+    let mut world = World::new(alloc, job).or_else(|_| World::new(alloc, job))?;
+    play_at_last(&rt, alloc, &mut world, &VALUES)?;
+    play_at_last(&rt, alloc, &mut world, &BASE)?;
+    play_at_last(&rt, alloc, &mut world, &CHANGE)?;
+    play_at_last(&rt, alloc, &mut world, &AFTER)
+}
