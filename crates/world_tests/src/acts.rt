@@ -11,7 +11,7 @@ pub type Slices = &'static [(u64, &'static [u64])];
 // Leases: the kind, the generation, the ranges and the end of each.
 pub type Leases = &'static [(Kind, u64, &'static [(u64, u64)], u64)];
 
-// A step. Its numbers stand in the order of the fields of `Step`; the last one is the reading.
+// A step. Its values stand in the order of the fields of `Step`.
 #[derive(Clone, Copy, Debug)]
 pub enum Act {
     Hash(&'static str),
@@ -35,6 +35,9 @@ pub enum Act {
     Learn(u64, u64),
     Look(u64, &'static str),
     Forget(u64),
+    Load(u64, &'static str, u64),
+    Gather,
+    Next(u64, u64, bool),
     Restart(u64),
 }
 
@@ -88,6 +91,12 @@ fn plain_step(act: Act) -> Option<Step> {
         Act::Check(task, handle, at) => Some(Step::Check { task, handle, at }),
         Act::Learn(clerk, generation) => Some(Step::Learn { clerk, generation }),
         Act::Forget(clerk) => Some(Step::Forget { clerk }),
+        Act::Gather => Some(Step::Gather),
+        Act::Next(assigner, at, wanted) => Some(Step::Next {
+            assigner,
+            at,
+            wanted,
+        }),
         Act::Restart(assigner) => Some(Step::Restart { assigner }),
         _ => None,
     }
@@ -115,6 +124,11 @@ fn key_step(alloc: Global, act: Act) -> Result<Option<Step>, AllocError> {
         Act::Look(clerk, key) => Step::Look {
             clerk,
             key: bytes_of(alloc, key)?,
+        },
+        Act::Load(task, key, weight) => Step::Load {
+            task,
+            key: bytes_of(alloc, key)?,
+            weight,
         },
         _ => return Ok(None),
     };

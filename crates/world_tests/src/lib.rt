@@ -4,6 +4,8 @@
 #[cfg(test)]
 mod acts;
 #[cfg(test)]
+mod copies;
+#[cfg(test)]
 mod jobs;
 #[cfg(test)]
 mod memory;

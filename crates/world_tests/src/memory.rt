@@ -1,7 +1,7 @@
 //! A world where memory is refused.
 
 use crate::acts::step_of;
-use crate::stories::{AFTER, BASE, CHANGE, Told, VALUES, job_of, text_of};
+use crate::stories::{AFTER, BASE, CHANGE, LOADS, Told, VALUES, job_of, text_of};
 use std::alloc::Global;
 use std::process::Abort;
 use std::test::Fail;
@@ -43,6 +43,7 @@ fn stays_as_it_was_without_memory(rt: HostRuntime) -> Result<(), Fail> {
     let job = job_of()?;
     let mut world = World::new(alloc, job).or_else(|_| World::new(alloc, job))?;
     play_at_last(&rt, alloc, &mut world, &VALUES)?;
+    play_at_last(&rt, alloc, &mut world, &LOADS)?;
     play_at_last(&rt, alloc, &mut world, &BASE)?;
     play_at_last(&rt, alloc, &mut world, &CHANGE)?;
     play_at_last(&rt, alloc, &mut world, &AFTER)

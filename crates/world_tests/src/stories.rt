@@ -127,6 +127,23 @@ pub const AFTER: [Told; 10] = [
     (Act::Take(1, 35), "Refused(Table(JobHeld { until: 1033 }))"),
 ];
 
+// After the values: work is recorded and gathered, and an assigner without a term is asked what it does.
+pub const LOADS: [Told; 7] = [
+    (Act::Load(1, "hello", 3), "Recorded(3)"),
+    (Act::Load(2, "abc", 5), "Recorded(5)"),
+    (Act::Load(1, "hello", 2), "Recorded(5)"),
+    (Act::Load(1, "hello", 0), "Refused(Load(WeightRange))"),
+    (
+        Act::Gather,
+        "Gathered { loads: Listed { items: [5, 5] }, totals: Listed { items: [5, 5] } }",
+    ),
+    (
+        Act::Gather,
+        "Gathered { loads: Listed { items: [0, 0] }, totals: Listed { items: [5, 5] } }",
+    ),
+    (Act::Next(1, 0, true), "Next(Take)"),
+];
+
 // A job of two assigners, two tasks and two clerks.
 pub fn job_of() -> Result<Job, Fail> {
     let policy = Policy::new(1, 10, 100, 100, 1000, 1000).ok_or("within the limits")?;

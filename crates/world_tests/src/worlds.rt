@@ -1,7 +1,7 @@
 //! What steps are answered.
 
 use crate::acts::Act;
-use crate::stories::{AFTER, BASE, CHANGE, VALUES, job_of, play};
+use crate::stories::{AFTER, BASE, CHANGE, LOADS, VALUES, job_of, play};
 use std::test::Fail;
 use world::World;
 
@@ -9,6 +9,7 @@ use world::World;
 fn answers_every_kind_of_step(rt: HostRuntime) -> Result<(), Fail> {
     let mut world = World::new(rt.alloc(), job_of()?)?;
     play(&rt, rt.alloc(), &mut world, &VALUES)?;
+    play(&rt, rt.alloc(), &mut world, &LOADS)?;
     play(&rt, rt.alloc(), &mut world, &BASE)?;
     play(&rt, rt.alloc(), &mut world, &CHANGE)?;
     play(&rt, rt.alloc(), &mut world, &AFTER)

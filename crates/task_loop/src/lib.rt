@@ -1,0 +1,6 @@
+//! A task that writes only while it may serve: what a caller of the step machine knows.
+#![tactic(auto)]
+
+mod writes;
+
+pub use writes::write_if_served;
