@@ -15,9 +15,13 @@ fn keeps_what_it_is_given(rt: HostRuntime) -> Result<(), Fail> {
     let task = TaskId::new(3).ok_or("a number from 1 to 64")?;
     let key = SliceKey::new(7).ok_or("a number of 63 bits is a key")?;
     let handle = KeyHandle::new(task, 2, key, 5);
-    assert_eq!(rt; handle.task.number(), 3);
-    assert_eq!(rt; handle.key.value(), 7);
-    assert_eq!(rt; (handle.life, handle.position), (2, 5));
+    let given = (
+        handle.task.number(),
+        handle.life,
+        handle.key.value(),
+        handle.position,
+    );
+    assert_eq!(rt; given, (3, 2, 7, 5));
     Ok(())
 }
 
@@ -95,77 +99,135 @@ impl Held {
     }
 }
 
+type Kept = ((u32, u64), [Result<bool, Stranger>; 3]);
+
+// The life and the position of a handle, and whether it lives after the guard is renewed.
+fn kept_over_a_renewal(alloc: Global) -> Result<Kept, Fail> {
+    let mut held = Held::new(alloc)?;
+    let given = (held.handle.life, held.handle.position);
+    held.renew(49, 50)?;
+    let lives = [
+        held.continuous(51),
+        held.continuous(139),
+        held.continuous(49),
+    ];
+    Ok((given, lives))
+}
+
 #[test]
 fn keeps_a_handle_over_a_renewed_guard(rt: HostRuntime) -> Result<(), Fail> {
-    let mut held = Held::new(rt.alloc())?;
-    assert_eq!(rt; (held.handle.life, held.handle.position), (1, 2));
-    held.renew(49, 50)?;
-    assert_eq!(rt; held.continuous(51), Ok(true));
-    assert_eq!(rt; held.continuous(139), Ok(false));
-    assert_eq!(rt; held.continuous(49), Ok(false));
+    let wanted = ((1, 2), [Ok(true), Ok(false), Ok(false)]);
+    assert_eq!(rt; kept_over_a_renewal(rt.alloc())?, wanted);
     Ok(())
+}
+
+type Answer = (Result<bool, Stranger>, Verdict);
+
+// Whether a handle lives at 97, and whether its key is served, after a renewal that came late.
+fn answers_after_a_gap(alloc: Global) -> Result<Answer, Fail> {
+    let mut held = Held::new(alloc)?;
+    held.renew(49, 96)?;
+    Ok((held.continuous(97), held.serve(97)))
 }
 
 #[test]
 fn breaks_a_handle_where_the_guard_ended_before_the_next(rt: HostRuntime) -> Result<(), Fail> {
-    let mut held = Held::new(rt.alloc())?;
-    held.renew(49, 96)?;
-    assert_eq!(rt; held.continuous(97), Ok(false));
-    assert_eq!(rt; held.serve(97), allow(Kind::Guard, 1));
+    let wanted = (Ok(false), allow(Kind::Guard, 1));
+    assert_eq!(rt; answers_after_a_gap(rt.alloc())?, wanted);
     Ok(())
+}
+
+// What is served while the key is away, and the answers once it has come back.
+fn answers_after_a_loss(alloc: Global) -> Result<(Verdict, Answer), Fail> {
+    let mut held = Held::new(alloc)?;
+    held.change(&assignment_of(alloc, 2, &[(0, &[2])])?, 20)?;
+    let away = held.serve(26);
+    held.change(&assignment_of(alloc, 3, &[(0, &[1])])?, 27)?;
+    Ok((away, (held.continuous(33), held.serve(33))))
 }
 
 #[test]
 fn breaks_a_handle_whose_key_left_and_came_back(rt: HostRuntime) -> Result<(), Fail> {
-    let mut held = Held::new(rt.alloc())?;
-    held.change(&assignment_of(rt.alloc(), 2, &[(0, &[2])])?, 20)?;
     let not_owned = Verdict::Deny(Ground::NotOwned { generation: 2 });
-    assert_eq!(rt; held.serve(26), not_owned);
-    held.change(&assignment_of(rt.alloc(), 3, &[(0, &[1])])?, 27)?;
-    assert_eq!(rt; held.continuous(33), Ok(false));
-    assert_eq!(rt; held.serve(33), allow(Kind::Guard, 3));
+    let wanted = (not_owned, (Ok(false), allow(Kind::Guard, 3)));
+    assert_eq!(rt; answers_after_a_loss(rt.alloc())?, wanted);
     Ok(())
+}
+
+type OverABridge = (Option<u64>, [Verdict; 3], Result<bool, Stranger>);
+
+// The generation that is committed, what is served under the bridge and after it, and whether the
+// handle lives.
+fn answers_over_a_bridge(alloc: Global) -> Result<OverABridge, Fail> {
+    let mut held = Held::new(alloc)?;
+    let next = assignment_of(alloc, 2, &[(0, &[1]), (HALF, &[1])])?;
+    held.propose(&next, 20)?;
+    held.renew(24, 25)?;
+    held.release(26, 28)?;
+    let bridged = held.serve(27);
+    let committed = held.table.commit(1, 29).ok();
+    held.renew(30, 31)?;
+    let verdicts = [bridged, held.serve(32), held.slicelet.serve(abc(), 32)];
+    Ok((committed, verdicts, held.continuous(32)))
 }
 
 #[test]
 fn carries_a_handle_over_a_change_by_a_bridge(rt: HostRuntime) -> Result<(), Fail> {
-    let mut held = Held::new(rt.alloc())?;
-    let next = assignment_of(rt.alloc(), 2, &[(0, &[1]), (HALF, &[1])])?;
-    held.propose(&next, 20)?;
-    held.renew(24, 25)?;
-    held.release(26, 28)?;
-    assert_eq!(rt; held.serve(27), allow(Kind::Bridge, 2));
-    assert_eq!(rt; held.table.commit(1, 29), Ok(2));
-    held.renew(30, 31)?;
-    assert_eq!(rt; held.serve(32), allow(Kind::Guard, 2));
-    assert_eq!(rt; held.slicelet.serve(abc(), 32), allow(Kind::Guard, 2));
-    assert_eq!(rt; held.continuous(32), Ok(true));
+    let verdicts = [
+        allow(Kind::Bridge, 2),
+        allow(Kind::Guard, 2),
+        allow(Kind::Guard, 2),
+    ];
+    assert_eq!(rt;
+        answers_over_a_bridge(rt.alloc())?,
+        (Some(2), verdicts, Ok(true))
+    );
     Ok(())
+}
+
+// Handles on "hello": the task, the life and the position.
+const HANDLES: [(u64, u32, u64); 6] = [
+    (1, 1, 2),
+    (1, 1, 1),
+    (1, 1, 3),
+    (1, 2, 0),
+    (1, 0, 9),
+    (2, 1, 2),
+];
+
+// Whether each of the handles lives.
+fn lives(held: &Held) -> Result<[Result<bool, Stranger>; 6], Fail> {
+    let mut lives = [Ok(false); 6];
+    for (place, (task, life, position)) in HANDLES.iter().enumerate() {
+        let handle = KeyHandle::new(task_of(*task)?, *life, hello(), *position);
+        lives[place] = held.slicelet.continuous(&handle, 8);
+    }
+    Ok(lives)
+}
+
+type Known = (Ground, [Result<bool, Stranger>; 6], Result<bool, Stranger>);
+
+// Why there is no handle on "abc", whether the handles live, and whether the first does in the next
+// life.
+fn known_handles(alloc: Global) -> Result<Known, Fail> {
+    let mut held = Held::new(alloc)?;
+    let ground = held.slicelet.hold(abc(), 7).err().ok_or("not owned")?;
+    let lives = lives(&held)?;
+    held.slicelet.start(2, 9).map_err(|_| "life 2 is new")?;
+    Ok((ground, lives, held.continuous(10)))
 }
 
 #[test]
 fn knows_strangers_and_older_lives(rt: HostRuntime) -> Result<(), Fail> {
-    let mut held = Held::new(rt.alloc())?;
-    let not_owned = Ground::NotOwned { generation: 1 };
-    assert_eq!(rt; held.slicelet.hold(abc(), 7), Err(not_owned));
-    assert_eq!(rt; held.continuous(8), Ok(true));
-    let cases = [
-        (1, 1, 2, Ok(true)),
-        (1, 1, 1, Ok(false)),
-        (1, 1, 3, Err(Stranger)),
-        (1, 2, 0, Err(Stranger)),
-        (1, 0, 9, Ok(false)),
-        (2, 1, 2, Err(Stranger)),
+    let lives = [
+        Ok(true),
+        Ok(false),
+        Err(Stranger),
+        Err(Stranger),
+        Ok(false),
+        Err(Stranger),
     ];
-    for (task, life, position, answer) in cases {
-        let handle = KeyHandle::new(task_of(task)?, life, hello(), position);
-        assert_eq!(rt;
-            held.slicelet.continuous(&handle, 8),
-            answer,
-            "task {task}, life {life}, position {position}"
-        );
-    }
-    assert!(rt; held.slicelet.start(2, 9).is_ok());
-    assert_eq!(rt; held.continuous(10), Ok(false));
+    let wanted = (Ground::NotOwned { generation: 1 }, lives, Ok(false));
+    assert_eq!(rt; known_handles(rt.alloc())?, wanted);
     Ok(())
 }
