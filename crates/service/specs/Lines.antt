@@ -23,6 +23,11 @@ use Rattle.clerk.specs.declared.error.ClerkError.{ClerkError}
 use Rattle.clerk.specs.declared.error.ClerkError.TheVariants as clerk
 use Rattle.load_ledger.specs.declared.error.LoadError.{LoadError}
 use Rattle.load_ledger.specs.declared.error.LoadError.TheVariants as load
+use Rattle.weighted_move.specs.declared.error.PlanError.{PlanError}
+use Rattle.weighted_move.specs.declared.error.PlanError.TheVariants as plan
+use Rattle.weighted_move.specs.declared.moves.Move.{Move}
+use Rattle.weighted_move.specs.declared.made.Plan.{Plan}
+use Rattle.assignment.specs.declared.slice.Slice.{Slice}
 use Rattle.assigner.specs.declared.action.Action.{Action}
 use Rattle.assigner.specs.declared.action.Action.TheVariants as action
 use Rattle.world.specs.declared.reply.Refusal.{Refusal}
@@ -108,6 +113,13 @@ abbrev pub load_words : LoadError → List ℕ
 load_words load.WeightRange = codes "weight-range"
 load_words load.TotalRange = codes "total-range"
 
+-- the words for why there is no plan; the last is in no reply
+abbrev pub plan_words : PlanError → List ℕ
+plan_words plan.NoTasks = codes "no-tasks"
+plan_words plan.LoadsLength = codes "loads-length"
+plan_words plan.LoadRange = codes "load-range"
+plan_words plan.NoMemory = codes "no-memory"
+
 -- the words for a refusal; the first is in no reply to a script, whose actors are all of its job
 abbrev pub refusal_words : Refusal → List ℕ
 refusal_words refusal.NoActor = codes "no-actor"
@@ -121,6 +133,7 @@ refusal_words refusal.Stranger = codes "stranger"
 refusal_words (refusal.Clerk error) = clerk_words error
 refusal_words refusal.Unknown = codes "unknown"
 refusal_words (refusal.Load error) = load_words error
+refusal_words (refusal.Plan error) = plan_words error
 
 -- a task after another one
 abbrev pub next_owner : ℕ → List ℕ
@@ -154,6 +167,34 @@ rows_text (row ∷ rows) = row_text row ++ flat_map next_row rows
 -- a number after a space
 abbrev pub next_number : ℕ → List ℕ
 next_number number = codes " " ++ decimal number
+
+-- a slice: its start and its owners, joined by a colon
+abbrev pub slice_text : Slice → List ℕ
+slice_text slice = decimal slice.start ++ codes ":" ++ owners_text slice.owners
+
+-- a slice after another one
+abbrev pub next_slice : Slice → List ℕ
+next_slice slice = codes " " ++ slice_text slice
+
+-- slices, joined by spaces
+unfoldable pub slices_text : List Slice → List ℕ
+slices_text [] = []
+slices_text (slice ∷ slices) = slice_text slice ++ flat_map next_slice slices
+
+-- a move: the start of its slice, whom it leaves and where it goes to, its gain and its churn
+unfoldable pub move_text : Move → List ℕ
+move_text move =
+    (decimal move.start ++ codes ":" ++ decimal move.giver ++ codes ">" ++ decimal move.taker)
+    ++ (codes " gain " ++ decimal move.gain ++ codes " churn " ++ decimal move.churn)
+
+-- a move after another one
+abbrev pub next_move : Move → List ℕ
+next_move move = codes ", " ++ move_text move
+
+-- moves, joined by commas and spaces
+unfoldable pub moves_text : List Move → List ℕ
+moves_text [] = []
+moves_text (move ∷ moves) = move_text move ++ flat_map next_move moves
 
 -- the word for what an assigner does next
 abbrev pub action_word : Action → List ℕ
@@ -189,6 +230,7 @@ reply_text (reply.Found found) = codes "found generation " ++ decimal found.gene
 reply_text reply.Forgotten = codes "forgotten"
 reply_text (reply.Recorded total) = codes "recorded " ++ decimal total
 reply_text (reply.Gathered loads totals) = codes "loads" ++ flat_map next_number loads ++ codes " totals" ++ flat_map next_number totals
+reply_text (reply.Planned plan) = codes "plan [" ++ slices_text plan.slices ++ codes "] moves [" ++ moves_text plan.moves ++ codes "]"
 reply_text (reply.Next action) = codes "next " ++ action_word action
 reply_text reply.Restarted = codes "restarted"
 reply_text (reply.Refused refusal) = codes "refused " ++ refusal_words refusal

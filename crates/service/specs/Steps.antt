@@ -5,9 +5,13 @@ use Rattle.serde_json.specs.Data.{Data}
 use Rattle.assignment.specs.declared.slice.Slice.{Slice}
 use Rattle.world.specs.Jobs.{Job}
 use Rattle.world.specs.declared.step.Step.{Step}
-use Rattle.world.specs.declared.step.Step.TheVariants.{Hash, Assign, Owners, Judge, Take, Renew, Propose, Commit, Phase, Rows, Grant, Free, Start, Hear, Release, Serve, Hold, Check, Learn, Look, Forget, Load, Gather, Next, Restart}
+use Rattle.world.specs.declared.step.Step.TheVariants.{Hash, Assign, Owners, Judge, Take, Renew, Propose, Commit, Phase, Rows, Grant, Free, Start, Hear, Release, Serve, Hold, Check, Learn, Look, Forget, Load, Gather, Plan, Next, Restart}
 use Rattle.service.specs.declared.fault.WrongForm.{WrongForm}
-use Rattle.service.specs.Reading.{◌>>=◌, ◌>>◌}
+use Rattle.lease_table.specs.Policies.{is_within}
+use Rattle.assignment.specs.declared.task.TheConstants.{TASKS}
+use Rattle.weighted_move.specs.Owning.{rise_from}
+use Rattle.world.specs.Bounds.{Bounds, bounds, is_bounds}
+use Rattle.service.specs.Reading.{◌>>=◌, ◌>>◌, check}
 use Rattle.service.specs.Members.{wrong, exactly, number_at, number_in, number_of, life_at, flag_at, kind_at, text_at, key_at, pair_of, list_of, list_at}
 use Rattle.service.specs.Questions.{question_of}
 
@@ -209,6 +213,39 @@ gather_step d = do
   exactly (codes "do" ∷ []) d
   Ok Gather
 
+-- a task that there may be, in this job or not
+unfoldable pub task_of : Data → Result ℕ WrongForm
+task_of d = do
+  number ← number_of d
+  check (is_within number TASKS) wrong
+  Ok number
+
+-- the member of this name, as a set of tasks in rising order
+unfoldable pub tasks_at : List ℕ → Data → Result (List ℕ) WrongForm
+tasks_at name d = do
+  tasks ← list_at task_of name d
+  check (rise_from 1 tasks) wrong
+  Ok tasks
+
+-- the four members that hold a plan, each within its limits
+unfoldable pub bounds_of : Data → Result Bounds WrongForm
+bounds_of d = do
+  churn ← number_at (codes "churn") d
+  cold ← number_at (codes "cold") d
+  hot ← number_at (codes "hot") d
+  most ← number_at (codes "most") d
+  check (is_bounds (bounds churn cold hot most)) wrong
+  Ok (bounds churn cold hot most)
+
+-- a `plan` has tasks, loads, and the bounds of the plan
+unfoldable pub plan_step : Data → Result Step WrongForm
+plan_step d = do
+  exactly (codes "do" ∷ codes "tasks" ∷ codes "loads" ∷ codes "churn" ∷ codes "cold" ∷ codes "hot" ∷ codes "most" ∷ []) d
+  tasks ← tasks_at (codes "tasks") d
+  loads ← list_at number_of (codes "loads") d
+  bounds ← bounds_of d
+  Ok (Plan loads tasks bounds)
+
 -- a `next` has an assigner, a reading, and whether another assignment is wanted
 unfoldable pub next_step : Job → Data → Result Step WrongForm
 next_step job d = do
@@ -244,9 +281,10 @@ step_named job name d =
     (if bytes_eq name (codes "forget") then forget_step job d else
     (if bytes_eq name (codes "load") then load_step job d else
     (if bytes_eq name (codes "gather") then gather_step d else
+    (if bytes_eq name (codes "plan") then plan_step d else
     (if bytes_eq name (codes "next") then next_step job d else
     (if bytes_eq name (codes "restart") then restart_step job d else
-    Err wrong))))))))))))))))))))))))
+    Err wrong)))))))))))))))))))))))))
 
 -- a step, named by its member `do`
 unfoldable pub step_of : Job → Data → Result Step WrongForm

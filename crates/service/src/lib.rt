@@ -8,6 +8,8 @@ mod line;
 mod load_steps;
 mod members;
 mod output;
+mod plan_line;
+mod plan_step;
 mod program;
 mod question;
 mod run;

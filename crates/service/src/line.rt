@@ -4,6 +4,7 @@ ghost use Rattle.std.specs.Prelude.{◌≡◌, Some};
 ghost use Rattle.std.specs.List.{flat_map};
 ghost use Rattle.service.specs.Lines.{hex_16, verdict_words, phase_words, owners_text, row_text, rows_text, next_number, reply_text};
 
+use crate::plan_line::{MovesText, SlicesText};
 use crate::words::{RefusalWords, action_word, kind_word};
 use assignment::TaskId;
 use lease_table::{Phase, Row};
@@ -192,6 +193,14 @@ impl fmt::Display for Line<'_> {
             Reply::Gathered { loads, totals } => {
                 let loads = Spaced(loads.as_slice());
                 write!(f, "loads{loads} totals{}", Spaced(totals.as_slice()))
+            }
+            Reply::Planned(plan) => {
+                let slices = SlicesText(plan.slices.as_slice());
+                write!(
+                    f,
+                    "plan [{slices}] moves [{}]",
+                    MovesText(plan.moves.as_slice())
+                )
             }
             Reply::Next(action) => write!(f, "next {}", action_word(*action)),
             Reply::Restarted => f.write_str("restarted"),

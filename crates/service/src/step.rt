@@ -11,6 +11,7 @@ use crate::load_steps::{gather_step, load_step, next_step};
 use crate::members::{
     Form, exactly, key_at, list_at, list_of, number_at, number_of, pair_of, text_at,
 };
+use crate::plan_step::plan_step;
 use crate::question::question_of;
 use crate::table_steps::{
     commit_step, free_step, grant_step, phase_step, propose_step, renew_step, restart_step,
@@ -97,6 +98,7 @@ pub fn step_of(alloc: Global, job: Job, step: &Value) -> Result<Step, Unread>
         "forget" => Ok(forget_step(job, step)?),
         "load" => load_step(alloc, job, step),
         "gather" => Ok(gather_step(step)?),
+        "plan" => plan_step(alloc, step),
         "next" => Ok(next_step(job, step)?),
         "restart" => Ok(restart_step(job, step)?),
         _ => Err(Unread::WrongForm),

@@ -1,7 +1,7 @@
 //! The words for why a step is refused.
 
 ghost use Rattle.std.specs.Prelude.{◌≡◌, Some};
-ghost use Rattle.service.specs.Lines.{slices_words, ranges_words, kind_word, table_words, slicelet_words, load_words, action_word, refusal_words};
+ghost use Rattle.service.specs.Lines.{slices_words, ranges_words, kind_word, table_words, slicelet_words, load_words, plan_words, action_word, refusal_words};
 
 use assigner::Action;
 use assignment::AssignmentError;
@@ -12,6 +12,7 @@ use policy_rules::Kind;
 use slice_ranges::RangesError;
 use slicelet::SliceletError;
 use std::fmt;
+use weighted_move::PlanError;
 use world::Refusal;
 
 // The words for slices that make no assignment. No reply is for want of memory.
@@ -74,6 +75,18 @@ fn load_words(error: LoadError) -> &'static str
     match error {
         LoadError::WeightRange => "weight-range",
         LoadError::TotalRange => "total-range",
+    }
+}
+
+// The words for why there is no plan. No reply is for want of memory.
+fn plan_words(error: PlanError) -> &'static str
+    ensures { result.now ≡ plan_words error }
+{
+    match error {
+        PlanError::NoTasks => "no-tasks",
+        PlanError::LoadsLength => "loads-length",
+        PlanError::LoadRange => "load-range",
+        PlanError::NoMemory => "no-memory",
     }
 }
 
@@ -146,6 +159,7 @@ impl fmt::Display for RefusalWords {
             Refusal::Clerk(ClerkError::Old { generation }) => write!(f, "old {generation}"),
             Refusal::Unknown => f.write_str("unknown"),
             Refusal::Load(error) => f.write_str(load_words(error)),
+            Refusal::Plan(error) => f.write_str(plan_words(error)),
         }
     }
 }

@@ -13,8 +13,8 @@ use Rattle.world.specs.Headline.{MayServe, is_served}
 may_serve : (job : Job) (past : Past) (task : ℕ) (key : List ℕ) (at : ℕ) (answer : Reply) → IsReply job past (event (step.Serve task key at) answer)
     → is_served answer ≡ true → IsTimely job.policy.skew (step.Serve task key at ∷ steps_of past) → MayServe job past task key
 may_serve job past task key at answer h served timely =
-    elim h.2 [
-      | inl e ↦ (at, timely, let P : Reply → Type 0 = λ r. IsTrue (is_served r) in subst P e served)
+    elim h [
+      | inl answered ↦ (at, timely, let P : Reply → Type 0 = λ r. IsTrue (is_served r) in subst P answered.2 served)
       | inr none ↦ absurd (let f : false ≡ true = none.1 in cc)
     ]
 

@@ -183,6 +183,10 @@ count-le : (low high : ℕ) (xs : List ℕ) → Rises low xs high → low + leng
 count-le low high [] h = let p : low ≤ high = h in omega arith
 count-le low high (x ∷ xs) h = let rest = count-le (x + 1) high xs h.1 in let p : low ≤ x = h.0 in omega (arith, rest, p)
 
+-- a set of tasks has room for all that there may be
+pub all_fit : (xs : List ℕ) → Rises 1 xs 65 → length xs ≤ 64
+all_fit xs h = let all = count-le 1 65 xs h in omega (arith, all)
+
 -- a rising list has room for a stranger
 pub room_for : (low high task : ℕ) (xs : List ℕ) → Rises low xs high → low ≤ task → task < high → is_among xs task ≡ false → low + length xs < high
 room_for low high task [] h l m stranger = omega arith

@@ -1,5 +1,5 @@
 -- Sets of tasks, each as its list of tasks in rising order.
-use Rattle.std.specs.Prelude.{◌≡◌, ℕ, ◌+◌, true, ◌==◌, ◌||◌, nat_eq, not, Bool, List, filter}
+use Rattle.std.specs.Prelude.{◌≡◌, ℕ, ◌+◌, true, ◌==◌, ◌||◌, ◌&&◌, nat_eq, nat_le, not, Bool, List, [], ◌∷◌, filter}
 use Rattle.std.specs.Cmp.Lexicographic.{pointwise}
 use Rattle.slice_ranges.specs.Sets.{Rises}
 use Rattle.assignment.specs.declared.task.TheConstants.{TASKS}
@@ -29,6 +29,11 @@ replaced giver taker owners = with_task taker (without_task giver owners)
 -- each task of a set is in another
 abbrev pub IsWithin : List ℕ → List ℕ → Type 0
 IsWithin members owners = (t : ℕ) → is_among owners t ≡ true → is_among members t ≡ true
+
+-- whether tasks rise strictly, from low on
+abbrev pub rise_from : ℕ → List ℕ → Bool
+rise_from low [] = true
+rise_from low (task ∷ tasks) = nat_le low task && rise_from (task + 1) tasks
 
 -- a set of tasks: they rise, from 1 to the greatest number that a task may have
 abbrev pub IsTaskSet : List ℕ → Type 0

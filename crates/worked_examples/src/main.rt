@@ -9,7 +9,7 @@ use std::alloc::Global;
 use std::fs;
 use std::rt::Files;
 
-const NAMES: [&str; 53] = [
+const NAMES: [&str; 61] = [
     "owners",
     "hash-of-empty-and-hello",
     "hash-vectors",
@@ -38,6 +38,14 @@ const NAMES: [&str; 53] = [
     "loads-are-recorded-and-gathered",
     "share-total-reaches-its-limit",
     "gather-past-the-total-leaves-the-shares",
+    "load-and-weight-limits",
+    "plan-moves-the-best-gain-over-churn",
+    "plan-without-churn-moves-nothing",
+    "plan-merges-cold-and-halves-hot",
+    "plan-halves-nothing-at-the-most",
+    "plan-without-a-task-and-its-refusals",
+    "plan-adds-and-moves-replicas",
+    "load-moves-a-slice",
     "empty-input",
     "empty-array",
     "script-cut-off-in-its-third-step",

@@ -1,16 +1,22 @@
 -- What a layer below answers is what the step is answered.
-use Rattle.std.proofs.Common.{◌≡◌, ℕ, true, false, refl, sym, ◌∙◌, ap, subst, inl, inr}
+use Rattle.std.proofs.Common.{◌≡◌, ℕ, List, true, false, refl, sym, ◌∙◌, ap, subst, inl, inr}
 use Rattle.std.specs.Prelude.{Option, Some, None, Result, Ok, Err, is_ok}
 use Rattle.machines.specs.Refusals.{unless_refused}
 use Rattle.lease_table.specs.Policies.{is_within}
 use Rattle.world.specs.Jobs.{Job}
+use Rattle.assignment.specs.Slices.{Slicing}
+use Rattle.weighted_move.specs.declared.made.Plan.{Plan}
+use Rattle.weighted_move.specs.declared.error.PlanError.{PlanError}
+use Rattle.weighted_move.specs.Plans.{plan_refusal}
 use Rattle.world.specs.declared.step.Step.{Step}
+use Rattle.world.specs.declared.step.Step.TheVariants as step
 use Rattle.world.specs.declared.reply.Refusal.{Refusal}
 use Rattle.world.specs.declared.reply.Reply.{Reply}
 use Rattle.world.specs.declared.reply.Reply.TheVariants as reply
 use Rattle.world.specs.Pasts.{event, Past, is_accepted}
-use Rattle.world.specs.Replies.{by_actor, from_layer, reply_to}
-use Rattle.world.specs.Runs.{IsReply, IsTold, takes_memory}
+use Rattle.world.specs.Told.{draft_of}
+use Rattle.world.specs.Replies.{Outcome, no_outcome, by_actor, from_layer, planned, plan_reply, reply_to}
+use Rattle.world.specs.Runs.{IsReply, IsOutcome, takes_memory}
 use Rattle.machines.specs.declared.machine.Trouble.{Trouble}
 use Rattle.machines.specs.declared.machine.Trouble.TheVariants.{Refused, NoMemory}
 use Rattle.machines.specs.Answers.{Takes}
@@ -27,17 +33,34 @@ answer_is (Some why) v w e = absurd (cc)
 pub by_own : (number most : ℕ) (answer : Reply) → is_within number most ≡ true → by_actor number most answer ≡ answer
 by_own number most answer e = rw e refl
 
-module _ (job : Job) (past : Past) (s : Step) (told : IsTold job past s false) where
+-- a plan is refused whatever it would be
+planned_alike : (o : Option PlanError) (plan other : Plan) → is_accepted (planned o plan) ≡ is_accepted (planned o other)
+planned_alike None plan other = refl
+planned_alike (Some why) plan other = refl
+
+drafted_alike : (o : Option Slicing) (loads tasks : List ℕ) (plan other : Plan) → is_accepted (plan_reply o loads tasks plan) ≡ is_accepted (plan_reply o loads tasks other)
+drafted_alike None loads tasks plan other = refl
+drafted_alike (Some draft) loads tasks plan other = planned_alike (plan_refusal draft.slices loads tasks) plan other
+
+-- a step that takes memory is refused whatever its outcome
+accepted_alike : (job : Job) (past : Past) (s : Step) (outcome other : Outcome) → takes_memory s ≡ true
+    → is_accepted (reply_to job past s outcome) ≡ is_accepted (reply_to job past s other)
+accepted_alike job past (step.Check task number at) outcome other takes = absurd (let f : false ≡ true = takes in cc)
+accepted_alike job past (step.Plan loads tasks bounds) outcome other takes = drafted_alike (draft_of past) loads tasks outcome.plan other.plan
+accepted_alike job past _ outcome other takes = refl
+
+-- memory is wanting for a step that would be accepted
+pub replied_without_memory : (job : Job) (past : Past) (s : Step) → takes_memory s ≡ true → (answer : Reply) → reply_to job past s no_outcome ≡ answer → is_accepted answer ≡ true
+    → IsReply job past (event s reply.NoMemory)
+replied_without_memory job past s takes answer e ok =
+    inr (refl, takes, λ outcome. accepted_alike job past s outcome no_outcome takes ∙ ap is_accepted e ∙ ok)
+
+module _ (job : Job) (past : Past) (s : Step) (told : IsOutcome job past s no_outcome) where
   -- the reply that the steps before give
-  pub replied_as : (answer : Reply) → reply_to job past s false ≡ answer → IsReply job past (event s answer)
-  replied_as answer e = (false, told, inl (sym e))
+  pub replied_as : (answer : Reply) → reply_to job past s no_outcome ≡ answer → IsReply job past (event s answer)
+  replied_as answer e = inl (no_outcome, told, sym e)
 
-  -- memory is wanting for a step that would be accepted
-  pub replied_without_memory : takes_memory s ≡ true → (answer : Reply) → reply_to job past s false ≡ answer → is_accepted answer ≡ true
-      → IsReply job past (event s reply.NoMemory)
-  replied_without_memory takes answer e ok = (false, told, inr (refl, takes, subst (λ (r : Reply). is_accepted r ≡ true) (sym e) ok))
-
-  module _ {M A E : Type 0} (refused : E → Refusal) (name : A → Reply) (step : Result (M × A) E) (is : reply_to job past s false ≡ from_layer refused name step) where
+  module _ {M A E : Type 0} (refused : E → Refusal) (name : A → Reply) (step : Result (M × A) E) (is : reply_to job past s no_outcome ≡ from_layer refused name step) where
     pub answers : (p : M × A) → step ≡ Ok p → IsReply job past (event s (name p.1))
     answers p e = replied_as (name p.1) (is ∙ ap (from_layer refused name) e)
 
@@ -45,7 +68,7 @@ module _ (job : Job) (past : Past) (s : Step) (told : IsTold job past s false) w
     refuses why e = replied_as (reply.Refused (refused why)) (is ∙ ap (from_layer refused name) e)
 
     pub wants_memory : takes_memory s ≡ true → ((x : A) → is_accepted (name x) ≡ true) → is_ok step ≡ true → IsReply job past (event s reply.NoMemory)
-    wants_memory takes each ok = replied_without_memory takes (from_layer refused name step) is (accepted step ok)
+    wants_memory takes each ok = replied_without_memory job past s takes (from_layer refused name step) is (accepted step ok)
       where
         accepted : (r : Result (M × A) E) → is_ok r ≡ true → is_accepted (from_layer refused name r) ≡ true
         accepted (Ok p) e = each p.1
@@ -53,14 +76,14 @@ module _ (job : Job) (past : Past) (s : Step) (told : IsTold job past s false) w
 
 -- a refusal of a layer below, or its want of memory, changes nothing
 pub troubled : {M A E : Type 0} (job : Job) (past : Past) (s : Step) (world : World) (refused : E → Refusal) (name : A → Reply) (step : Result (M × A) E) (old new : M) (error : Trouble E)
-    → IsTold job past s false → reply_to job past s false ≡ from_layer refused name step → takes_memory s ≡ true → ((x : A) → is_accepted (name x) ≡ true)
+    → IsOutcome job past s no_outcome → reply_to job past s no_outcome ≡ from_layer refused name step → takes_memory s ≡ true → ((x : A) → is_accepted (name x) ≡ true)
     → Takes step old (Err error) new → (new ≡ old → Keeps job past world) → Played job past s (Err (of_layer refused error)) world
 troubled job past s world refused name step old new (Refused why) told is takes each h keeps = (keeps h.1, refuses job past s told refused name step is why h.0)
 troubled job past s world refused name step old new NoMemory told is takes each h keeps = (keeps h.1, wants_memory job past s told refused name step is takes each h.0)
 
 -- where the step's own memory is wanting, the layer's refusal comes first
 pub unmade : {M A E : Type 0} (job : Job) (past : Past) (s : Step) (world : World) (refused : E → Refusal) (name : A → Reply) (o : Option E) (p : M × A)
-    → IsTold job past s false → reply_to job past s false ≡ from_layer refused name (unless_refused o p) → takes_memory s ≡ true
+    → IsOutcome job past s no_outcome → reply_to job past s no_outcome ≡ from_layer refused name (unless_refused o p) → takes_memory s ≡ true
     → ((x : A) → is_accepted (name x) ≡ true)
     → Keeps job past world → Played job past s (Err (unless_refused_for refused o)) world
 unmade {M = M} {A = A} {E = E} job past s world refused name None p told is takes each k = let step : Result (M × A) E = Ok p in (k, wants_memory job past s told refused name step is takes each refl)

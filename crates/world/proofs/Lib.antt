@@ -20,5 +20,6 @@ pub mod Lengthening
 pub mod Ruling
 pub mod Owning
 pub mod TaskShares
+pub mod Planning
 pub mod TicketTotals
 pub mod Drawing

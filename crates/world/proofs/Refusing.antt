@@ -6,6 +6,8 @@ use Rattle.machines.specs.Refusals.{when, first_of}
 use Rattle.assignment.specs.declared.error.AssignmentError.TheVariants as slices
 use Rattle.assignment.specs.declared.slice.Slice.{Slice}
 use Rattle.assignment.specs.Slices.{refusal_of, slice_checks}
+use Rattle.weighted_move.specs.declared.error.PlanError.TheVariants as plan
+use Rattle.weighted_move.specs.Plans.{plan_checks, plan_refusal}
 use Rattle.slice_ranges.specs.declared.error.RangesError.{RangesError}
 use Rattle.slice_ranges.specs.declared.error.RangesError.TheVariants as ranges
 use Rattle.slice_ranges.specs.Sets.{or_else, pair_checks, refusal_from}
@@ -39,6 +41,11 @@ pub slices_other : (list : List Slice) → IsOther slices.NoMemory (refusal_of l
 unfolding refusal_of
 slices_other list =
     first_other slices.NoMemory (slice_checks list) (when_other slices.NoMemory _ slices.NoSlices (λ q. cc), (when_other slices.NoMemory _ slices.FirstNotZero (λ q. cc), (when_other slices.NoMemory _ slices.NotRising (λ q. cc), (when_other slices.NoMemory _ slices.PastEnd (λ q. cc), (when_other slices.NoMemory _ slices.NoOwner (λ q. cc), (when_other slices.NoMemory _ slices.TooManyOwners (λ q. cc), (when_other slices.NoMemory _ slices.OwnerTwice (λ q. cc), (when_other slices.NoMemory _ slices.BadTask (λ q. cc), (when_other slices.NoMemory _ slices.TooManySlices (λ q. cc), tt)))))))))
+
+pub plan_other : (slices : List Slice) (loads tasks : List ℕ) → IsOther plan.NoMemory (plan_refusal slices loads tasks)
+unfolding plan_refusal
+plan_other slices loads tasks =
+    first_other plan.NoMemory (plan_checks slices loads tasks) (when_other plan.NoMemory _ plan.NoTasks (λ q. cc), (when_other plan.NoMemory _ plan.LoadsLength (λ q. cc), (when_other plan.NoMemory _ plan.LoadRange (λ q. cc), tt)))
 
 or_other : (o other : Option RangesError) → IsOther ranges.NoMemory o → IsOther ranges.NoMemory other → IsOther ranges.NoMemory (or_else o other)
 or_other None other a b = b

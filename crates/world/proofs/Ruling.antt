@@ -25,8 +25,8 @@ run_before job (e ∷ later) past run = run_before job later past run.1
 pub served_by_rule : (job : Job) (past : Past) (task : ℕ) (key : List ℕ) (at : ℕ) (answer : Reply)
     → IsReply job past (event (step.Serve task key at) answer) → IsServedByRule job past task key at answer
 served_by_rule job past task key at answer h inside =
-    elim h.2 [
-      | inl e ↦ e ∙ here (is_within task job.tasks) inside
+    elim h [
+      | inl answered ↦ answered.2 ∙ here (is_within task job.tasks) inside
       | inr none ↦ absurd (let f : false ≡ true = none.1 in cc)
     ]
   where
@@ -57,7 +57,8 @@ module _ (job : Job) (past : Past) (task number at : ℕ) (handle : KeyHandle) w
       → IsTrue (is_within task job.tasks) → numbered number (handles_made past) ≡ Some handle → is_strange (history job task past) handle ≡ false
       → IsCheckedByHistory job past task handle at answer
   checked_by_history answer h inside made familiar =
-      elim h.2 [
-        | inl e ↦ told_as answer h.0 (h.1 inside handle made familiar) (e ∙ checked_as (is_within task job.tasks) inside (numbered number (handles_made past)) made familiar h.0)
+      elim h [
+        | inl answered ↦ told_as answer answered.0.continuous (answered.1 inside handle made familiar)
+            (answered.2 ∙ checked_as (is_within task job.tasks) inside (numbered number (handles_made past)) made familiar answered.0.continuous)
         | inr none ↦ absurd (let f : false ≡ true = none.1 in cc)
       ]

@@ -1,6 +1,7 @@
 -- What holds of every run, in the words of whoever runs a service.
-use Rattle.std.specs.Prelude.{◌≡◌, ℕ, Bool, false, IsTrue, List, ◌∷◌, Some, Contains, ◌↔◌}
+use Rattle.std.specs.Prelude.{◌≡◌, ℕ, Bool, false, IsTrue, List, ◌∷◌, Some, None, Contains, ◌↔◌}
 use Rattle.key_hash.specs.Hash.{slice_key}
+use Rattle.assignment.specs.Slices.{Slicing, refusal_of}
 use Rattle.assignment.specs.Owners.{owns}
 use Rattle.lease_table.specs.Policies.{is_within}
 use Rattle.lease_table.specs.Tables.{slices_of}
@@ -14,8 +15,11 @@ use Rattle.world.specs.declared.step.Step.TheVariants as step
 use Rattle.world.specs.declared.reply.Reply.{Reply}
 use Rattle.world.specs.declared.reply.Reply.TheVariants as reply
 use Rattle.world.specs.Pasts.{Event, Past, steps_of, table_reading, IsTimely}
-use Rattle.world.specs.Told.{standing, task_calls}
-use Rattle.world.specs.Replies.{covers_in, rule_in, reply_to}
+use Rattle.world.specs.Bounds.{Bounds}
+use Rattle.world.specs.Told.{draft_of, standing, task_calls}
+use Rattle.weighted_move.specs.declared.made.Plan.{Plan}
+use Rattle.world.specs.Runs.{IsPlanOf}
+use Rattle.world.specs.Replies.{no_outcome, covers_in, rule_in, reply_to}
 
 -- a request is served exactly when the written rule allows its key on what the task was told, and each denial names its ground
 abbrev pub IsServedByRule : Job → Past → ℕ → List ℕ → ℕ → Reply → Type 0
@@ -26,6 +30,13 @@ pub record IsCheckedByHistory (job : Job) (past : Past) (task : ℕ) (handle : K
   pub continuous : (answer ≡ reply.Continuous) ↔ IsContinuous (covers_in job past handle.key) (task_calls job.policy task past) handle at
   pub broken : (answer ≡ reply.Broken) ↔ (IsContinuous (covers_in job past handle.key) (task_calls job.policy task past) handle at → ⊥)
 
+-- a plan was made of the draft, and its slices make an assignment
+pub record IsPlannedFromDraft (job : Job) (past : Past) (loads tasks : List ℕ) (bounds : Bounds) (plan : Plan) : Type 0 where
+  pub draft : Slicing
+  pub drafted : draft_of past ≡ Some draft
+  pub planned : IsPlanOf job draft loads tasks bounds plan
+  pub accepted : refusal_of plan.slices ≡ None
+
 -- a reply serves a key
 abbrev pub is_served : Reply → Bool
 is_served (reply.Verdict verdict) = is_allowed verdict
@@ -33,7 +44,7 @@ is_served _ = false
 
 -- a task may serve a key now: at some reading a `serve` would be timely, and allowed
 abbrev pub MayServe : Job → Past → ℕ → List ℕ → Type 0
-MayServe job past task key = (at : ℕ) × IsTimely job.policy.skew (step.Serve task key at ∷ steps_of past) × IsTrue (is_served (reply_to job past (step.Serve task key at) false))
+MayServe job past task key = (at : ℕ) × IsTimely job.policy.skew (step.Serve task key at ∷ steps_of past) × IsTrue (is_served (reply_to job past (step.Serve task key at) no_outcome))
 
 -- a task owns a key in the committed assignment
 abbrev pub IsOwner : Job → Past → ℕ → List ℕ → Type 0

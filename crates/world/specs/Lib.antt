@@ -1,4 +1,5 @@
 pub mod Jobs
+pub mod Bounds
 pub mod Pasts
 pub mod Told
 pub mod Troubles

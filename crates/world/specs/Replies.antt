@@ -1,5 +1,5 @@
 -- What each step is answered, by the steps before it.
-use Rattle.std.specs.Prelude.{ℕ, ◌+◌, Bool, true, false, List, length, map, Option, Some, None, Result, Ok, Err, if◌then◌else◌}
+use Rattle.std.specs.Prelude.{ℕ, ◌+◌, Bool, true, false, List, [], length, map, Option, Some, None, Result, Ok, Err, if◌then◌else◌}
 use Rattle.std.specs.List.{range_with_len}
 use Rattle.key_hash.specs.Hash.{slice_key}
 use Rattle.assignment.specs.declared.error.AssignmentError.{AssignmentError}
@@ -31,6 +31,9 @@ use Rattle.world.specs.declared.reply.Refusal.TheVariants as refusal
 use Rattle.world.specs.Pasts.{Past}
 use Rattle.load_ledger.specs.Shares.{Share, add_step}
 use Rattle.load_ledger.specs.Books.{task_total, book_with, book_of, gather_step}
+use Rattle.weighted_move.specs.declared.made.Plan.{Plan}
+use Rattle.weighted_move.specs.declared.error.PlanError.{PlanError}
+use Rattle.weighted_move.specs.Plans.{plan_refusal}
 use Rattle.assigner.specs.Terms.{Keeping}
 use Rattle.assigner.specs.Actions.{next_action}
 use Rattle.world.specs.Told.{numbered, draft_of, notes_made, handles_made, kept_term, kept_number, share_of, shares_in, gathers_in, table_calls, standing, grants, task_calls, published, learnt_by}
@@ -112,37 +115,56 @@ abbrev pub gather_reply : Option Slicing → ℕ → List Share → List ℕ →
 gather_reply None many shares book = reply.Refused refusal.NoDraft
 gather_reply (Some draft) many shares book = from_layer refusal.Load (λ loads. reply.Gathered loads (totals_in many (book_with shares book))) (gather_step shares draft.slices book)
 
--- what a step is answered; of a `check`, where it is known whether the handle is continuous
-abbrev pub reply_to : Job → Past → Step → Bool → Reply
-reply_to job past (step.Hash key) kept = reply.Key (slice_key key)
-reply_to job past (step.Assign generation slices) kept = if_built (refusal_of slices) (reply.Assigned generation (length slices))
-reply_to job past (step.Owners key) kept = owners_reply (draft_of past) (slice_key key)
-reply_to job past (step.Judge question) kept = judge_reply question (slice_key question.key)
-reply_to job past (step.Take assigner at) kept = by_actor assigner job.assigners (from_layer refusal.Table reply.Term (take_step (standing job.policy past) assigner at))
-reply_to job past (step.Renew assigner at) kept = by_actor assigner job.assigners (from_layer refusal.Table reply.Renewed (renew_step (standing job.policy past) (kept_number assigner past) at))
-reply_to job past (step.Propose assigner generation slices at) kept =
+-- `plan`, under this draft or none, where this is the plan
+abbrev pub planned : Option PlanError → Plan → Reply
+planned None plan = reply.Planned plan
+planned (Some why) plan = reply.Refused (refusal.Plan why)
+
+abbrev pub plan_reply : Option Slicing → List ℕ → List ℕ → Plan → Reply
+plan_reply None loads tasks plan = reply.Refused refusal.NoDraft
+plan_reply (Some draft) loads tasks plan = planned (plan_refusal draft.slices loads tasks) plan
+
+-- what decides a reply where the steps before do not name it: whether the handle of a `check` is continuous, and the plan of a `plan`
+pub record Outcome : Type 0 where
+  pub continuous : Bool
+  pub plan : Plan
+
+-- the outcome of steps that have none
+abbrev pub no_outcome : Outcome
+no_outcome = record { continuous = false; plan = record { slices = []; moves = [] } }
+
+-- what a step is answered, where this is its outcome
+abbrev pub reply_to : Job → Past → Step → Outcome → Reply
+reply_to job past (step.Hash key) outcome = reply.Key (slice_key key)
+reply_to job past (step.Assign generation slices) outcome = if_built (refusal_of slices) (reply.Assigned generation (length slices))
+reply_to job past (step.Owners key) outcome = owners_reply (draft_of past) (slice_key key)
+reply_to job past (step.Judge question) outcome = judge_reply question (slice_key question.key)
+reply_to job past (step.Take assigner at) outcome = by_actor assigner job.assigners (from_layer refusal.Table reply.Term (take_step (standing job.policy past) assigner at))
+reply_to job past (step.Renew assigner at) outcome = by_actor assigner job.assigners (from_layer refusal.Table reply.Renewed (renew_step (standing job.policy past) (kept_number assigner past) at))
+reply_to job past (step.Propose assigner generation slices at) outcome =
     by_actor assigner job.assigners (if_built (refusal_of slices)
     (from_layer refusal.Table (λ _. reply.Proposed generation) (propose_step (standing job.policy past) (kept_number assigner past) (record { generation = generation; slices = slices }) at)))
-reply_to job past (step.Commit assigner at) kept = by_actor assigner job.assigners (from_layer refusal.Table reply.Committed (commit_step (standing job.policy past) (kept_number assigner past) at))
-reply_to job past step.Phase kept = reply.Phase (phase_of (standing job.policy past))
-reply_to job past step.Rows kept = reply.Rows (standing job.policy past).rows
-reply_to job past (step.Grant task life at) kept = by_actor task job.tasks (from_layer refusal.Table granted (grant_step (standing job.policy past) task life at))
-reply_to job past (step.Free note at) kept = if_sent (numbered note (notes_made past)) (λ given. from_layer refusal.Table reply.Freed (free_step (standing job.policy past) given at))
-reply_to job past (step.Start task life at) kept = by_actor task job.tasks (from_layer refusal.Slicelet (λ _. reply.Started life) (start_step (history job task past) life at))
-reply_to job past (step.Hear task number at) kept =
+reply_to job past (step.Commit assigner at) outcome = by_actor assigner job.assigners (from_layer refusal.Table reply.Committed (commit_step (standing job.policy past) (kept_number assigner past) at))
+reply_to job past step.Phase outcome = reply.Phase (phase_of (standing job.policy past))
+reply_to job past step.Rows outcome = reply.Rows (standing job.policy past).rows
+reply_to job past (step.Grant task life at) outcome = by_actor task job.tasks (from_layer refusal.Table granted (grant_step (standing job.policy past) task life at))
+reply_to job past (step.Free note at) outcome = if_sent (numbered note (notes_made past)) (λ given. from_layer refusal.Table reply.Freed (free_step (standing job.policy past) given at))
+reply_to job past (step.Start task life at) outcome = by_actor task job.tasks (from_layer refusal.Slicelet (λ _. reply.Started life) (start_step (history job task past) life at))
+reply_to job past (step.Hear task number at) outcome =
     by_actor task job.tasks (if_sent (numbered number (grants job.policy past)) (λ grant. from_layer refusal.Slicelet (λ _. reply.Heard number) (hear_step (history job task past) grant at)))
-reply_to job past (step.Release task kind at) kept = by_actor task job.tasks (from_layer refusal.Slicelet (reply.Released (length (notes_made past) + 1)) (release_step (history job task past) kind at))
-reply_to job past (step.Serve task key at) kept = by_actor task job.tasks (reply.Verdict (rule_in job past task (slice_key key) at))
-reply_to job past (step.Hold task key at) kept =
+reply_to job past (step.Release task kind at) outcome = by_actor task job.tasks (from_layer refusal.Slicelet (reply.Released (length (notes_made past) + 1)) (release_step (history job task past) kind at))
+reply_to job past (step.Serve task key at) outcome = by_actor task job.tasks (reply.Verdict (rule_in job past task (slice_key key) at))
+reply_to job past (step.Hold task key at) outcome =
     by_actor task job.tasks (holding (length (handles_made past) + 1) (held_by (rule_in job past task (slice_key key) at) (handle_on (slice_key key) (history job task past))))
-reply_to job past (step.Check task number at) kept = by_actor task job.tasks (if_sent (numbered number (handles_made past)) (λ handle. checked (is_strange (history job task past) handle) kept))
-reply_to job past (step.Learn clerk generation) kept =
+reply_to job past (step.Check task number at) outcome = by_actor task job.tasks (if_sent (numbered number (handles_made past)) (λ handle. checked (is_strange (history job task past) handle) outcome.continuous))
+reply_to job past (step.Learn clerk generation) outcome =
     by_actor clerk job.clerks (if_sent (published job.policy generation past)
     (λ slicing. from_layer refusal.Clerk (λ _. reply.Learnt generation) (learn_step (newest_learnt job clerk past) slicing)))
-reply_to job past (step.Look clerk key) kept = by_actor clerk job.clerks (looked (look_at (newest_learnt job clerk past) (slice_key key)))
-reply_to job past (step.Forget clerk) kept = by_actor clerk job.clerks reply.Forgotten
-reply_to job past (step.Load task key weight) kept = by_actor task job.tasks (from_layer refusal.Load reply.Recorded (add_step (slice_key key) weight (share_of past task)))
-reply_to job past step.Gather kept = gather_reply (draft_of past) job.tasks (shares_in job.tasks past) (book_in job past)
-reply_to job past (step.Next assigner at wanted) kept =
+reply_to job past (step.Look clerk key) outcome = by_actor clerk job.clerks (looked (look_at (newest_learnt job clerk past) (slice_key key)))
+reply_to job past (step.Forget clerk) outcome = by_actor clerk job.clerks reply.Forgotten
+reply_to job past (step.Load task key weight) outcome = by_actor task job.tasks (from_layer refusal.Load reply.Recorded (add_step (slice_key key) weight (share_of past task)))
+reply_to job past step.Gather outcome = gather_reply (draft_of past) job.tasks (shares_in job.tasks past) (book_in job past)
+reply_to job past (step.Plan loads tasks bounds) outcome = plan_reply (draft_of past) loads tasks outcome.plan
+reply_to job past (step.Next assigner at wanted) outcome =
     by_actor assigner job.assigners (reply.Next (next_action (assigner_of job past assigner) (record { reading = at; phase = phase_of (standing job.policy past); wanted = wanted })))
-reply_to job past (step.Restart assigner) kept = by_actor assigner job.assigners reply.Restarted
+reply_to job past (step.Restart assigner) outcome = by_actor assigner job.assigners reply.Restarted

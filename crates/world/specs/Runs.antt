@@ -1,23 +1,35 @@
 -- Runs: each step is answered by the steps before it.
-use Rattle.std.specs.Prelude.{◌≡◌, Bool, true, false, IsTrue, List, [], ◌∷◌, Some, ⊤, ◌⊎◌, ◌↔◌}
+use Rattle.std.specs.Prelude.{◌≡◌, ℕ, Bool, true, false, IsTrue, List, [], ◌∷◌, Some, None, ⊤, ◌⊎◌, ◌↔◌}
+use Rattle.assignment.specs.Slices.{Slicing}
 use Rattle.key_handle.specs.declared.handle.KeyHandle.{KeyHandle}
 use Rattle.lease_table.specs.Policies.{is_within}
 use Rattle.slicelet.specs.Continuity.{IsContinuous, is_strange}
+use Rattle.weighted_move.specs.declared.made.Plan.{Plan}
+use Rattle.weighted_move.specs.Plans.{CanPlan, IsPlan, plan_refusal}
 use Rattle.world.specs.Jobs.{Job}
 use Rattle.world.specs.declared.step.Step.{Step}
 use Rattle.world.specs.declared.step.Step.TheVariants as step
 use Rattle.world.specs.declared.reply.Reply.{Reply}
 use Rattle.world.specs.declared.reply.Reply.TheVariants as reply
 use Rattle.world.specs.Pasts.{Event, event, Past, is_accepted}
-use Rattle.world.specs.Told.{numbered, handles_made, task_calls}
-use Rattle.world.specs.Replies.{covers_in, history, reply_to}
+use Rattle.world.specs.Bounds.{Bounds, limits_of}
+use Rattle.world.specs.Told.{numbered, draft_of, handles_made, task_calls}
+use Rattle.world.specs.Replies.{Outcome, covers_in, history, reply_to}
 
--- what a `check` asks of a handle that was made, and that the task can have given, holds exactly where it is told so; other steps ask nothing
-abbrev pub IsTold : Job → Past → Step → Bool → Type 0
-IsTold job past (step.Check task number at) kept =
+-- a plan of a draft for loads and tasks, within bounds and by the redundancy of the job: there is one, and this is one
+abbrev pub IsPlanOf : Job → Slicing → List ℕ → List ℕ → Bounds → Plan → Type 0
+IsPlanOf job draft loads tasks bounds plan =
+    CanPlan draft.slices loads tasks (limits_of job.policy.redundancy bounds) × IsPlan draft.slices loads tasks (limits_of job.policy.redundancy bounds) plan
+
+-- a handle that was made, and that the task can have given, is continuous exactly where the outcome of a `check` says so; the outcome of a `plan` that is not refused has a
+-- plan of the draft; other steps have no outcome
+abbrev pub IsOutcome : Job → Past → Step → Outcome → Type 0
+IsOutcome job past (step.Check task number at) outcome =
     is_within task job.tasks ≡ true → (handle : KeyHandle) → numbered number (handles_made past) ≡ Some handle → is_strange (history job task past) handle ≡ false
-    → IsTrue kept ↔ IsContinuous (covers_in job past handle.key) (task_calls job.policy task past) handle at
-IsTold job past _ kept = ⊤
+    → IsTrue outcome.continuous ↔ IsContinuous (covers_in job past handle.key) (task_calls job.policy task past) handle at
+IsOutcome job past (step.Plan loads tasks bounds) outcome =
+    (draft : Slicing) → draft_of past ≡ Some draft → plan_refusal draft.slices loads tasks ≡ None → IsPlanOf job draft loads tasks bounds outcome.plan
+IsOutcome job past _ outcome = ⊤
 
 -- a step may want memory
 abbrev pub takes_memory : Step → Bool
@@ -35,12 +47,20 @@ takes_memory (step.Hold task key at) = true
 takes_memory (step.Learn clerk generation) = true
 takes_memory (step.Load task key weight) = true
 takes_memory step.Gather = true
+takes_memory (step.Plan loads tasks bounds) = true
 takes_memory _ = false
 
--- a reply is the one that the steps before it give, or want of memory where the step takes some and would not be refused
+-- a reply is the one that the steps before it give
+abbrev pub IsAnswer : Job → Past → Event → Type 0
+IsAnswer job past e = (outcome : Outcome) × IsOutcome job past e.step outcome × (e.reply ≡ reply_to job past e.step outcome)
+
+-- memory is wanting for a step that takes some and would not be refused, whatever its outcome
+abbrev pub WantsMemory : Job → Past → Event → Type 0
+WantsMemory job past e = (e.reply ≡ reply.NoMemory) × IsTrue (takes_memory e.step) × ((outcome : Outcome) → IsTrue (is_accepted (reply_to job past e.step outcome)))
+
+-- a reply is the one that the steps before it give, or want of memory
 abbrev pub IsReply : Job → Past → Event → Type 0
-IsReply job past e = (kept : Bool) × IsTold job past e.step kept ×
-    ((e.reply ≡ reply_to job past e.step kept) ⊎ ((e.reply ≡ reply.NoMemory) × IsTrue (takes_memory e.step) × IsTrue (is_accepted (reply_to job past e.step kept))))
+IsReply job past e = IsAnswer job past e ⊎ WantsMemory job past e
 
 abbrev pub IsRun : Job → Past → Type 0
 IsRun job [] = ⊤

@@ -120,6 +120,15 @@ impl Duplicate for Step {
                 weight: *weight,
             },
             Step::Gather => Step::Gather,
+            Step::Plan {
+                loads,
+                tasks,
+                bounds,
+            } => Step::Plan {
+                loads: loads.copy()?,
+                tasks: tasks.copy(),
+                bounds: *bounds,
+            },
             Step::Next {
                 assigner,
                 at,
@@ -186,6 +195,7 @@ impl Duplicate for Reply {
                 loads: loads.copy()?,
                 totals: totals.copy()?,
             },
+            Reply::Planned(plan) => Reply::Planned(plan.copy()?),
             Reply::Next(action) => Reply::Next(*action),
             Reply::Restarted => Reply::Restarted,
             Reply::Refused(why) => Reply::Refused(*why),

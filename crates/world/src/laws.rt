@@ -20,11 +20,14 @@ ghost use Rattle.slicelet.specs.Continuity.{is_strange};
 ghost use Rattle.world.specs.Jobs.{Job};
 ghost use Rattle.world.specs.declared.step.Step.TheVariants as step;
 ghost use Rattle.world.specs.declared.reply.Reply.{Reply};
+ghost use Rattle.world.specs.declared.reply.Reply.TheVariants as reply;
+ghost use Rattle.weighted_move.specs.declared.made.Plan.{Plan};
+ghost use Rattle.world.specs.Bounds.{Bounds};
 ghost use Rattle.world.specs.Pasts.{Past, event};
 ghost use Rattle.world.specs.Told.{numbered, notes_made, handles_made, table_calls, task_calls};
 ghost use Rattle.world.specs.Replies.{history};
 ghost use Rattle.world.specs.Runs.{IsRun};
-ghost use Rattle.world.specs.Headline.{IsServedByRule, IsCheckedByHistory, IsNoteOf, WasRead, MayServe, IsOwner};
+ghost use Rattle.world.specs.Headline.{IsServedByRule, IsCheckedByHistory, IsPlannedFromDraft, IsNoteOf, WasRead, MayServe, IsOwner};
 
 /// In every run the table answers its calls by its steps, and each task accepts its own.
 pub fn told_law()
@@ -73,6 +76,16 @@ pub fn handle_law()
         → numbered number (handles_made past) ≡ Some handle → is_strange (history job task past) handle ≡ false
         → IsCheckedByHistory job past task handle at answer }
 {}
+
+/// What a `plan` is answered is a plan of the draft by the redundancy of the job, and its slices make
+/// an assignment.
+pub fn planned_law()
+    ensures { (job : Job) (past : Past) (loads tasks : List ℕ) (bounds : Bounds) (plan : Plan)
+        → IsRun job (event (step.Plan loads tasks bounds) (reply.Planned plan) ∷ past)
+        → IsPlannedFromDraft job past loads tasks bounds plan }
+{
+    weighted_move::plan_law();
+}
 
 /// With timely clocks, whoever may serve a key owns it in the committed assignment: at redundancy
 /// one, never two tasks. Each point of a run is the end of a run, so this holds at each.

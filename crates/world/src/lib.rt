@@ -8,6 +8,7 @@ mod job;
 mod judge;
 mod laws;
 mod loads;
+mod plans;
 mod readings;
 mod reply;
 mod step;
@@ -21,7 +22,10 @@ mod world;
 pub use crate::world::World;
 pub use job::{Job, MOST_ASSIGNERS, MOST_CLERKS};
 pub use judge::{Question, WrittenLease};
-pub use laws::{handle_law, known_generations_law, owner_law, rule_law, sent_law, told_law};
+pub use laws::{
+    handle_law, known_generations_law, owner_law, planned_law, rule_law, sent_law, told_law,
+};
+pub use plans::PlanBounds;
 pub use readings::timely;
 pub use reply::{OwnerList, Refusal, Reply};
 pub use step::Step;

@@ -16,6 +16,7 @@ use slice_ranges::RangesError;
 use slicelet::SliceletError;
 use std::alloc::AllocError;
 use std::marker::Model;
+use weighted_move::{Plan, PlanError};
 
 /// Why a step is refused.
 #[derive(Clone, Copy, Debug, PartialEq, Eq)]
@@ -42,6 +43,8 @@ pub enum Refusal {
     Unknown,
     /// The work cannot be counted.
     Load(LoadError),
+    /// There is no plan.
+    Plan(PlanError),
 }
 
 /// The owners of a key. Clauses see the list of them.
@@ -149,6 +152,8 @@ pub enum Reply {
         loads: Listed<u64>,
         totals: Listed<u64>,
     },
+    /// A plan of the draft.
+    Planned(Plan),
     /// What the assigner does next.
     Next(Action),
     /// The assigner keeps no term.

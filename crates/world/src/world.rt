@@ -206,6 +206,11 @@ impl World {
             Step::Forget { clerk } => self.forget(*clerk),
             Step::Load { task, key, weight } => self.load(*task, key.as_slice(), *weight),
             Step::Gather => self.gather(),
+            Step::Plan {
+                loads,
+                tasks,
+                bounds,
+            } => self.plan(loads.as_slice(), tasks, *bounds),
             Step::Next {
                 assigner,
                 at,

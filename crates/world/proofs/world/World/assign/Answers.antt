@@ -14,4 +14,4 @@ pub returns-in-Err-NoMemory : goal.returns-in-Err-NoMemory
 returns-in-Err-NoMemory c = λ job past k.
     let fault = rw c.in-Err-NoMemory.field-0-is at c.in-Err-NoMemory.ensures.refused in
     let none = no_refusal slices.NoMemory (refusal_of c.args.slices.now) (slices_other c.args.slices.now) fault in
-    (k, replied_without_memory job past (step.Assign c.args.generation c.args.slices.now) tt refl (reply.Assigned c.args.generation (length c.args.slices.now)) (ap (λ (o : Option AssignmentError). if_built o (reply.Assigned c.args.generation (length c.args.slices.now))) none) refl)
+    (k, replied_without_memory job past (step.Assign c.args.generation c.args.slices.now) refl (reply.Assigned c.args.generation (length c.args.slices.now)) (ap (λ (o : Option AssignmentError). if_built o (reply.Assigned c.args.generation (length c.args.slices.now))) none) refl)

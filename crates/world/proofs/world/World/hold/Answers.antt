@@ -66,7 +66,7 @@ returns-then-is_err c = λ job past k.
     ∙ ap (λ (n : ℕ). held_by (rule_in job past c.args.task (slice_key c.args.key.now) c.args.at) (handle_on n (history job c.args.task past))) c.slice_key-key.ensures in
     let items : c.push.new.self.items ≡ c.args.self.now.handles.items = rw c.if-is_err.ensures.negation at c.push.ensures.items in (
       moved job past c.args.self.now _ k refl refl refl refl refl items refl k.assigners k.tasks k.clerks k.loads.0 refl,
-      replied_without_memory job past (step.Hold c.args.task c.args.key.now c.args.at) tt refl (reply.Holding (length (handles_made past) + 1) c.in-Ok.handle) (by_own c.args.task job.tasks _ own.inside ∙ ap (holding (length (handles_made past) + 1)) (sym (c.in-Ok.ensures ∙ held))) refl,
+      replied_without_memory job past (step.Hold c.args.task c.args.key.now c.args.at) refl (reply.Holding (length (handles_made past) + 1) c.in-Ok.handle) (by_own c.args.task job.tasks _ own.inside ∙ ap (holding (length (handles_made past) + 1)) (sym (c.in-Ok.ensures ∙ held))) refl,
     )
 
 pub returns : goal.returns

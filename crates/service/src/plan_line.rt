@@ -1,0 +1,101 @@
+//! The words of plans.
+
+ghost use Rattle.std.specs.Prelude.{◌≡◌, Some};
+ghost use Rattle.service.specs.Lines.{owners_text, slice_text, slices_text, move_text, moves_text};
+
+use assignment::Slice;
+use std::fmt;
+use weighted_move::Move;
+
+/// The numbers of tasks, joined by commas.
+#[derive(Clone, Copy, Debug)]
+struct NumbersText<'a>(&'a [u64]);
+
+impl fmt::Display for NumbersText<'_> {
+    ghost output = { λ n. Some (owners_text n.0.now) };
+
+    fn fmt<W: fmt::Write>(&self, f: &mut fmt::Formatter<W>) -> fmt::Result {
+        let [first, others @ ..] = self.0 else {
+            return Ok(());
+        };
+        write!(f, "{first}")?;
+        for number in others {
+            write!(f, ",{number}")?;
+        }
+        Ok(())
+    }
+}
+
+/// A slice: its start and its owners.
+#[derive(Clone, Copy, Debug)]
+struct SliceText<'a>(&'a Slice);
+
+impl fmt::Display for SliceText<'_> {
+    ghost output = { λ s. Some (slice_text s.0.now) };
+
+    fn fmt<W: fmt::Write>(&self, f: &mut fmt::Formatter<W>) -> fmt::Result {
+        let owners = NumbersText(self.0.owners.as_slice());
+        write!(f, "{}:{owners}", self.0.start)
+    }
+}
+
+/// Slices, joined by spaces.
+#[derive(Clone, Copy, Debug)]
+pub struct SlicesText<'a>(pub &'a [Slice]);
+
+impl fmt::Display for SlicesText<'_> {
+    ghost output = { λ s. Some (slices_text s.0.now) };
+
+    #[tactic(auto, unfolding(crate::specs::Lines::slices_text))]
+    fn fmt<W: fmt::Write>(&self, f: &mut fmt::Formatter<W>) -> fmt::Result {
+        let [first, others @ ..] = self.0 else {
+            return Ok(());
+        };
+        write!(f, "{}", SliceText(first))?;
+        for slice in others {
+            write!(f, " {}", SliceText(slice))?;
+        }
+        Ok(())
+    }
+}
+
+/// A move: its slice, whom it leaves and where it goes to, its gain and its churn.
+#[derive(Clone, Copy, Debug, PartialEq, Eq)]
+struct MoveText(Move);
+
+impl fmt::Display for MoveText {
+    ghost output = { λ m. Some (move_text m.0) };
+
+    #[tactic(auto, unfolding(crate::specs::Lines::move_text))]
+    fn fmt<W: fmt::Write>(&self, f: &mut fmt::Formatter<W>) -> fmt::Result {
+        let Move {
+            start,
+            giver,
+            taker,
+            gain,
+            churn,
+        } = self.0;
+        write!(f, "{start}:{giver}>{taker}")?;
+        write!(f, " gain {gain} churn {churn}")
+    }
+}
+
+/// Moves, joined by commas and spaces.
+#[derive(Clone, Copy, Debug)]
+pub struct MovesText<'a>(pub &'a [Move]);
+
+impl fmt::Display for MovesText<'_> {
+    ghost output = { λ m. Some (moves_text m.0.now) };
+
+    #[tactic(auto, unfolding(crate::specs::Lines::moves_text))]
+    fn fmt<W: fmt::Write>(&self, f: &mut fmt::Formatter<W>) -> fmt::Result {
+        let [first, others @ ..] = self.0 else {
+            return Ok(());
+        };
+        write!(f, "{}", MoveText(*first))?;
+        for one in others {
+            write!(f, ", {}", MoveText(*one))?;
+        }
+        Ok(())
+    }
+}

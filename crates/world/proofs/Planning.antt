@@ -1,0 +1,119 @@
+-- What a `plan` is answered.
+use Rattle.std.proofs.Common.{◌≡◌, ℕ, Bool, List, true, false, ◌&&◌, refl, sym, ◌∙◌, ap, subst, inl, inr}
+use Rattle.std.specs.Prelude.{Option, Some, None, Err, nat_le, unwrap_or}
+use Rattle.key_hash.specs.declared.TheConstants.{KEYS}
+use Rattle.assignment.specs.declared.slice.TheConstants.{MOST_OWNERS}
+use Rattle.assignment.specs.declared.assignment.TheConstants.{MOST_SLICES}
+use Rattle.lease_table.specs.Policies.{Terms, is_policy, is_within}
+use Rattle.assignment.specs.Slices.{Slicing, refusal_of}
+use Rattle.weighted_move.specs.declared.error.PlanError.{PlanError}
+use Rattle.weighted_move.specs.declared.error.PlanError.TheVariants as plan
+use Rattle.weighted_move.specs.declared.made.Plan.{Plan}
+use Rattle.weighted_move.specs.Policies.{Limits, is_policy as is_plan_policy}
+use Rattle.weighted_move.specs.Plans.{CanPlan, IsPlan, plan_refusal}
+use Rattle.world.specs.Jobs.{Job}
+use Rattle.world.specs.Bounds.{Bounds, is_bounds, limits_of}
+use Rattle.world.specs.declared.step.Step.TheVariants as step
+use Rattle.world.specs.declared.reply.Refusal.TheVariants as refusal
+use Rattle.world.specs.declared.reply.Reply.TheVariants as reply
+use Rattle.world.specs.Pasts.{event, Past}
+use Rattle.world.specs.Told.{draft_of}
+use Rattle.world.specs.Replies.{no_outcome, planned, plan_reply}
+use Rattle.world.specs.Runs.{IsReply, IsPlanOf}
+use Rattle.world.specs.declared.world.World.{World}
+use Rattle.world.specs.Troubles.{of_plan, unless_refused_for}
+use Rattle.world.specs.Worlds.{Keeps, Played}
+use Rattle.world.specs.Headline.{IsPlannedFromDraft}
+use Rattle.world.proofs.Answering.{replied_without_memory}
+
+left : (a b : Bool) → (a && b) ≡ true → a ≡ true
+left true b e = refl
+left false b e = absurd (let f : false ≡ true = e in cc)
+
+joined : (a b c : Bool) → a ≡ true → (b && c) ≡ true → (a && b && c) ≡ true
+joined true b c e f = f
+joined false b c e f = absurd (let g : false ≡ true = e in cc)
+
+-- what holds a plan in a job is within its limits
+pub are_limits : (t : Terms) (b : Bounds) → is_policy t ≡ true → is_bounds b ≡ true → is_plan_policy (limits_of t.redundancy b) ≡ true
+are_limits t b h k =
+    let few = left _ _ (left _ _ (left _ _ (left _ _ (left _ _ (left _ _ h))))) in
+    joined (is_within t.redundancy MOST_OWNERS) (nat_le b.churn KEYS) (is_within b.most MOST_SLICES) few k
+
+-- want of memory is told where there is no refusal, and else the refusal
+pub trouble_of : (o : Option PlanError) (e : PlanError) → (o ≡ Some plan.NoMemory → ⊥) → e ≡ unwrap_or o plan.NoMemory
+    → of_plan e ≡ unless_refused_for refusal.Plan o
+trouble_of None e other same = ap of_plan same
+trouble_of (Some plan.NoTasks) e other same = ap of_plan same
+trouble_of (Some plan.LoadsLength) e other same = ap of_plan same
+trouble_of (Some plan.LoadRange) e other same = ap of_plan same
+trouble_of (Some plan.NoMemory) e other same = absurd (other refl)
+
+module _ (job : Job) (past : Past) (loads tasks : List ℕ) (bounds : Bounds) where
+  -- there is no draft
+  pub undrafted : draft_of past ≡ None → IsReply job past (event (step.Plan loads tasks bounds) (reply.Refused refusal.NoDraft))
+  undrafted none = inl (
+    no_outcome,
+    λ draft e free. absurd (let both : None ≡ Some draft = sym none ∙ e in cc),
+    sym (ap (λ (o : Option Slicing). plan_reply o loads tasks no_outcome.plan) none),
+  )
+
+  module _ (draft : Slicing) (drafted : draft_of past ≡ Some draft) where
+    same_draft : (other : Slicing) → draft_of past ≡ Some other → draft ≡ other
+    same_draft other e = let both : Some draft ≡ Some other = sym drafted ∙ e in cc
+
+    -- there is a plan, and this is one
+    pub planned_reply : (plan : Plan) → plan_refusal draft.slices loads tasks ≡ None → IsPlanOf job draft loads tasks bounds plan
+        → IsReply job past (event (step.Plan loads tasks bounds) (reply.Planned plan))
+    planned_reply plan free made = inl (
+      record { continuous = false; plan = plan },
+      λ other e unrefused. subst (λ (d : Slicing). IsPlanOf job d loads tasks bounds plan) (same_draft other e) made,
+      sym (ap (λ (o : Option Slicing). plan_reply o loads tasks plan) drafted ∙ ap (λ (o : Option PlanError). planned o plan) free),
+    )
+
+    -- there is none
+    pub unplanned_reply : (why : PlanError) → plan_refusal draft.slices loads tasks ≡ Some why
+        → IsReply job past (event (step.Plan loads tasks bounds) (reply.Refused (refusal.Plan why)))
+    unplanned_reply why refused = inl (
+      no_outcome,
+      λ other e free. absurd (
+          let same : plan_refusal draft.slices loads tasks ≡ None = subst (λ (d : Slicing). plan_refusal d.slices loads tasks ≡ None) (sym (same_draft other e)) free in
+          let both : Some why ≡ None = sym refused ∙ same in cc
+          ),
+      sym (ap (λ (o : Option Slicing). plan_reply o loads tasks no_outcome.plan) drafted ∙ ap (λ (o : Option PlanError). planned o no_outcome.plan) refused),
+    )
+
+    -- there is one, and no memory for it
+    pub no_room_reply : plan_refusal draft.slices loads tasks ≡ None → IsReply job past (event (step.Plan loads tasks bounds) reply.NoMemory)
+    no_room_reply free =
+        replied_without_memory job past (step.Plan loads tasks bounds) refl (reply.Planned no_outcome.plan)
+        (ap (λ (o : Option Slicing). plan_reply o loads tasks no_outcome.plan) drafted ∙ ap (λ (o : Option PlanError). planned o no_outcome.plan) free) refl
+
+    -- why there is none, or want of memory for it
+    pub unplanned_played : (world : World) → Keeps job past world → (o : Option PlanError) → plan_refusal draft.slices loads tasks ≡ o
+        → Played job past (step.Plan loads tasks bounds) (Err (unless_refused_for refusal.Plan o)) world
+    unplanned_played world k None e = (k, no_room_reply e)
+    unplanned_played world k (Some why) e = (k, unplanned_reply why e)
+
+  -- a plan that is answered is one of the draft
+  module _ (law : (list : List _) (given set : List ℕ) (limits : Limits) (made : Plan) → CanPlan list given set limits → IsPlan list given set limits made → refusal_of made.slices ≡ None) (plan : Plan) where
+    by_refusal : (draft : Slicing) (o : Option PlanError) → draft_of past ≡ Some draft → plan_refusal draft.slices loads tasks ≡ o → (made : Plan)
+        → (plan_refusal draft.slices loads tasks ≡ None → IsPlanOf job draft loads tasks bounds made) → reply.Planned plan ≡ planned o made → IsPlannedFromDraft job past loads tasks bounds plan
+    by_refusal draft None drafted free made h e =
+        let same : made ≡ plan = cc in
+        let is = subst (λ (p : Plan). IsPlanOf job draft loads tasks bounds p) same (h free) in
+        record { draft = draft; drafted = drafted; planned = is; accepted = law draft.slices loads tasks _ plan is.0 is.1 }
+    by_refusal draft (Some why) drafted free made h e = absurd (cc)
+
+    by_draft : (o : Option Slicing) → draft_of past ≡ o → (made : Plan)
+        → ((draft : Slicing) → draft_of past ≡ Some draft → plan_refusal draft.slices loads tasks ≡ None → IsPlanOf job draft loads tasks bounds made)
+        → reply.Planned plan ≡ plan_reply o loads tasks made → IsPlannedFromDraft job past loads tasks bounds plan
+    by_draft None drafted made h e = absurd (cc)
+    by_draft (Some draft) drafted made h e = by_refusal draft (plan_refusal draft.slices loads tasks) drafted refl made (h draft drafted) e
+
+    pub planned_from_draft : IsReply job past (event (step.Plan loads tasks bounds) (reply.Planned plan)) → IsPlannedFromDraft job past loads tasks bounds plan
+    planned_from_draft h =
+        elim h [
+          | inl answered ↦ by_draft (draft_of past) refl answered.0.plan answered.1 answered.2
+          | inr none ↦ absurd (let f : reply.Planned plan ≡ reply.NoMemory = none.0 in cc)
+        ]
