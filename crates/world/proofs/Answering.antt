@@ -15,7 +15,7 @@ use Rattle.world.specs.declared.reply.Reply.{Reply}
 use Rattle.world.specs.declared.reply.Reply.TheVariants as reply
 use Rattle.world.specs.Pasts.{event, Past, is_accepted}
 use Rattle.world.specs.Told.{draft_of}
-use Rattle.world.specs.Replies.{Outcome, no_outcome, by_actor, from_layer, planned, plan_reply, reply_to}
+use Rattle.world.specs.Replies.{Outcome, Plain, plan_in, by_actor, from_layer, planned, plan_reply, reply_to}
 use Rattle.world.specs.Runs.{IsReply, IsOutcome, takes_memory}
 use Rattle.machines.specs.declared.machine.Trouble.{Trouble}
 use Rattle.machines.specs.declared.machine.Trouble.TheVariants.{Refused, NoMemory}
@@ -46,21 +46,21 @@ drafted_alike (Some draft) loads tasks plan other = planned_alike (plan_refusal 
 accepted_alike : (job : Job) (past : Past) (s : Step) (outcome other : Outcome) → takes_memory s ≡ true
     → is_accepted (reply_to job past s outcome) ≡ is_accepted (reply_to job past s other)
 accepted_alike job past (step.Check task number at) outcome other takes = absurd (let f : false ≡ true = takes in cc)
-accepted_alike job past (step.Plan loads tasks bounds) outcome other takes = drafted_alike (draft_of past) loads tasks outcome.plan other.plan
+accepted_alike job past (step.Plan loads tasks bounds) outcome other takes = drafted_alike (draft_of past) loads tasks (plan_in outcome) (plan_in other)
 accepted_alike job past _ outcome other takes = refl
 
 -- memory is wanting for a step that would be accepted
-pub replied_without_memory : (job : Job) (past : Past) (s : Step) → takes_memory s ≡ true → (answer : Reply) → reply_to job past s no_outcome ≡ answer → is_accepted answer ≡ true
+pub replied_without_memory : (job : Job) (past : Past) (s : Step) → takes_memory s ≡ true → (answer : Reply) → reply_to job past s Plain ≡ answer → is_accepted answer ≡ true
     → IsReply job past (event s reply.NoMemory)
 replied_without_memory job past s takes answer e ok =
-    inr (refl, takes, λ outcome. accepted_alike job past s outcome no_outcome takes ∙ ap is_accepted e ∙ ok)
+    inr (refl, takes, λ outcome. accepted_alike job past s outcome Plain takes ∙ ap is_accepted e ∙ ok)
 
-module _ (job : Job) (past : Past) (s : Step) (told : IsOutcome job past s no_outcome) where
+module _ (job : Job) (past : Past) (s : Step) (told : IsOutcome job past s Plain) where
   -- the reply that the steps before give
-  pub replied_as : (answer : Reply) → reply_to job past s no_outcome ≡ answer → IsReply job past (event s answer)
-  replied_as answer e = inl (no_outcome, told, sym e)
+  pub replied_as : (answer : Reply) → reply_to job past s Plain ≡ answer → IsReply job past (event s answer)
+  replied_as answer e = inl (Plain, told, sym e)
 
-  module _ {M A E : Type 0} (refused : E → Refusal) (name : A → Reply) (step : Result (M × A) E) (is : reply_to job past s no_outcome ≡ from_layer refused name step) where
+  module _ {M A E : Type 0} (refused : E → Refusal) (name : A → Reply) (step : Result (M × A) E) (is : reply_to job past s Plain ≡ from_layer refused name step) where
     pub answers : (p : M × A) → step ≡ Ok p → IsReply job past (event s (name p.1))
     answers p e = replied_as (name p.1) (is ∙ ap (from_layer refused name) e)
 
@@ -76,14 +76,14 @@ module _ (job : Job) (past : Past) (s : Step) (told : IsOutcome job past s no_ou
 
 -- a refusal of a layer below, or its want of memory, changes nothing
 pub troubled : {M A E : Type 0} (job : Job) (past : Past) (s : Step) (world : World) (refused : E → Refusal) (name : A → Reply) (step : Result (M × A) E) (old new : M) (error : Trouble E)
-    → IsOutcome job past s no_outcome → reply_to job past s no_outcome ≡ from_layer refused name step → takes_memory s ≡ true → ((x : A) → is_accepted (name x) ≡ true)
+    → IsOutcome job past s Plain → reply_to job past s Plain ≡ from_layer refused name step → takes_memory s ≡ true → ((x : A) → is_accepted (name x) ≡ true)
     → Takes step old (Err error) new → (new ≡ old → Keeps job past world) → Played job past s (Err (of_layer refused error)) world
 troubled job past s world refused name step old new (Refused why) told is takes each h keeps = (keeps h.1, refuses job past s told refused name step is why h.0)
 troubled job past s world refused name step old new NoMemory told is takes each h keeps = (keeps h.1, wants_memory job past s told refused name step is takes each h.0)
 
 -- where the step's own memory is wanting, the layer's refusal comes first
 pub unmade : {M A E : Type 0} (job : Job) (past : Past) (s : Step) (world : World) (refused : E → Refusal) (name : A → Reply) (o : Option E) (p : M × A)
-    → IsOutcome job past s no_outcome → reply_to job past s no_outcome ≡ from_layer refused name (unless_refused o p) → takes_memory s ≡ true
+    → IsOutcome job past s Plain → reply_to job past s Plain ≡ from_layer refused name (unless_refused o p) → takes_memory s ≡ true
     → ((x : A) → is_accepted (name x) ≡ true)
     → Keeps job past world → Played job past s (Err (unless_refused_for refused o)) world
 unmade {M = M} {A = A} {E = E} job past s world refused name None p told is takes each k = let step : Result (M × A) E = Ok p in (k, wants_memory job past s told refused name step is takes each refl)

@@ -18,7 +18,7 @@ use Rattle.world.specs.declared.reply.Refusal.TheVariants as refusal
 use Rattle.world.specs.declared.reply.Reply.TheVariants as reply
 use Rattle.world.specs.Pasts.{event, Past}
 use Rattle.world.specs.Told.{draft_of}
-use Rattle.world.specs.Replies.{no_outcome, planned, plan_reply}
+use Rattle.world.specs.Replies.{Plain, Planned, plan_in, planned, plan_reply}
 use Rattle.world.specs.Runs.{IsReply, IsPlanOf}
 use Rattle.world.specs.declared.world.World.{World}
 use Rattle.world.specs.Troubles.{of_plan, unless_refused_for}
@@ -53,9 +53,9 @@ module _ (job : Job) (past : Past) (loads tasks : List ℕ) (bounds : Bounds) wh
   -- there is no draft
   pub undrafted : draft_of past ≡ None → IsReply job past (event (step.Plan loads tasks bounds) (reply.Refused refusal.NoDraft))
   undrafted none = inl (
-    no_outcome,
+    Plain,
     λ draft e free. absurd (let both : None ≡ Some draft = sym none ∙ e in cc),
-    sym (ap (λ (o : Option Slicing). plan_reply o loads tasks no_outcome.plan) none),
+    sym (ap (λ (o : Option Slicing). plan_reply o loads tasks (plan_in Plain)) none),
   )
 
   module _ (draft : Slicing) (drafted : draft_of past ≡ Some draft) where
@@ -66,7 +66,7 @@ module _ (job : Job) (past : Past) (loads tasks : List ℕ) (bounds : Bounds) wh
     pub planned_reply : (plan : Plan) → plan_refusal draft.slices loads tasks ≡ None → IsPlanOf job draft loads tasks bounds plan
         → IsReply job past (event (step.Plan loads tasks bounds) (reply.Planned plan))
     planned_reply plan free made = inl (
-      record { continuous = false; plan = plan },
+      Planned plan,
       λ other e unrefused. subst (λ (d : Slicing). IsPlanOf job d loads tasks bounds plan) (same_draft other e) made,
       sym (ap (λ (o : Option Slicing). plan_reply o loads tasks plan) drafted ∙ ap (λ (o : Option PlanError). planned o plan) free),
     )
@@ -75,19 +75,19 @@ module _ (job : Job) (past : Past) (loads tasks : List ℕ) (bounds : Bounds) wh
     pub unplanned_reply : (why : PlanError) → plan_refusal draft.slices loads tasks ≡ Some why
         → IsReply job past (event (step.Plan loads tasks bounds) (reply.Refused (refusal.Plan why)))
     unplanned_reply why refused = inl (
-      no_outcome,
+      Plain,
       λ other e free. absurd (
           let same : plan_refusal draft.slices loads tasks ≡ None = subst (λ (d : Slicing). plan_refusal d.slices loads tasks ≡ None) (sym (same_draft other e)) free in
           let both : Some why ≡ None = sym refused ∙ same in cc
           ),
-      sym (ap (λ (o : Option Slicing). plan_reply o loads tasks no_outcome.plan) drafted ∙ ap (λ (o : Option PlanError). planned o no_outcome.plan) refused),
+      sym (ap (λ (o : Option Slicing). plan_reply o loads tasks (plan_in Plain)) drafted ∙ ap (λ (o : Option PlanError). planned o (plan_in Plain)) refused),
     )
 
     -- there is one, and no memory for it
     pub no_room_reply : plan_refusal draft.slices loads tasks ≡ None → IsReply job past (event (step.Plan loads tasks bounds) reply.NoMemory)
     no_room_reply free =
-        replied_without_memory job past (step.Plan loads tasks bounds) refl (reply.Planned no_outcome.plan)
-        (ap (λ (o : Option Slicing). plan_reply o loads tasks no_outcome.plan) drafted ∙ ap (λ (o : Option PlanError). planned o no_outcome.plan) free) refl
+        replied_without_memory job past (step.Plan loads tasks bounds) refl (reply.Planned (plan_in Plain))
+        (ap (λ (o : Option Slicing). plan_reply o loads tasks (plan_in Plain)) drafted ∙ ap (λ (o : Option PlanError). planned o (plan_in Plain)) free) refl
 
     -- why there is none, or want of memory for it
     pub unplanned_played : (world : World) → Keeps job past world → (o : Option PlanError) → plan_refusal draft.slices loads tasks ≡ o
@@ -114,6 +114,6 @@ module _ (job : Job) (past : Past) (loads tasks : List ℕ) (bounds : Bounds) wh
     pub planned_from_draft : IsReply job past (event (step.Plan loads tasks bounds) (reply.Planned plan)) → IsPlannedFromDraft job past loads tasks bounds plan
     planned_from_draft h =
         elim h [
-          | inl answered ↦ by_draft (draft_of past) refl answered.0.plan answered.1 answered.2
+          | inl answered ↦ by_draft (draft_of past) refl (plan_in answered.0) answered.1 answered.2
           | inr none ↦ absurd (let f : reply.Planned plan ≡ reply.NoMemory = none.0 in cc)
         ]

@@ -12,7 +12,7 @@ use Rattle.world.specs.declared.reply.Reply.{Reply}
 use Rattle.world.specs.declared.reply.Reply.TheVariants as reply
 use Rattle.world.specs.Pasts.{event, Past}
 use Rattle.world.specs.Told.{numbered, handles_made, task_calls}
-use Rattle.world.specs.Replies.{covers_in, rule_in, history, if_sent, checked}
+use Rattle.world.specs.Replies.{is_continuous_in, covers_in, rule_in, history, if_sent, checked}
 use Rattle.world.specs.Runs.{IsReply, IsRun}
 use Rattle.world.specs.Headline.{IsServedByRule, IsCheckedByHistory}
 
@@ -58,7 +58,7 @@ module _ (job : Job) (past : Past) (task number at : ℕ) (handle : KeyHandle) w
       → IsCheckedByHistory job past task handle at answer
   checked_by_history answer h inside made familiar =
       elim h [
-        | inl answered ↦ told_as answer answered.0.continuous (answered.1 inside handle made familiar)
-            (answered.2 ∙ checked_as (is_within task job.tasks) inside (numbered number (handles_made past)) made familiar answered.0.continuous)
+        | inl answered ↦ told_as answer (is_continuous_in answered.0) (answered.1 inside handle made familiar)
+            (answered.2 ∙ checked_as (is_within task job.tasks) inside (numbered number (handles_made past)) made familiar (is_continuous_in answered.0))
         | inr none ↦ absurd (let f : false ≡ true = none.1 in cc)
       ]

@@ -19,7 +19,7 @@ use Rattle.world.specs.Bounds.{Bounds}
 use Rattle.world.specs.Told.{draft_of, standing, task_calls}
 use Rattle.weighted_move.specs.declared.made.Plan.{Plan}
 use Rattle.world.specs.Runs.{IsPlanOf}
-use Rattle.world.specs.Replies.{no_outcome, covers_in, rule_in, reply_to}
+use Rattle.world.specs.Replies.{Plain, covers_in, rule_in, reply_to}
 
 -- a request is served exactly when the written rule allows its key on what the task was told, and each denial names its ground
 abbrev pub IsServedByRule : Job → Past → ℕ → List ℕ → ℕ → Reply → Type 0
@@ -44,7 +44,7 @@ is_served _ = false
 
 -- a task may serve a key now: at some reading a `serve` would be timely, and allowed
 abbrev pub MayServe : Job → Past → ℕ → List ℕ → Type 0
-MayServe job past task key = (at : ℕ) × IsTimely job.policy.skew (step.Serve task key at ∷ steps_of past) × IsTrue (is_served (reply_to job past (step.Serve task key at) no_outcome))
+MayServe job past task key = (at : ℕ) × IsTimely job.policy.skew (step.Serve task key at ∷ steps_of past) × IsTrue (is_served (reply_to job past (step.Serve task key at) Plain))
 
 -- a task owns a key in the committed assignment
 abbrev pub IsOwner : Job → Past → ℕ → List ℕ → Type 0

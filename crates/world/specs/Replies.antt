@@ -125,13 +125,18 @@ plan_reply None loads tasks plan = reply.Refused refusal.NoDraft
 plan_reply (Some draft) loads tasks plan = planned (plan_refusal draft.slices loads tasks) plan
 
 -- what decides a reply where the steps before do not name it: whether the handle of a `check` is continuous, and the plan of a `plan`
-pub record Outcome : Type 0 where
-  pub continuous : Bool
-  pub plan : Plan
+pub data Outcome : Type 0 where
+  Plain : Outcome
+  Checked : Bool → Outcome
+  Planned : Plan → Outcome
 
--- the outcome of steps that have none
-abbrev pub no_outcome : Outcome
-no_outcome = record { continuous = false; plan = record { slices = []; moves = [] } }
+abbrev pub is_continuous_in : Outcome → Bool
+is_continuous_in (Checked kept) = kept
+is_continuous_in _ = false
+
+abbrev pub plan_in : Outcome → Plan
+plan_in (Planned plan) = plan
+plan_in _ = record { slices = []; moves = [] }
 
 -- what a step is answered, where this is its outcome
 abbrev pub reply_to : Job → Past → Step → Outcome → Reply
@@ -156,7 +161,7 @@ reply_to job past (step.Release task kind at) outcome = by_actor task job.tasks 
 reply_to job past (step.Serve task key at) outcome = by_actor task job.tasks (reply.Verdict (rule_in job past task (slice_key key) at))
 reply_to job past (step.Hold task key at) outcome =
     by_actor task job.tasks (holding (length (handles_made past) + 1) (held_by (rule_in job past task (slice_key key) at) (handle_on (slice_key key) (history job task past))))
-reply_to job past (step.Check task number at) outcome = by_actor task job.tasks (if_sent (numbered number (handles_made past)) (λ handle. checked (is_strange (history job task past) handle) outcome.continuous))
+reply_to job past (step.Check task number at) outcome = by_actor task job.tasks (if_sent (numbered number (handles_made past)) (λ handle. checked (is_strange (history job task past) handle) (is_continuous_in outcome)))
 reply_to job past (step.Learn clerk generation) outcome =
     by_actor clerk job.clerks (if_sent (published job.policy generation past)
     (λ slicing. from_layer refusal.Clerk (λ _. reply.Learnt generation) (learn_step (newest_learnt job clerk past) slicing)))
@@ -164,7 +169,7 @@ reply_to job past (step.Look clerk key) outcome = by_actor clerk job.clerks (loo
 reply_to job past (step.Forget clerk) outcome = by_actor clerk job.clerks reply.Forgotten
 reply_to job past (step.Load task key weight) outcome = by_actor task job.tasks (from_layer refusal.Load reply.Recorded (add_step (slice_key key) weight (share_of past task)))
 reply_to job past step.Gather outcome = gather_reply (draft_of past) job.tasks (shares_in job.tasks past) (book_in job past)
-reply_to job past (step.Plan loads tasks bounds) outcome = plan_reply (draft_of past) loads tasks outcome.plan
+reply_to job past (step.Plan loads tasks bounds) outcome = plan_reply (draft_of past) loads tasks (plan_in outcome)
 reply_to job past (step.Next assigner at wanted) outcome =
     by_actor assigner job.assigners (reply.Next (next_action (assigner_of job past assigner) (record { reading = at; phase = phase_of (standing job.policy past); wanted = wanted })))
 reply_to job past (step.Restart assigner) outcome = by_actor assigner job.assigners reply.Restarted

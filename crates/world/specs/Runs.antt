@@ -14,7 +14,7 @@ use Rattle.world.specs.declared.reply.Reply.TheVariants as reply
 use Rattle.world.specs.Pasts.{Event, event, Past, is_accepted}
 use Rattle.world.specs.Bounds.{Bounds, limits_of}
 use Rattle.world.specs.Told.{numbered, draft_of, handles_made, task_calls}
-use Rattle.world.specs.Replies.{Outcome, covers_in, history, reply_to}
+use Rattle.world.specs.Replies.{Outcome, is_continuous_in, plan_in, covers_in, history, reply_to}
 
 -- a plan of a draft for loads and tasks, within bounds and by the redundancy of the job: there is one, and this is one
 abbrev pub IsPlanOf : Job → Slicing → List ℕ → List ℕ → Bounds → Plan → Type 0
@@ -26,9 +26,9 @@ IsPlanOf job draft loads tasks bounds plan =
 abbrev pub IsOutcome : Job → Past → Step → Outcome → Type 0
 IsOutcome job past (step.Check task number at) outcome =
     is_within task job.tasks ≡ true → (handle : KeyHandle) → numbered number (handles_made past) ≡ Some handle → is_strange (history job task past) handle ≡ false
-    → IsTrue outcome.continuous ↔ IsContinuous (covers_in job past handle.key) (task_calls job.policy task past) handle at
+    → IsTrue (is_continuous_in outcome) ↔ IsContinuous (covers_in job past handle.key) (task_calls job.policy task past) handle at
 IsOutcome job past (step.Plan loads tasks bounds) outcome =
-    (draft : Slicing) → draft_of past ≡ Some draft → plan_refusal draft.slices loads tasks ≡ None → IsPlanOf job draft loads tasks bounds outcome.plan
+    (draft : Slicing) → draft_of past ≡ Some draft → plan_refusal draft.slices loads tasks ≡ None → IsPlanOf job draft loads tasks bounds (plan_in outcome)
 IsOutcome job past _ outcome = ⊤
 
 -- a step may want memory
