@@ -1,9 +1,10 @@
 //! Steps as the tests write them.
 
-use assignment::{Listed, Slice};
+use assignment::{Listed, Slice, TaskId};
 use policy_rules::Kind;
 use std::alloc::{AllocError, Global};
-use world::{Question, Step, WrittenLease};
+use weighted_move::TaskSet;
+use world::{PlanBounds, Question, Step, WrittenLease};
 
 // Slices: the start of each, and its owners.
 pub type Slices = &'static [(u64, &'static [u64])];
@@ -37,6 +38,7 @@ pub enum Act {
     Forget(u64),
     Load(u64, &'static str, u64),
     Gather,
+    Plan(&'static [u64]),
     Next(u64, u64, bool),
     Restart(u64),
 }
@@ -73,6 +75,20 @@ fn question_of(alloc: Global, leases: Leases, at: u64) -> Result<Question, Alloc
         leases: written,
         key: bytes_of(alloc, "hello")?,
         at,
+    })
+}
+
+// A plan for tasks 1 and 2, with these loads, which may move no key.
+fn plan_of(alloc: Global, loads: &[u64]) -> Result<Step, AllocError> {
+    let first = TaskId::new(1).unwrap_or_default();
+    let second = TaskId::new(2).unwrap_or_default();
+    let Some(bounds) = PlanBounds::new(0, 0, 100, 1024) else {
+        return Ok(Step::Phase);
+    };
+    Ok(Step::Plan {
+        loads: Listed::from_slice(alloc, loads)?,
+        tasks: TaskSet::empty().with(first).with(second),
+        bounds,
     })
 }
 
@@ -151,6 +167,7 @@ fn list_step(alloc: Global, act: Act) -> Result<Step, AllocError> {
         Act::Judge(leases, at) => Ok(Step::Judge {
             question: question_of(alloc, leases, at)?,
         }),
+        Act::Plan(loads) => plan_of(alloc, loads),
         _ => Ok(Step::Phase),
     }
 }

@@ -127,8 +127,9 @@ pub const AFTER: [Told; 10] = [
     (Act::Take(1, 35), "Refused(Table(JobHeld { until: 1033 }))"),
 ];
 
-// After the values: work is recorded and gathered, and an assigner without a term is asked what it does.
-pub const LOADS: [Told; 7] = [
+// After the values: work is recorded and gathered, a plan is made, and an assigner without a term is
+// asked what it does.
+pub const LOADS: [Told; 9] = [
     (Act::Load(1, "hello", 3), "Recorded(3)"),
     (Act::Load(2, "abc", 5), "Recorded(5)"),
     (Act::Load(1, "hello", 2), "Recorded(5)"),
@@ -141,6 +142,13 @@ pub const LOADS: [Told; 7] = [
         Act::Gather,
         "Gathered { loads: Listed { items: [0, 0] }, totals: Listed { items: [5, 5] } }",
     ),
+    (
+        Act::Plan(&[5, 5]),
+        "Planned(Plan { slices: Listed { items: [Slice { start: 0, owners: Listed { items: [1] } }, \
+        Slice { start: 4611686018427387904, owners: Listed { items: [2] } }] }, \
+        moves: Listed { items: [] } })",
+    ),
+    (Act::Plan(&[5]), "Refused(Plan(LoadsLength))"),
     (Act::Next(1, 0, true), "Next(Take)"),
 ];
 
