@@ -1,10 +1,10 @@
 //! What callers do with a lock.
 
-ghost use Rattle.std.specs.Prelude.{◌≡◌, Ok, MatchResult};
+ghost use Rattle.std.specs.Prelude.{◌≡◌, Ok, IfErr, MatchResult};
 ghost use Rattle.std.specs.Fn.{CalledAt, TakesAt};
 ghost use Rattle.history_lock.specs.Histories.{IsLegal};
 ghost use Rattle.history_lock.specs.Passes.{PassView, IsPassOf};
-ghost use Rattle.history_lock.specs.Answers.{HasWaited, IsTurnedAway, Wrote, TriedToWrite, Shared, TriedToShare, TriedToMeet};
+ghost use Rattle.history_lock.specs.Answers.{HasWaited, IsTurnedAway, Wrote, TriedToWrite, Shared, TriedToShare, TriedToMeet, IsWriterAt};
 
 use crate::error::{Busy, LockError, WriteError};
 use crate::pass::{LaneLock, Pass};
@@ -31,7 +31,9 @@ impl<M: Machine> LaneLock<M> {
             &self.board.shared,
             &mut pass.place,
             pass.lane,
+            self.lanes,
             self.limit,
+            self.alloc,
             make,
         )
     }
@@ -89,6 +91,7 @@ impl<M: Machine> LaneLock<M> {
         ensures own { IsPassOf self.now pass.new }
         ensures legal { IsLegal M.step self.now.opened.machine pass.new.seen }
         ensures answer { TriedToShare M.step self.now (λ machine answer. CalledAt F.FnMut f.old machine answer f.new) (f.new ≡ f.old) pass.old result pass.new }
+        ensures turned { IfErr result (λ busy. IsWriterAt pass.old.lane busy) }
     {
         share_at(&self.board.shared, &mut pass.place, pass.lane, f)
     }
@@ -119,6 +122,7 @@ impl<M: Machine> LaneLock<M> {
         ensures legal { IsLegal M.step self.now.opened.machine first.new.seen }
         ensures first { TriedToMeet self.now first.old second.old result first.new }
         ensures second { second.new ≡ second.old }
+        ensures turned { IfErr result (λ busy. IsWriterAt first.old.lane busy) }
     {
         meet_at(
             &self.board.shared,
