@@ -84,7 +84,8 @@ impl<M: Machine> LaneLock<M> {
         unreachable!()
     }
 
-    /// Lends the machine to `f`, once, and gives its answer. Where the lock is held, `f` is not called.
+    /// Lends the machine to `f`, once, and gives its answer. Where a writer holds the lane of the pass, `f` is
+    /// not called.
     pub fn try_shared<T, F: FnMut(&M) -> T>(&self, pass: &mut Pass<M>, f: &mut F) -> Result<T, Busy>
         requires own { IsPassOf self.now pass.old }
         requires may { (machine : M) → TakesAt F.FnMut f.old machine }
@@ -96,7 +97,7 @@ impl<M: Machine> LaneLock<M> {
         share_at(&self.board.shared, &mut pass.place, pass.lane, f)
     }
 
-    /// [`Self::try_shared`] that waits until the lock is free.
+    /// [`Self::try_shared`] that waits until no writer holds the lane.
     #[tactic(auto, using(crate::proofs::Waits::waits_not, crate::proofs::Waits::waits_once_more))]
     pub fn shared<R: Wait, T, F: FnMut(&M) -> T>(&self, rt: &R, pass: &mut Pass<M>, f: &mut F) -> T
         requires own { IsPassOf self.now pass.old }
@@ -114,7 +115,8 @@ impl<M: Machine> LaneLock<M> {
         unreachable!()
     }
 
-    /// Afterwards the first pass has seen all that the second had. The lock may be held instead.
+    /// Afterwards the first pass has seen all that the second had. A writer may hold the first pass's lane
+    /// instead.
     pub fn try_meet(&self, first: &mut Pass<M>, second: &mut Pass<M>) -> Result<(), Busy>
         requires own { IsPassOf self.now first.old }
         requires other { IsPassOf self.now second.old }
