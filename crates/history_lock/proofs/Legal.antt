@@ -1,11 +1,8 @@
 -- What a pass has seen is legal.
-use Rattle.std.proofs.Common.{◌≡◌, ℕ, List, [], sym, ap, ◌∙◌, subst, Option, Some, Result}
-use Rattle.atomic_table.specs.Table.{Me}
+use Rattle.std.proofs.Common.{◌≡◌, List, [], sym, ap, ◌∙◌, subst, Some, Result}
 use Rattle.history_lock.specs.declared.view.Opened.{Opened}
 use Rattle.history_lock.specs.declared.view.View.{View}
-use Rattle.history_lock.specs.declared.view.Book.{Book}
 use Rattle.history_lock.specs.Histories.{replay, IsLegal}
-use Rattle.history_lock.specs.Rule.{IsTaken, view_after_claim, view_after_write, view_after_return}
 use Rattle.history_lock.specs.declared.entry.Entry.{Entry}
 use Rattle.history_lock.specs.Inside.Seats.{SeesLegal}
 

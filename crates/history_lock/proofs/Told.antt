@@ -1,7 +1,6 @@
 -- What a call tells, of what its steps told.
-use Rattle.std.proofs.Common.{◌≡◌, ◌≢◌, ℕ, ◌+◌, ◌-◌, Bool, true, false, eqb, eq-eqb, List, [], ◌∷◌, ◌++◌, ◌≤◌, length, refl, sym, ap, ◌∙◌, subst, arith, Option, Some, Result, Ok, Err}
+use Rattle.std.proofs.Common.{◌≡◌, ◌≢◌, ℕ, ◌+◌, ◌-◌, Bool, true, false, eqb, eq-eqb, List, [], ◌∷◌, ◌++◌, ◌≤◌, length, refl, sym, ap, ◌∙◌, subst, arith, Some, Result, Ok, Err}
 use Rattle.atomic_table.specs.Seated.{TableId}
-use Rattle.atomic_table.specs.Table.{Me}
 use Rattle.history_lock.specs.declared.entry.Entry.{Entry}
 use Rattle.std.specs.Prelude.{if◌then◌else◌}
 use Rattle.history_lock.specs.declared.error.Busy.{Busy}
@@ -14,7 +13,7 @@ use Rattle.history_lock.specs.declared.view.Role.TheVariants.{Lane}
 use Rattle.history_lock.specs.declared.view.View.{View}
 use Rattle.history_lock.specs.declared.view.Book.{Book}
 use Rattle.history_lock.specs.Histories.{replay, entry, StartsWith, GrowsBy}
-use Rattle.history_lock.specs.Passes.{Lock, lock_at, pass_view}
+use Rattle.history_lock.specs.Passes.{lock_at, pass_view}
 use Rattle.history_lock.specs.Rule.{IsBook, holder_of, mine_of}
 use Rattle.history_lock.specs.Answers.{IsHeldByOther, IsShown, IsWritten, Wrote}
 use Rattle.history_lock.specs.Inside.Seats.{IsRefusedClaim}

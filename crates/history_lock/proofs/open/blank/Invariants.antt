@@ -1,4 +1,4 @@
-use Rattle.std.proofs.Common.{◌≡◌, ◌-◌, ◌<◌}
+use Rattle.std.proofs.Common.{◌-◌, ◌<◌}
 use Rattle.history_lock.specs.Inside.Seats.{IsBlank}
 use Rattle.history_lock.proofs.open.blank.Given as goal
 

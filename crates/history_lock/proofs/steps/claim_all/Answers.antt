@@ -1,4 +1,4 @@
-use Rattle.std.proofs.Common.{rules, arith, ◌≡◌, ◌+◌, ◌∙◌}
+use Rattle.std.proofs.Common.{arith, ◌∙◌}
 use Rattle.history_lock.proofs.Claimed.{claims_more, turned_back}
 use Rattle.history_lock.proofs.steps.claim_all.Goals as goal
 

@@ -1,4 +1,4 @@
-use Rattle.std.proofs.Common.{rules, arith, ◌≡◌, ◌-◌, suc, List, ◌∷◌, Option, Some, sym, subst}
+use Rattle.std.proofs.Common.{rules, arith, ◌-◌, sym, subst}
 use mathlib.Core.Option.{none}
 use Rattle.atomic_table.specs.Table.{rest, Allows, step as one_step}
 use Rattle.history_lock.specs.Rule.{HasOneHistory, GivesBack}

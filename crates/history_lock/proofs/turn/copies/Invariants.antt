@@ -1,4 +1,3 @@
-use Rattle.std.proofs.Common.{◌≡◌}
 use Rattle.history_lock.specs.Inside.Seats.{AreCopies}
 use Rattle.history_lock.proofs.turn.copies.Given as goal
 

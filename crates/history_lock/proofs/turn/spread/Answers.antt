@@ -1,4 +1,4 @@
-use Rattle.std.proofs.Common.{rules, arith, ◌≡◌, ◌+◌, suc, ◌∷◌, length, Some, ap, sym, ◌∙◌, subst}
+use Rattle.std.proofs.Common.{rules, arith, ◌≡◌, suc, ◌∷◌, length, Some, ap, sym, ◌∙◌, subst}
 use Rattle.atomic_table.specs.Table.{rest}
 use Rattle.history_lock.specs.Histories.{replay}
 use Rattle.history_lock.specs.Rule.{view_after_return}

@@ -1,4 +1,4 @@
-use Rattle.std.proofs.Common.{◌≡◌, ◌≤◌, [], length, Some, vec_len}
+use Rattle.std.proofs.Common.{◌≡◌, ◌≤◌, length, Some, vec_len}
 use Rattle.history_lock.specs.Histories.{replay}
 use Rattle.history_lock.specs.Rule.{view_after_return}
 use Rattle.history_lock.specs.Inside.Seats.{AreOut, AreCopies}
