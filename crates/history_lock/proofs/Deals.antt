@@ -1,5 +1,5 @@
 -- The rule holds at the start, and where lanes are dealt, passes meet and passes are taken in.
-use Rattle.std.proofs.Common.{◌≡◌, ◌≢◌, ℕ, zero, suc, ◌+◌, ◌<◌, ◌≤◌, List, [], ◌∷◌, ◌++◌, length, get_or, set, sym, refl, ap, ◌∙◌, subst, ⊎_elim, arith, Some, None, Result, length-set}
+use Rattle.std.proofs.Common.{◌≡◌, ◌≢◌, ℕ, zero, suc, ◌+◌, ◌<◌, ◌≤◌, List, [], ◌∷◌, ◌++◌, length, get_or, set, map, replicate, sym, refl, ap, ◌∙◌, subst, ⊎_elim, arith, Option, Some, None, Result, length-set}
 use mathlib.Core.Option.{some, some-ne-none, some-injective}
 use lib.ListN.{get_elem?}
 use Rattle.atomic_table.specs.Table.{Splits, Joins, opening}
@@ -11,8 +11,9 @@ use Rattle.history_lock.specs.declared.view.Role.TheVariants.{Dealer, Lane, Bare
 use Rattle.history_lock.specs.declared.view.GatheredPass.{GatheredPass}
 use Rattle.history_lock.specs.declared.view.View.{View}
 use Rattle.history_lock.specs.declared.view.Book.{Book}
-use Rattle.history_lock.specs.Rule.{LockState, HasLane, KnowsRole, KnowsPasses, Knows, IsAtHome, HasOneHistory}
+use Rattle.history_lock.specs.Rule.{LockState, HasLane, KnowsRole, KnowsPasses, Knows, HasOneHistory}
 use Rattle.history_lock.specs.Inside.Views.{first_view, spent_view, role_after, dealt_role, dealer_after, dealt_view, news_view, view_after_meeting, lane_of, view_after_gathering}
+use Rattle.history_lock.specs.Inside.Seats.{IsBlank}
 use Rattle.history_lock.proofs.Lists.{update, update_here, update_else, each_set, at_end}
 use Rattle.history_lock.proofs.Keeps.{holds_none}
 
@@ -51,38 +52,49 @@ module _ {M E R F : Type 0} (step : M → E → Result (M × R) F) (opened : Ope
   none_some : (o : Opened M) → None ≡ Some o → ⊥
   none_some o h = cc
 
-  first_known : (j : ℕ) (v : View M E) → get_elem? (first_view opened ∷ []) j ≡ some v → Knows opened (0 ∷ []) [] (λ l. 0) 0 0 (λ n. 0) j v
-  first_known zero v e = subst (Knows opened (0 ∷ []) [] (λ l. 0) 0 0 (λ n. 0) 0) (some-injective (first_view opened) v e)
+  first_known : (ws : List ℕ) (j : ℕ) (v : View M E) → get_elem? (first_view opened ∷ []) j ≡ some v → Knows opened ws [] (λ l. 0) 0 0 (λ n. 0) j v
+  first_known ws zero v e = subst (Knows opened ws [] (λ l. 0) 0 0 (λ n. 0) 0) (some-injective (first_view opened) v e)
       record { opens = λ o h. sym (some_is o h); before = ([], refl); heard = ([], refl); out = λ l low high. absurd (omega arith); role = (refl, refl); passes = tt }
-  first_known (suc j) v e = absurd (some-ne-none v (sym e))
+  first_known ws (suc j) v e = absurd (some-ne-none v (sym e))
 
-  only_lane : (b : Book M E) → b.machine ≡ opened.machine → b.history.items ≡ [] → (l : ℕ) → l < 1 → IsAtHome step opened [] (opening (0 ∷ []) (Some b ∷ []) (first_view opened)) l
-  only_lane b is empty zero below = (b, refl, empty, ap Some (sym is))
-  only_lane b is empty (suc l) below = absurd (omega arith)
+  abbrev zeros : ℕ → List ℕ
+  zeros n = replicate n 0
 
-  abbrev one_word : List ℕ
-  one_word = 0 ∷ []
+  word_is : (n l : ℕ) → get_or (zeros n) l 0 ≡ 0
+  word_is zero l = refl
+  word_is (suc n) zero = refl
+  word_is (suc n) (suc l) = word_is n l
 
-  word_is : (l : ℕ) → l < 1 → get_or one_word l 0 ≡ 0
-  word_is zero below = refl
-  word_is (suc l) below = absurd (omega arith)
+  wide_is : (n : ℕ) → length (zeros n) ≡ n
+  wide_is zero = refl
+  wide_is (suc n) = ap suc (wide_is n)
 
-  pub starts : 0 < opened.lanes → (b : Book M E) → b.machine ≡ opened.machine → b.history.items ≡ [] → HasOneHistory step opened (opening (0 ∷ []) (Some b ∷ []) (first_view opened))
-  starts lanes b is empty = record {
-    log = [];
-    holder = λ l. 0;
-    next = 0;
-    dealer = 0;
-    owner = λ n. 0;
-    few = omega arith;
-    short = omega arith;
-    wide = refl;
-    each_lane = lanes;
-    home = λ l below z. only_lane b is empty l below;
-    away = λ l below busy. absurd (busy (word_is l below));
-    undealt = λ n h. refl;
-    each = first_known;
-  }
+  deep_is : {A : Type 0} → (xs : List A) → length (map some xs) ≡ length xs
+  deep_is [] = refl
+  deep_is (x ∷ xs) = ap suc (deep_is xs)
+
+  home_is : {A : Type 0} → (xs : List A) (l : ℕ) (x : A) → get_elem? xs l ≡ some x → get_elem? (map some xs) l ≡ some (some x)
+  home_is [] l x e = absurd (some-ne-none x (sym e))
+  home_is (y ∷ xs) zero x e = ap some e
+  home_is (y ∷ xs) (suc l) x e = home_is xs l x e
+
+  pub starts : (words : List ℕ) (slots : List (Option (Book M E))) → IsBlank opened.machine opened.lanes words slots → HasOneHistory step opened (opening words slots (first_view opened))
+  starts words slots blank = subst (λ ws. HasOneHistory step opened (opening ws slots (first_view opened))) (sym blank.words_are) (
+      let ws : List ℕ = zeros opened.lanes in let long = wide_is opened.lanes in let deep = deep_is slots in let all = blank.deep in record {
+        log = [];
+        holder = λ l. 0;
+        next = 0;
+        dealer = 0;
+        owner = λ n. 0;
+        few = omega arith;
+        short = omega arith;
+        wide = deep ∙ (all ∙ sym long);
+        each_lane = long;
+        home = λ l below z. let t = blank.books l (omega arith) in (t.0, home_is slots l (Some t.0) t.1, record { legal = ap Some (sym t.2); logged = λ _. t.3 });
+        away = λ l below busy. absurd (busy (word_is opened.lanes l));
+        undealt = λ n h. refl;
+        each = first_known ws;
+      })
 
   -- the seat that deals gives out the next lane
   pub deals : (id k : ℕ) (v : View M E) → v.role ≡ Dealer k → v.end ≤ v.start → k < opened.lanes → Splits (HasOneHistory step opened) id v (dealer_after v) (dealt_view v)

@@ -1,5 +1,5 @@
 -- What the last state of a table shows, once all passes are taken in.
-use Rattle.std.proofs.Common.{◌≡◌, ◌⊎◌, ℕ, ◌<◌, ◌≤◌, Bool, true, false, ◌||◌, List, [], ◌∷◌, ◌++◌, map, length, get_or, refl, sym, ap, ◌∙◌, subst, ⊎_elim, inl, inr, arith, Option, Some, Result}
+use Rattle.std.proofs.Common.{◌≡◌, ◌⊎◌, ℕ, ◌+◌, ◌<◌, ◌≤◌, Bool, true, false, ◌||◌, List, [], ◌∷◌, ◌++◌, map, length, get_or, refl, sym, ap, ◌∙◌, subst, ⊎_elim, inl, inr, arith, Option, Some, Result}
 use Rattle.std.proofs.lemmas.Bool.{eqb-true}
 use Rattle.std.specs.List.{AllByRecursion}
 use mathlib.Core.Logic.{dite}
@@ -30,31 +30,31 @@ module _ {E : Type 0} (log : List (Entry E)) (next dealer : ℕ) (owner : ℕ �
   all_agree items (x ∷ gs) e h = ((subst (λ (l : List (Entry E)). StartsWith l x.seen) (sym e) h.0.1, ap (of_lane x.lane) e ∙ h.0.0.2), all_agree items gs e h.1)
 
 module _ {M E R F : Type 0} (step : M → E → Result (M × R) F) (opened : Opened M) where
-  -- a seat that has all lanes, and holds none, knows that the book is at home
-  pub ends : (id k : ℕ) (v : View M E) (words : List ℕ) (slots : List (Option (Book M E))) → v.role ≡ Lane k → v.end ≤ v.start → ((n : ℕ) → n < opened.lanes → (n ≡ k) ⊎ IsGathered n v.passes) → length slots ≡ 1
-      → Final (Seen (HasOneHistory step opened) id v) words slots → (b : Book M E) × (get_elem? slots 0 ≡ some (Some b)) × IsEnd step opened (gathered_pass k v.seen v.mine ∷ v.passes) b
-  ends id k v words slots role idle all one f =
+  -- a seat that has all lanes, and holds none, knows that the book of the last lane is at home
+  pub ends : (id k l : ℕ) (v : View M E) (words : List ℕ) (slots : List (Option (Book M E))) → v.role ≡ Lane k → v.end ≤ v.start → ((n : ℕ) → n < opened.lanes → (n ≡ k) ⊎ IsGathered n v.passes) → length slots ≡ l + 1 → l + 1 ≡ opened.lanes
+      → Final (Seen (HasOneHistory step opened) id v) words slots → (b : Book M E) × (get_elem? slots l ≡ some (Some b)) × IsEnd step opened (gathered_pass k v.seen v.mine ∷ v.passes) b
+  ends id k l v words slots role idle all deeper last f =
       let s = f.0 in let r = f.1.0 in let at = f.1.1 in let q = r.each id v at in let wide = r.wide in let deep = f.3 in
       let mine : HasLane r.log r.next r.dealer r.owner id k v.mine = subst (λ (x : Role). KnowsRole r.log r.next r.dealer r.owner id x v.mine) role q.role in
       let few = r.few in
-      dite (ℕ_discrete (get_or s.words 0 0) 0)
-      (λ hit. let h = r.home 0 (omega arith) hit in let b : Book M E = h.0 in let same : b.history.items ≡ r.log = h.2 in (
+      dite (ℕ_discrete (get_or s.words l 0) 0)
+      (λ hit. let h = r.home l (omega arith) hit in let b : Book M E = h.0 in let same : b.history.items ≡ r.log = h.2.logged last in (
         b,
-        f.4 0 (Some b) h.1,
+        f.4 l (Some b) h.1,
         record {
-          legal = subst (λ l. replay step opened.machine l ≡ Some b.machine) (sym same) h.3;
+          legal = subst (λ x. replay step opened.machine x ≡ Some b.machine) (sym same) h.2.legal;
           agrees = ((subst (λ l. StartsWith l v.seen) (sym same) q.before, ap (of_lane k) same ∙ mine.2), all_agree r.log r.next r.dealer r.owner id b.history.items v.passes same q.passes);
           others = λ n later. ap (of_lane n) same ∙ r.undealt n (omega arith);
           short = subst (λ l. length l ≤ opened.limit) (sym same) r.short;
         },
       ))
-      (λ miss. let t = (r.away 0 (omega arith) miss).1 in let u : View M E = t.0 in let z = r.each (r.holder 0) u t.1 in
-      let out = z.out 0 t.2 t.3 in let n : ℕ = out.word.0 in
-      let has : HasLane r.log r.next r.dealer r.owner (r.holder 0) n u.mine = subst (λ (x : Role). KnowsRole r.log r.next r.dealer r.owner (r.holder 0) x u.mine) out.word.1 z.role in
+      (λ miss. let t = (r.away l (omega arith) miss).1 in let u : View M E = t.0 in let z = r.each (r.holder l) u t.1 in
+      let out = z.out l t.2 t.3 in let n : ℕ = out.word.0 in
+      let has : HasLane r.log r.next r.dealer r.owner (r.holder l) n u.mine = subst (λ (x : Role). KnowsRole r.log r.next r.dealer r.owner (r.holder l) x u.mine) out.word.1 z.role in
       let below : n < opened.lanes = (let x : n < r.next = has.1 in omega arith) in
-      let same : r.holder 0 ≡ id = sym has.0 ∙ ⊎_elim (λ (e : n ≡ k). ap r.owner e ∙ mine.0) (λ (e : IsGathered n v.passes). owner_of_gathered r.log r.next r.dealer r.owner id n v.passes q.passes e) (all n below) in
+      let same : r.holder l ≡ id = sym has.0 ∙ ⊎_elim (λ (e : n ≡ k). ap r.owner e ∙ mine.0) (λ (e : IsGathered n v.passes). owner_of_gathered r.log r.next r.dealer r.owner id n v.passes q.passes e) (all n below) in
       let one : u ≡ v = some-injective u v (sym t.1 ∙ (ap (get_elem? s.views) same ∙ at)) in
-      let low : v.start ≤ 0 = subst (λ (x : View M E). x.start ≤ 0) one t.2 in let high : 0 < v.end = subst (λ (x : View M E). 0 < x.end) one t.3 in absurd (omega arith))
+      let low : v.start ≤ l = subst (λ (x : View M E). x.start ≤ l) one t.2 in let high : l < v.end = subst (λ (x : View M E). l < x.end) one t.3 in absurd (omega arith))
 
 either_true : (b c : Bool) → (b || c) ≡ true → (b ≡ true) ⊎ (c ≡ true)
 either_true true c h = inl refl

@@ -1,5 +1,5 @@
 -- Each atomic step on a lane keeps the rule.
-use Rattle.std.proofs.Common.{◌≡◌, ◌≢◌, ℕ, ◌+◌, ◌<◌, ◌≤◌, eqb, List, [], ◌∷◌, length, get_or, set, sym, refl, ap, ◌∙◌, subst, ⊎_elim, arith, Some, Result, eq-eqb, ne_eqb, length-set, get_or-set_other, get_or-set_same}
+use Rattle.std.proofs.Common.{◌≡◌, ◌≢◌, ℕ, ◌+◌, ◌<◌, ◌≤◌, eqb, List, [], ◌∷◌, length, get_or, set, sym, refl, ap, ◌∙◌, subst, ⊎_elim, arith, Option, Some, Result, eq-eqb, ne_eqb, length-set, get_or-set_other, get_or-set_same}
 use Rattle.std.proofs.lemmas.List.{set-get_or}
 use mathlib.Core.Logic.{dite}
 use mathlib.Core.Option.{none, some, some-injective}
@@ -15,13 +15,14 @@ use Rattle.history_lock.specs.declared.view.Role.TheVariants.{Dealer, Lane, Bare
 use Rattle.history_lock.specs.declared.view.GatheredPass.{GatheredPass}
 use Rattle.history_lock.specs.declared.view.View.{View}
 use Rattle.history_lock.specs.declared.view.Book.{Book}
-use Rattle.history_lock.specs.Histories.{replay, of_lane, StartsWith, GrowsBy}
-use Rattle.history_lock.specs.Rule.{LockState, SeatState, IsWordOf, HasLane, KnowsRole, KnowsPasses, Holds, Knows, IsAway, HasOneHistory, IsHeldByAnother, mine_of, view_after_claim, view_after_refusal, view_after_write, view_after_return, Claims, Publishes, GivesBack}
+use Rattle.history_lock.specs.Histories.{replay, of_lane, GrowsBy}
+use Rattle.history_lock.specs.Rule.{LockState, SeatState, IsWordOf, HasLane, KnowsRole, KnowsPasses, Holds, Knows, IsBook, IsAway, HasOneHistory, mine_of, view_after_claim, view_after_refusal, view_after_write, view_after_return, IsHeldByAnother, Claims, ClaimsOwn, ClaimsNext, Publishes, GivesBack}
+use Rattle.history_lock.specs.Inside.Seats.{IsHolding}
 use Rattle.history_lock.proofs.Histories.{starts_itself, starts_through}
 use Rattle.history_lock.proofs.Lists.{update, update_here, update_else, inside, each_set}
 
-word_some : (role : Role) (word : ℕ) → IsWordOf role word → word ≢ 0
-word_some role word h z = ⊎_elim (λ (e : word ≡ 1). absurd (omega arith)) (λ (e : word ≡ h.0 + 2). let n : ℕ = h.0 in let f : word ≡ n + 2 = e in absurd (omega arith)) h.2
+word_some : (role : Role) (l word : ℕ) → IsWordOf role l word → word ≢ 0
+word_some role l word h z = ⊎_elim (λ (e : (word ≡ 1) × (h.0 ≡ l)). let f : word ≡ 1 = e.0 in absurd (omega arith)) (λ (e : word ≡ h.0 + 2). let n : ℕ = h.0 in let f : word ≡ n + 2 = e in absurd (omega arith)) h.2
 
 -- what a seat knows stays so where the history grows by a lane that it does not have
 module _ {E : Type 0} (log log' : List (Entry E)) (n next dealer : ℕ) (owner : ℕ → ℕ) (grows : GrowsBy n log log') (seat : ℕ) (other : owner n ≢ seat) where
@@ -48,10 +49,10 @@ module _ {M E R F : Type 0} (step : M → E → Result (M × R) F) (opened : Ope
   holds_none s r id v at idle l h e = let t = h.1 in let one : t.0 ≡ v = some-injective t.0 v (sym t.1 ∙ (ap (get_elem? s.views) e ∙ at)) in
       let low : v.start ≤ l = subst (λ (x : View M E). x.start ≤ l) one t.2 in let high : l < v.end = subst (λ (x : View M E). l < x.end) one t.3 in absurd (omega arith)
 
-  -- a seat that holds no lane changes its view alone
-  view_change_keeps : (s : LockState M E) (r : HasOneHistory step opened s) (id : ℕ) (v w : View M E) → get_elem? s.views id ≡ some v → v.end ≤ v.start
+  -- a seat changes its view alone, and holds the lanes that it held
+  view_change_keeps : (s : LockState M E) (r : HasOneHistory step opened s) (id : ℕ) (v w : View M E) → get_elem? s.views id ≡ some v → w.start ≡ v.start → w.end ≡ v.end
       → Knows opened s.words r.log r.holder r.next r.dealer r.owner id w → HasOneHistory step opened record { words = s.words; homes = s.homes; views = set s.views id w }
-  view_change_keeps s r id v w at idle known = record {
+  view_change_keeps s r id v w at low high known = record {
     log = r.log;
     holder = r.holder;
     next = r.next;
@@ -62,19 +63,24 @@ module _ {M E R F : Type 0} (step : M → E → Result (M × R) F) (opened : Ope
     wide = r.wide;
     each_lane = r.each_lane;
     home = r.home;
-    away = λ l below busy. let h = r.away l below busy in let t = h.1 in
-        (h.0, (t.0, set_else s.views id (r.holder l) w (holds_none s r id v at idle l h) ∙ t.1, t.2, t.3));
+    away = λ l below busy. let h = r.away l below busy in let t = h.1 in (
+      h.0,
+      dite (ℕ_discrete (r.holder l) id)
+          (λ e. let one : t.0 ≡ v = some-injective t.0 v (sym t.1 ∙ (ap (get_elem? s.views) e ∙ at)) in
+          let f : v.start ≤ l = subst (λ (x : View M E). x.start ≤ l) one t.2 in let g : l < v.end = subst (λ (x : View M E). l < x.end) one t.3 in
+          (w, ap (get_elem? (set s.views id w)) e ∙ set_here s.views id w (inside s.views id v at), (omega arith), (omega arith)))
+          (λ other. (t.0, set_else s.views id (r.holder l) w other ∙ t.1, t.2, t.3)),
+    );
     undealt = r.undealt;
     each = each_set (Knows opened s.words r.log r.holder r.next r.dealer r.owner) s.views id w known (λ j u _ e. r.each j u e);
   }
 
   -- a seat that holds the lanes from a on, below l, takes the lane l, whose word was 0
-  claim_keeps : (s : LockState M E) (r : HasOneHistory step opened s) (id l a new : ℕ) (v : View M E) → get_elem? s.views id ≡ some v → l < length s.words → get_or s.words l 0 ≡ 0 → IsWordOf v.role new → a ≤ l
+  claim_keeps : (s : LockState M E) (r : HasOneHistory step opened s) (id l a new : ℕ) (v : View M E) → get_elem? s.views id ≡ some v → l < length s.words → get_or s.words l 0 ≡ 0 → IsWordOf v.role l new → a ≤ l
       → ((k : ℕ) → v.start ≤ k → k < v.end → (a ≤ k) × (k < l)) → ((k : ℕ) → a ≤ k → k < l → (v.start ≤ k) × (k < v.end) × (v.word ≡ new))
-      → (b : Book M E) → b.history.items ≡ r.log
-      → HasOneHistory step opened record { words = set s.words l new; homes = set s.homes l none; views = set s.views id (record v { start = a; end = l + 1; word = new; seen = b.history.items }) }
-  claim_keeps s r id l a new v at lt zero_is word low held covers b same =
-      let w : View M E = record v { start = a; end = l + 1; word = new; seen = b.history.items } in let ws : List ℕ = set s.words l new in
+      → HasOneHistory step opened record { words = set s.words l new; homes = set s.homes l none; views = set s.views id (view_after_claim v a l new r.log) }
+  claim_keeps s r id l a new v at lt zero_is word low held covers =
+      let w : View M E = view_after_claim v a l new r.log in let ws : List ℕ = set s.words l new in
       let wide = r.wide in let long = length-set s.words l new in let deep = length-set s.homes l none in
       let here : get_or ws l 0 ≡ new = get_or-set_same s.words l new 0 lt in
       let k = r.each id v at in
@@ -88,8 +94,8 @@ module _ {M E R F : Type 0} (step : M → E → Result (M × R) F) (opened : Ope
         short = r.short;
         wide = omega arith;
         each_lane = (let lanes = r.each_lane in omega arith);
-        home = λ j below free. let ne : j ≢ l = λ e. word_some v.role new word (sym here ∙ (ap (λ (x : ℕ). get_or ws x 0) (sym e) ∙ free)) in
-            let h = r.home j (omega arith) (sym (elsewhere j ne) ∙ free) in (h.0, set_else s.homes l j none ne ∙ h.1, h.2, h.3);
+        home = λ j below free. let ne : j ≢ l = λ e. word_some v.role l new word (sym here ∙ (ap (λ (x : ℕ). get_or ws x 0) (sym e) ∙ free)) in
+            let h = r.home j (omega arith) (sym (elsewhere j ne) ∙ free) in (h.0, set_else s.homes l j none ne ∙ h.1, h.2);
         away = λ j below busy. dite (ℕ_discrete j l)
             (λ e. (ap (get_elem? (set s.homes l none)) e ∙ set_here s.homes l none (omega arith), (w, ap (get_elem? (set s.views id w)) (ap (update r.holder l id) e ∙ update_here r.holder l id) ∙ set_here s.views id w (inside s.views id v at), (omega arith), (omega arith))))
             (λ ne. let h = r.away j (omega arith) (λ z. busy (elsewhere j ne ∙ z)) in let t = h.1 in
@@ -105,12 +111,12 @@ module _ {M E R F : Type 0} (step : M → E → Result (M × R) F) (opened : Ope
         each = each_set (Knows opened ws r.log (update r.holder l id) r.next r.dealer r.owner) s.views id w
             record {
               opens = k.opens;
-              before = subst (StartsWith r.log) (sym same) (starts_itself r.log);
+              before = starts_itself r.log;
               heard = k.heard;
               out = λ j from to. dite (ℕ_discrete j l)
-                  (λ e. record { inside = (omega arith); shown = ap (λ (x : ℕ). get_or ws x 0) e ∙ here; held = ap (update r.holder l id) e ∙ update_here r.holder l id; whole = same; word = word })
+                  (λ e. record { inside = (omega arith); shown = ap (λ (x : ℕ). get_or ws x 0) e ∙ here; held = ap (update r.holder l id) e ∙ update_here r.holder l id; whole = refl; word = subst (λ (x : ℕ). IsWordOf v.role x new) (sym e) word })
                   (λ ne. let c = covers j from (omega arith) in let q = k.out j c.0 c.1 in let q0 : j < length s.words = q.inside in
-                  record { inside = (omega arith); shown = elsewhere j ne ∙ (q.shown ∙ c.2); held = update_else r.holder l id j ne ∙ q.held; whole = same; word = word });
+                  record { inside = (omega arith); shown = elsewhere j ne ∙ (q.shown ∙ c.2); held = update_else r.holder l id j ne ∙ q.held; whole = refl; word = subst (λ (x : ℕ). IsWordOf v.role j x) c.2 q.word });
               role = k.role;
               passes = k.passes;
             }
@@ -119,7 +125,7 @@ module _ {M E R F : Type 0} (step : M → E → Result (M × R) F) (opened : Ope
               before = z.before;
               heard = z.heard;
               out = λ i from to. let q = z.out i from to in let q0 : i < length s.words = q.inside in
-                  let ne : i ≢ l = λ h. word_some u.role u.word q.word (sym q.shown ∙ (ap (λ (x : ℕ). get_or s.words x 0) h ∙ zero_is)) in
+                  let ne : i ≢ l = λ h. word_some u.role i u.word q.word (sym q.shown ∙ (ap (λ (x : ℕ). get_or s.words x 0) h ∙ zero_is)) in
                   record { inside = (omega arith); shown = elsewhere i ne ∙ q.shown; held = update_else r.holder l id i ne ∙ q.held; whole = q.whole; word = q.word };
               role = z.role;
               passes = z.passes;
@@ -127,9 +133,9 @@ module _ {M E R F : Type 0} (step : M → E → Result (M × R) F) (opened : Ope
       }
 
   -- the last lane that a seat holds goes back, with a book of the history that the seat has seen
-  return_keeps : (s : LockState M E) (r : HasOneHistory step opened s) (id l : ℕ) (v : View M E) (b : Book M E) → get_elem? s.views id ≡ some v → v.start ≤ l → v.end ≡ l + 1 → b.history.items ≡ v.seen → replay step opened.machine b.history.items ≡ Some b.machine
+  return_keeps : (s : LockState M E) (r : HasOneHistory step opened s) (id l : ℕ) (v : View M E) (b : Book M E) → get_elem? s.views id ≡ some v → v.start ≤ l → v.end ≡ l + 1 → IsBook step opened v.seen l b
       → HasOneHistory step opened record { words = set s.words l 0; homes = set s.homes l (some (Some b)); views = set s.views id (view_after_return v l) }
-  return_keeps s r id l v b at from to same legal =
+  return_keeps s r id l v b at from to book =
       let ws : List ℕ = set s.words l 0 in let w : View M E = view_after_return v l in let wide = r.wide in let long = length-set s.words l 0 in let deep = length-set s.homes l (some (Some b)) in
       let k = r.each id v at in let last = k.out l from (omega arith) in let lt : l < length s.words = last.inside in
       let here : get_or ws l 0 ≡ 0 = get_or-set_same s.words l 0 0 lt in
@@ -144,8 +150,8 @@ module _ {M E R F : Type 0} (step : M → E → Result (M × R) F) (opened : Ope
         wide = omega arith;
         each_lane = (let lanes = r.each_lane in omega arith);
         home = λ j below free. dite (ℕ_discrete j l)
-            (λ e. (b, ap (get_elem? (set s.homes l (some (Some b)))) e ∙ set_here s.homes l (some (Some b)) (omega arith), same ∙ last.whole, subst (λ x. replay step opened.machine x ≡ Some b.machine) (same ∙ last.whole) legal))
-            (λ ne. let h = r.home j (omega arith) (sym (elsewhere j ne) ∙ free) in (h.0, set_else s.homes l j (some (Some b)) ne ∙ h.1, h.2, h.3));
+            (λ e. (b, ap (get_elem? (set s.homes l (some (Some b)))) e ∙ set_here s.homes l (some (Some b)) (omega arith), subst (λ (x : ℕ). IsBook step opened r.log x b) (sym e) (subst (λ x. IsBook step opened x l b) last.whole book)))
+            (λ ne. let h = r.home j (omega arith) (sym (elsewhere j ne) ∙ free) in (h.0, set_else s.homes l j (some (Some b)) ne ∙ h.1, h.2));
         away = λ j below busy. let ne : j ≢ l = λ e. busy (ap (λ (x : ℕ). get_or ws x 0) e ∙ here) in let h = r.away j (omega arith) (λ z. busy (elsewhere j ne ∙ z)) in let t = h.1 in (
           set_else s.homes l j (some (Some b)) ne ∙ h.0,
           dite (ℕ_discrete (r.holder j) id)
@@ -200,8 +206,8 @@ module _ {M E R F : Type 0} (step : M → E → Result (M × R) F) (opened : Ope
         wide = omega arith;
         each_lane = (let lanes = r.each_lane in omega arith);
         home = λ j below free. dite (ℕ_discrete j l)
-            (λ e. (b, ap (get_elem? (set s.homes l (some (Some b)))) e ∙ set_here s.homes l (some (Some b)) (omega arith), refl, legal))
-            (λ ne. let m = mine j (omega arith) in absurd (word_some v.role v.word m.word (sym m.shown ∙ (sym (elsewhere j ne) ∙ free))));
+            (λ e. (b, ap (get_elem? (set s.homes l (some (Some b)))) e ∙ set_here s.homes l (some (Some b)) (omega arith), record { legal = legal; logged = λ _. refl }))
+            (λ ne. let m = mine j (omega arith) in absurd (word_some v.role j v.word m.word (sym m.shown ∙ (sym (elsewhere j ne) ∙ free))));
         away = λ j below busy. let ne : j ≢ l = λ e. busy (ap (λ (x : ℕ). get_or ws x 0) e ∙ here) in let h = r.away j (omega arith) (λ z. busy (elsewhere j ne ∙ z)) in
             (set_else s.homes l j (some (Some b)) ne ∙ h.0, (w, ap (get_elem? (set s.views id w)) (mine j (omega arith)).held ∙ set_here s.views id w (inside s.views id v at), (omega arith), (omega arith)));
         undealt = λ m later. let apart : m ≢ n = λ e. (let x = at_lane.1 in omega arith) in more.1 m apart ∙ r.undealt m later;
@@ -225,45 +231,59 @@ module _ {M E R F : Type 0} (step : M → E → Result (M × R) F) (opened : Ope
             });
       }
 
-  -- a word that is not 0 is another's, if the seat that meets it holds no lane
-  held_by_another : (s : LockState M E) (r : HasOneHistory step opened s) (id l : ℕ) (v : View M E) → get_elem? s.views id ≡ some v → v.end ≤ v.start → l < length s.words → get_or s.words l 0 ≢ 0
-      → IsHeldByAnother v l (get_or s.words l 0)
-  held_by_another s r id l v at idle lt miss =
-      let h = r.away l lt miss in let t = h.1 in let u : View M E = t.0 in let z = r.each (r.holder l) u t.1 in let out = z.out l t.2 t.3 in let m : ℕ = out.word.0 in
-      let has : HasLane r.log r.next r.dealer r.owner (r.holder l) m u.mine = subst (λ (x : Role). KnowsRole r.log r.next r.dealer r.owner (r.holder l) x u.mine) out.word.1 z.role in
+  -- a word that is not 0 is another's, if the seat that meets it holds lanes below it alone; and a writer's at the seat's own lane
+  held_by_another : (s : LockState M E) (r : HasOneHistory step opened s) (id l : ℕ) (v : View M E) → get_elem? s.views id ≡ some v
+      → ((k : ℕ) → v.start ≤ k → k < v.end → k < l) → l < length s.words → get_or s.words l 0 ≢ 0 → IsHeldByAnother v l (get_or s.words l 0)
+  held_by_another s r id l v at held lt miss =
+      let h = r.away l lt miss in let t = h.1 in let u : View M E = t.0 in let z = r.each (r.holder l) u t.1 in
+      let out = z.out l t.2 t.3 in let m : ℕ = out.word.0 in
+      let has : HasLane r.log r.next r.dealer r.owner (r.holder l) m u.mine =
+      subst (λ (x : Role). KnowsRole r.log r.next r.dealer r.owner (r.holder l) x u.mine) out.word.1 z.role in
       let k = r.each id v at in let lanes = r.each_lane in let few = r.few in let shown = out.shown in
-      let same : (n : ℕ) → get_or s.words l 0 ≡ n + 2 → n ≡ m = λ n is. ⊎_elim (λ (e : u.word ≡ 1). absurd (omega arith)) (λ (e : u.word ≡ m + 2). omega arith) out.word.2 in record {
-        apart = λ inside. (let low : v.start ≤ l = inside.0 in let high : l < v.end = inside.1 in absurd (omega arith));
+      let other : v.role ≢ Lane m = λ role.
+      (let mine : HasLane r.log r.next r.dealer r.owner id m v.mine =
+      subst (λ (x : Role). KnowsRole r.log r.next r.dealer r.owner id x v.mine) role k.role in
+      let same : r.holder l ≡ id = sym has.0 ∙ mine.0 in
+      let one : u ≡ v = some-injective u v (sym t.1 ∙ (ap (get_elem? s.views) same ∙ at)) in
+      let low : v.start ≤ l = subst (λ (x : View M E). x.start ≤ l) one t.2 in
+      let high : l < v.end = subst (λ (x : View M E). l < x.end) one t.3 in
+      let no = held l low high in absurd (omega arith)) in
+      let same : (n : ℕ) → get_or s.words l 0 ≡ n + 2 → n ≡ m = λ n is.
+      ⊎_elim (λ (e : (u.word ≡ 1) × (m ≡ l)). let f : u.word ≡ 1 = e.0 in absurd (omega arith)) (λ (e : u.word ≡ m + 2). omega arith) out.word.2 in record {
+        apart = λ inside. (let no = held l inside.0 inside.1 in absurd (omega arith));
         lane = λ o e. subst (λ (x : Opened M). l < x.lanes) (sym (k.opens o e)) (omega arith);
         writer = λ n is. (
-          λ role. (let mine : HasLane r.log r.next r.dealer r.owner id n v.mine = subst (λ (x : Role). KnowsRole r.log r.next r.dealer r.owner id x v.mine) role k.role in
-              holds_none s r id v at idle l h (sym has.0 ∙ (ap r.owner (sym (same n is)) ∙ mine.0))),
+          λ role. other (role ∙ ap Lane (same n is)),
           λ o e. subst (λ (x : Opened M). n < x.lanes) (sym (k.opens o e)) (let below : m < r.next = has.1 in let e : n ≡ m = same n is in omega arith),
         );
+        own = λ role. ⊎_elim (λ (e : (u.word ≡ 1) × (m ≡ l)). absurd (other (role ∙ ap Lane (sym e.1)))) (λ (e : u.word ≡ m + 2). (m, shown ∙ e)) out.word.2;
       }
 
-  pub claims : (slots id l new : ℕ) (me : SeatState M E) → l < slots → me.0.end ≤ me.0.start → IsWordOf me.0.role new
-      → Allows (HasOneHistory step opened) slots id me l (λ x. either (eqb x 0) new x) (Claims step (one_step slots l 0 new none) me)
-  claims slots id l new me below idle word s r deep at small =
+  -- a claim of the lane l by a seat that holds those from f l on, below l
+  claims_from : (f : ℕ → ℕ) (slots id l new : ℕ) (me : SeatState M E) → l < slots → IsWordOf me.0.role l new → f l ≤ l
+      → ((k : ℕ) → me.0.start ≤ k → k < me.0.end → (f l ≤ k) × (k < l)) → ((k : ℕ) → f l ≤ k → k < l → (me.0.start ≤ k) × (k < me.0.end) × (me.0.word ≡ new))
+      → Allows (HasOneHistory step opened) slots id me l (λ x. either (eqb x 0) new x) (Claims step f (one_step slots l 0 new none) me)
+  claims_from f slots id l new me below word low held covers s r deep at small =
       let wide = r.wide in let lt : l < length s.words = omega arith in let k = r.each id me.0 at in
       dite (ℕ_discrete (get_or s.words l 0) 0)
-      (λ hit. let h = r.home l lt hit in let b : Book M E = h.0 in let same : b.history.items ≡ r.log = h.2 in let w : View M E = view_after_claim me.0 l new b.history.items in
-      let legal : replay step opened.machine b.history.items ≡ Some b.machine = subst (λ x. replay step opened.machine x ≡ Some b.machine) (sym same) h.3 in (
+      (λ hit. let h = r.home l lt hit in let b : Book M E = h.0 in let w : View M E = view_after_claim me.0 (f l) l new r.log in (
         w,
         takes l (Some b),
         h.1,
         subst (λ t. HasOneHistory step opened record { words = set s.words l (either t new (get_or s.words l 0)); homes = set s.homes l none; views = set s.views id w }) (sym (eq-eqb (get_or s.words l 0) 0 hit))
-            (claim_keeps s r id l l new me.0 at lt hit word (omega arith) (λ j low high. absurd (omega arith)) (λ j low high. absurd (omega arith)) b same),
+            (claim_keeps s r id l (f l) new me.0 at lt hit word low held covers),
         (
           (λ _. (
             b,
+            r.log,
             refl,
             record {
-              begins = subst (λ x. StartsWith x me.0.seen) (sym same) k.before;
-              news = subst (λ x. StartsWith x me.0.news) (sym same) k.heard;
-              mine = mine_kept b.history.items r.log r.next r.dealer id r.owner me.0.role me.0.mine same k.role;
-              legal = λ o e. subst (λ (x : Opened M). replay step x.machine b.history.items ≡ Some b.machine) (sym (k.opens o e)) legal;
-              short = λ o e. subst (λ (x : Opened M). length b.history.items ≤ x.limit) (sym (k.opens o e)) (subst (λ x. length x ≤ opened.limit) (sym same) r.short);
+              begins = k.before;
+              news = k.heard;
+              mine = mine_kept r.log r.log r.next r.dealer id r.owner me.0.role me.0.mine refl k.role;
+              book = λ o e. subst (λ (x : Opened M). IsBook step x r.log l b) (sym (k.opens o e)) h.2;
+              short = λ o e. subst (λ (x : Opened M). length r.log ≤ x.limit) (sym (k.opens o e)) r.short;
+              same = λ some. sym (k.out me.0.start (omega arith) some).whole;
             },
           )),
           λ miss. absurd (miss hit),
@@ -275,16 +295,35 @@ module _ {M E R F : Type 0} (step : M → E → Result (M × R) F) (opened : Ope
         tt,
         subst (λ t. HasOneHistory step opened record { words = set s.words l (either t new (get_or s.words l 0)); homes = s.homes; views = set s.views id w }) (sym (ne_eqb (get_or s.words l 0) 0 miss))
             (subst (λ ws. HasOneHistory step opened record { words = ws; homes = s.homes; views = set s.views id w }) (sym (set-get_or s.words l 0))
-            (view_change_keeps s r id me.0 w at idle record { opens = k.opens; before = k.before; heard = k.heard; out = λ j low high. absurd (omega arith); role = k.role; passes = k.passes })),
-        ((λ hit. absurd (miss hit)), λ _. (refl, held_by_another s r id l me.0 at idle lt miss)),
+            (view_change_keeps s r id me.0 w at refl refl record {
+              opens = k.opens;
+              before = k.before;
+              heard = k.heard;
+              out = λ j low high. let q = k.out j low high in record { inside = q.inside; shown = q.shown; held = q.held; whole = q.whole; word = q.word };
+              role = k.role;
+              passes = k.passes;
+            })),
+        ((λ hit. absurd (miss hit)), λ _. (refl, held_by_another s r id l me.0 at (λ j low high. (held j low high).1) lt miss)),
       ))
 
-  pub gives_back : (slots id l : ℕ) (v : View M E) (b : Book M E) → v.start ≤ l → v.end ≡ l + 1 → b.history.items ≡ v.seen → replay step opened.machine b.history.items ≡ Some b.machine
-      → Allows (HasOneHistory step opened) slots id (v, (l, Some b) ∷ []) l (λ _. 0) (λ _. GivesBack (one_step slots l 0 0 none) (v, (l, Some b) ∷ []) 0)
-  gives_back slots id l v b from to same legal s r deep at small = (view_after_return v l, gives, tt, return_keeps s r id l v b at from to same legal, refl)
+  -- a reader claims its lane
+  pub claims : (slots id l new : ℕ) (me : SeatState M E) → l < slots → me.0.end ≤ me.0.start → IsWordOf me.0.role l new
+      → Allows (HasOneHistory step opened) slots id me l (λ x. either (eqb x 0) new x) (ClaimsOwn step (one_step slots l 0 new none) me)
+  claims slots id l new me below idle word = claims_from (λ l. l) slots id l new me below word (omega arith) (λ j low high. absurd (omega arith)) (λ j low high. absurd (omega arith))
 
-  pub publishes : (slots id n l : ℕ) (v : View M E) (b : Book M E) → slots ≡ l + 1 → v.start ≡ 0 → v.end ≡ l + 1 → v.role ≡ Lane n → v.passes ≡ []
+  -- a writer that holds the lanes below l claims l
+  pub claims_next : (slots id l new : ℕ) (me : SeatState M E) → l < slots → IsWordOf me.0.role l new → IsHolding me.0 l new
+      → Allows (HasOneHistory step opened) slots id me l (λ x. either (eqb x 0) new x) (ClaimsNext step (one_step slots l 0 new none) me)
+  claims_next slots id l new me below word holds = claims_from (λ l. 0) slots id l new me below word (omega arith)
+      (λ j low high. (omega arith, dite (ℕ_discrete l 0) (λ e. let h = holds.idle e in absurd (omega arith)) (λ ne. let h = holds.high (omega arith) in omega arith)))
+      (λ j low high. let f = holds.low (omega arith) in let t = holds.high (omega arith) in (omega arith, omega arith, holds.shown (omega arith)))
+
+  pub gives_back : (slots id l : ℕ) (v : View M E) (b : Book M E) (c : List (ℕ × Option (Book M E))) → v.start ≤ l → v.end ≡ l + 1 → IsBook step opened v.seen l b
+      → Allows (HasOneHistory step opened) slots id (v, (l, Some b) ∷ c) l (λ _. 0) (λ _. GivesBack (one_step slots l 0 0 none) (v, (l, Some b) ∷ c) 0)
+  gives_back slots id l v b c from to book s r deep at small = (view_after_return v l, gives, tt, return_keeps s r id l v b at from to book, refl)
+
+  pub publishes : (slots id n l : ℕ) (v : View M E) (b : Book M E) (c : List (ℕ × Option (Book M E))) → slots ≡ l + 1 → v.start ≡ 0 → v.end ≡ l + 1 → v.role ≡ Lane n → v.passes ≡ []
       → GrowsBy n v.seen b.history.items → replay step opened.machine b.history.items ≡ Some b.machine → length b.history.items ≤ opened.limit
-      → Allows (HasOneHistory step opened) slots id (v, (l, Some b) ∷ []) l (λ _. 0) (λ _. Publishes (one_step slots l 0 0 none) (v, (l, Some b) ∷ []) 0)
-  publishes slots id n l v b all from to lane alone grows legal short s r deep at small = let wide = r.wide in
+      → Allows (HasOneHistory step opened) slots id (v, (l, Some b) ∷ c) l (λ _. 0) (λ _. Publishes (one_step slots l 0 0 none) (v, (l, Some b) ∷ c) 0)
+  publishes slots id n l v b c all from to lane alone grows legal short s r deep at small = let wide = r.wide in
       (view_after_write v l b.history.items, gives, tt, publication_keeps s r id n l v b at from to (omega arith) lane alone grows legal short, refl)

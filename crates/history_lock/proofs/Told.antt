@@ -1,7 +1,6 @@
 -- What a call tells, of what its steps told.
-use Rattle.std.proofs.Common.{◌≡◌, ◌≢◌, ℕ, ◌+◌, ◌-◌, Bool, true, false, eqb, eq-eqb, List, [], ◌∷◌, ◌++◌, length, refl, sym, ap, ◌∙◌, subst, arith, Option, Some, Result, Ok, Err}
+use Rattle.std.proofs.Common.{◌≡◌, ◌≢◌, ℕ, ◌+◌, ◌-◌, Bool, true, false, eqb, eq-eqb, List, [], ◌∷◌, ◌++◌, ◌≤◌, length, refl, sym, ap, ◌∙◌, subst, arith, Some, Result, Ok, Err}
 use Rattle.atomic_table.specs.Seated.{TableId}
-use Rattle.atomic_table.specs.Table.{Me}
 use Rattle.history_lock.specs.declared.entry.Entry.{Entry}
 use Rattle.std.specs.Prelude.{if◌then◌else◌}
 use Rattle.history_lock.specs.declared.error.Busy.{Busy}
@@ -13,9 +12,9 @@ use Rattle.history_lock.specs.declared.view.Role.{Role}
 use Rattle.history_lock.specs.declared.view.Role.TheVariants.{Lane}
 use Rattle.history_lock.specs.declared.view.View.{View}
 use Rattle.history_lock.specs.declared.view.Book.{Book}
-use Rattle.history_lock.specs.Histories.{replay, entry, GrowsBy}
-use Rattle.history_lock.specs.Passes.{Lock, lock_at, pass_view}
-use Rattle.history_lock.specs.Rule.{IsTaken, holder_of, mine_of, view_after_claim, view_after_write, view_after_return}
+use Rattle.history_lock.specs.Histories.{replay, entry, StartsWith, GrowsBy}
+use Rattle.history_lock.specs.Passes.{lock_at, pass_view}
+use Rattle.history_lock.specs.Rule.{IsBook, holder_of, mine_of}
 use Rattle.history_lock.specs.Answers.{IsHeldByOther, IsShown, IsWritten, Wrote}
 use Rattle.history_lock.specs.Inside.Seats.{IsRefusedClaim}
 use Rattle.history_lock.specs.Inside.Turns.{IsTurn, Stays}
@@ -41,59 +40,59 @@ held_by_other home opened lane v refusal knows role h = record {
   writer = λ n is. let w = h.other.writer n (word_of n h.found h.held (sym (ap (λ x. x.holder) h.named) ∙ is)) in ((λ e. w.0 (role ∙ ap Lane (sym e))), w.1 opened knows);
 }
 
--- a book came out at a lane
-module _ {M E R F : Type 0} (step : M → E → Result (M × R) F) (opened : Opened M) (lane : ℕ) (v : View M E) (b : Book M E) (knows : v.opened ≡ Some opened) (out : IsTaken step v b) where
-  abbrev history : List (Entry E)
-  history = b.history.items
+-- a pass of the lane saw this history, and the book of the last lane had it
+module _ {M E R F : Type 0} (step : M → E → Result (M × R) F) (opened : Opened M) (lane : ℕ) (v : View M E) where
+  -- the places are those before, and after the lanes were given back
+  pub shown : (log : List (Entry E)) (machine : M) (home z z' : TableId) (w : View M E) (a t s : ℕ) → z' ≡ z → StartsWith log v.seen → replay step opened.machine log ≡ Some machine
+      → w ≡ record v { start = a; end = t; word = s; seen = log } → IsShown step (lock_at home opened) (pass_view z lane v) machine (pass_view z' lane w)
+  shown log machine home z z' w a t s same begins legal is = subst (IsShown step (lock_at home opened) (pass_view z lane v) machine) (pass_view_at z z' lane w (record v { start = a; end = t; word = s; seen = log }) same is)
+      record { begins = begins; legal = legal; only = refl }
 
-  legal : replay step opened.machine history ≡ Some b.machine
-  legal = out.legal opened knows
-
-  module _ (limit : ℕ) (most : opened.limit ≡ limit) (made : E → Type 0) (unmade : Type 0) (b' : Book M E) where
+  module _ (log : List (Entry E)) (b : Book M E) (logged : b.history.items ≡ log) (legal : replay step opened.machine log ≡ Some b.machine) (limit : ℕ) (most : opened.limit ≡ limit) (made : E → Type 0) (unmade : Type 0) (b' : Book M E) where
     pub stays : (error : WriteError F) → IsTurn step lane limit made unmade b (Err error) b' → Stays b b'
     stays HistoryFull t = t.2
     stays (Refused fault) t = t.4
     stays NoMemory t = t.2
 
+    pub kept : (l : ℕ) (error : WriteError F) → IsTurn step lane limit made unmade b (Err error) b' → IsBook step opened log l b'
+    kept l error t = let h = stays error t in record { legal = legal ∙ ap Some (sym h.0); logged = λ _. h.1 ∙ logged }
+
     module _ (reply : R) (t : IsTurn step lane limit made unmade b (Ok reply) b') where
       pub new_legal : replay step opened.machine b'.history.items ≡ Some b'.machine
-      new_legal = subst (λ x. replay step opened.machine x ≡ Some b'.machine) (sym t.4) (replay_snoc step opened.machine b.machine b'.machine reply history lane t.0 legal t.3)
+      new_legal = subst (λ x. replay step opened.machine x ≡ Some b'.machine) (sym t.4)
+          (replay_snoc step opened.machine b.machine b'.machine reply b.history.items lane t.0 (subst (λ x. replay step opened.machine x ≡ Some b.machine) (sym logged) legal) t.3)
 
-      pub new_grows : GrowsBy lane history b'.history.items
-      new_grows = subst (GrowsBy lane history) (sym t.4) (grows_snoc lane history t.0)
+      pub new_grows : GrowsBy lane log b'.history.items
+      new_grows = subst (GrowsBy lane log) (sym (t.4 ∙ ap (λ l. l ++ entry lane t.0 ∷ []) logged)) (grows_snoc lane log t.0)
 
-      new_mine : v.role ≡ Lane lane → mine_of v.role v.mine b'.history.items ≡ v.mine ++ t.0 ∷ []
-      new_mine role = ap (mine_of v.role v.mine) t.4 ∙ (ap (λ (x : Role). mine_of x v.mine (history ++ entry lane t.0 ∷ [])) role
-          ∙ (of_lane_snoc lane history t.0 ∙ ap (λ (l : List E). l ++ t.0 ∷ []) (sym (ap (λ (x : Role). mine_of x v.mine history) role) ∙ out.mine)))
+      new_mine : v.role ≡ Lane lane → mine_of v.role v.mine log ≡ v.mine → mine_of v.role v.mine b'.history.items ≡ v.mine ++ t.0 ∷ []
+      new_mine role mine = ap (mine_of v.role v.mine) (t.4 ∙ ap (λ l. l ++ entry lane t.0 ∷ []) logged) ∙ (ap (λ (x : Role). mine_of x v.mine (log ++ entry lane t.0 ∷ [])) role
+          ∙ (of_lane_snoc lane log t.0 ∙ ap (λ (l : List E). l ++ t.0 ∷ []) (sym (ap (λ (x : Role). mine_of x v.mine log) role) ∙ mine)))
 
-  -- the lane shows this word; the places are those after the claim, and after the book was given back
-  module _ (home z z' : TableId) (same : z' ≡ z) (word : ℕ) (m m' : Me (Option (Book M E)) (View M E)) (c c' : List (ℕ × Option (Book M E))) (took : m ≡ (view_after_claim v 0 word history, c)) where
-    abbrev lock : Lock M
-    lock = lock_at home opened
+    module _ (home z z' : TableId) (w : View M E) (a t s : ℕ) (same : z' ≡ z) (begins : StartsWith log v.seen) where
+      pub is_not_written : (error : WriteError F) → length log ≤ opened.limit → IsTurn step lane limit made unmade b (Err error) b' → w ≡ record v { start = a; end = t; word = s; seen = log }
+          → Wrote step (lock_at home opened) made unmade (pass_view z lane v) (Err error) (pass_view z' lane w)
+      is_not_written HistoryFull few q is = let least = q.1 in let e = ap (λ x. length x.seen) is in let f = ap length logged in (q.0, (b.machine, shown log b.machine home z z' w a t s same begins legal is), omega arith)
+      is_not_written (Refused fault) few q is = record { event = q.0; machine = b.machine; calls = q.1; shows = shown log b.machine home z z' w a t s same begins legal is; room = (let room = q.2 in let e = ap (λ x. length x.seen) is in let f = ap length logged in omega arith); refuses = q.3 }
+      is_not_written NoMemory few q is =
+          let room = q.1 in let e = ap (λ x. length x.seen) is in let f = ap length logged in record {
+            machine = b.machine;
+            shows = shown log b.machine home z z' w a t s same begins legal is;
+            room = omega arith;
+            calls = q.0;
+          }
 
-    pub shown : m' ≡ (view_after_return m.0 0, c') → IsShown step lock (pass_view z lane v) b.machine (pass_view z' lane m'.0)
-    shown gave = subst (IsShown step lock (pass_view z lane v) b.machine) (pass_view_at z z' lane m'.0 (view_after_return (view_after_claim v 0 word history) 0) same (ap (λ x. x.0) gave ∙ ap (λ x. view_after_return x.0 0) took))
-        record { begins = out.begins; legal = legal; only = refl }
-
-    module _ (limit : ℕ) (most : opened.limit ≡ limit) (made : E → Type 0) (unmade : Type 0) (b' : Book M E) where
-      short_of : (gave : m' ≡ (view_after_return m.0 0, c')) → length m'.0.seen ≡ length history
-      short_of gave = ap (λ x. length x.0.seen) gave ∙ ap (λ x. length x.0.seen) took
-
-      pub is_not_written : (error : WriteError F) → IsTurn step lane limit made unmade b (Err error) b' → m' ≡ (view_after_return m.0 0, c') → Wrote step lock made unmade (pass_view z lane v) (Err error) (pass_view z' lane m'.0)
-      is_not_written HistoryFull t gave = let few = out.short opened knows in let least = t.1 in let e = short_of gave in (t.0, (b.machine, shown gave), omega arith)
-      is_not_written (Refused fault) t gave = record { event = t.0; machine = b.machine; calls = t.1; shows = shown gave; room = (let room = t.2 in let e = short_of gave in omega arith); refuses = t.3 }
-      is_not_written NoMemory t gave = record { machine = b.machine; shows = shown gave; room = (let room = t.1 in let e = short_of gave in omega arith); calls = t.0 }
-
-      pub is_written : (reply : R) → v.role ≡ Lane lane → IsTurn step lane limit made unmade b (Ok reply) b' → m' ≡ (view_after_write m.0 0 b'.history.items, c') → IsWritten step lock made unmade (pass_view z lane v) reply (pass_view z' lane m'.0)
-      is_written reply role t gave = subst (IsWritten step lock made unmade (pass_view z lane v) reply) (pass_view_at z z' lane m'.0 (view_after_write (view_after_claim v 0 word history) 0 b'.history.items) same (ap (λ x. x.0) gave ∙ ap (λ x. view_after_write x.0 0 b'.history.items) took)) record {
-        event = t.0;
+      pub is_written : (reply : R) → v.role ≡ Lane lane → mine_of v.role v.mine log ≡ v.mine → (q : IsTurn step lane limit made unmade b (Ok reply) b')
+          → w ≡ record v { start = a; end = t; word = s; seen = b'.history.items; mine = mine_of v.role v.mine b'.history.items } → IsWritten step (lock_at home opened) made unmade (pass_view z lane v) reply (pass_view z' lane w)
+      is_written reply role mine q is = subst (IsWritten step (lock_at home opened) made unmade (pass_view z lane v) reply) (pass_view_at z z' lane w (record v { start = a; end = t; word = s; seen = b'.history.items; mine = mine_of v.role v.mine b'.history.items }) same is) record {
+        event = q.0;
         before = b.machine;
         after = b'.machine;
-        shown = pass_view z lane (view_after_claim v 0 word history);
-        calls = t.1;
-        shows = record { begins = out.begins; legal = legal; only = refl };
-        room = (let room = t.2 in omega arith);
-        takes = t.3;
-        adds = λ i. record { table = z; opened = v.opened; lane = lane; seen = t.4 i; mine = new_mine limit most made unmade b' reply t role i; turned = v.turned };
-        legal = new_legal limit most made unmade b' reply t;
+        shown = pass_view z lane (record v { seen = log });
+        calls = q.1;
+        shows = record { begins = begins; legal = legal; only = refl };
+        room = (let room = q.2 in let f = ap length logged in omega arith);
+        takes = q.3;
+        adds = λ i. record { table = z; opened = v.opened; lane = lane; seen = (q.4 ∙ ap (λ l. l ++ entry lane q.0 ∷ []) logged) i; mine = new_mine reply q role mine i; turned = v.turned };
+        legal = new_legal reply q;
       }

@@ -22,6 +22,10 @@ pub record IsHeldByOther {M : Type 0} (lock : Lock M) (lane : ℕ) (busy : Busy)
   pub inside : busy.lane < lock.opened.lanes
   pub writer : (n : ℕ) → busy.holder ≡ Writer n → (n ≢ lane) × (n < lock.opened.lanes)
 
+-- the lane was held by a writer
+abbrev pub IsWriterAt : ℕ → Busy → Type 0
+IsWriterAt lane busy = (n : ℕ) × (busy ≡ record { lane = lane; holder = Writer n })
+
 module _ {M E : Type 0} (lock : Lock M) where
   -- a claim was refused
   pub record IsTurnedAway (old : PassView M E) (busy : Busy) (new : PassView M E) : Type 0 where

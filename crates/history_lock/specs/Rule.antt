@@ -1,5 +1,6 @@
 -- The rule of a lock over lanes, and the steps that there are.
--- A lane is a word and a slot. The word is 0 while its book is at home, 1 while a pass reads, and n + 2 while the pass of lane n writes.
+-- A lane is a word and a slot. The word is 0 while its book is at home, 1 while the pass of the lane reads, and n + 2 while the pass of lane n writes.
+-- Each book has the machine. The history is kept once, in the book of the last lane, so that what a writer gives back first has the new history.
 -- `HasOneHistory` holds between any two steps. These steps are all there are, since `src/rule.rt` is private and names no other:
 -- a lane is claimed, or the claim refused (`Claims`); a writer that holds all lanes gives the first of them back with a new book, by which its event happens
 -- (`Publishes`); a lane is given back with its book as it was (`GivesBack`); and those at which no word changes (`Inside/Views.antt`): a lane is dealt,
@@ -31,9 +32,9 @@ SeatState M E = Me (Option (Book M E)) (View M E)
 abbrev pub LaneStep : Type 0 → Type 0 → Type 0
 LaneStep M E = Step (Option (Book M E))
 
--- the word of a lane that a pass with this role holds
-abbrev pub IsWordOf : Role → ℕ → Type 0
-IsWordOf role word = (n : ℕ) × (role ≡ Lane n) × ((word ≡ 1) ⊎ (word ≡ n + 2))
+-- the word of the lane l that a pass with this role holds: its own lane as a reader, any lane as a writer
+abbrev pub IsWordOf : Role → ℕ → ℕ → Type 0
+IsWordOf role l word = (n : ℕ) × (role ≡ Lane n) × (((word ≡ 1) × (n ≡ l)) ⊎ (word ≡ n + 2))
 
 -- the holder of a lane by its word, which is not 0
 abbrev pub holder_of : ℕ → Holder
@@ -65,7 +66,7 @@ module _ {M E : Type 0} where
     pub shown : slice_index words l ≡ v.word
     pub held : holder l ≡ seat
     pub whole : v.seen ≡ log
-    pub word : IsWordOf v.role v.word
+    pub word : IsWordOf v.role l v.word
 
   -- what a seat knows is so
   pub record Knows (opened : Opened M) (words : List ℕ) (log : List (Entry E)) (holder : ℕ → ℕ) (next dealer : ℕ) (owner : ℕ → ℕ) (seat : ℕ) (v : View M E) : Type 0 where
@@ -77,9 +78,14 @@ module _ {M E : Type 0} where
     pub passes : KnowsPasses log next dealer owner seat v.passes
 
 module _ {M E R F : Type 0} (step : M → E → Result (M × R) F) where
-  -- the book of a lane is at home, and has this history
+  -- a book of the lane l has the machine after this history, and in the last lane the history itself
+  pub record IsBook (opened : Opened M) (log : List (Entry E)) (l : ℕ) (b : Book M E) : Type 0 where
+    pub legal : replay step opened.machine log ≡ Some b.machine
+    pub logged : l + 1 ≡ opened.lanes → b.history.items ≡ log
+
+  -- the book of a lane is at home
   abbrev pub IsAtHome : Opened M → List (Entry E) → LockState M E → ℕ → Type 0
-  IsAtHome opened log s l = (b : Book M E) × (get_elem? s.homes l ≡ some (some (Some b))) × (b.history.items ≡ log) × (replay step opened.machine log ≡ Some b.machine)
+  IsAtHome opened log s l = (b : Book M E) × (get_elem? s.homes l ≡ some (some (Some b))) × IsBook opened log l b
 
   -- the book of a lane is out with the seat that holds it
   abbrev pub IsAway : (ℕ → ℕ) → LockState M E → ℕ → Type 0
@@ -95,7 +101,7 @@ module _ {M E R F : Type 0} (step : M → E → Result (M × R) F) where
     pub few : next ≤ opened.lanes
     pub short : length log ≤ opened.limit
     pub wide : length s.homes ≡ length s.words
-    pub each_lane : length s.words ≤ opened.lanes
+    pub each_lane : length s.words ≡ opened.lanes
     pub home : (l : ℕ) → l < length s.words → slice_index s.words l ≡ 0 → IsAtHome opened log s l
     pub away : (l : ℕ) → l < length s.words → slice_index s.words l ≢ 0 → IsAway holder s l
     pub undealt : (n : ℕ) → next ≤ n → of_lane n log ≡ []
@@ -113,8 +119,9 @@ module _ {M E : Type 0} where
   log_of [] = []
   log_of (x ∷ xs) = elim x.1 [ Some b ↦ b.history.items | None ↦ [] ]
 
-  abbrev pub view_after_claim : View M E → ℕ → ℕ → List (Entry E) → View M E
-  view_after_claim v l word log = record v { start = l; end = l + 1; word = word; seen = log }
+  -- the lanes from a on are held, with the lane l, which was claimed now
+  abbrev pub view_after_claim : View M E → ℕ → ℕ → ℕ → List (Entry E) → View M E
+  view_after_claim v a l word log = record v { start = a; end = l + 1; word = word; seen = log }
 
   abbrev pub view_after_refusal : View M E → ℕ → ℕ → View M E
   view_after_refusal v l word = record v { turned = v.turned ++ refused_claim l word ∷ [] }
@@ -125,11 +132,13 @@ module _ {M E : Type 0} where
   abbrev pub view_after_return : View M E → ℕ → View M E
   view_after_return v l = record v { end = l }
 
-  -- a lane of the lock shows a word that the seat did not put there: the seat does not hold it, and a writer that does has another lane of the lock
+  -- a lane of the lock shows a word that the seat did not put there: the seat does not hold it, and a writer that does has another lane of the lock;
+  -- at its own lane a pass finds no reader
   pub record IsHeldByAnother (v : View M E) (l word : ℕ) : Type 0 where
     pub apart : ¬ ((v.start ≤ l) × (l < v.end))
     pub lane : (o : Opened M) → v.opened ≡ Some o → l < o.lanes
     pub writer : (n : ℕ) → word ≡ n + 2 → (v.role ≢ Lane n) × ((o : Opened M) → v.opened ≡ Some o → n < o.lanes)
+    pub own : v.role ≡ Lane l → (n : ℕ) × (word ≡ n + 2)
 
   -- a lane is given back with a new book, and what the book says was seen
   abbrev pub Publishes : LaneStep M E → SeatState M E → ℕ → SeatState M E → Type 0
@@ -140,16 +149,26 @@ module _ {M E : Type 0} where
   GivesBack at before found after = after ≡ (view_after_return before.0 at.word, rest before.1)
 
 module _ {M E R F : Type 0} (step : M → E → Result (M × R) F) where
-  -- the book of a lane came out with its whole history, which goes on from what the seat knew
-  pub record IsTaken (v : View M E) (b : Book M E) : Type 0 where
-    pub begins : StartsWith b.history.items v.seen
-    pub news : StartsWith b.history.items v.news
-    pub mine : mine_of v.role v.mine b.history.items ≡ v.mine
-    pub legal : (o : Opened M) → v.opened ≡ Some o → replay step o.machine b.history.items ≡ Some b.machine
-    pub short : (o : Opened M) → v.opened ≡ Some o → length b.history.items ≤ o.limit
+  -- the book of the lane l came out, with the machine after the whole history, which goes on from what the seat knew
+  pub record IsTaken (v : View M E) (log : List (Entry E)) (l : ℕ) (b : Book M E) : Type 0 where
+    pub begins : StartsWith log v.seen
+    pub news : StartsWith log v.news
+    pub mine : mine_of v.role v.mine log ≡ v.mine
+    pub book : (o : Opened M) → v.opened ≡ Some o → IsBook step o log l b
+    pub short : (o : Opened M) → v.opened ≡ Some o → length log ≤ o.limit
+    pub same : v.start < v.end → log ≡ v.seen
 
-  -- the lane was free, and is held now; or its word showed who holds it
-  abbrev pub Claims : LaneStep M E → SeatState M E → ℕ → SeatState M E → Type 0
-  Claims at before found after =
-      (found ≡ 0 → (b : Book M E) × (after ≡ (view_after_claim before.0 at.word at.second b.history.items, (at.word, Some b) ∷ before.1)) × IsTaken before.0 b)
+  -- the lane was free, and is held now with those from `start` on; or its word showed who holds it
+  abbrev pub Claims : (ℕ → ℕ) → LaneStep M E → SeatState M E → ℕ → SeatState M E → Type 0
+  Claims start at before found after =
+      (found ≡ 0 → (b : Book M E) × (log : List (Entry E))
+      × (after ≡ (view_after_claim before.0 (start at.word) at.word at.second log, (at.word, Some b) ∷ before.1)) × IsTaken before.0 log at.word b)
       × (found ≢ 0 → (after ≡ (view_after_refusal before.0 at.word found, before.1)) × IsHeldByAnother before.0 at.word found)
+
+  -- a reader claims its own lane
+  abbrev pub ClaimsOwn : LaneStep M E → SeatState M E → ℕ → SeatState M E → Type 0
+  ClaimsOwn at before found after = Claims (λ l. l) at before found after
+
+  -- a writer claims the next lane
+  abbrev pub ClaimsNext : LaneStep M E → SeatState M E → ℕ → SeatState M E → Type 0
+  ClaimsNext at before found after = Claims (λ l. 0) at before found after

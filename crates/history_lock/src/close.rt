@@ -75,6 +75,7 @@ impl<M: Machine> LaneLock<M> {
             board,
             lanes: _,
             limit: _,
+            alloc: _,
         } = self;
         let Pass { mut place, lane } = passes.pop().unwrap();
         take_in(&board.shared, &mut place, lane, passes);
@@ -113,7 +114,7 @@ fn take_in<M: Machine>(
     lane: u64,
     mut passes: Vec<Pass<M>>,
 )
-    requires table { (place.old.table_id ≡ common.now.table_id) × (common.now.table_id.words ≡ 1) }
+    requires table { (place.old.table_id ≡ common.now.table_id) × (0 < common.now.table_id.words) }
     requires own { AreAt common.now.table_id passes.items }
     requires place { IsTaking place.old.me lane [] }
     ensures table { place.new.table_id ≡ place.old.table_id }
@@ -132,7 +133,7 @@ fn take_one<M: Machine>(
     _lane: u64,
     pass: Pass<M>,
 )
-    requires table { (place.old.table_id ≡ common.now.table_id) × (common.now.table_id.words ≡ 1) × (pass.table ≡ common.now.table_id) }
+    requires table { (place.old.table_id ≡ common.now.table_id) × (0 < common.now.table_id.words) × (pass.table ≡ common.now.table_id) }
     requires place { IsTaking place.old.me _lane place.old.me.0.passes }
     ensures table { place.new.table_id ≡ place.old.table_id }
     ensures taken { IsTaking place.new.me _lane (gathered_pass_of pass ∷ place.old.me.0.passes) }
@@ -151,13 +152,18 @@ fn close_table<M: Machine>(
     place: Place<M, M::Event>,
     _lane: u64,
 ) -> Book<M, M::Event>
-    requires table { (place.table_id ≡ board.shared.table_id) × (board.shared.table_id.slots ≡ 1) }
+    requires table { (place.table_id ≡ board.shared.table_id) × (board.shared.table_id.slots ≡ board.shared.key.value.lanes) × (0 < board.shared.key.value.lanes) }
     requires place { IsTaking place.me _lane place.me.0.passes }
     requires all { (n : ℕ) → n < board.shared.key.value.lanes → (n ≡ _lane) ⊎ IsGathered n place.me.0.passes }
     ensures { IsEnd M.step board.shared.key.value (gathered_pass _lane place.me.0.seen place.me.0.mine ∷ place.me.0.passes) result }
 {
     let mut closed = board.close_with(place);
-    let book = closed.take(0).unwrap();
+    let mut book = None;
+    let mut lane = 0;
+    while lane < closed.slot_count() {
+        book = closed.take(lane);
+        lane += 1;
+    }
     closed.free();
-    book
+    book.unwrap()
 }

@@ -1,10 +1,10 @@
 //! What callers do with a lock.
 
-ghost use Rattle.std.specs.Prelude.{◌≡◌, Ok, MatchResult};
+ghost use Rattle.std.specs.Prelude.{◌≡◌, Ok, IfErr, MatchResult};
 ghost use Rattle.std.specs.Fn.{CalledAt, TakesAt};
 ghost use Rattle.history_lock.specs.Histories.{IsLegal};
 ghost use Rattle.history_lock.specs.Passes.{PassView, IsPassOf};
-ghost use Rattle.history_lock.specs.Answers.{HasWaited, IsTurnedAway, Wrote, TriedToWrite, Shared, TriedToShare, TriedToMeet};
+ghost use Rattle.history_lock.specs.Answers.{HasWaited, IsTurnedAway, Wrote, TriedToWrite, Shared, TriedToShare, TriedToMeet, IsWriterAt};
 
 use crate::error::{Busy, LockError, WriteError};
 use crate::pass::{LaneLock, Pass};
@@ -31,7 +31,9 @@ impl<M: Machine> LaneLock<M> {
             &self.board.shared,
             &mut pass.place,
             pass.lane,
+            self.lanes,
             self.limit,
+            self.alloc,
             make,
         )
     }
@@ -82,18 +84,20 @@ impl<M: Machine> LaneLock<M> {
         unreachable!()
     }
 
-    /// Lends the machine to `f`, once, and gives its answer. Where the lock is held, `f` is not called.
+    /// Lends the machine to `f`, once, and gives its answer. Where a writer holds the lane of the pass, `f` is
+    /// not called.
     pub fn try_shared<T, F: FnMut(&M) -> T>(&self, pass: &mut Pass<M>, f: &mut F) -> Result<T, Busy>
         requires own { IsPassOf self.now pass.old }
         requires may { (machine : M) → TakesAt F.FnMut f.old machine }
         ensures own { IsPassOf self.now pass.new }
         ensures legal { IsLegal M.step self.now.opened.machine pass.new.seen }
         ensures answer { TriedToShare M.step self.now (λ machine answer. CalledAt F.FnMut f.old machine answer f.new) (f.new ≡ f.old) pass.old result pass.new }
+        ensures turned { IfErr result (λ busy. IsWriterAt pass.old.lane busy) }
     {
         share_at(&self.board.shared, &mut pass.place, pass.lane, f)
     }
 
-    /// [`Self::try_shared`] that waits until the lock is free.
+    /// [`Self::try_shared`] that waits until no writer holds the lane.
     #[tactic(auto, using(crate::proofs::Waits::waits_not, crate::proofs::Waits::waits_once_more))]
     pub fn shared<R: Wait, T, F: FnMut(&M) -> T>(&self, rt: &R, pass: &mut Pass<M>, f: &mut F) -> T
         requires own { IsPassOf self.now pass.old }
@@ -111,7 +115,8 @@ impl<M: Machine> LaneLock<M> {
         unreachable!()
     }
 
-    /// Afterwards the first pass has seen all that the second had. The lock may be held instead.
+    /// Afterwards the first pass has seen all that the second had. A writer may hold the first pass's lane
+    /// instead.
     pub fn try_meet(&self, first: &mut Pass<M>, second: &mut Pass<M>) -> Result<(), Busy>
         requires own { IsPassOf self.now first.old }
         requires other { IsPassOf self.now second.old }
@@ -119,6 +124,7 @@ impl<M: Machine> LaneLock<M> {
         ensures legal { IsLegal M.step self.now.opened.machine first.new.seen }
         ensures first { TriedToMeet self.now first.old second.old result first.new }
         ensures second { second.new ≡ second.old }
+        ensures turned { IfErr result (λ busy. IsWriterAt first.old.lane busy) }
     {
         meet_at(
             &self.board.shared,

@@ -4,7 +4,7 @@ ghost use Rattle.std.specs.Prelude.{◌≡◌, ◌+◌, ◌<◌, ◌≤◌, [], 
 ghost use Rattle.history_lock.specs.declared.error.NewLockError.TheVariants as new_lock_error;
 ghost use Rattle.history_lock.specs.Passes.{lock_at, new_pass, AreNewFrom, is_allowed};
 ghost use Rattle.history_lock.specs.Inside.Views.{first_view};
-ghost use Rattle.history_lock.specs.Inside.Seats.{IsDealing};
+ghost use Rattle.history_lock.specs.Inside.Seats.{IsDealing, IsBlank};
 
 use crate::error::NewLockError;
 use crate::pass::{LaneLock, Pass};
@@ -67,29 +67,58 @@ fn open<M: Machine>(
         board,
         lanes,
         limit,
+        alloc,
     };
     Ok((lock, passes))
 }
 
-// The table with one word and one book, and the seat that deals the lanes.
+// The table with a word and a book for each lane, and the seat that deals the lanes.
 fn new_table<M: Machine>(
     alloc: Global,
     opened: Opened<M>,
 ) -> Result<(Board<M, M::Event>, Place<M, M::Event>), AllocError>
-    requires { 0 < opened.lanes }
-    ensures { IfOk result (λ t. (t.0.shared.table_id.words ≡ 1) × (t.0.shared.table_id.slots ≡ 1)
+    requires { (0 < opened.lanes) × (opened.lanes ≤ MOST_LANES) }
+    ensures { IfOk result (λ t. (t.0.shared.table_id.words ≡ opened.lanes) × (t.0.shared.table_id.slots ≡ opened.lanes)
         × (t.1.table_id ≡ t.0.shared.table_id) × (t.0.shared.key.value ≡ opened) × (t.1.me ≡ (first_view opened, []))) }
 {
     let key = Snapshot::of(&opened);
-    let mut slots = Vec::with_capacity(alloc, 1)?;
-    slots.push_reserved(Some(Book {
-        machine: opened.machine,
-        history: Vec::new(alloc),
-    }));
-    match Table::new(alloc, &[0], slots, &key) {
+    let Opened {
+        machine,
+        lanes,
+        limit: _,
+    } = opened;
+    let (words, slots) = blank(alloc, machine, lanes)?;
+    match Table::new(alloc, words.as_slice(), slots, &key) {
         Ok(made) => Ok(made),
         Err(Refused { slots: _ }) => Err(AllocError),
     }
+}
+
+// A word and a book for each lane.
+fn blank<M: Machine>(
+    alloc: Global,
+    machine: M,
+    lanes: u64,
+) -> Result<(Vec<u64>, Vec<Option<Book<M, M::Event>>>), AllocError>
+    requires { (0 < lanes) × (lanes ≤ MOST_LANES) }
+    ensures { IfOk result (λ made. IsBlank machine lanes made.0.items made.1.items) }
+{
+    let mut words = Vec::new(alloc);
+    let mut slots = Vec::new(alloc);
+    for done in 1..lanes {
+        let _count = done;
+        words.push(0)?;
+        slots.push(Some(Book {
+            machine: machine.copy()?,
+            history: Vec::new(alloc),
+        }))?;
+    }
+    words.push(0)?;
+    slots.push(Some(Book {
+        machine,
+        history: Vec::new(alloc),
+    }))?;
+    Ok((words, slots))
 }
 
 // The passes of all lanes.
@@ -99,7 +128,7 @@ fn deal<M: Machine>(
     dealer: &mut Place<M, M::Event>,
     lanes: u64,
 ) -> Result<Vec<Pass<M>>, AllocError>
-    requires table { (dealer.old.table_id ≡ common.now.table_id) × (common.now.table_id.words ≡ 1) }
+    requires table { (dealer.old.table_id ≡ common.now.table_id) × (0 < common.now.table_id.words) }
     requires first { dealer.old.me ≡ (first_view common.now.key.value, []) }
     requires few { (lanes ≤ MOST_LANES) × (lanes ≡ common.now.key.value.lanes) }
     ensures { IfOk result (λ passes. (vec_len passes ≡ lanes)
@@ -119,7 +148,7 @@ fn deal_one<M: Machine>(
     dealer: &mut Place<M, M::Event>,
     lane: u64,
 ) -> Pass<M>
-    requires table { (dealer.old.table_id ≡ common.now.table_id) × (common.now.table_id.words ≡ 1) }
+    requires table { (dealer.old.table_id ≡ common.now.table_id) × (0 < common.now.table_id.words) }
     requires dealer { IsDealing dealer.old.me common.now.key.value lane }
     requires few { (lane < MOST_LANES) × (lane < common.now.key.value.lanes) }
     ensures table { dealer.new.table_id ≡ dealer.old.table_id }

@@ -4,6 +4,7 @@ ghost use Rattle.std.specs.Prelude.{◌≡◌};
 
 use crate::rule::{Board, Place};
 use machines::Machine;
+use std::alloc::Global;
 use std::marker::Model;
 
 /// A lock round a machine, which keeps the history of the events that the machine took.
@@ -15,17 +16,18 @@ pub struct LaneLock<M: Machine> {
     pub(crate) board: Board<M, M::Event>,
     pub(crate) lanes: u64,
     pub(crate) limit: usize,
+    pub(crate) alloc: Global,
 }
 
 impl<M: Machine> Model for LaneLock<M> {
     ghost use Rattle.history_lock.specs.Passes.{Lock, lock_at};
-    ghost use Rattle.history_lock.specs.Inside.Seats.{IsOfOneWord};
+    ghost use Rattle.history_lock.specs.Inside.Seats.{IsOfLanes};
 
     ghost Value = { Lock M };
 
     ghost view = { λ l. lock_at l.board.shared.table_id l.board.shared.key.value };
 
-    ghost invariant = { λ l. IsOfOneWord l.board.shared.table_id l.board.shared.key.value l.lanes l.limit };
+    ghost invariant = { λ l. IsOfLanes l.board.shared.table_id l.board.shared.key.value l.lanes l.limit };
 }
 
 /// The right to call a lock as the pass of one lane.

@@ -1,8 +1,8 @@
 //! The rule of a lock over lanes, and what each step tells.
 //!
 //! A lane is a word and a slot with a book. The word is 0 while the book is at home, 1 while a pass
-//! reads, and `n + 2` while the pass of lane n writes. `specs/Rule.antt` has the rule, for any number of
-//! lanes that have a word; so far all passes share the word and the book of lane 0.
+//! reads, and `n + 2` while the pass of lane n writes. `specs/Rule.antt` has the rule. Every
+//! book has the machine, and that of the last lane has the history.
 
 use crate::view::{Book, Opened, View};
 use atomic_table::{Join, Play, Seat, Shared, Split, Table, TableRule};
@@ -29,13 +29,22 @@ impl<M: Machine> TableRule<Option<Book<M, M::Event>>, View<M, M::Event>, Snapsho
     ghost first = { λ key. first_view key.value };
 }
 
-/// A claim of a lane: its book comes out, or its word shows who holds it.
+/// A reader's claim of its own lane: its book comes out, or its word shows which writer holds it.
 pub struct Claim;
 
 impl<M: Machine> Play<Option<Book<M, M::Event>>, View<M, M::Event>> for Claim {
-    ghost use Rattle.history_lock.specs.Rule.{Claims};
+    ghost use Rattle.history_lock.specs.Rule.{ClaimsOwn};
 
-    ghost then = { Claims M.step };
+    ghost then = { ClaimsOwn M.step };
+}
+
+/// A writer's claim of the next lane: its book comes out, or its word shows who holds it.
+pub struct ClaimNext;
+
+impl<M: Machine> Play<Option<Book<M, M::Event>>, View<M, M::Event>> for ClaimNext {
+    ghost use Rattle.history_lock.specs.Rule.{ClaimsNext};
+
+    ghost then = { ClaimsNext M.step };
 }
 
 /// A writer gives back a lane with a new book. This is when its event happens.

@@ -1,28 +1,35 @@
 //! What a pass does while it holds the lane.
 
-ghost use Rattle.std.specs.Prelude.{◌≡◌, ◌⊎◌, ◌<◌, ◌≤◌, [], Some, MatchResult};
+ghost use Rattle.std.specs.Prelude.{◌≡◌, ◌⊎◌, ◌+◌, ◌<◌, ◌≤◌, [], Some, MatchResult, IfOk, IfErr};
 ghost use Rattle.std.specs.Fn.{CalledAt, TakesAt};
+ghost use Rattle.history_lock.specs.Histories.{replay};
+ghost use Rattle.history_lock.specs.Rule.{view_after_return};
 ghost use Rattle.history_lock.specs.Passes.{lock_at, pass_view};
-ghost use Rattle.history_lock.specs.Answers.{Wrote, Shared, IsTurnedAway, TriedToShare, TriedToMeet};
-ghost use Rattle.history_lock.specs.Inside.Turns.{IsTurn};
-ghost use Rattle.history_lock.specs.Inside.Seats.{IsResting, SeesLegal};
+ghost use Rattle.history_lock.specs.Answers.{Wrote, Shared, IsTurnedAway, TriedToShare, TriedToMeet, IsWriterAt};
+ghost use Rattle.history_lock.specs.Inside.Turns.{IsTurn, only_reply};
+ghost use Rattle.history_lock.specs.Inside.Seats.{IsResting, SeesLegal, IsTable, AreOut, AreCopies};
+ghost use Rattle.history_lock.specs.declared.open.TheConstants.{MOST_LANES};
 
 use crate::entry::Entry;
 use crate::error::{Busy, WriteError};
 use crate::rule::{Common, Meet, Place, Tell};
-use crate::steps::{claim, give_back, publish};
+use crate::steps::{claim, claim_all, give_all_back, give_back, hand_back, publish, take_book};
 use crate::view::Book;
 use machines::Machine;
+use std::alloc::{AllocError, Global};
 
-// Adds the event that `make` answers to the book, if the machine takes it.
+// Adds the event that `make` answers to the book, if the machine takes it, and makes machines for so many other lanes.
 fn take_event<M: Machine, F: FnMut() -> M::Event>(
+    alloc: Global,
     book: &mut Book<M, M::Event>,
     lane: u64,
     limit: usize,
+    others: u64,
     make: &mut F,
-) -> Result<M::Reply, WriteError<M::Fault>>
+) -> Result<(M::Reply, Vec<M>), WriteError<M::Fault>>
     requires { F.pre make.old }
-    ensures { IsTurn M.step lane limit (λ event. F.step make.old event make.new) (make.new ≡ make.old) book.old result book.new }
+    ensures turn { IsTurn M.step lane limit (λ event. F.step make.old event make.new) (make.new ≡ make.old) book.old (only_reply result) book.new }
+    ensures others { IfOk result (λ r. AreCopies book.new.machine others r.1.items) }
 {
     if book.history.len() >= limit {
         return Err(WriteError::HistoryFull);
@@ -31,9 +38,47 @@ fn take_event<M: Machine, F: FnMut() -> M::Event>(
     let mut machine = book.machine.copy()?;
     let event = make();
     let reply = machine.apply(&event)?;
+    let machines = copies(alloc, &machine, others)?;
     book.machine = machine;
     book.history.push_reserved(Entry { lane, event });
-    Ok(reply)
+    Ok((reply, machines))
+}
+
+// So many machines that equal this one.
+fn copies<M: Machine>(alloc: Global, machine: &M, count: u64) -> Result<Vec<M>, AllocError>
+    ensures { IfOk result (λ made. AreCopies machine.now count made.items) }
+{
+    let mut made = Vec::new(alloc);
+    for done in 0..count {
+        let _count = done;
+        made.push(machine.copy()?)?;
+    }
+    Ok(made)
+}
+
+// Gives the lanes below this one back with new machines, the highest first.
+fn spread<M: Machine>(
+    alloc: Global,
+    common: &Common<M, M::Event>,
+    place: &mut Place<M, M::Event>,
+    mut machines: Vec<M>,
+    _lanes: u64,
+)
+    requires table { (place.old.table_id ≡ common.now.table_id) × (_lanes + 1 ≡ common.now.key.value.lanes) × (_lanes ≤ common.now.table_id.words) × (_lanes ≤ common.now.table_id.slots) × (_lanes ≤ MOST_LANES) }
+    requires range { (place.old.me.0.start ≡ 0) × (place.old.me.0.end ≡ _lanes) }
+    requires out { AreOut _lanes place.old.me.1 }
+    requires machines { (machine : M) × AreCopies machine _lanes machines.items × (replay M.step common.now.key.value.machine place.old.me.0.seen ≡ Some machine) }
+    ensures table { place.new.table_id ≡ place.old.table_id }
+    ensures back { place.new.me ≡ (view_after_return place.old.me.0 0, []) }
+{
+    while let Some(machine) = machines.pop() {
+        let lane = machines.len() as u64;
+        let book = Book {
+            machine,
+            history: Vec::new(alloc),
+        };
+        give_back(common, place, lane, book);
+    }
 }
 
 // A write by the pass of a lane, or the refusal of its claim.
@@ -41,13 +86,15 @@ pub(crate) fn write_at<M: Machine, F: FnMut() -> M::Event>(
     common: &Common<M, M::Event>,
     place: &mut Place<M, M::Event>,
     lane: u64,
+    lanes: u64,
     limit: usize,
+    alloc: Global,
     make: &mut F,
 ) -> Result<Result<M::Reply, WriteError<M::Fault>>, Busy>
-    requires table { (place.old.table_id ≡ common.now.table_id) × (common.now.table_id.words ≡ 1) × (common.now.table_id.slots ≡ 1) }
+    requires table { (place.old.table_id ≡ common.now.table_id) × IsTable common.now.table_id common.now.key.value }
     requires rests { IsResting place.old.me lane }
     requires legal { SeesLegal M.step place.old.me.0 }
-    requires opened { (place.old.me.0.opened ≡ Some common.now.key.value) × (common.now.key.value.limit ≡ limit) }
+    requires opened { (place.old.me.0.opened ≡ Some common.now.key.value) × (common.now.key.value.limit ≡ limit) × (common.now.key.value.lanes ≡ lanes) }
     requires may { F.pre make.old }
     ensures table { place.new.table_id ≡ place.old.table_id }
     ensures rests { IsResting place.new.me lane }
@@ -59,14 +106,18 @@ pub(crate) fn write_at<M: Machine, F: FnMut() -> M::Event>(
         (λ busy. (make.new ≡ make.old)
         × IsTurnedAway (lock_at common.now.table_id common.now.key.value) (pass_view place.old.table_id lane place.old.me.0) busy (pass_view place.new.table_id lane place.new.me.0)) }
 {
-    let mut book = claim(common, place, lane + 2)?;
-    match take_event(&mut book, lane, limit, make) {
-        Ok(reply) => {
-            publish(common, place, book);
+    claim_all(common, place, lanes, lane)?;
+    let last = lanes - 1;
+    let mut book = take_book(common, place, last);
+    match take_event(alloc, &mut book, lane, limit, last, make) {
+        Ok((reply, machines)) => {
+            publish(common, place, last, book);
+            spread(alloc, common, place, machines, last);
             Ok(Ok(reply))
         }
         Err(error) => {
-            give_back(common, place, book);
+            give_back(common, place, last, book);
+            give_all_back(common, place, last, lane + 2);
             Ok(Err(error))
         }
     }
@@ -76,24 +127,26 @@ pub(crate) fn write_at<M: Machine, F: FnMut() -> M::Event>(
 pub(crate) fn share_at<M: Machine, T, F: FnMut(&M) -> T>(
     common: &Common<M, M::Event>,
     place: &mut Place<M, M::Event>,
-    _lane: u64,
+    lane: u64,
     f: &mut F,
 ) -> Result<T, Busy>
-    requires table { (place.old.table_id ≡ common.now.table_id) × (common.now.table_id.words ≡ 1) × (common.now.table_id.slots ≡ 1) }
-    requires rests { IsResting place.old.me _lane }
+    requires table { (place.old.table_id ≡ common.now.table_id) × IsTable common.now.table_id common.now.key.value }
+    requires rests { IsResting place.old.me lane }
     requires legal { SeesLegal M.step place.old.me.0 }
     requires opened { place.old.me.0.opened ≡ Some common.now.key.value }
     requires may { (machine : M) → TakesAt F.FnMut f.old machine }
     ensures table { place.new.table_id ≡ place.old.table_id }
-    ensures rests { IsResting place.new.me _lane }
+    ensures rests { IsResting place.new.me lane }
     ensures legal { SeesLegal M.step place.new.me.0 }
     ensures opened { place.new.me.0.opened ≡ place.old.me.0.opened }
     ensures answer { TriedToShare M.step (lock_at common.now.table_id common.now.key.value) (λ machine answer. CalledAt F.FnMut f.old machine answer f.new) (f.new ≡ f.old)
-        (pass_view place.old.table_id _lane place.old.me.0) result (pass_view place.new.table_id _lane place.new.me.0) }
+        (pass_view place.old.table_id lane place.old.me.0) result (pass_view place.new.table_id lane place.new.me.0) }
+    ensures turned { IfErr result (λ busy. IsWriterAt lane busy) }
 {
-    let book = claim(common, place, 1)?;
+    claim(common, place, lane)?;
+    let book = place.slot_mut(common, lane as usize).as_ref().unwrap();
     let answer = f(&book.machine);
-    give_back(common, place, book);
+    hand_back(common, place, lane);
     Ok(answer)
 }
 
@@ -101,26 +154,27 @@ pub(crate) fn share_at<M: Machine, T, F: FnMut(&M) -> T>(
 pub(crate) fn meet_at<M: Machine>(
     common: &Common<M, M::Event>,
     first: &mut Place<M, M::Event>,
-    _lane: u64,
+    lane: u64,
     second: &mut Place<M, M::Event>,
     _other: u64,
 ) -> Result<(), Busy>
-    requires table { (first.old.table_id ≡ common.now.table_id) × (common.now.table_id.words ≡ 1) × (common.now.table_id.slots ≡ 1) }
+    requires table { (first.old.table_id ≡ common.now.table_id) × IsTable common.now.table_id common.now.key.value }
     requires other { second.old.table_id ≡ common.now.table_id }
-    requires rests { IsResting first.old.me _lane }
+    requires rests { IsResting first.old.me lane }
     requires legal { SeesLegal M.step first.old.me.0 }
     requires opened { first.old.me.0.opened ≡ Some common.now.key.value }
     ensures table { first.new.table_id ≡ first.old.table_id }
-    ensures rests { IsResting first.new.me _lane }
+    ensures rests { IsResting first.new.me lane }
     ensures legal { SeesLegal M.step first.new.me.0 }
     ensures opened { first.new.me.0.opened ≡ first.old.me.0.opened }
     ensures other { (second.new.table_id ≡ second.old.table_id) × (second.new.me ≡ second.old.me) }
-    ensures answer { TriedToMeet (lock_at common.now.table_id common.now.key.value) (pass_view first.old.table_id _lane first.old.me.0) (pass_view second.old.table_id _other second.old.me.0)
-        result (pass_view first.new.table_id _lane first.new.me.0) }
+    ensures answer { TriedToMeet (lock_at common.now.table_id common.now.key.value) (pass_view first.old.table_id lane first.old.me.0) (pass_view second.old.table_id _other second.old.me.0)
+        result (pass_view first.new.table_id lane first.new.me.0) }
+    ensures turned { IfErr result (λ busy. IsWriterAt lane busy) }
 {
     let news = common.split_seat::<Tell>(second);
     common.join_seat::<Meet>(first, news);
-    let book = claim(common, first, 1)?;
-    give_back(common, first, book);
+    claim(common, first, lane)?;
+    hand_back(common, first, lane);
     Ok(())
 }

@@ -15,7 +15,7 @@ pub struct Opened<M> {
     pub limit: usize,
 }
 
-/// A machine and the events that led to it.
+/// A machine and, in the last lane, the events that led to it. In the other lanes `history` is empty.
 #[derive(Drop)]
 pub struct Book<M, E> {
     pub machine: M,

@@ -1,4 +1,4 @@
-//! A counter below 1000, as a machine, and one whose copy can be refused.
+//! A counter below 50,000, as a machine, and one whose copy can be refused.
 
 ghost use Rattle.std.specs.Prelude.{◌≡◌, ◌+◌, Ok, Err, IfOk, if◌then◌else◌, nat_lt};
 
@@ -6,13 +6,13 @@ use machines::{Machine, Trouble};
 use std::alloc::AllocError;
 use std::sync::atomic::{AtomicU64, Ordering};
 
-// A counter below 1000.
+// A counter below 50,000.
 #[derive(Drop)]
 pub struct Counter {
     pub count: u64,
 }
 
-// The counter would pass 999.
+// The counter would pass 49,999.
 #[derive(Debug, Drop)]
 pub struct TooLarge;
 
@@ -23,13 +23,13 @@ impl Machine for Counter {
 
     type Fault = TooLarge;
 
-    ghost step = { λ counter more. if nat_lt (counter.count + more) 1000
+    ghost step = { λ counter more. if nat_lt (counter.count + more) 50000
         then Ok (record { count = counter.count + more }, counter.count + more)
         else Err record {} };
 
     fn apply(&mut self, event: &u16) -> Result<u64, Trouble<TooLarge>> {
         let more = u64::from(*event);
-        if self.count < 1000 && self.count + more < 1000 {
+        if self.count < 50_000 && self.count + more < 50_000 {
             self.count += more;
             Ok(self.count)
         } else {

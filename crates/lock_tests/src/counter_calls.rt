@@ -3,61 +3,90 @@
 ghost use Rattle.history_lock.specs.Passes.{IsPassOf};
 
 use crate::counter::{Counter, Reluctant, TooLarge};
+use crate::two_lanes::{TwoLanes, two_lanes};
 use history_lock::{Busy, Holder, LaneLock, LockError, NewLockError, Pass, WriteError};
 use std::sync::Wait;
 use std::sync::atomic::AtomicU64;
 use std::test::Fail;
 
+// What a write came to.
+#[derive(Clone, Copy, Debug, PartialEq, Eq)]
+enum Outcome {
+    Reply(u64),
+    Refused,
+    Full,
+    NoMemory,
+    Busy(Busy),
+}
+
+fn refusal(error: &WriteError<TooLarge>) -> Outcome {
+    match error {
+        WriteError::HistoryFull => Outcome::Full,
+        WriteError::Refused(TooLarge) => Outcome::Refused,
+        WriteError::NoMemory => Outcome::NoMemory,
+    }
+}
+
+fn written(answer: &Result<u64, WriteError<TooLarge>>) -> Outcome {
+    match answer {
+        Ok(reply) => Outcome::Reply(*reply),
+        Err(error) => refusal(error),
+    }
+}
+
+fn tried(answer: &Result<u64, LockError<TooLarge>>) -> Outcome {
+    match answer {
+        Ok(reply) => Outcome::Reply(*reply),
+        Err(LockError::Busy(busy)) => Outcome::Busy(*busy),
+        Err(LockError::Write(error)) => refusal(error),
+    }
+}
+
+fn count(counter: &Counter) -> u64 {
+    counter.count
+}
+
+// What the writes of two passes come to.
+fn writes<R: Wait>(
+    rt: &R,
+    lock: &LaneLock<Counter>,
+    p0: &mut Pass<Counter>,
+    p1: &mut Pass<Counter>,
+) -> [Outcome; 5]
+    requires first { IsPassOf lock.now p0.old }
+    requires second { IsPassOf lock.now p1.old }
+    ensures first { IsPassOf lock.now p0.new }
+    ensures second { IsPassOf lock.now p1.new }
+{
+    let first = written(&lock.write(rt, p0, &mut || 5));
+    let refused = written(&lock.write(rt, p1, &mut || 60_000));
+    let second = tried(&lock.try_write(p1, &mut || 7));
+    let full = written(&lock.write(rt, p0, &mut || 7));
+    let still = tried(&lock.try_write(p1, &mut || 7));
+    [first, refused, second, full, still]
+}
+
 #[test]
 fn answers_in_the_order_of_the_calls(rt: HostRuntime) -> Result<(), Fail> {
-    let made = LaneLock::new(rt.alloc(), Counter { count: 0 }, 2, 2);
-    let (lock, mut passes) = made.map_err(|_| "two lanes and two entries")?;
-    let mut p1 = passes.pop().expect(&rt, "the pass of lane 1");
-    let mut p0 = passes.pop().expect(&rt, "the pass of lane 0");
-    assert_eq!(rt; p0.lane(), 0);
-    assert_eq!(rt; p1.lane(), 1);
-
-    assert!(rt; matches!(lock.write(&rt, &mut p0, &mut || 5), Ok(5)));
-    assert!(rt; lock.try_meet(&mut p1, &mut p0).is_ok());
-    assert_eq!(rt;
-        lock.try_shared(&mut p1, &mut |counter: &Counter| counter.count),
-        Ok(5)
-    );
-    assert!(rt;
-        matches!(
-            lock.write(&rt, &mut p1, &mut || 5000),
-            Err(WriteError::Refused(TooLarge))
-        )
-    );
-    assert!(rt; matches!(lock.try_write(&mut p1, &mut || 7), Ok(12)));
-    assert!(rt;
-        matches!(
-            lock.write(&rt, &mut p0, &mut || 7),
-            Err(WriteError::HistoryFull)
-        )
-    );
-    assert!(rt;
-        matches!(
-            lock.try_write(&mut p1, &mut || 7),
-            Err(LockError::Write(WriteError::HistoryFull))
-        )
-    );
-    assert_eq!(rt;
-        lock.shared(&rt, &mut p0, &mut |counter: &Counter| counter.count),
-        12
-    );
-
+    let TwoLanes {
+        lock,
+        others: mut passes,
+        mut p0,
+        mut p1,
+    } = two_lanes(rt.alloc(), Counter { count: 0 }, 2)?;
+    let outcomes = writes(&rt, &lock, &mut p0, &mut p1);
+    let wanted = [
+        Outcome::Reply(5),
+        Outcome::Refused,
+        Outcome::Reply(12),
+        Outcome::Full,
+        Outcome::Full,
+    ];
+    assert_eq!(rt; outcomes, wanted);
     passes.push(p0)?;
-    let missing = lock
-        .close(passes)
-        .err()
-        .expect(&rt, "the pass of lane 1 is missing");
-    let (lock, mut passes) = missing.into_parts();
-    assert_eq!(rt; passes.len(), 1);
     passes.push(p1)?;
     let closed = lock.close(passes).ok().expect(&rt, "all passes are there");
     assert_eq!(rt; closed.machine.count, 12);
-    assert_eq!(rt; closed.history.len(), 2);
     let lanes_and_events = closed
         .history
         .entries()
@@ -67,53 +96,108 @@ fn answers_in_the_order_of_the_calls(rt: HostRuntime) -> Result<(), Fail> {
     Ok(())
 }
 
-#[test]
-fn names_the_holder_of_a_held_lock(rt: HostRuntime) -> Result<(), Fail> {
-    let made = LaneLock::new(rt.alloc(), Counter { count: 0 }, 2, 1);
-    let (lock, mut passes) = made.map_err(|_| "two lanes and one entry")?;
-    let mut p1 = passes.pop().expect(&rt, "the pass of lane 1");
-    let mut p0 = passes.pop().expect(&rt, "the pass of lane 0");
-    let reads = Busy {
-        lane: 0,
-        holder: Holder::Reader,
-    };
-    let inside = lock.shared(
-        &rt,
-        &mut p0,
-        &mut |_: &Counter| -> bool
-            requires { IsPassOf lock p1 }
-            ensures { IsPassOf lock p1.exit }
+// Inside `shared` of one pass: what `try_shared` and `try_write` of another come to.
+fn inside_shared<R: Wait>(
+    rt: &R,
+    lock: &LaneLock<Counter>,
+    reader: &mut Pass<Counter>,
+    mut other: Pass<Counter>,
+) -> (Pass<Counter>, Result<u64, Busy>, Outcome)
+    requires reader { IsPassOf lock.now reader.old }
+    requires other { IsPassOf lock.now other }
+    ensures reader { IsPassOf lock.now reader.new }
+    ensures other { IsPassOf lock.now result.0 }
+{
+    let (shares, writes) = lock.shared(
+        rt,
+        reader,
+        &mut |_: &Counter| -> (Result<u64, Busy>, Outcome)
+            requires { IsPassOf lock.now other }
+            ensures { IsPassOf lock.now other.exit }
         {
-            let shares = lock.try_shared(&mut p1, &mut |counter: &Counter| counter.count);
-            let writes = lock.try_write(&mut p1, &mut || 1);
-            shares == Err(reads) && matches!(writes, Err(LockError::Busy(busy)) if busy == reads)
+            let shares = lock.try_shared(&mut other, &mut count);
+            let writes = lock.try_write(&mut other, &mut || 1);
+            (shares, tried(&writes))
         },
     );
-    assert!(rt; inside);
-    let mut busy = None;
+    (other, shares, writes)
+}
+
+// While a pass writes: what `try_shared` and `try_write` of another come to.
+fn inside_write<R: Wait>(
+    rt: &R,
+    lock: &LaneLock<Counter>,
+    writer: &mut Pass<Counter>,
+    mut other: Pass<Counter>,
+) -> (Pass<Counter>, Option<(Result<u64, Busy>, Outcome)>)
+    requires writer { IsPassOf lock.now writer.old }
+    requires other { IsPassOf lock.now other }
+    ensures writer { IsPassOf lock.now writer.new }
+    ensures other { IsPassOf lock.now result.0 }
+{
+    let mut inside = None;
     let answer = lock.write(
-        &rt,
-        &mut p1,
+        rt,
+        writer,
         &mut || -> u16
-            requires { IsPassOf lock p0 }
-            ensures { IsPassOf lock p0.exit }
+            requires { IsPassOf lock.now other }
+            ensures { IsPassOf lock.now other.exit }
         {
-            busy = lock
-                .try_shared(&mut p0, &mut |counter: &Counter| counter.count)
-                .err();
+            let shares = lock.try_shared(&mut other, &mut count);
+            let writes = lock.try_write(&mut other, &mut || 1);
+            inside = Some((shares, tried(&writes)));
             1
         },
     );
-    assert!(rt; matches!(answer, Ok(1)));
-    let writes = Busy {
+    drop(answer);
+    (other, inside)
+}
+
+fn read_by(lane: u64) -> Outcome {
+    Outcome::Busy(Busy {
+        lane,
+        holder: Holder::Reader,
+    })
+}
+
+#[test]
+fn readers_turn_writers_away_and_no_readers(rt: HostRuntime) -> Result<(), Fail> {
+    let TwoLanes {
+        lock,
+        others: _,
+        mut p0,
+        mut p1,
+    } = two_lanes(rt.alloc(), Counter { count: 0 }, 1)?;
+    let (back, shares, writes) = inside_shared(&rt, &lock, &mut p1, p0);
+    p0 = back;
+    assert_eq!(rt; (shares, writes), (Ok(0), read_by(1)));
+    let (back, shares, writes) = inside_shared(&rt, &lock, &mut p0, p1);
+    p1 = back;
+    assert_eq!(rt; (shares, writes), (Ok(0), read_by(0)));
+    // Each lane was given back.
+    let writes = tried(&lock.try_write(&mut p0, &mut || 1));
+    let shares = lock.try_shared(&mut p1, &mut count);
+    assert_eq!(rt; (shares, writes), (Ok(1), Outcome::Reply(1)));
+    Ok(())
+}
+
+#[test]
+fn a_writer_turns_all_away(rt: HostRuntime) -> Result<(), Fail> {
+    let TwoLanes {
+        lock,
+        others: _,
+        p0,
+        mut p1,
+    } = two_lanes(rt.alloc(), Counter { count: 0 }, 1)?;
+    let (mut p0, inside) = inside_write(&rt, &lock, &mut p1, p0);
+    let busy = Busy {
         lane: 0,
         holder: Holder::Writer { lane: 1 },
     };
-    assert_eq!(rt; busy, Some(writes));
-    assert_eq!(rt;
-        lock.try_shared(&mut p0, &mut |counter: &Counter| counter.count),
-        Ok(1)
-    );
+    assert_eq!(rt; inside, Some((Err(busy), Outcome::Busy(busy))));
+    let (mut p1, inside) = inside_write(&rt, &lock, &mut p0, p1);
+    assert!(rt; inside.is_none());
+    assert_eq!(rt; lock.try_shared(&mut p1, &mut count), Ok(1));
     Ok(())
 }
 
@@ -152,26 +236,32 @@ fn replies<'a, R: Wait>(
 
 #[test]
 fn a_refused_copy_adds_nothing(rt: HostRuntime) -> Result<(), Fail> {
+    // Of two lanes the first has a copy from the start, and each write makes one for itself and one for the first.
     let cases = [
-        (0, [None, Some(0), Some(11)], [11, 12]),
-        (1, [Some(0), None, Some(10)], [10, 12]),
-        (2, [Some(0), Some(10), None], [10, 11]),
+        (1, 0, [None, Some(0), Some(11)], [11, 12]),
+        (1, 1, [Some(0), None, Some(10)], [10, 12]),
+        (1, 2, [Some(0), Some(10), None], [10, 11]),
+        (2, 1, [None, Some(0), Some(11)], [11, 12]),
+        (2, 2, [None, Some(0), Some(11)], [11, 12]),
+        (2, 3, [Some(0), None, Some(10)], [10, 12]),
+        (2, 6, [Some(0), Some(10), None], [10, 11]),
     ];
-    for (refused, answers, events) in cases {
+    for (lanes, refused, answers, events) in cases {
         let copies = AtomicU64::new(0);
         let machine = Reluctant {
             last: 0,
             copies: &copies,
             refused,
         };
-        let made = LaneLock::new(rt.alloc(), machine, 1, 3);
-        let (lock, mut passes) = made.map_err(|_| "one lane and three entries")?;
-        let mut pass = passes.pop().expect(&rt, "the pass of lane 0");
-        assert_eq!(rt; replies(&rt, &lock, &mut pass), answers, "copy {refused}");
+        let made = LaneLock::new(rt.alloc(), machine, lanes, 3);
+        let (lock, mut passes) = made.map_err(|_| "three entries")?;
+        let mut pass = passes.pop().expect(&rt, "the pass of the last lane");
+        let replies = replies(&rt, &lock, &mut pass);
         passes.push(pass)?;
-        let closed = lock.close(passes).ok().expect(&rt, "the one pass is there");
+        let closed = lock.close(passes).ok().expect(&rt, "all passes are there");
         let written = closed.history.entries().iter().map(|entry| entry.event);
-        assert!(rt; written.eq(events), "copy {refused}");
+        let as_wanted = replies == answers && written.eq(events);
+        assert!(rt; as_wanted, "{lanes} lanes, copy {refused}");
     }
     Ok(())
 }

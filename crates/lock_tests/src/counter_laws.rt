@@ -18,11 +18,11 @@ fn tried<M: Machine>(machine: &M, event: &M::Event) -> Result<(M, M::Reply), Tro
 
 #[test]
 fn takes_events_of_a_machine(rt: HostRuntime) -> Result<(), Fail> {
-    let counter = Counter { count: 990 };
-    let (mut later, reply) = tried(&counter, &7).map_err(|_| "997 is below 1000")?;
-    assert_eq!(rt; reply, 997);
+    let counter = Counter { count: 49_990 };
+    let (mut later, reply) = tried(&counter, &7).map_err(|_| "49,997 is below 50,000")?;
+    assert_eq!(rt; reply, 49_997);
     assert!(rt; matches!(later.apply(&3), Err(Trouble::Refused(TooLarge))));
-    assert!(rt; matches!(later.apply(&2), Ok(999)));
-    assert_eq!(rt; counter.count, 990);
+    assert!(rt; matches!(later.apply(&2), Ok(49_999)));
+    assert_eq!(rt; counter.count, 49_990);
     Ok(())
 }

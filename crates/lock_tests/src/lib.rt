@@ -19,3 +19,5 @@ mod counter_threads;
 mod table_answers;
 #[cfg(test)]
 mod table_calls;
+#[cfg(test)]
+mod two_lanes;

@@ -1,8 +1,8 @@
 //! A table under a lock.
 
-ghost use Rattle.std.specs.Prelude.{IfOk};
-ghost use Rattle.history_lock.specs.Passes.{IsPassOf, ArePassesOf};
+ghost use Rattle.history_lock.specs.Passes.{IsPassOf};
 
+use crate::two_lanes::{TwoLanes, two_lanes};
 use history_lock::{Busy, Holder, LaneLock, LockError, NewLockError, Pass, WriteError};
 use lease_table::{LeaseTable, Policy, TableCall, TableError, TableEvent, TableReply};
 use std::alloc::Global;
@@ -46,6 +46,13 @@ fn refusal(answer: &Written) -> Option<TableError> {
     }
 }
 
+fn busy_in(answer: &Result<TableReply, LockError<TableError>>) -> Option<Busy> {
+    match answer {
+        Err(LockError::Busy(busy)) => Some(*busy),
+        _ => None,
+    }
+}
+
 fn is_full(answer: &Written) -> bool {
     matches!(answer, Err(WriteError::HistoryFull))
 }
@@ -56,17 +63,20 @@ struct Answers {
     taken: Option<u64>,
     met: bool,
     term: Option<u64>,
+    nested: Option<u64>,
+    busy: Option<Busy>,
     refused: Option<TableError>,
     renewed: Option<u64>,
     full: bool,
 }
 
-fn play<R: Wait>(
+// One pass takes the term, and the other learns of it.
+fn begin<R: Wait>(
     rt: &R,
     lock: &LaneLock<LeaseTable>,
     p0: &mut Pass<LeaseTable>,
     p1: &mut Pass<LeaseTable>,
-) -> Answers
+) -> (Option<u64>, bool, Option<u64>)
     requires first { IsPassOf lock.now p0.old }
     requires second { IsPassOf lock.now p1.old }
     ensures first { IsPassOf lock.now p0.new }
@@ -75,57 +85,99 @@ fn play<R: Wait>(
     let taken = until(&lock.write(rt, p0, &mut || take(1, 0)));
     let met = lock.try_meet(p1, p0).is_ok();
     let term = lock.try_shared(p1, &mut term_in).ok().flatten();
+    (taken, met, term)
+}
+
+// While one pass reads, the other reads too, and may not write.
+fn read_at_once<R: Wait>(
+    rt: &R,
+    lock: &LaneLock<LeaseTable>,
+    reader: &mut Pass<LeaseTable>,
+    mut other: Pass<LeaseTable>,
+) -> (Pass<LeaseTable>, Option<u64>, Option<Busy>)
+    requires reader { IsPassOf lock.now reader.old }
+    requires other { IsPassOf lock.now other }
+    ensures reader { IsPassOf lock.now reader.new }
+    ensures other { IsPassOf lock.now result.0 }
+{
+    let (shares, busy) = lock.shared(
+        rt,
+        reader,
+        &mut |_: &LeaseTable| -> (Option<u64>, Option<Busy>)
+            requires { IsPassOf lock.now other }
+            ensures { IsPassOf lock.now other.exit }
+        {
+            let shares = lock.try_shared(&mut other, &mut term_in).ok().flatten();
+            let writes = lock.try_write(&mut other, &mut || take(1, 0));
+            (shares, busy_in(&writes))
+        },
+    );
+    (other, shares, busy)
+}
+
+// The other pass is refused the term, and renews it; then the history is full.
+fn finish<R: Wait>(
+    rt: &R,
+    lock: &LaneLock<LeaseTable>,
+    p0: &mut Pass<LeaseTable>,
+    p1: &mut Pass<LeaseTable>,
+) -> (Option<TableError>, Option<u64>, bool)
+    requires first { IsPassOf lock.now p0.old }
+    requires second { IsPassOf lock.now p1.old }
+    ensures first { IsPassOf lock.now p0.new }
+    ensures second { IsPassOf lock.now p1.new }
+{
     let refused = refusal(&lock.write(rt, p1, &mut || take(2, 5)));
     let renewed = until(&lock.write(rt, p1, &mut || renew(6)));
     let full = is_full(&lock.write(rt, p0, &mut || renew(7)));
-    Answers {
+    (refused, renewed, full)
+}
+
+fn play<R: Wait>(
+    rt: &R,
+    lock: &LaneLock<LeaseTable>,
+    p0: &mut Pass<LeaseTable>,
+    mut p1: Pass<LeaseTable>,
+) -> (Pass<LeaseTable>, Answers)
+    requires first { IsPassOf lock.now p0.old }
+    requires second { IsPassOf lock.now p1 }
+    ensures first { IsPassOf lock.now p0.new }
+    ensures second { IsPassOf lock.now result.0 }
+{
+    let (taken, met, term) = begin(rt, lock, p0, &mut p1);
+    let (mut p1, nested, busy) = read_at_once(rt, lock, p0, p1);
+    let (refused, renewed, full) = finish(rt, lock, p0, &mut p1);
+    let answers = Answers {
         taken,
         met,
         term,
+        nested,
+        busy,
         refused,
         renewed,
         full,
-    }
-}
-
-// A lock of two lanes and two entries round a table; its passes of lane 0 and lane 1, and no others.
-struct Opened {
-    lock: LaneLock<LeaseTable>,
-    others: Vec<Pass<LeaseTable>>,
-    p0: Pass<LeaseTable>,
-    p1: Pass<LeaseTable>,
-}
-
-fn two_lanes(alloc: Global) -> Result<Opened, Fail>
-    ensures others { IfOk result (λ made. ArePassesOf made.lock made.others.items) }
-    ensures first { IfOk result (λ made. IsPassOf made.lock made.p0) }
-    ensures second { IfOk result (λ made. IsPassOf made.lock made.p1) }
-{
-    let made = LaneLock::new(alloc, table_of(alloc)?, 2, 2);
-    let (lock, mut others) = made.map_err(|_| "two lanes and two entries")?;
-    let p1 = others.pop().ok_or("the pass of lane 1")?;
-    let p0 = others.pop().ok_or("the pass of lane 0")?;
-    Ok(Opened {
-        lock,
-        others,
-        p0,
-        p1,
-    })
+    };
+    (p1, answers)
 }
 
 #[test]
 fn takes_calls_of_two_passes_under_a_lock(rt: HostRuntime) -> Result<(), Fail> {
-    let Opened {
+    let TwoLanes {
         lock,
         others: mut passes,
         mut p0,
-        mut p1,
-    } = two_lanes(rt.alloc())?;
-    let answers = play(&rt, &lock, &mut p0, &mut p1);
+        p1,
+    } = two_lanes(rt.alloc(), table_of(rt.alloc())?, 2)?;
+    let (p1, answers) = play(&rt, &lock, &mut p0, p1);
     let wanted = Answers {
         taken: Some(1000),
         met: true,
         term: Some(1),
+        nested: Some(1),
+        busy: Some(Busy {
+            lane: 0,
+            holder: Holder::Reader,
+        }),
         refused: Some(TableError::JobHeld { until: 1000 }),
         renewed: Some(1006),
         full: true,
@@ -142,32 +194,6 @@ fn takes_calls_of_two_passes_under_a_lock(rt: HostRuntime) -> Result<(), Fail> {
     let lanes = closed.history.entries().iter().map(|entry| entry.lane);
     assert!(rt; lanes.eq([0, 1]));
     assert_eq!(rt; closed.machine.job().map(|term| term.until), Some(1006));
-    Ok(())
-}
-
-#[test]
-fn holds_the_lock_while_a_pass_reads(rt: HostRuntime) -> Result<(), Fail> {
-    let made = LaneLock::new(rt.alloc(), table_of(rt.alloc())?, 2, 2);
-    let (lock, mut passes) = made.map_err(|_| "two lanes and two entries")?;
-    let mut p1 = passes.pop().expect(&rt, "the pass of lane 1");
-    let mut p0 = passes.pop().expect(&rt, "the pass of lane 0");
-    let reads = Busy {
-        lane: 0,
-        holder: Holder::Reader,
-    };
-    let inside = lock.shared(
-        &rt,
-        &mut p0,
-        &mut |_: &LeaseTable| -> bool
-            requires { IsPassOf lock p1 }
-            ensures { IsPassOf lock p1.exit }
-        {
-            let shares = lock.try_shared(&mut p1, &mut term_in);
-            let writes = lock.try_write(&mut p1, &mut || take(1, 0));
-            shares == Err(reads) && matches!(writes, Err(LockError::Busy(busy)) if busy == reads)
-        },
-    );
-    assert!(rt; inside);
     Ok(())
 }
 

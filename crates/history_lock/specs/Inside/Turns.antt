@@ -5,6 +5,11 @@ use Rattle.history_lock.specs.declared.error.WriteError.TheVariants.{HistoryFull
 use Rattle.history_lock.specs.declared.view.Book.{Book}
 use Rattle.history_lock.specs.Histories.{entry}
 
+-- the reply of a turn, without what it made beside
+abbrev pub only_reply : {R A F : Type 0} → Result (R × A) F → Result R F
+only_reply (Ok r) = Ok r.0
+only_reply (Err e) = Err e
+
 -- the book stays as it was
 abbrev pub Stays : {M E : Type 0} → Book M E → Book M E → Type 0
 Stays old new = (new.machine ≡ old.machine) × (new.history.items ≡ old.history.items)
