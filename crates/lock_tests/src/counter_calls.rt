@@ -113,7 +113,7 @@ fn inside_shared<R: Wait>(
         reader,
         &mut |_: &Counter| -> (Result<u64, Busy>, Outcome)
             requires { IsPassOf lock.now other }
-            ensures { IsPassOf lock.now other.exit }
+            ensures { IsPassOf lock.entry.now other.exit }
         {
             let shares = lock.try_shared(&mut other, &mut count);
             let writes = lock.try_write(&mut other, &mut || 1);
@@ -141,7 +141,7 @@ fn inside_write<R: Wait>(
         writer,
         &mut || -> u16
             requires { IsPassOf lock.now other }
-            ensures { IsPassOf lock.now other.exit }
+            ensures { IsPassOf lock.entry.now other.exit }
         {
             let shares = lock.try_shared(&mut other, &mut count);
             let writes = lock.try_write(&mut other, &mut || 1);

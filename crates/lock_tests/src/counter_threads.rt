@@ -1,12 +1,11 @@
 //! Threads, each with a pass of its own.
 
-ghost use Rattle.std.specs.Prelude.{◌≡◌, ◌+◌, ◌≤◌, length, IfOk, IfSome};
-ghost use Rattle.std.specs.Thread.{IsSync};
-ghost use Rattle.history_lock.specs.Passes.{IsPassOf, ArePassesOf, AreNewFrom};
+ghost use Rattle.std.specs.Prelude.{◌≡◌, ◌+◌, ◌≤◌, length};
+ghost use Rattle.history_lock.specs.Passes.{IsPassOf};
 
 use crate::counter::Counter;
+use crate::two_lanes::{TwoLanes, two_lanes};
 use history_lock::{LaneLock, Pass};
-use std::alloc::AllocError;
 use std::sync::Wait;
 use std::test::Fail;
 use std::thread::{Threads, join};
@@ -92,52 +91,42 @@ fn read_and_write<R: Wait>(
     (pass, answered)
 }
 
-// The same by a thread for each pass. None where a thread's writes were not all answered so.
-fn in_threads<R: Threads + Wait + Sync>(
+// The same by two threads: the passes, and how many writes of each were answered so.
+fn read_and_write_in_two_threads<R: Threads + Wait + Sync>(
     rt: &R,
     lock: &LaneLock<Counter>,
-    mut passes: Vec<Pass<Counter>>,
+    first: Pass<Counter>,
+    second: Pass<Counter>,
     times: u64,
-) -> Result<Option<Vec<Pass<Counter>>>, AllocError>
-    requires { AreNewFrom 0 lock.now passes.items }
-    ensures { IfOk result (λ done. IfSome done (λ passes. ArePassesOf lock.now passes.items)) }
+) -> ((Pass<Counter>, u64), (Pass<Counter>, u64))
+    requires first { IsPassOf lock.now first }
+    requires second { IsPassOf lock.now second }
+    ensures own { IsPassOf lock.now result.0.0 × IsPassOf lock.now result.1.0 }
+    ensures most { (result.0.1 ≤ times) × (result.1.1 ≤ times) }
 {
-    let Some(pass) = passes.pop() else {
-        return Ok(Some(passes));
-    };
-    let (done, (pass, answered)) = join(
+    join(
         rt,
-        || -> Result<Option<Vec<Pass<Counter>>>, AllocError>
-            requires { IsSync R.row × AreNewFrom 0 lock.now passes.items }
-            ensures { IfOk result (λ done. IfSome done (λ passes. ArePassesOf lock.now passes.items)) }
-        { in_threads(rt, lock, passes, times) },
-        || read_and_write(rt, lock, pass, times),
-    );
-    let Some(mut done) = done? else {
-        return Ok(None);
-    };
-    if answered < times {
-        return Ok(None);
-    }
-    done.push(pass)?;
-    Ok(Some(done))
+        || read_and_write(rt, lock, first, times),
+        || read_and_write(rt, lock, second, times),
+    )
 }
 
 #[test]
-fn has_just_the_writes_of_all_threads(rt: HostRuntime) -> Result<(), Fail> {
-    for lanes in [2, 4, 8] {
-        let made = LaneLock::new(rt.alloc(), Counter { count: 0 }, lanes, 10_000);
-        let (lock, passes) = made.map_err(|_| "up to eight lanes")?;
-        let done = in_threads(&rt, &lock, passes, 10_000 / lanes)?;
-        let passes = done.expect(&rt, "all writes are answered");
-        let closed = lock.close(passes).ok().expect(&rt, "all passes are there");
-        let entries = closed.history.entries();
-        let of_lane = |lane: u64| entries.iter().filter(|entry| entry.lane == lane).count() as u64;
-        let even = (0..lanes).all(|lane| of_lane(lane) == 10_000 / lanes);
-        assert_eq!(rt;
-            (entries.len(), closed.machine.count, even),
-            (10_000, 10_000, true)
-        );
-    }
+fn has_just_the_writes_of_two_threads(rt: HostRuntime) -> Result<(), Fail> {
+    let TwoLanes {
+        lock,
+        others: mut passes,
+        p0,
+        p1,
+    } = two_lanes(rt.alloc(), Counter { count: 0 }, 10_000)?;
+    let ((p0, first), (p1, second)) = read_and_write_in_two_threads(&rt, &lock, p0, p1, 5_000);
+    assert_eq!(rt; (first, second), (5_000, 5_000));
+    passes.push(p0)?;
+    passes.push(p1)?;
+    let closed = lock.close(passes).ok().expect(&rt, "both passes are there");
+    let entries = closed.history.entries();
+    let of_lane = |lane: u64| entries.iter().filter(|entry| entry.lane == lane).count() as u64;
+    assert_eq!(rt; (of_lane(0), of_lane(1)), (5_000, 5_000));
+    assert_eq!(rt; closed.machine.count, 10_000);
     Ok(())
 }

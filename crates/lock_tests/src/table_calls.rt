@@ -105,7 +105,7 @@ fn read_at_once<R: Wait>(
         reader,
         &mut |_: &LeaseTable| -> (Option<u64>, Option<Busy>)
             requires { IsPassOf lock.now other }
-            ensures { IsPassOf lock.now other.exit }
+            ensures { IsPassOf lock.entry.now other.exit }
         {
             let shares = lock.try_shared(&mut other, &mut term_in).ok().flatten();
             let writes = lock.try_write(&mut other, &mut || take(1, 0));
