@@ -1,5 +1,5 @@
 -- What is known of levels that are written, and of those that are left, from the lowest key on.
-use Rattle.std.proofs.Common.{◌≡◌, ℕ, ◌+◌, ◌<◌, ◌≤◌, List, [], ◌∷◌, ◌++◌, length, sym, ap, ◌∙◌, inl, inr, ◌⊎◌, arith}
+use Rattle.std.proofs.Common.{◌≡◌, ℕ, ◌+◌, ◌<◌, ◌≤◌, [], ◌∷◌, ◌++◌, sym, ◌∙◌, inl, inr, arith}
 use Rattle.std.proofs.lemmas.Bool.{lt-ltb, le-ltb, cases_lt}
 use Rattle.slice_ranges.specs.Levels.{Levels, value_after, LevelsRise, LevelsStartAt}
 use Rattle.slice_ranges.proofs.Leveling.{value_below, levels_start, levels_bounds}

@@ -1,5 +1,5 @@
-use Rattle.std.proofs.Common.{◌≡◌, ◌+◌, not, ◌++◌, refl, sym, ◌∙◌}
-use Rattle.key_handle.proofs.Stamping.{IsSweep, sweep_start, sweep_same, sweep_level, sweep_falls, sweep_end, same_stamp}
+use Rattle.std.proofs.Common.{◌+◌, refl}
+use Rattle.key_handle.proofs.Stamping.{sweep_start, sweep_same, sweep_level, sweep_falls, sweep_end, same_stamp}
 use Rattle.key_handle.proofs.sweep.sweep.Goals as goal
 
 pub loop-key-init : goal.loop-key-init
