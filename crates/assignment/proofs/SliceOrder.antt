@@ -11,7 +11,7 @@ use Rattle.assignment.specs.Slices.{is_rising}
 use Rattle.assignment.specs.Owners.{IsSliceOf, greater, slice_at}
 
 -- each slice starts above this
-pub StartsAbove : ℕ → List Slice → Type 0
+unfoldable pub StartsAbove : ℕ → List Slice → Type 0
 StartsAbove low slices = AllByRecursion (λ s. low < s.start) slices
 
 both : (a b : Bool) → (a && b) ≡ true → (a ≡ true) × (b ≡ true)

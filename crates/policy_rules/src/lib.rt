@@ -4,11 +4,11 @@
 mod answer;
 mod holding;
 mod lease;
-mod permitted;
+mod permission;
 mod rule;
 
 pub use answer::{Ground, Verdict};
 pub use holding::Holding;
 pub use lease::{Kind, Lease};
-pub use permitted::{live_keys, permitted};
+pub use permission::{live_keys, permitted};
 pub use rule::verdict;
