@@ -1,5 +1,5 @@
 -- What a slicelet keeps is what its calls say, with one call more.
-use Rattle.std.proofs.Common.{◌≡◌, ◌∙◌, ℕ, ◌+◌, ◌≤◌, true, false, List, [], ◌∷◌, ◌++◌, length, reverse, refl, sym, ap, arith}
+use Rattle.std.proofs.Common.{◌≡◌, ◌∙◌, ℕ, ◌+◌, ◌≤◌, Bool, true, false, List, [], ◌∷◌, ◌++◌, length, reverse, refl, sym, ap, arith}
 use Rattle.std.proofs.lemmas.List.{reverse-append}
 use Rattle.std.specs.Prelude.{Option, Some, None, Result, Ok, Err, IfOk, is_some, option_map, if◌then◌else◌}
 use Rattle.slice_ranges.specs.Sets.{has}
@@ -54,7 +54,7 @@ stamped_next : (h : List SliceletCall) (c : SliceletCall) (next : Holding) (stam
 stamped_next h c next stamps e started same key =
     let on_time : reading_of c ≤ reading_of c = omega arith in
     let served : serves next key (reading_of c) ≡ is_permitted (covers_key key) (c ∷ h) (reading_of c) = same key ∙ serves_permitted key (c ∷ h) (reading_of c) started on_time in
-    e key ∙ restamped_same _ _ _ _ _ _ _ _ refl refl served (ap (λ (n : ℕ). n + 1) (sym (length-turns (covers_key key) h)))
+    e key ∙ restamped_same (stamp_of (covers_key key) h) _ (is_permitted (covers_key key) h (reading_of c)) _ _ _ _ _ refl refl served (ap (λ (n : ℕ). n + 1) (sym (length-turns (covers_key key) h)))
 
 module _ (task : ℕ) (h : List SliceletCall) (life : ℕ) (holding : Holding) (heard : HeardNumbers) (stamps : Stamps) (k : IsStateAfter task h life holding heard stamps) where
   -- what is kept after a `start`

@@ -11,4 +11,4 @@ returns-then-is_kept c =
 pub returns-else-is_kept : goal.returns-else-is_kept
 returns-else-is_kept c =
     let keeps = sym c.if-is_kept.false ∙ c.still-is_kept.ensures in
-    rw (sym c.self.view_is) (continuous_as_stamped (covers_key c.args.handle.now.key) _ c.args.handle.now c.args.at _ _ false _ c.self.invariant.lives (c.self.invariant.stamped c.args.handle.now.key) keeps refl)
+    rw (sym c.self.view_is, c.if-is_kept.false) (continuous_as_stamped (covers_key c.args.handle.now.key) _ c.args.handle.now c.args.at _ _ false _ c.self.invariant.lives (c.self.invariant.stamped c.args.handle.now.key) keeps refl)
