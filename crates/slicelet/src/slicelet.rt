@@ -225,8 +225,14 @@ impl Slicelet {
         let alloc = *self.calls.allocator();
         let before = permitted(alloc, &self.holding, at)?;
         let after = live_keys_with(alloc, &self.holding, kind, lease, at)?;
-        self.stamps
-            .restamp(&before, &after, self.calls.len() as u64 + 1)
+        self.stamps.restamp(&before, &after, self.count() + 1)
+    }
+
+    // How many calls were accepted.
+    fn count(&self) -> u64
+        ensures { result ≡ length self.now.calls }
+    {
+        self.calls.len() as u64
     }
 
     // Whether the task may serve a key.
