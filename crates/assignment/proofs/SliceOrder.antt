@@ -1,13 +1,13 @@
 -- The slice of a key, in slices whose starts rise.
 use Rattle.std.proofs.Common.{◌≡◌, ℕ, zero, suc, ◌+◌, ◌<◌, ◌≤◌, ◌⊎◌, inl, inr, Bool, true, false, List, [], ◌∷◌, length, Option, Some, None, get_or, refl, sym, ap, subst, arith}
-use Rattle.std.specs.Prelude.{◌&&◌, nat_le, nat_lt, if◌then◌else◌, unwrap_or}
+use Rattle.std.specs.Prelude.{◌&&◌, ◌==◌, nat_le, nat_lt, if◌then◌else◌, unwrap_or}
 use Rattle.std.specs.List.{AllByRecursion}
 use Rattle.std.proofs.lemmas.Bool.Decides.{nat_tests}
 use Rattle.std.proofs.lemmas.Bool.{cases_lt}
 use Rattle.std.proofs.lemmas.List.Elements.{recursion_from_All}
 use Rattle.machines.proofs.Every.{all_weaker}
 use Rattle.assignment.specs.declared.slice.Slice.{Slice}
-use Rattle.assignment.specs.Slices.{is_rising}
+use Rattle.assignment.specs.Slices.{is_rising, first_starts_at}
 use Rattle.assignment.specs.Owners.{IsSliceOf, greater, slice_at}
 
 -- each slice starts above this
@@ -131,3 +131,11 @@ is_slice_at (s ∷ slices) slice key rising (inr i) l greatest =
 pub slice_at_is : (slices : List Slice) (slice : Slice) (key : ℕ) → is_rising slices ≡ true → IsSliceOf slices key slice → slice_at slices key ≡ Some slice
 slice_at_is slices slice key rising h =
     is_slice_at slices slice key rising (is_in slices slice h.listed.0 h.listed.1 h.listed.2) h.not_above (recursion_from_All (λ other. other.start ≤ key → other.start ≤ slice.start) slices h.greatest)
+
+-- some slice starts at the key or below it
+pub found_first : (slices : List Slice) (key : ℕ) (found : Slice) → first_starts_at 0 slices ≡ true → slice_at slices key ≡ Some (unwrap_or (slice_at slices key) found)
+found_first [] key found h = absurd (cc)
+found_first (s ∷ slices) key found h =
+    let zero_start : (s.start == 0) ≡ true = h in
+    let test : nat_le s.start key ≡ true = grind (arith, nat_tests) in
+    rw test refl
