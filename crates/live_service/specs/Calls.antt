@@ -1,6 +1,7 @@
 -- What the calls of shared objects do to their lock and their ticket pass, and what they answer.
 use Rattle.std.specs.Prelude.{◌≡◌, ◌⊎◌, ℕ, Result, Ok, Err}
 use Rattle.machines.specs.declared.event.Event.{Event}
+use Rattle.history_lock.specs.Histories.{IsLegal}
 use Rattle.history_lock.specs.Passes.{Lock, PassView}
 use Rattle.history_lock.specs.Answers.{HasWaited, IsTurnedAway, Wrote, Shared}
 use Rattle.history_lock.specs.declared.error.Busy.{Busy}
@@ -77,12 +78,13 @@ module _ {M E : Type 0} (old_draws new_draws : TicketPassView) {A : Type 0} (ask
   CalledToAsk old (Ok asked) new = asks old asked new
   CalledToAsk old (Err spent) new = WasSpent old_draws new_draws old new
 
-module _ {M E : Type 0} (lock : Lock M) (old_draws new_draws : TicketPassView) {A : Type 0} (asks : PassView M E → A → PassView M E → Type 0) where
+module _ {M E R F : Type 0} (step : M → E → Result (M × R) F) (lock : Lock M) (old_draws new_draws : TicketPassView) {A : Type 0} (asks : PassView M E → A → PassView M E → Type 0) where
   -- a lane was held, and the call drew nothing
   pub record WasBusy (old : PassView M E) (busy : Busy) (new : PassView M E) : Type 0 where
     pub could : CanDraw old_draws
     pub draws : new_draws ≡ old_draws
     pub turned : IsTurnedAway lock old busy new
+    pub legal : IsLegal step lock.opened.machine new.seen
 
   -- the same of a call that does not wait
   abbrev pub TriedToAsk : PassView M E → Result A TryError → PassView M E → Type 0

@@ -84,7 +84,7 @@ module _ (lock : Lock Standing) (old_draws new_draws : TicketPassView) where
   abbrev pub AskedForRows : PassView Standing (Event TableCall) → Result (Recorded (List Row)) RowsError → PassView Standing (Event TableCall) → Type 0
   AskedForRows old (Ok asked) new = AsksFor table_step lock old_draws new_draws (λ table _ rows. rows ≡ table.rows) (λ _. recorded_call.Rows) told.Rows old asked new
   AskedForRows old (Err Spent) new = WasSpent old_draws new_draws old new
-  AskedForRows old (Err NoMemory) new = (ticket : ℕ) × Asks table_step lock old_draws new_draws (λ _ _ _. Unit {0}) old ticket tt new
+  AskedForRows old (Err NoMemory) new = (ticket : ℕ) × Asks table_step lock old_draws new_draws (λ _ _ _. Unit {0}) old ticket (tt {0}) new
 
 -- `committed`, which draws no ticket: a copy of the assignment that is committed in the replay of what is seen then
 abbrev pub AskedForCommitted : {E : Type 0} → Lock Standing → PassView Standing (Event TableCall) → Result (Option Slicing) E → PassView Standing (Event TableCall) → Type 0

@@ -1,7 +1,6 @@
 //! Calls that read.
 
 ghost use Rattle.std.specs.Prelude.{◌≡◌, ℕ};
-ghost use Rattle.history_lock.specs.Histories.{IsLegal};
 ghost use Rattle.history_lock.specs.Passes.{IsPassOf};
 ghost use Rattle.world.specs.Tickets.{DrawsFrom, IsDrawn};
 ghost use Rattle.live_service.specs.Draws.{CanDraw};
@@ -43,7 +42,6 @@ pub(crate) fn read_gated<R: Wait, M: Machine, A: Ask<M>, G: Gate>(
     requires draws { DrawsFrom ticket.now draws.old }
     ensures own { IsPassOf lock.now pass.new }
     ensures draws { DrawsFrom ticket.now draws.new }
-    ensures legal { IsLegal M.step lock.now.opened.machine pass.new.seen }
     ensures answer { CalledToAsk draws.old draws.new
         (λ before asked after. Asks M.step lock.now draws.old draws.new (λ machine drawn answer. A.answers question.now machine drawn answer) before asked.0 asked.1 after)
         pass.old result pass.new }
@@ -78,7 +76,6 @@ pub(crate) fn read<R: Wait, M: Machine, A: Ask<M>>(
     requires draws { DrawsFrom ticket.now draws.old }
     ensures own { IsPassOf lock.now pass.new }
     ensures draws { DrawsFrom ticket.now draws.new }
-    ensures legal { IsLegal M.step lock.now.opened.machine pass.new.seen }
     ensures answer { CalledToAsk draws.old draws.new
         (λ before asked after. Asks M.step lock.now draws.old draws.new (λ machine drawn answer. A.answers question.now machine drawn answer) before asked.0 asked.1 after)
         pass.old result pass.new }
@@ -98,8 +95,7 @@ pub(crate) fn try_read<M: Machine, A: Ask<M>>(
     requires draws { DrawsFrom ticket.now draws.old }
     ensures own { IsPassOf lock.now pass.new }
     ensures draws { DrawsFrom ticket.now draws.new }
-    ensures legal { IsLegal M.step lock.now.opened.machine pass.new.seen }
-    ensures answer { TriedToAsk lock.now draws.old draws.new
+    ensures answer { TriedToAsk M.step lock.now draws.old draws.new
         (λ before asked after. AsksAtOnce M.step lock.now draws.old draws.new (λ machine drawn answer. A.answers question.now machine drawn answer) before asked.0 asked.1 after)
         pass.old result pass.new }
 {

@@ -6,7 +6,6 @@ ghost use Rattle.clerk.specs.Steps.{look_at};
 ghost use Rattle.clerk.specs.declared.call.ClerkCall.TheVariants as clerk_call;
 ghost use Rattle.clerk.specs.declared.call.ClerkReply.TheVariants as clerk_reply;
 ghost use Rattle.history_lock.specs.Closing.{has_lane, IsWhole};
-ghost use Rattle.history_lock.specs.Histories.{IsLegal};
 ghost use Rattle.history_lock.specs.Passes.{AreNewFrom, ArePassesOf, IsPassOf, is_allowed};
 ghost use Rattle.history_lock.specs.declared.error.NewLockError.TheVariants as new_lock_error;
 ghost use Rattle.world.specs.Tickets.{DrawsFrom};
@@ -99,7 +98,6 @@ impl SharedClerk {
         requires draws { DrawsFrom ticket.now draws.old }
         ensures own { IsPassOf self.now.lock pass.new }
         ensures draws { DrawsFrom ticket.now draws.new }
-        ensures legal { IsLegal event_step self.now.lock.opened.machine pass.new.seen }
         ensures answer { CalledClerk self.now draws.old draws.new (clerk_call.Learn assignment) (λ _. clerk_reply.Learnt) pass.old result pass.new }
     {
         let call = ClerkCall::Learn(assignment);
@@ -124,7 +122,6 @@ impl SharedClerk {
         requires draws { DrawsFrom ticket.now draws.old }
         ensures own { IsPassOf self.now.lock pass.new }
         ensures draws { DrawsFrom ticket.now draws.new }
-        ensures legal { IsLegal event_step self.now.lock.opened.machine pass.new.seen }
         ensures answer { CalledClerk self.now draws.old draws.new clerk_call.Forget (λ _. clerk_reply.Forgotten) pass.old result pass.new }
     {
         match self.call(rt, ticket, pass, draws, ClerkCall::Forget) {
@@ -148,7 +145,6 @@ impl SharedClerk {
         requires draws { DrawsFrom ticket.now draws.old }
         ensures own { IsPassOf self.now.lock pass.new }
         ensures draws { DrawsFrom ticket.now draws.new }
-        ensures legal { IsLegal event_step self.now.lock.opened.machine pass.new.seen }
         ensures answer { CalledToAsk draws.old draws.new
             (AsksFor event_step self.now.lock draws.old draws.new (λ clerk _ answer. answer ≡ look_at clerk key) (λ _. recorded_call.Look self.now.number key) look_told)
             pass.old result pass.new }
@@ -210,7 +206,6 @@ impl SharedClerk {
         requires draws { DrawsFrom ticket.now draws.old }
         ensures own { IsPassOf self.now.lock pass.new }
         ensures draws { DrawsFrom ticket.now draws.new }
-        ensures legal { IsLegal event_step self.now.lock.opened.machine pass.new.seen }
         ensures answer { CalledClerk self.now draws.old draws.new call (λ reply. reply) pass.old result pass.new }
     {
         write(

@@ -2,7 +2,6 @@
 
 ghost use Rattle.std.specs.Prelude.{◌≡◌, ℕ, ◌<◌, true, false, IfOk, OnOk, IfErr, if◌then◌else◌, vec_len};
 ghost use Rattle.history_lock.specs.Closing.{has_lane, IsWhole};
-ghost use Rattle.history_lock.specs.Histories.{IsLegal};
 ghost use Rattle.history_lock.specs.Passes.{AreNewFrom, ArePassesOf, IsPassOf, is_allowed};
 ghost use Rattle.history_lock.specs.declared.error.NewLockError.TheVariants as new_lock_error;
 ghost use Rattle.slicelet.specs.Continuity.{handle_on, held_by, IsChecked};
@@ -44,6 +43,7 @@ pub struct SharedSlicelet {
 }
 
 impl Model for SharedSlicelet {
+    ghost use Rattle.std.specs.Prelude.{◌≡◌};
     ghost use Rattle.history_lock.specs.Passes.{Lock};
     ghost use Rattle.slicelet.specs.Steps.{History};
 
@@ -153,7 +153,6 @@ impl SharedSlicelet {
         requires draws { DrawsFrom ticket.now draws.old }
         ensures own { IsPassOf self.now pass.new }
         ensures draws { DrawsFrom ticket.now draws.new }
-        ensures legal { IsLegal event_step self.now.opened.machine pass.new.seen }
         ensures answer { CalledSlicelet self.now draws.old draws.new (λ number. slicelet_call.Start life (reading_at when number)) (λ _. slicelet_reply.Started) pass.old result pass.new }
     {
         let call = SliceletCall::Start { life, at: UNREAD };
@@ -180,7 +179,6 @@ impl SharedSlicelet {
         requires draws { DrawsFrom ticket.now draws.old }
         ensures own { IsPassOf self.now pass.new }
         ensures draws { DrawsFrom ticket.now draws.new }
-        ensures legal { IsLegal event_step self.now.opened.machine pass.new.seen }
         ensures answer { CalledSlicelet self.now draws.old draws.new (λ number. slicelet_call.Hear grant (reading_at when number)) (λ _. slicelet_reply.Heard) pass.old result pass.new }
     {
         let call = SliceletCall::Hear { grant, at: UNREAD };
@@ -207,7 +205,6 @@ impl SharedSlicelet {
         requires draws { DrawsFrom ticket.now draws.old }
         ensures own { IsPassOf self.now pass.new }
         ensures draws { DrawsFrom ticket.now draws.new }
-        ensures legal { IsLegal event_step self.now.opened.machine pass.new.seen }
         ensures answer { CalledSlicelet self.now draws.old draws.new (λ number. slicelet_call.Release kind (reading_at when number)) slicelet_reply.Released pass.old result pass.new }
     {
         let call = SliceletCall::Release { kind, at: UNREAD };
@@ -232,7 +229,6 @@ impl SharedSlicelet {
         requires draws { DrawsFrom ticket.now draws.old }
         ensures own { IsPassOf self.now pass.new }
         ensures draws { DrawsFrom ticket.now draws.new }
-        ensures legal { IsLegal event_step self.now.opened.machine pass.new.seen }
         ensures answer { CalledToAsk draws.old draws.new
             (AsksFor event_step self.now draws.old draws.new (λ slicelet number answer. answer ≡ rule_after (covers_key key) slicelet.calls (reading_at when number))
             (λ number. recorded_call.Serve self.now.opened.machine.task key (reading_at when number)) told.Verdict)
@@ -259,7 +255,6 @@ impl SharedSlicelet {
         requires draws { DrawsFrom ticket.now draws.old }
         ensures own { IsPassOf self.now pass.new }
         ensures draws { DrawsFrom ticket.now draws.new }
-        ensures legal { IsLegal event_step self.now.opened.machine pass.new.seen }
         ensures answer { CalledToAsk draws.old draws.new
             (AsksFor event_step self.now draws.old draws.new (λ slicelet number answer. answer ≡ rule_after (covers_key key) slicelet.calls (reading_at when number))
             (λ number. recorded_call.Serve self.now.opened.machine.task key (reading_at when number)) told.Verdict)
@@ -285,8 +280,7 @@ impl SharedSlicelet {
         requires draws { DrawsFrom ticket.now draws.old }
         ensures own { IsPassOf self.now pass.new }
         ensures draws { DrawsFrom ticket.now draws.new }
-        ensures legal { IsLegal event_step self.now.opened.machine pass.new.seen }
-        ensures answer { TriedToAsk self.now draws.old draws.new
+        ensures answer { TriedToAsk event_step self.now draws.old draws.new
             (AsksAtOnceFor event_step self.now draws.old draws.new (λ slicelet number answer. answer ≡ rule_after (covers_key key) slicelet.calls (reading_at when number))
             (λ number. recorded_call.Serve self.now.opened.machine.task key (reading_at when number)) told.Verdict)
             pass.old result pass.new }
@@ -311,7 +305,6 @@ impl SharedSlicelet {
         requires draws { DrawsFrom ticket.now draws.old }
         ensures own { IsPassOf self.now pass.new }
         ensures draws { DrawsFrom ticket.now draws.new }
-        ensures legal { IsLegal event_step self.now.opened.machine pass.new.seen }
         ensures answer { CalledToAsk draws.old draws.new
             (AsksFor event_step self.now draws.old draws.new
             (λ slicelet number answer. answer ≡ held_by (rule_after (covers_key key) slicelet.calls (reading_at when number)) (handle_on key slicelet))
@@ -355,7 +348,6 @@ impl SharedSlicelet {
         requires draws { DrawsFrom ticket.now draws.old }
         ensures own { IsPassOf self.now pass.new }
         ensures draws { DrawsFrom ticket.now draws.new }
-        ensures legal { IsLegal event_step self.now.opened.machine pass.new.seen }
         ensures answer { CalledToAsk draws.old draws.new
             (AsksFor event_step self.now draws.old draws.new
             (λ slicelet number answer. IsChecked slicelet handle (reading_at when number) answer)
@@ -446,7 +438,6 @@ impl SharedSlicelet {
         requires draws { DrawsFrom ticket.now draws.old }
         ensures own { IsPassOf self.now pass.new }
         ensures draws { DrawsFrom ticket.now draws.new }
-        ensures legal { IsLegal event_step self.now.opened.machine pass.new.seen }
         ensures answer { CalledSlicelet self.now draws.old draws.new (λ number. slicelet_call_at (reading_at when number) call) (λ reply. reply) pass.old result pass.new }
     {
         let task = self.task.number();

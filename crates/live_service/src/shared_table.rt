@@ -2,7 +2,6 @@
 
 ghost use Rattle.std.specs.Prelude.{◌≡◌, ℕ, ◌<◌, true, false, IfOk, OnOk, IfErr, if◌then◌else◌, vec_len};
 ghost use Rattle.history_lock.specs.Closing.{has_lane, IsWhole};
-ghost use Rattle.history_lock.specs.Histories.{IsLegal};
 ghost use Rattle.history_lock.specs.Passes.{AreNewFrom, ArePassesOf, IsPassOf, is_allowed};
 ghost use Rattle.history_lock.specs.declared.error.NewLockError.TheVariants as new_lock_error;
 ghost use Rattle.lease_table.specs.Calls.{event_step};
@@ -126,7 +125,6 @@ impl SharedTable {
         requires draws { DrawsFrom ticket.now draws.old }
         ensures own { IsPassOf self.now pass.new }
         ensures draws { DrawsFrom ticket.now draws.new }
-        ensures legal { IsLegal event_step self.now.opened.machine pass.new.seen }
         ensures answer { CalledTable self.now draws.old draws.new (λ number. table_call.JobTake assigner (reading_at when number)) table_reply.Term pass.old result pass.new }
     {
         let call = TableCall::JobTake {
@@ -155,7 +153,6 @@ impl SharedTable {
         requires draws { DrawsFrom ticket.now draws.old }
         ensures own { IsPassOf self.now pass.new }
         ensures draws { DrawsFrom ticket.now draws.new }
-        ensures legal { IsLegal event_step self.now.opened.machine pass.new.seen }
         ensures answer { CalledTable self.now draws.old draws.new (λ number. table_call.JobRenew term (reading_at when number)) table_reply.Term pass.old result pass.new }
     {
         let call = TableCall::JobRenew {
@@ -186,7 +183,6 @@ impl SharedTable {
         requires draws { DrawsFrom ticket.now draws.old }
         ensures own { IsPassOf self.now pass.new }
         ensures draws { DrawsFrom ticket.now draws.new }
-        ensures legal { IsLegal event_step self.now.opened.machine pass.new.seen }
         ensures answer { CalledTable self.now draws.old draws.new (λ number. table_call.Propose term assignment (reading_at when number)) (λ _. table_reply.Proposed) pass.old result pass.new }
     {
         let call = TableCall::Propose {
@@ -217,7 +213,6 @@ impl SharedTable {
         requires draws { DrawsFrom ticket.now draws.old }
         ensures own { IsPassOf self.now pass.new }
         ensures draws { DrawsFrom ticket.now draws.new }
-        ensures legal { IsLegal event_step self.now.opened.machine pass.new.seen }
         ensures answer { CalledTable self.now draws.old draws.new (λ number. table_call.Commit term (reading_at when number)) table_reply.Committed pass.old result pass.new }
     {
         let call = TableCall::Commit {
@@ -248,7 +243,6 @@ impl SharedTable {
         requires draws { DrawsFrom ticket.now draws.old }
         ensures own { IsPassOf self.now pass.new }
         ensures draws { DrawsFrom ticket.now draws.new }
-        ensures legal { IsLegal event_step self.now.opened.machine pass.new.seen }
         ensures answer { CalledTable self.now draws.old draws.new (λ number. table_call.Grant task life (reading_at when number)) table_reply.Granted pass.old result pass.new }
     {
         let call = TableCall::Grant {
@@ -278,7 +272,6 @@ impl SharedTable {
         requires draws { DrawsFrom ticket.now draws.old }
         ensures own { IsPassOf self.now pass.new }
         ensures draws { DrawsFrom ticket.now draws.new }
-        ensures legal { IsLegal event_step self.now.opened.machine pass.new.seen }
         ensures answer { CalledTable self.now draws.old draws.new (λ number. table_call.Free note (reading_at when number)) table_reply.Freed pass.old result pass.new }
     {
         let call = TableCall::Free { note, at: UNREAD };
@@ -300,7 +293,6 @@ impl SharedTable {
         requires draws { DrawsFrom ticket.now draws.old }
         ensures own { IsPassOf self.now pass.new }
         ensures draws { DrawsFrom ticket.now draws.new }
-        ensures legal { IsLegal event_step self.now.opened.machine pass.new.seen }
         ensures answer { CalledToAsk draws.old draws.new
             (AsksFor event_step self.now draws.old draws.new (λ table _ answer. answer ≡ phase_of table) (λ _. recorded_call.Phase) told.Phase)
             pass.old result pass.new }
@@ -330,7 +322,6 @@ impl SharedTable {
         requires draws { DrawsFrom ticket.now draws.old }
         ensures own { IsPassOf self.now pass.new }
         ensures draws { DrawsFrom ticket.now draws.new }
-        ensures legal { IsLegal event_step self.now.opened.machine pass.new.seen }
         ensures answer { AskedForRows self.now draws.old draws.new pass.old result pass.new }
     {
         let (drawn, rows) = match read(rt, &self.lock, ticket, pass, draws, &AskRows) {
@@ -363,7 +354,6 @@ impl SharedTable {
     ) -> Result<Option<Assignment>, AllocError>
         requires own { IsPassOf self.now pass.old }
         ensures own { IsPassOf self.now pass.new }
-        ensures legal { IsLegal event_step self.now.opened.machine pass.new.seen }
         ensures answer { AskedForCommitted self.now pass.old result pass.new }
     {
         self.lock.shared(rt, pass, &mut committed_in)
@@ -407,7 +397,6 @@ impl SharedTable {
         requires draws { DrawsFrom ticket.now draws.old }
         ensures own { IsPassOf self.now pass.new }
         ensures draws { DrawsFrom ticket.now draws.new }
-        ensures legal { IsLegal event_step self.now.opened.machine pass.new.seen }
         ensures answer { CalledTable self.now draws.old draws.new (λ number. table_call_at (reading_at when number) call) (λ reply. reply) pass.old result pass.new }
     {
         write(rt, &self.lock, ticket, pass, draws, 0, call, when)

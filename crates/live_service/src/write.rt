@@ -1,7 +1,6 @@
 //! Calls that write.
 
 ghost use Rattle.std.specs.Prelude.{◌≡◌, Some, IfSome};
-ghost use Rattle.history_lock.specs.Histories.{IsLegal};
 ghost use Rattle.history_lock.specs.Passes.{IsPassOf};
 ghost use Rattle.world.specs.Tickets.{DrawsFrom, IsDrawn};
 ghost use Rattle.live_service.specs.Readings.{reading_at};
@@ -44,7 +43,6 @@ pub(crate) fn write<R: Wait, X: Copy, C: SharedCall<X>, M: Machine<Event = Event
     requires draws { DrawsFrom ticket.now draws.old }
     ensures own { IsPassOf lock.now pass.new }
     ensures draws { DrawsFrom ticket.now draws.new }
-    ensures legal { IsLegal M.step lock.now.opened.machine pass.new.seen }
     ensures answer { CalledToWrite M.step lock.now draws.old draws.new (λ number. C.timed (reading_at when number) call)
         (λ number. C.recorded actor (C.timed (reading_at when number) call)) C.told (λ reply. reply) pass.old result pass.new }
 {
