@@ -9,7 +9,7 @@ use Rattle.live_service.specs.Calls.{Writes}
 use Rattle.live_service.specs.Objects.{IsNamed}
 
 pub named_reply : {M R S F : Type 0} (name : R → S) (step : Result (M × R) F) (after : M) (reply : S) → replied name step ≡ Ok (after, reply) → IsNamed name reply
-named_reply name (Ok p) after reply e = let same : (p.0, name p.1) ≡ (after, reply) = cc in (p.1, sym (ap (λ q. q.1) same))
+named_reply {M} {R} {S} name (Ok p) after reply e = let same : ◌≡◌ {A = M × S} (p.0, name p.1) (after, reply) = cc in (p.1, sym (ap (λ (q : M × S). q.1) same))
 named_reply name (Err why) after reply e = absurd (cc)
 
 module _ {M C R F : Type 0} (step : M → C → Result (M × R) F) (lock : Lock M) (old_draws new_draws : TicketPassView) (call : ℕ → C) where
