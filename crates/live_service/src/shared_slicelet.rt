@@ -356,25 +356,7 @@ impl SharedSlicelet {
     {
         let question = AskCheck { handle, when };
         let (drawn, answer) = read(rt, &self.lock, ticket, pass, draws, &question)?;
-        let step = RecordedCall::Check {
-            task: self.task.number(),
-            handle,
-            at: when.reading(drawn),
-        };
-        let reply = match &answer {
-            Ok(true) => Told::Continuous,
-            Ok(false) => Told::Broken,
-            Err(Stranger) => Told::Refused(Refusal::Stranger),
-        };
-        let record = CallRecord {
-            ticket: drawn,
-            step,
-            reply,
-        };
-        Ok(Recorded {
-            answer,
-            call: record,
-        })
+        Ok(self.checked(&question, drawn, answer))
     }
 
     /// Gives back the slicelet and the history of its calls, if the passes of all lanes are there.
@@ -417,6 +399,39 @@ impl SharedSlicelet {
             ticket: drawn,
             step,
             reply: Told::Verdict(answer),
+        };
+        Recorded {
+            answer,
+            call: record,
+        }
+    }
+
+    // What is handed out of a handle that was checked.
+    fn checked(
+        &self,
+        question: &AskCheck,
+        drawn: u64,
+        answer: Result<bool, Stranger>,
+    ) -> Recorded<Result<bool, Stranger>>
+        ensures answer { result.answer ≡ answer }
+        ensures ticket { result.call.ticket ≡ drawn }
+        ensures step { result.call.step ≡ recorded_call.Check self.now.opened.machine.task question.now.handle (reading_at question.now.when drawn) }
+        ensures reply { result.call.reply ≡ check_told answer }
+    {
+        let step = RecordedCall::Check {
+            task: self.task.number(),
+            handle: question.handle,
+            at: question.when.reading(drawn),
+        };
+        let reply = match &answer {
+            Ok(true) => Told::Continuous,
+            Ok(false) => Told::Broken,
+            Err(Stranger) => Told::Refused(Refusal::Stranger),
+        };
+        let record = CallRecord {
+            ticket: drawn,
+            step,
+            reply,
         };
         Recorded {
             answer,

@@ -56,7 +56,7 @@ pub(crate) fn write<R: Wait, X: Copy, C: SharedCall<X>, M: Machine<Event = Event
         requires can { CanDraw draws.now }
         requires call { (c : C) × (call ≡ Some c) }
         ensures own { DrawsFrom ticket.entry.now draws.exit.now }
-        ensures made { (c : C) → call.entry ≡ Some c → DrewFor (λ number. C.timed (reading_at when number) c) draws.entry.now result draws.exit.now }
+        ensures made { IfSome call.entry (λ c. DrewFor (λ number. C.timed (reading_at when number) c) draws.entry.now result draws.exit.now) }
         ensures kept { IfSome kept.exit (λ copied. copied ≡ result) }
     {
         let number = draw(ticket, draws);
