@@ -11,7 +11,6 @@ use Rattle.world.specs.Tickets.{TicketPassView, IsDrawn}
 use Rattle.world.specs.declared.record.RecordedCall.{RecordedCall}
 use Rattle.world.specs.declared.record.Told.{Told}
 use Rattle.world.specs.declared.ticket.Spent.{Spent}
-use Rattle.live_service.specs.declared.error.RefusedCall.{RefusedCall}
 use Rattle.live_service.specs.declared.error.CallError.{CallError}
 use Rattle.live_service.specs.declared.error.CallError.TheVariants as call_error
 use Rattle.live_service.specs.declared.error.Recorded.{Recorded}
