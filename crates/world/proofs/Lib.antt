@@ -22,3 +22,7 @@ pub mod Owning
 pub mod TaskShares
 pub mod TicketTotals
 pub mod Drawing
+pub mod Rising
+pub mod Turning
+pub mod Clocking
+pub mod Staging

@@ -12,3 +12,6 @@ pub mod Latest
 pub mod Tickets
 pub mod TicketRule
 pub mod TicketSeats
+pub mod Stages
+pub mod OneRun
+pub mod Shown

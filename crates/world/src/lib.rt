@@ -2,15 +2,20 @@
 #![tactic(auto)]
 
 mod actors;
+mod auditing;
 mod clerks;
 mod copies;
+mod finding;
 mod job;
 mod judge;
 mod laws;
 mod loads;
+mod points;
 mod readings;
 mod record;
+mod replay;
 mod reply;
+mod sameness;
 mod step;
 mod table;
 mod tasks;
@@ -20,6 +25,8 @@ mod values;
 mod world;
 
 pub use crate::world::World;
+pub use auditing::audit;
+pub use finding::{Audit, Why};
 pub use job::{Job, MOST_ASSIGNERS, MOST_CLERKS};
 pub use judge::{Question, WrittenLease};
 pub use laws::{handle_law, known_generations_law, owner_law, rule_law, sent_law, told_law};
