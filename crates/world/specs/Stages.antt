@@ -129,9 +129,13 @@ abbrev pub notes_with : SliceletReply → List ReleaseNote → List ReleaseNote
 notes_with (Released note) before = before ++ note ∷ []
 notes_with _ before = before
 
--- its grant was made
+-- its grant was made: the one of its number is this one
+abbrev pub is_grant : Grant → Option Grant → Bool
+is_grant grant None = false
+is_grant grant (Some made) = grant_eq grant made
+
 abbrev pub task_refusal : Stage → SliceletCall → Option Refusal
-task_refusal stage (Hear grant at) = when (not (list_any (grant_eq grant) stage.grants)) refusal.NotSent
+task_refusal stage (Hear grant at) = when (not (is_grant grant (numbered grant.number stage.grants))) refusal.NotSent
 task_refusal stage _ = None
 
 abbrev pub task_took : Stage → ℕ → Result (History × SliceletReply) SliceletError → Turned
@@ -143,9 +147,13 @@ task_turn stage task c = by stage (numbered task stage.tasks) (λ s. unless stag
 
 -- CLERKS
 
--- its assignment was published
+-- its assignment was published: the one of its generation is this one
+abbrev pub is_assignment : Slicing → Option Slicing → Bool
+is_assignment slicing None = false
+is_assignment slicing (Some made) = slicing_eq slicing made
+
 abbrev pub clerk_refusal : Stage → ClerkCall → Option Refusal
-clerk_refusal stage (Learn slicing) = when (not (list_any (slicing_eq slicing) stage.published)) refusal.NotSent
+clerk_refusal stage (Learn slicing) = when (not (is_assignment slicing (numbered slicing.generation stage.published))) refusal.NotSent
 clerk_refusal stage _ = None
 
 abbrev pub clerk_took : Stage → ℕ → Result (Option Slicing × ClerkReply) ClerkError → Turned

@@ -3,10 +3,8 @@
 ghost use Rattle.std.specs.Prelude.{◌≡◌, ℕ, ◌+◌, ◌<◌, [], false, map, length, IfOk, None, Option, MatchOption};
 ghost use Rattle.std.specs.List.{list_any, range_with_len};
 ghost use Rattle.machines.specs.Answers.{Takes};
-ghost use Rattle.assignment.specs.Equality.{slicing_eq};
 ghost use Rattle.assignment.specs.Slices.{Slicing};
 ghost use Rattle.lease_table.specs.Calls.{table_step};
-ghost use Rattle.lease_table.specs.Equality.{grant_eq};
 ghost use Rattle.lease_table.specs.Policies.{is_within};
 ghost use Rattle.slicelet.specs.Steps.{History, slicelet_step};
 ghost use Rattle.clerk.specs.Calls.{clerk_step};
@@ -17,7 +15,7 @@ ghost use Rattle.clerk.specs.Steps.{look_at};
 ghost use Rattle.world.specs.Told.{numbered};
 ghost use Rattle.world.specs.Jobs.{Job};
 ghost use Rattle.world.specs.declared.record.Told.TheVariants as told;
-ghost use Rattle.world.specs.Stages.{IsCheckBy, IsTurn, by, clerk_refusal, clerk_turn, first_stage, grants_with, held_turn, looked, notes_with, published_with, same_handle, same_note, table_refusal, table_turn, task_refusal, task_turn};
+ghost use Rattle.world.specs.Stages.{IsCheckBy, IsTurn, by, clerk_refusal, clerk_turn, first_stage, grants_with, held_turn, is_assignment, is_grant, looked, notes_with, published_with, same_handle, same_note, table_refusal, table_turn, task_refusal, task_turn};
 ghost use Rattle.world.specs.Shown.{shown};
 
 use crate::actors::numbered;
@@ -165,15 +163,21 @@ fn same_handle(a: &KeyHandle, b: &KeyHandle) -> bool
 }
 
 fn is_made_grant(grant: &Grant, grants: &[Grant]) -> bool
-    ensures { result ≡ list_any (grant_eq grant.now) grants.now }
+    ensures { result ≡ is_grant grant.now (numbered grant.now.number grants.now) }
 {
-    grants.iter().any(|made| grant == made)
+    match numbered(grant.number, grants) {
+        Some(made) => grant == made,
+        None => false,
+    }
 }
 
 fn is_published(assignment: &Assignment, published: &[Assignment]) -> bool
-    ensures { result ≡ list_any (slicing_eq assignment.now) published.now }
+    ensures { result ≡ is_assignment assignment.now (numbered assignment.now.generation published.now) }
 {
-    published.iter().any(|made| assignment == made)
+    match numbered(assignment.generation(), published) {
+        Some(made) => assignment == made,
+        None => false,
+    }
 }
 
 fn tasks_of(alloc: Global, job: Job) -> Result<Vec<Slicelet>, AllocError>
@@ -291,7 +295,7 @@ impl Replay {
 
     /// A call of the table.
     pub(crate) fn table(&mut self, job: Job, call: &TableCall) -> Result<Told, AllocError>
-        ensures { IfOk result (λ told. (self.new, told) ≡ table_turn job self.old call.now) }
+        ensures { IfOk result (λ answer. (self.new, answer) ≡ table_turn job self.old call.now) }
     {
         if let Some(why) = table_refusal(self, job, call) {
             return Ok(Told::Refused(why));
@@ -318,7 +322,7 @@ impl Replay {
 
     /// A call of a task.
     pub(crate) fn task(&mut self, task: u64, call: &SliceletCall) -> Result<Told, AllocError>
-        ensures { IfOk result (λ told. (self.new, told) ≡ task_turn self.old task call.now) }
+        ensures { IfOk result (λ answer. (self.new, answer) ≡ task_turn self.old task call.now) }
     {
         let Some(place) = place_of(task, self.tasks.len()) else {
             return Ok(Told::Refused(Refusal::NoActor));
@@ -338,7 +342,7 @@ impl Replay {
 
     /// A call of a clerk.
     pub(crate) fn clerk(&mut self, clerk: u64, call: &ClerkCall) -> Result<Told, AllocError>
-        ensures { IfOk result (λ told. (self.new, told) ≡ clerk_turn self.old clerk call.now) }
+        ensures { IfOk result (λ answer. (self.new, answer) ≡ clerk_turn self.old clerk call.now) }
     {
         let Some(place) = place_of(clerk, self.clerks.len()) else {
             return Ok(Told::Refused(Refusal::NoActor));
@@ -355,7 +359,7 @@ impl Replay {
 
     /// The table's open rows.
     pub(crate) fn rows(&self) -> Result<Told, AllocError>
-        ensures { IfOk result (λ told. told ≡ told.Rows self.now.table.rows) }
+        ensures { IfOk result (λ answer. answer ≡ told.Rows self.now.table.rows) }
     {
         Ok(Told::Rows(Listed::from_vec(self.table.rows()?)))
     }
@@ -373,7 +377,7 @@ impl Replay {
 
     /// `hold` of a task.
     pub(crate) fn hold(&mut self, task: u64, key: SliceKey, at: u64) -> Result<Told, AllocError>
-        ensures { IfOk result (λ told. (self.new, told) ≡ by self.old (numbered task self.old.tasks)
+        ensures { IfOk result (λ answer. (self.new, answer) ≡ by self.old (numbered task self.old.tasks)
             (λ s. held_turn self.old (held_by (rule_after (covers_key key) s.calls at) (handle_on key s)))) }
     {
         let Some(slicelet) = numbered(task, self.tasks.as_slice()) else {
@@ -422,7 +426,7 @@ impl Replay {
 
     /// A recorded call.
     pub(crate) fn recorded(&mut self, job: Job, call: &RecordedCall) -> Result<Told, AllocError>
-        ensures { IfOk result (λ told. IsTurn job self.old call.now (self.new, told)) }
+        ensures { IfOk result (λ answer. IsTurn job self.old call.now (self.new, answer)) }
     {
         match call {
             RecordedCall::Table(call) => self.table(job, call),
@@ -439,7 +443,7 @@ impl Replay {
 
     /// The call of an entry or a record.
     pub(crate) fn play(&mut self, job: Job, point: &Point) -> Result<Told, AllocError>
-        ensures { IfOk result (λ told. IsTurn job self.old (shown point.now).call (self.new, told)) }
+        ensures { IfOk result (λ answer. IsTurn job self.old (shown point.now).call (self.new, answer)) }
     {
         match point {
             Point::Table(event) => self.table(job, &event.call),

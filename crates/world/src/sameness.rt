@@ -1,7 +1,7 @@
 //! Whether two callers were told the same.
 
 ghost use Rattle.std.specs.Prelude.{◌≡◌, ◌≢◌, MatchBool};
-ghost use Rattle.world.specs.declared.record.Told.TheVariants as told;
+ghost use Rattle.world.specs.declared.record.Told.TheVariants as answer;
 
 use crate::record::Told;
 use crate::reply::Refusal;
@@ -26,7 +26,7 @@ fn is_reply_of_table(reply: &TableReply, other: &TableReply) -> bool
 }
 
 fn is_table(reply: &TableReply, told: &Told) -> bool
-    ensures { MatchBool result (told.now ≡ told.Table reply.now) (told.now ≢ told.Table reply.now) }
+    ensures { MatchBool result (told.now ≡ answer.Table reply.now) (told.now ≢ answer.Table reply.now) }
 {
     match told {
         Told::Table(other) => is_reply_of_table(reply, other),
@@ -35,7 +35,7 @@ fn is_table(reply: &TableReply, told: &Told) -> bool
 }
 
 fn is_task(reply: SliceletReply, told: &Told) -> bool
-    ensures { MatchBool result (told.now ≡ told.Task reply) (told.now ≢ told.Task reply) }
+    ensures { MatchBool result (told.now ≡ answer.Task reply) (told.now ≢ answer.Task reply) }
 {
     match told {
         Told::Task(other) => reply == *other,
@@ -44,7 +44,7 @@ fn is_task(reply: SliceletReply, told: &Told) -> bool
 }
 
 fn is_clerk(reply: ClerkReply, told: &Told) -> bool
-    ensures { MatchBool result (told.now ≡ told.Clerk reply) (told.now ≢ told.Clerk reply) }
+    ensures { MatchBool result (told.now ≡ answer.Clerk reply) (told.now ≢ answer.Clerk reply) }
 {
     match told {
         Told::Clerk(other) => reply == *other,
@@ -53,7 +53,7 @@ fn is_clerk(reply: ClerkReply, told: &Told) -> bool
 }
 
 fn is_phase(phase: Phase, told: &Told) -> bool
-    ensures { MatchBool result (told.now ≡ told.Phase phase) (told.now ≢ told.Phase phase) }
+    ensures { MatchBool result (told.now ≡ answer.Phase phase) (told.now ≢ answer.Phase phase) }
 {
     match told {
         Told::Phase(other) => phase == *other,
@@ -62,7 +62,7 @@ fn is_phase(phase: Phase, told: &Told) -> bool
 }
 
 fn is_rows(rows: &Listed<Row>, told: &Told) -> bool
-    ensures { MatchBool result (told.now ≡ told.Rows rows.now) (told.now ≢ told.Rows rows.now) }
+    ensures { MatchBool result (told.now ≡ answer.Rows rows.now) (told.now ≢ answer.Rows rows.now) }
 {
     match told {
         Told::Rows(other) => rows == other,
@@ -71,7 +71,7 @@ fn is_rows(rows: &Listed<Row>, told: &Told) -> bool
 }
 
 fn is_verdict(verdict: Verdict, told: &Told) -> bool
-    ensures { MatchBool result (told.now ≡ told.Verdict verdict) (told.now ≢ told.Verdict verdict) }
+    ensures { MatchBool result (told.now ≡ answer.Verdict verdict) (told.now ≢ answer.Verdict verdict) }
 {
     match told {
         Told::Verdict(other) => verdict == *other,
@@ -80,7 +80,7 @@ fn is_verdict(verdict: Verdict, told: &Told) -> bool
 }
 
 fn is_holding(handle: KeyHandle, told: &Told) -> bool
-    ensures { MatchBool result (told.now ≡ told.Holding handle) (told.now ≢ told.Holding handle) }
+    ensures { MatchBool result (told.now ≡ answer.Holding handle) (told.now ≢ answer.Holding handle) }
 {
     match told {
         Told::Holding(other) => handle == *other,
@@ -89,7 +89,7 @@ fn is_holding(handle: KeyHandle, told: &Told) -> bool
 }
 
 fn is_found(found: &Found, told: &Told) -> bool
-    ensures { MatchBool result (told.now ≡ told.Found found.now) (told.now ≢ told.Found found.now) }
+    ensures { MatchBool result (told.now ≡ answer.Found found.now) (told.now ≢ answer.Found found.now) }
 {
     match told {
         Told::Found(other) => found == other,
@@ -98,7 +98,7 @@ fn is_found(found: &Found, told: &Told) -> bool
 }
 
 fn is_refusal(why: Refusal, told: &Told) -> bool
-    ensures { MatchBool result (told.now ≡ told.Refused why) (told.now ≢ told.Refused why) }
+    ensures { MatchBool result (told.now ≡ answer.Refused why) (told.now ≢ answer.Refused why) }
 {
     match told {
         Told::Refused(other) => why == *other,
