@@ -29,7 +29,7 @@ fn is_refused(reply: &Told) -> bool
 
 // What is wrong with a reply, by what the caller was told.
 fn judge(reply: &Told, told: Option<&Told>) -> Option<Why>
-    ensures { MatchOption result (Fits reply.now (shown_told told)) (λ why. IsWrong why reply.now (shown_told told)) }
+    ensures { MatchOption result (Fits reply.now (shown_told told.entry)) (λ why. IsWrong why reply.now (shown_told told.entry)) }
 {
     match told {
         None => {

@@ -332,7 +332,8 @@ impl Replay {
         }
         match call_task(&mut self.tasks[place], call) {
             Ok(reply) => {
-                self.keep_note(reply)?;
+                let made = reply;
+                self.keep_note(made)?;
                 Ok(Told::Task(reply))
             }
             Err(Trouble::Refused(why)) => Ok(Told::Refused(Refusal::Slicelet(why))),
