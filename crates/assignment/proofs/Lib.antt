@@ -1,5 +1,6 @@
 pub mod Acceptance
 pub mod SliceOrder
+pub mod SliceSearch
 pub mod Tasks
 pub mod TaskKeys
 pub mod Equality

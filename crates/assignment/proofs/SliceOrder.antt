@@ -1,25 +1,17 @@
 -- The slice of a key, in slices whose starts rise.
-use Rattle.std.proofs.Common.{◌≡◌, ◌∙◌, ℕ, zero, suc, ◌+◌, ◌<◌, ◌≤◌, ◌⊎◌, inl, inr, Bool, true, false, List, [], ◌∷◌, length, drop, Option, Some, None, get_or, refl, sym, ap, subst, arith, add-one, drop-cons}
-use Rattle.std.specs.Prelude.{◌==◌, ◌&&◌, nat_le, nat_lt, if◌then◌else◌, unwrap_or}
-use Rattle.std.specs.Ordering.{is_lt, nat_cmp}
+use Rattle.std.proofs.Common.{◌≡◌, ℕ, zero, suc, ◌+◌, ◌<◌, ◌≤◌, ◌⊎◌, inl, inr, Bool, true, false, List, [], ◌∷◌, length, Option, Some, None, get_or, refl, sym, ap, subst, arith}
+use Rattle.std.specs.Prelude.{◌&&◌, ◌==◌, nat_le, nat_lt, if◌then◌else◌, unwrap_or}
 use Rattle.std.specs.List.{AllByRecursion}
 use Rattle.std.proofs.lemmas.Bool.Decides.{nat_tests}
 use Rattle.std.proofs.lemmas.Bool.{cases_lt}
 use Rattle.std.proofs.lemmas.List.Elements.{recursion_from_All}
 use Rattle.machines.proofs.Every.{all_weaker}
 use Rattle.assignment.specs.declared.slice.Slice.{Slice}
-use Rattle.assignment.specs.Slices.{first_starts_at, is_rising}
+use Rattle.assignment.specs.Slices.{is_rising, first_starts_at}
 use Rattle.assignment.specs.Owners.{IsSliceOf, greater, slice_at}
 
--- `<` of two keys
-pub below : (a b : ℕ) → is_lt (nat_cmp a b) ≡ true → a < b
-below a b h = grind (arith, nat_tests)
-
-pub not_below : (a b : ℕ) → is_lt (nat_cmp a b) ≡ false → b ≤ a
-not_below a b h = grind (arith, nat_tests)
-
 -- each slice starts above this
-pub StartsAbove : ℕ → List Slice → Type 0
+unfoldable pub StartsAbove : ℕ → List Slice → Type 0
 StartsAbove low slices = AllByRecursion (λ s. low < s.start) slices
 
 both : (a b : Bool) → (a && b) ≡ true → (a ≡ true) × (b ≡ true)
@@ -95,40 +87,6 @@ pub none_from : (s : Slice) (slices : List Slice) (key : ℕ) → is_rising (s �
 unfolding StartsAbove
 none_from s slices key rising l = none_at key (s ∷ slices) (l, above_lower key s.start slices (omega arith) (later_above s slices rising))
 
--- a slice stands first of what is left from its place on
-opening : (slices : List Slice) (i : ℕ) (slice : Slice) → i < length slices → slice ≡ get_or slices i slice → drop i slices ≡ slice ∷ drop (i + 1) slices
-opening slices i slice l is = rw (add-one, drop-cons slices i slice, ← is) refl
-
-opening_rising : (slices : List Slice) (i : ℕ) (slice : Slice) → i < length slices → slice ≡ get_or slices i slice → is_rising (drop i slices) ≡ true → is_rising (slice ∷ drop (i + 1) slices) ≡ true
-opening_rising slices i slice l is rising = let P : List Slice → Type 0 = λ rest. is_rising rest ≡ true in subst P (opening slices i slice l is) rising
-
-pub rising_on : (slices : List Slice) (i : ℕ) (slice : Slice) → i < length slices → slice ≡ get_or slices i slice → is_rising (drop i slices) ≡ true → is_rising (drop (i + 1) slices) ≡ true
-rising_on slices i slice l is rising = rising_rest slice (drop (i + 1) slices) (opening_rising slices i slice l is rising)
-
--- the search goes on past a slice at the key or below it
-pub found_on : (slices : List Slice) (key i : ℕ) (slice found : Slice) → i < length slices → slice ≡ get_or slices i slice → is_rising (drop i slices) ≡ true → slice.start ≤ key
-    → slice_at slices key ≡ Some (unwrap_or (slice_at (drop i slices) key) found) → slice_at slices key ≡ Some (unwrap_or (slice_at (drop (i + 1) slices) key) slice)
-found_on slices key i slice found l is rising begins so_far =
-    let here = opening slices i slice l is in
-    let step : slice_at (drop i slices) key ≡ Some (unwrap_or (slice_at (drop (i + 1) slices) key) slice) = rw here (first_or_later slice (drop (i + 1) slices) key (opening_rising slices i slice l is rising) begins) in
-    so_far ∙ rw step refl
-
--- the search ends at a slice above the key
-pub found_before : (slices : List Slice) (key i : ℕ) (slice found : Slice) → i < length slices → slice ≡ get_or slices i slice → is_rising (drop i slices) ≡ true → key < slice.start
-    → slice_at slices key ≡ Some (unwrap_or (slice_at (drop i slices) key) found) → slice_at slices key ≡ Some found
-found_before slices key i slice found l is rising above so_far =
-    let here = opening slices i slice l is in
-    let none : slice_at (drop i slices) key ≡ None = rw here (none_from slice (drop (i + 1) slices) key (opening_rising slices i slice l is rising) above) in
-    so_far ∙ rw none refl
-
--- some slice starts at the key or below it
-pub found_first : (slices : List Slice) (key : ℕ) (found : Slice) → first_starts_at 0 slices ≡ true → slice_at slices key ≡ Some (unwrap_or (slice_at slices key) found)
-found_first [] key found h = absurd (cc)
-found_first (s ∷ slices) key found h =
-    let zero_start : (s.start == 0) ≡ true = h in
-    let test : nat_le s.start key ≡ true = grind (arith, nat_tests) in
-    rw test refl
-
 -- `IsSliceOf` by recursion on the list
 IsIn : List Slice → Slice → Type 0
 IsIn [] slice = ⊥
@@ -173,3 +131,11 @@ is_slice_at (s ∷ slices) slice key rising (inr i) l greatest =
 pub slice_at_is : (slices : List Slice) (slice : Slice) (key : ℕ) → is_rising slices ≡ true → IsSliceOf slices key slice → slice_at slices key ≡ Some slice
 slice_at_is slices slice key rising h =
     is_slice_at slices slice key rising (is_in slices slice h.listed.0 h.listed.1 h.listed.2) h.not_above (recursion_from_All (λ other. other.start ≤ key → other.start ≤ slice.start) slices h.greatest)
+
+-- some slice starts at the key or below it
+pub found_first : (slices : List Slice) (key : ℕ) (found : Slice) → first_starts_at 0 slices ≡ true → slice_at slices key ≡ Some (unwrap_or (slice_at slices key) found)
+found_first [] key found h = absurd (cc)
+found_first (s ∷ slices) key found h =
+    let zero_start : (s.start == 0) ≡ true = h in
+    let test : nat_le s.start key ≡ true = grind (arith, nat_tests) in
+    rw test refl

@@ -154,14 +154,8 @@ fn slice_of(slices: &[OwnedSlice], key: SliceKey) -> &OwnedSlice
     requires { refusal_of slices.now ≡ None }
     ensures { slice_at slices.now key ≡ Some result.now }
 {
-    let mut found = &slices[0];
-    for slice in slices {
-        if key < slice.start() {
-            break;
-        }
-        found = slice;
-    }
-    found
+    let place = slices.partition_point(|slice| slice.start().value() <= key.value());
+    &slices[place - 1]
 }
 
 fn copies(alloc: Global, slices: &[OwnedSlice]) -> Result<Vec<OwnedSlice>, AllocError>

@@ -1,7 +1,9 @@
 //! Handles.
 
 ghost use Rattle.std.specs.Prelude.{◌≡◌};
+ghost use Rattle.key_handle.specs.Handles.{is_still};
 
+use crate::stamped::Stamped;
 use assignment::TaskId;
 use key_hash::SliceKey;
 
@@ -30,5 +32,15 @@ impl KeyHandle {
             key,
             position,
         }
+    }
+
+    /// Whether the handle is of this life, and its key has a stamp that is not above its position.
+    pub fn still(&self, life: u32, stamps: &Stamped) -> bool
+        ensures { result ≡ is_still self.now life stamps.now }
+    {
+        self.life == life
+            && stamps
+                .since(self.key)
+                .is_some_and(|stamp| stamp <= self.position)
     }
 }

@@ -89,6 +89,29 @@ fn names_owners(rt: HostRuntime) -> Result<(), Fail> {
     Ok(())
 }
 
+// 1,024 slices of 2^53 keys each, owned by tasks 1 and 2 in turn.
+fn many_slices(alloc: Global) -> Result<Assignment, Fail> {
+    let mut slices = Vec::new(alloc);
+    for place in 0..1024u64 {
+        slices.push(Slice {
+            start: place << 53,
+            owners: Listed::from_slice(alloc, &[place % 2 + 1])?,
+        })?;
+    }
+    let built = Assignment::build(alloc, 1, &slices);
+    Ok(built.ok().ok_or("slices make an assignment")?)
+}
+
+#[test]
+fn finds_a_slice_among_1024(rt: HostRuntime) -> Result<(), Fail> {
+    let cases: [(u64, &[u64]); 3] = [((5 << 53) + 7, &[2]), (END - 1, &[2]), (0, &[1])];
+    let many = many_slices(rt.alloc())?;
+    let fault = first_at_fault(rt.alloc(), &many, &cases)?;
+    let width = width_of(&many, task_of(1)?)?;
+    assert_eq!(rt; (fault, width), (None, HALF));
+    Ok(())
+}
+
 fn is_slice(alloc: Global, slice: &OwnedSlice, start: u64, owners: &[u64]) -> Result<bool, Fail> {
     Ok(slice.start().value() == start && are_tasks(alloc, slice.owners(), owners)?)
 }

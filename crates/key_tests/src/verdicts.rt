@@ -1,7 +1,7 @@
 //! The written rule.
 
 use crate::samples::key_of;
-use policy_rules::{Ground, Holding, Kind, Lease, Verdict, verdict};
+use policy_rules::{Ground, Holding, Kind, Lease, Verdict, permitted, verdict};
 use slice_ranges::Ranges;
 use std::alloc::Global;
 use std::test::Fail;
@@ -73,6 +73,32 @@ fn first_at_fault(holding: &Holding) -> Result<Option<(u64, u64, Verdict)>, Fail
 fn names_the_first_case_that_holds(rt: HostRuntime) -> Result<(), Fail> {
     let holding = holding_of(rt.alloc())?;
     assert_eq!(rt; first_at_fault(&holding)?, None);
+    Ok(())
+}
+
+// Whether the keys permitted at a reading are those of the pairs.
+fn permits(alloc: Global, holding: &Holding, at: u64, pairs: &[(u64, u64)]) -> Result<bool, Fail> {
+    let wanted = Ranges::build(alloc, pairs)
+        .ok()
+        .ok_or("pairs that do not overlap make a set")?;
+    Ok(permitted(alloc, holding, at)? == wanted)
+}
+
+// The same below the last reading, while both leases are live, while the bridge is, and after it.
+fn permits_by_live_leases(alloc: Global, holding: &Holding) -> Result<[bool; 4], Fail> {
+    Ok([
+        permits(alloc, holding, 5, &[])?,
+        permits(alloc, holding, 94, &[(0, 1 << 62)])?,
+        permits(alloc, holding, 100, &[(0, 1)])?,
+        permits(alloc, holding, 200, &[])?,
+    ])
+}
+
+#[test]
+fn permits_the_keys_of_live_leases(rt: HostRuntime) -> Result<(), Fail> {
+    let holding = holding_of(rt.alloc())?;
+    let found = permits_by_live_leases(rt.alloc(), &holding)?;
+    assert_eq!(rt; found, [true; 4]);
     Ok(())
 }
 

@@ -1,5 +1,5 @@
 -- The written rule.
-use Rattle.std.specs.Prelude.{ℕ, Bool, false, not, ◌&&◌, ◌||◌, nat_lt, max, List, [], ◌∷◌, Option, Some, None, unwrap_or, option_map}
+use Rattle.std.specs.Prelude.{ℕ, Bool, true, false, not, ◌&&◌, ◌||◌, nat_lt, max, List, [], ◌∷◌, Option, Some, None, unwrap_or, option_map}
 use Rattle.policy_rules.specs.declared.lease.Kind.{Kind}
 use Rattle.policy_rules.specs.declared.lease.Kind.TheVariants.{Guard, Bridge}
 use Rattle.policy_rules.specs.declared.holding.Holding.{Holding}
@@ -28,6 +28,11 @@ holding_seen_from holding key = record {
 abbrev pub serving_generation : ℕ → Option SeenLease → Option ℕ
 serving_generation at None = None
 serving_generation at (Some lease) = when (nat_lt at lease.ends && lease.covers) lease.generation
+
+-- a lease is held, is live at the reading and covers the key
+abbrev pub is_serving : ℕ → Option SeenLease → Bool
+is_serving at None = false
+is_serving at (Some lease) = nat_lt at lease.ends && lease.covers
 
 -- such a lease allows the key
 abbrev pub allowed_by : Kind → ℕ → Option SeenLease → Option Verdict
@@ -62,3 +67,8 @@ rule_cases h at =
 -- the first case that holds, and else there is no lease
 abbrev pub rule : SeenHolding → ℕ → Verdict
 rule h at = unwrap_or (first_of (rule_cases h at)) (Deny NoLease)
+
+-- a verdict allows the key
+abbrev pub is_allowed : Verdict → Bool
+is_allowed (Allow kind generation) = true
+is_allowed (Deny why) = false

@@ -4,9 +4,11 @@
 mod answer;
 mod holding;
 mod lease;
+mod permission;
 mod rule;
 
 pub use answer::{Ground, Verdict};
 pub use holding::Holding;
 pub use lease::{Kind, Lease};
+pub use permission::{live_keys, permitted};
 pub use rule::verdict;

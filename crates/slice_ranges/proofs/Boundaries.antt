@@ -2,7 +2,7 @@
 use Rattle.std.proofs.Common.{◌≡◌, ℕ, ◌+◌, ◌<◌, ◌≤◌, Bool, not, List, [], ◌∷◌, ◌++◌, refl, arith}
 use Rattle.std.proofs.lemmas.Bool.{lt-ltb, le-ltb}
 use Rattle.slice_ranges.specs.Sets.{inside_after, Rises}
-use Rattle.slice_ranges.specs.Internals.Sweeps.{StartsAt}
+use Rattle.slice_ranges.specs.Passing.{StartsAt}
 
 -- below its first boundary a list turns nothing
 pub inside_below : (s : Bool) (bs : List ℕ) (m k : ℕ) → StartsAt m bs → k < m → inside_after s bs k ≡ s

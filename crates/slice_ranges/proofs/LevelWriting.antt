@@ -5,20 +5,8 @@ use Rattle.key_hash.specs.declared.TheConstants.{KEYS}
 use Rattle.slice_ranges.specs.Sets.{has, IsRanges}
 use Rattle.slice_ranges.specs.Levels.{Levels, value_after, LevelsRise}
 use Rattle.slice_ranges.proofs.Boundaries.{rises_below, rises_push, inside_push_below, inside_push_above}
+use Rattle.slice_ranges.proofs.Leveling.{value_below, value_above, levels_start, levels_bounds}
 use Rattle.slice_ranges.proofs.Writing.{IsMade, writing_same, writing_turn}
-
--- below the first of its keys a list of levels changes nothing
-value_below : {V : Type 0} (value : V) (low : ℕ) (levels : Levels V) (high k : ℕ) → LevelsRise low levels high → k < low → value_after value levels k ≡ value
-value_below value low [] high k r l = refl
-value_below value low (s ∷ levels) high k r l = rw (lt-ltb k s.0 (omega (arith, r.0)))
-
--- from the first of its keys on a list of levels is its tail
-value_above : {V : Type 0} (value : V) (s : ℕ × V) (levels : Levels V) (k : ℕ) → s.0 ≤ k → value_after value (s ∷ levels) k ≡ value_after s.1 levels k
-value_above value s levels k l = rw (le-ltb k s.0 l)
-
-levels_bounds : {V : Type 0} (low : ℕ) (levels : Levels V) (high : ℕ) → LevelsRise low levels high → low ≤ high
-levels_bounds low [] high r = r
-levels_bounds low (s ∷ levels) high r = let h = levels_bounds (s.0 + 1) levels high r.1 in omega (arith, r.0)
 
 -- the levels below p are written, and `here` are left
 pub record IsWritten (all here : Levels Bool) (out : List ℕ) (inside : Bool) (p : ℕ) : Type 0 where
@@ -34,7 +22,7 @@ module _ (all here : Levels Bool) (s : ℕ × Bool) (rest : Levels Bool) (out : 
   from_level k l = front.same k (omega (arith, front.rises.0)) ∙ value_above inside s rest k l
 
   at_level : value_after false all s.0 ≡ s.1
-  at_level = from_level s.0 (omega arith) ∙ value_below s.1 (s.0 + 1) rest KEYS s.0 front.rises.1 (omega arith)
+  at_level = from_level s.0 (omega arith) ∙ value_below s.1 rest (s.0 + 1) s.0 (levels_start (s.0 + 1) rest KEYS front.rises.1) (omega arith)
 
   between : (k : ℕ) → p ≤ k → k < s.0 → value_after false all k ≡ inside
   between k l g = front.same k l ∙ (rw (lt-ltb k s.0 g))

@@ -4,5 +4,7 @@ pub mod Uniqueness
 pub mod Joining
 pub mod KeysWhere
 pub mod Sweeping
+pub mod Leveling
 pub mod LevelWriting
+pub mod Searching
 pub mod Widths

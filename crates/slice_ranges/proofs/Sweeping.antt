@@ -6,7 +6,8 @@ use Rattle.key_hash.specs.declared.TheConstants.{KEYS}
 use Rattle.slice_ranges.specs.declared.sweep.Operation.{Operation}
 use Rattle.slice_ranges.specs.declared.sweep.Operation.TheVariants.{Both, Either, Without}
 use Rattle.slice_ranges.specs.Sets.{inside_after, has, Rises, IsRanges}
-use Rattle.slice_ranges.specs.Internals.Sweeps.{apply, StartsAt, Heads, IsNext, IsPast}
+use Rattle.slice_ranges.specs.Passing.{StartsAt, Heads, IsNext, IsPast}
+use Rattle.slice_ranges.specs.Internals.Sweeps.{apply}
 use Rattle.slice_ranges.proofs.Boundaries.{inside_below, rises_starts, rises_below, rises_bounds}
 use Rattle.slice_ranges.proofs.Writing.{IsMade, writing_same, writing_turn}
 
@@ -16,10 +17,10 @@ pub record IsRest (all : List ℕ) (inside : Bool) (rest : List ℕ) (p high : �
   pub rises : Rises p rest high
 
 -- the next boundary of a list is at m or above
-rest_until : (all : List ℕ) (inside : Bool) (rest : List ℕ) (p m high k : ℕ) → IsRest all inside rest p high → StartsAt m rest → p ≤ k → k < m → has all k ≡ inside
+pub rest_until : (all : List ℕ) (inside : Bool) (rest : List ℕ) (p m high k : ℕ) → IsRest all inside rest p high → StartsAt m rest → p ≤ k → k < m → has all k ≡ inside
 rest_until all inside rest p m high k r h l g = r.same k l ∙ inside_below inside rest m k h g
 
-rest_past : (all : List ℕ) (inside : Bool) (rest : List ℕ) (p m high : ℕ) (now : Bool) (next : List ℕ)
+pub rest_past : (all : List ℕ) (inside : Bool) (rest : List ℕ) (p m high : ℕ) (now : Bool) (next : List ℕ)
     → IsRest all inside rest p high → StartsAt m rest → p ≤ m → m < high → IsPast m inside rest now next → IsRest all now next (m + 1) high × (has all m ≡ now)
 rest_past all inside [] p m high now next r h l q e =
     (record { same = λ k g. rw (e.0, e.1) (r.same k (omega arith)); rises = rw e.1 (omega arith) }, rw e.0 (r.same m l))
@@ -47,7 +48,7 @@ pub record IsSweep (f : Bool → Bool → Bool) (first second : List ℕ) (high 
   pub now : inside ≡ f in_a in_b
 
 -- the first boundary of what is left is at p or above
-head_bounds : (p m : ℕ) (rest : List ℕ) (high : ℕ) → Rises p rest high → Heads m rest → (p ≤ m) × (m < high)
+pub head_bounds : (p m : ℕ) (rest : List ℕ) (high : ℕ) → Rises p rest high → Heads m rest → (p ≤ m) × (m < high)
 head_bounds p m [] high r h = absurd h
 head_bounds p m (b ∷ bs) high r h = let q : b + 1 ≤ high = rises_bounds (b + 1) bs high r.1 in (omega (arith, r.0, h), omega (arith, h))
 

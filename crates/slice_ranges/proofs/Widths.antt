@@ -4,7 +4,7 @@ use Rattle.std.specs.Prelude.{if◌then◌else◌}
 use Rattle.std.proofs.lemmas.Bool.{le-ltb, cases_lt}
 use Rattle.key_hash.specs.declared.TheConstants.{KEYS}
 use Rattle.slice_ranges.specs.Sets.{inside_after, has, count, Rises, IsRanges}
-use Rattle.slice_ranges.specs.Internals.Sweeps.{StartsAt}
+use Rattle.slice_ranges.specs.Passing.{StartsAt}
 use Rattle.slice_ranges.proofs.Boundaries.{inside_below, rises_starts, rises_from, rises_bounds}
 
 abbrev pub width_over : Bool → ℕ → ℕ → ℕ

@@ -14,3 +14,8 @@ value_after value (l ∷ levels) key = if nat_lt key l.0 then value else value_a
 abbrev pub LevelsRise : {V : Type 0} → ℕ → Levels V → ℕ → Type 0
 LevelsRise low [] high = low ≤ high
 LevelsRise low (l ∷ levels) high = (low ≤ l.0) × LevelsRise (l.0 + 1) levels high
+
+-- no key of the levels is below this
+abbrev pub LevelsStartAt : {V : Type 0} → ℕ → Levels V → Type 0
+LevelsStartAt low [] = Unit {0}
+LevelsStartAt low (l ∷ levels) = low ≤ l.0

@@ -9,3 +9,4 @@ mod sweep;
 
 pub use error::RangesError;
 pub use ranges::{Ranges, keys_where_law};
+pub use sweep::{boundaries_above, next_boundary};

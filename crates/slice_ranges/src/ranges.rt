@@ -95,7 +95,18 @@ impl Ranges {
     pub fn contains(&self, key: SliceKey) -> bool
         ensures { result ≡ has self.now key }
     {
-        is_inside(&self.boundaries, key.value())
+        self.boundaries
+            .partition_point(|boundary| *boundary <= key.value())
+            % 2
+            == 1
+    }
+
+    /// The keys at which membership turns, in rising order; the first of them turns it on.
+    pub fn boundaries(&self) -> &[u64]
+        ensures boundaries { result.now ≡ self.now }
+        ensures ranges { IsRanges self.now }
+    {
+        self.boundaries.as_slice()
     }
 
     /// How many keys the set has.
@@ -172,19 +183,6 @@ impl Ranges {
 pub fn keys_where_law()
     ensures { (member : ℕ → Bool) (key : ℕ) → key < KEYS → has (keys_where member) key ≡ member key }
 {}
-
-fn is_inside(boundaries: &[u64], key: u64) -> bool
-    ensures { result ≡ has boundaries.now key }
-{
-    let mut inside = false;
-    for boundary in boundaries {
-        if key < *boundary {
-            return inside;
-        }
-        inside = !inside;
-    }
-    inside
-}
 
 // How many keys lie inside the boundaries.
 fn width_of(boundaries: &[u64]) -> u64

@@ -2,7 +2,8 @@
 
 ghost use Rattle.std.specs.Prelude.{◌≡◌, ℕ, Some, None, [], IfOk};
 ghost use Rattle.slice_ranges.specs.Sets.{has, IsRanges};
-ghost use Rattle.slice_ranges.specs.Internals.Sweeps.{apply, IsNext, IsPast};
+ghost use Rattle.slice_ranges.specs.Passing.{IsNext, IsPast};
+ghost use Rattle.slice_ranges.specs.Internals.Sweeps.{apply};
 
 use std::alloc::{AllocError, Global};
 
@@ -60,8 +61,8 @@ pub fn sweep(
     Ok(boundaries)
 }
 
-// The lower of the first boundaries of two lists.
-fn next_boundary(first: &[u64], second: &[u64]) -> Option<u64>
+/// The lower of the first boundaries of two lists.
+pub fn next_boundary(first: &[u64], second: &[u64]) -> Option<u64>
     ensures none { result ≡ None → (first.now ≡ []) × (second.now ≡ []) }
     ensures some { (key : ℕ) → result ≡ Some key → IsNext key first.now second.now }
 {
@@ -72,8 +73,9 @@ fn next_boundary(first: &[u64], second: &[u64]) -> Option<u64>
     }
 }
 
-// The boundaries above a key, and whether the keys from there on are inside.
-fn boundaries_above(boundaries: &[u64], inside: bool, key: u64) -> (&[u64], bool)
+/// What is left of a list of boundaries, none of which is below a key, above the key, and whether
+/// the key is inside, where `inside` tells of the keys below the first of them.
+pub fn boundaries_above(boundaries: &[u64], inside: bool, key: u64) -> (&[u64], bool)
     ensures { IsPast key inside boundaries.now result.1 result.0.now }
 {
     match boundaries {

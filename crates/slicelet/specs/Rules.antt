@@ -1,10 +1,10 @@
 -- The written rule over what a slicelet heard.
-use Rattle.std.specs.Prelude.{ℕ, Bool, true, false, List, option_map}
+use Rattle.std.specs.Prelude.{ℕ, Bool, List, option_map}
 use Rattle.policy_rules.specs.declared.lease.Kind.TheVariants.{Guard, Bridge}
 use Rattle.policy_rules.specs.declared.answer.Verdict.{Verdict}
-use Rattle.policy_rules.specs.declared.answer.Verdict.TheVariants.{Allow, Deny}
 use Rattle.policy_rules.specs.Leases.{SeenLease}
 use Rattle.policy_rules.specs.Rule.{SeenHolding, rule}
+pub use Rattle.policy_rules.specs.Rule.{is_allowed}
 use Rattle.slice_ranges.specs.Sets.{has}
 use Rattle.lease_table.specs.declared.values.Grant.{Grant}
 use Rattle.slicelet.specs.declared.call.SliceletCall.{SliceletCall}
@@ -30,10 +30,6 @@ rule_after covers h at = rule (holding_after covers h) at
 -- to a slicelet, a lease covers the members of its ranges
 abbrev pub covers_key : ℕ → Grant → Bool
 covers_key key grant = has grant.lease.ranges key
-
-abbrev pub is_allowed : Verdict → Bool
-is_allowed (Allow kind generation) = true
-is_allowed (Deny why) = false
 
 -- a key is permitted after these calls at a reading
 abbrev pub is_permitted : (Grant → Bool) → List SliceletCall → ℕ → Bool

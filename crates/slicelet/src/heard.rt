@@ -1,9 +1,13 @@
 //! What a slicelet keeps of each kind of lease.
 
-ghost use Rattle.std.specs.Prelude.{◌≡◌, None, is_some};
+ghost use Rattle.std.specs.Prelude.{◌≡◌, ℕ, None, is_some, IfOk};
+ghost use Rattle.slice_ranges.specs.Sets.{has};
 ghost use Rattle.slicelet.specs.inside.State.{lease_of_kind, with_lease, number_of_kind, with_number};
+ghost use Rattle.slicelet.specs.inside.Stamping.{serves};
 
-use policy_rules::{Holding, Kind, Lease};
+use policy_rules::{Holding, Kind, Lease, live_keys};
+use slice_ranges::Ranges;
+use std::alloc::{AllocError, Global};
 
 /// The greatest number heard of each kind.
 #[derive(Clone, Copy)]
@@ -79,5 +83,23 @@ pub fn put_lease(holding: &mut Holding, kind: Kind, lease: Option<Lease>)
     match kind {
         Kind::Guard => holding.guard = lease,
         Kind::Bridge => holding.bridge = lease,
+    }
+}
+
+/// The keys of the leases that are live at a reading, with a lease, or none, in the place of that of
+/// a kind.
+pub fn live_keys_with(
+    alloc: Global,
+    holding: &Holding,
+    kind: Kind,
+    lease: &Option<Lease>,
+    at: u64,
+) -> Result<Ranges, AllocError>
+    ensures { IfOk result
+        (λ r. (key : ℕ) → has r key ≡ serves (with_lease holding.now kind lease.now) key at) }
+{
+    match kind {
+        Kind::Guard => live_keys(alloc, lease, &holding.bridge, at),
+        Kind::Bridge => live_keys(alloc, &holding.guard, lease, at),
     }
 }

@@ -6,7 +6,6 @@ mod error;
 mod heard;
 mod laws;
 mod machine;
-mod sight;
 mod slicelet;
 
 pub use call::{SliceletCall, SliceletReply};

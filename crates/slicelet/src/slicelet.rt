@@ -1,25 +1,27 @@
 //! Slicelets.
 
-ghost use Rattle.std.specs.Prelude.{◌≡◌, None, option_map, IfOk, OnOk};
+ghost use Rattle.std.specs.Prelude.{◌≡◌, ◌+◌, ℕ, None, length, option_map, IfOk, OnOk, MatchBool};
 ghost use Rattle.std.specs.Result.{result_err};
 ghost use Rattle.machines.specs.Refusals.{first_of};
 ghost use Rattle.machines.specs.Answers.{Takes};
 ghost use Rattle.slicelet.specs.Calls.{held};
 ghost use Rattle.slicelet.specs.Rules.{rule_after, covers_key, is_permitted};
-ghost use Rattle.slicelet.specs.Continuity.{handle_on, held_by, is_strange, IsChecked};
+ghost use Rattle.key_handle.specs.Stamps.{since, restamped};
+ghost use Rattle.slicelet.specs.Continuity.{handle_on, held_by, is_strange, IsChecked, IsContinuous};
 ghost use Rattle.slicelet.specs.Accepted.{AreAccepted};
+ghost use Rattle.slicelet.specs.inside.State.{holding_of, with_lease};
+ghost use Rattle.slicelet.specs.inside.Stamping.{stamp_of, serves};
 ghost use Rattle.slicelet.specs.Steps.{opening, not_started, clock_back, history_full, number_of, start_checks, hear_checks, release_checks, start_step, hear_step, release_step};
 
 use crate::call::SliceletCall;
 use crate::error::{SliceletError, Stranger};
-use crate::heard::{HeardNumbers, holds, no_leases, put_lease};
-use crate::sight::is_kept_since;
+use crate::heard::{HeardNumbers, holds, live_keys_with, no_leases, put_lease};
 use assignment::TaskId;
-use key_handle::KeyHandle;
+use key_handle::{KeyHandle, Stamped};
 use key_hash::SliceKey;
 use lease_table::{Grant, ReleaseNote};
 use machines::{Duplicate, Trouble};
-use policy_rules::{Ground, Holding, Kind, Verdict, verdict};
+use policy_rules::{Ground, Holding, Kind, Lease, Verdict, permitted, verdict};
 use std::alloc::{AllocError, Global};
 use std::marker::Model;
 
@@ -34,6 +36,7 @@ pub struct Slicelet {
     life: u32,
     holding: Holding,
     heard: HeardNumbers,
+    stamps: Stamped,
 }
 
 impl Model for Slicelet {
@@ -46,7 +49,7 @@ impl Model for Slicelet {
 
     ghost view = { λ s. record { task = s.task; calls = reverse s.calls.items } };
 
-    ghost invariant = { λ s. IsStateAfter s.task (reverse s.calls.items) s.life s.holding s.heard };
+    ghost invariant = { λ s. IsStateAfter s.task (reverse s.calls.items) s.life s.holding s.heard s.stamps };
 }
 
 impl Slicelet {
@@ -60,6 +63,7 @@ impl Slicelet {
             life: 0,
             holding: no_leases(false, 0),
             heard: HeardNumbers::no_numbers(),
+            stamps: Stamped::empty(alloc),
         }
     }
 
@@ -71,11 +75,13 @@ impl Slicelet {
         ensures { Takes (start_step self.old life at) self.old result self.new }
     {
         self.check_start(life, at).map_err(Trouble::Refused)?;
+        let alloc = *self.calls.allocator();
         self.calls.reserve(1)?;
         self.calls.push_reserved(SliceletCall::Start { life, at });
         self.life = life;
         self.holding = no_leases(true, at);
         self.heard = HeardNumbers::no_numbers();
+        self.stamps = Stamped::empty(alloc);
         Ok(())
     }
 
@@ -91,12 +97,14 @@ impl Slicelet {
             grant: grant.copy()?,
             at,
         };
-        let lease = grant.lease.copy()?;
+        let lease = Some(grant.lease.copy()?);
+        let stamps = self.restamped(grant.lease.kind, &lease, at)?;
         self.calls.reserve(1)?;
         self.calls.push_reserved(call);
         self.holding.last = at;
-        put_lease(&mut self.holding, grant.lease.kind, Some(lease));
+        put_lease(&mut self.holding, grant.lease.kind, lease);
         self.heard = self.heard.with(grant.lease.kind, grant.number);
+        self.stamps = stamps;
         Ok(())
     }
 
@@ -109,10 +117,12 @@ impl Slicelet {
         ensures { Takes (release_step self.old kind at) self.old result self.new }
     {
         let number = self.check_release(kind, at).map_err(Trouble::Refused)?;
+        let stamps = self.restamped(kind, &None, at)?;
         self.calls.reserve(1)?;
         self.calls.push_reserved(SliceletCall::Release { kind, at });
         self.holding.last = at;
         put_lease(&mut self.holding, kind, None);
+        self.stamps = stamps;
         Ok(ReleaseNote {
             task: self.task,
             life: self.life,
@@ -164,9 +174,7 @@ impl Slicelet {
         if self.is_strange(handle) {
             return Err(Stranger);
         }
-        let is_kept = handle.life == self.life
-            && is_kept_since(self.calls.as_slice(), handle.key, handle.position);
-        Ok(is_kept && self.permits(handle.key, at))
+        Ok(self.is_continuous(handle, at))
     }
 
     /// The calls that a slicelet keeps were accepted, one after another.
@@ -186,6 +194,7 @@ impl Slicelet {
             life: self.life,
             holding: self.holding.copy()?,
             heard: self.heard,
+            stamps: self.stamps.copy()?,
         })
     }
 
@@ -195,6 +204,35 @@ impl Slicelet {
         handle.task != self.task
             || handle.life > self.life
             || handle.life == self.life && handle.position > self.calls.len() as u64
+    }
+
+    fn is_continuous(&self, handle: &KeyHandle, at: u64) -> bool
+        ensures { MatchBool result
+            (IsContinuous (covers_key handle.now.key) self.now.calls handle.now at)
+            (IsContinuous (covers_key handle.now.key) self.now.calls handle.now at → ⊥) }
+    {
+        let is_kept = handle.still(self.life, &self.stamps);
+        is_kept && self.permits(handle.key, at)
+    }
+
+    // The stamps after one call more, at which a lease, or none, takes the place of that of a kind.
+    fn restamped(&self, kind: Kind, lease: &Option<Lease>, at: u64) -> Result<Stamped, AllocError>
+        ensures { IfOk result (λ s. (key : ℕ) → since s key ≡ restamped (stamp_of (covers_key key) self.now.calls)
+            (is_permitted (covers_key key) self.now.calls at)
+            (serves (with_lease (holding_of self.now.calls) kind lease.now) key at)
+            (length self.now.calls + 1)) }
+    {
+        let alloc = *self.calls.allocator();
+        let before = permitted(alloc, &self.holding, at)?;
+        let after = live_keys_with(alloc, &self.holding, kind, lease, at)?;
+        self.stamps.restamp(&before, &after, self.count() + 1)
+    }
+
+    // How many calls were accepted.
+    fn count(&self) -> u64
+        ensures { result ≡ length self.now.calls }
+    {
+        self.calls.len() as u64
     }
 
     // Whether the task may serve a key.

@@ -13,3 +13,5 @@ mod machine;
 mod memory;
 #[cfg(test)]
 mod samples;
+#[cfg(test)]
+mod stamps;

@@ -7,7 +7,10 @@ use Rattle.policy_rules.specs.declared.holding.Holding.{Holding}
 use Rattle.slicelet.specs.declared.heard.HeardNumbers.{HeardNumbers}
 use Rattle.slicelet.specs.declared.call.SliceletCall.{SliceletCall}
 use Rattle.slicelet.specs.Calls.{is_started, life_of, last_reading, held, greatest_heard}
+use Rattle.key_handle.specs.Stamps.{Stamps, since}
+use Rattle.slicelet.specs.Rules.{covers_key}
 use Rattle.slicelet.specs.Accepted.{AreAccepted}
+use Rattle.slicelet.specs.inside.Stamping.{stamp_of}
 
 -- the lease of a kind, and a holding with another one
 abbrev pub lease_of_kind : Holding → Kind → Option Lease
@@ -36,9 +39,10 @@ holding_of h = record {
   bridge = option_map (λ grant. grant.lease) (held Bridge h);
 }
 
--- the state after accepted calls: the life, the holding and the greatest numbers are those of the calls
-pub record IsStateAfter (task : ℕ) (h : List SliceletCall) (life : ℕ) (holding : Holding) (heard : HeardNumbers) : Type 0 where
+-- the state after accepted calls: the life, the holding, the greatest numbers and the stamps are those of the calls
+pub record IsStateAfter (task : ℕ) (h : List SliceletCall) (life : ℕ) (holding : Holding) (heard : HeardNumbers) (stamps : Stamps) : Type 0 where
   pub accepted : AreAccepted task h
   pub lives : life ≡ life_of h
   pub holds : holding ≡ holding_of h
   pub hears : (kind : Kind) → number_of_kind heard kind ≡ greatest_heard kind h
+  pub stamped : (key : ℕ) → since stamps key ≡ stamp_of (covers_key key) h

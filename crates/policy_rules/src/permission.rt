@@ -1,0 +1,52 @@
+//! The keys that a task may serve.
+
+ghost use Rattle.std.specs.Prelude.{◌≡◌, ℕ, ◌||◌, option_map, IfOk};
+ghost use Rattle.slice_ranges.specs.Sets.{has};
+ghost use Rattle.policy_rules.specs.Leases.{seen_from};
+ghost use Rattle.policy_rules.specs.Rule.{rule, holding_seen_from, is_allowed, is_covered, is_serving};
+
+use crate::holding::Holding;
+use crate::lease::Lease;
+use slice_ranges::Ranges;
+use std::alloc::{AllocError, Global};
+
+/// The keys that a task which holds this may serve at a reading of its clock, in ticks: those that
+/// [`verdict`](crate::verdict) allows at it.
+#[tactic(auto, using(crate::proofs::Permitting::permitted_live, crate::proofs::Permitting::permitted_down, crate::proofs::Permitting::permitted_back))]
+pub fn permitted(alloc: Global, holding: &Holding, at: u64) -> Result<Ranges, AllocError>
+    ensures { IfOk result
+        (λ r. (key : ℕ) → has r key ≡ is_allowed (rule (holding_seen_from holding.now key) at)) }
+{
+    if !holding.up || at < holding.last {
+        return Ok(Ranges::empty(alloc));
+    }
+    live_keys(alloc, &holding.guard, &holding.bridge, at)
+}
+
+/// The keys that are covered by one of two leases, where it is held and is live at a reading.
+pub fn live_keys(
+    alloc: Global,
+    guard: &Option<Lease>,
+    bridge: &Option<Lease>,
+    at: u64,
+) -> Result<Ranges, AllocError>
+    ensures { IfOk result (λ r. (key : ℕ) → has r key ≡ (is_serving at (option_map (seen_from key) guard.now)
+        || is_serving at (option_map (seen_from key) bridge.now))) }
+{
+    match (live_lease(guard, at), live_lease(bridge, at)) {
+        (Some(guard), Some(bridge)) => guard.ranges.union(&bridge.ranges),
+        (Some(lease), None) | (None, Some(lease)) => lease.ranges.copy(),
+        (None, None) => Ok(Ranges::empty(alloc)),
+    }
+}
+
+// A lease that is held and live at a reading.
+fn live_lease(lease: &Option<Lease>, at: u64) -> Option<&Lease>
+    ensures { (key : ℕ) → is_covered (option_map (λ live. seen_from key live.now) result)
+        ≡ is_serving at (option_map (seen_from key) lease.now) }
+{
+    match lease {
+        Some(lease) if lease.is_live(at) => Some(lease),
+        _ => None,
+    }
+}

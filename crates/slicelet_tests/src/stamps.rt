@@ -1,0 +1,66 @@
+//! Sets of keys with stamps.
+
+use crate::samples::task_of;
+use key_handle::{KeyHandle, Stamped};
+use key_hash::SliceKey;
+use slice_ranges::Ranges;
+use std::alloc::Global;
+use std::test::Fail;
+
+fn key_of(number: u64) -> Result<SliceKey, Fail> {
+    Ok(SliceKey::new(number).ok_or("a number of 63 bits is a key")?)
+}
+
+fn set_of(alloc: Global, pairs: &[(u64, u64)]) -> Result<Ranges, Fail> {
+    Ok(
+        Ranges::build(alloc, pairs)
+            .ok()
+            .ok_or("pairs that do not overlap make a set")?,
+    )
+}
+
+// The keys 0 to 7 are stamped 1, and then those from 2 on are stamped 2 where they are not below 4.
+fn stamped_twice(alloc: Global) -> Result<Stamped, Fail> {
+    let first = Stamped::empty(alloc).restamp(&set_of(alloc, &[])?, &set_of(alloc, &[(0, 8)])?, 1)?;
+    Ok(first.restamp(&set_of(alloc, &[(0, 4)])?, &set_of(alloc, &[(2, 8)])?, 2)?)
+}
+
+// The stamps of the keys 3, 5 and 0.
+fn stamps_of(stamped: &Stamped) -> Result<[Option<u64>; 3], Fail> {
+    Ok([
+        stamped.since(key_of(3)?),
+        stamped.since(key_of(5)?),
+        stamped.since(key_of(0)?),
+    ])
+}
+
+#[test]
+fn stamps_keys_twice(rt: HostRuntime) -> Result<(), Fail> {
+    let stamped = stamped_twice(rt.alloc())?;
+    let found = stamps_of(&stamped)?;
+    let copied = stamps_of(&stamped.copy()?)?;
+    assert_eq!(rt;
+        (found, copied),
+        ([Some(1), Some(2), None], [Some(1), Some(2), None])
+    );
+    Ok(())
+}
+
+// Whether a handle of life 1 on a key, taken after so many calls, is good in a life.
+fn is_still(stamped: &Stamped, key: u64, position: u64, life: u32) -> Result<bool, Fail> {
+    Ok(KeyHandle::new(task_of(1)?, 1, key_of(key)?, position).still(life, stamped))
+}
+
+#[test]
+fn compares_stamps_with_positions(rt: HostRuntime) -> Result<(), Fail> {
+    let stamped = stamped_twice(rt.alloc())?;
+    let found = [
+        is_still(&stamped, 3, 1, 1)?,
+        is_still(&stamped, 5, 2, 1)?,
+        is_still(&stamped, 5, 1, 1)?,
+        is_still(&stamped, 0, 9, 1)?,
+        is_still(&stamped, 3, 1, 2)?,
+    ];
+    assert_eq!(rt; found, [true, true, false, false, false]);
+    Ok(())
+}
