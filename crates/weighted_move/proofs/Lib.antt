@@ -21,3 +21,4 @@ pub mod Halves
 pub mod Keyed
 pub mod Accepting
 pub mod Lawful
+pub mod Ranking

@@ -10,7 +10,6 @@ use Rattle.slice_ranges.specs.Sets.{Rises}
 use Rattle.assignment.specs.declared.slice.Slice.{Slice}
 use Rattle.assignment.specs.declared.error.AssignmentError.TheVariants.{NoSlices, FirstNotZero, NotRising, PastEnd, NoOwner, TooManyOwners, OwnerTwice, BadTask, TooManySlices}
 use Rattle.assignment.specs.Slices.{refusal_of, slice_checks, first_starts_at, is_rising, has_twice, is_task}
-use Rattle.weighted_move.specs.declared.weighed.WeighedSlice.{WeighedSlice}
 use Rattle.weighted_move.specs.declared.error.PlanError.TheVariants.{NoTasks, LoadsLength, LoadRange}
 use Rattle.weighted_move.specs.Weights.{total_load, IsOwned, IsCover}
 use Rattle.weighted_move.specs.Weighing.{weighed}
@@ -81,7 +80,7 @@ module _ (slices : List Slice) (loads members : List ℕ) (accepted : refusal_of
       }
 
 -- a list that takes the place of one as long
-pub refilled : (len : ℕ) (new items : List WeighedSlice) → length new ≡ length items → len ≡ length new → take len (new ++ drop (length new) items) ≡ new
+pub refilled : {X : Type 0} (len : ℕ) (new items : List X) → length new ≡ length items → len ≡ length new → take len (new ++ drop (length new) items) ≡ new
 refilled len new items same all =
     let none : drop (length new) items ≡ [] = drop_all (length new) items (omega arith) in
     rw (none, append-nil) (take_all len new (omega arith))

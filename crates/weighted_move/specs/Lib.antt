@@ -1,6 +1,7 @@
 pub mod Weights
 pub mod Owning
 pub mod Moves
+pub mod Ranks
 pub mod Chains
 pub mod Merging
 pub mod Halving

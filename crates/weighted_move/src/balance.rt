@@ -10,6 +10,7 @@ ghost use Rattle.weighted_move.specs.Chains.{AreBestMoves, after_moves};
 use crate::best::best_candidate;
 use crate::loads::TaskLoads;
 use crate::moves::Move;
+use crate::rank::ranks_of;
 use crate::weighed::WeighedSlice;
 use assignment::TaskId;
 use std::alloc::{AllocError, Global};
@@ -31,11 +32,12 @@ pub fn make_best_moves(
     ensures cover { OnOk result (IsCover slices.new) }
     ensures budget { IfOk result (λ moves. sum_by (λ m. m.churn) moves.items ≤ budget) }
 {
+    let ranks = ranks_of(alloc, slices)?;
     let mut loads = TaskLoads::of(slices);
     let mut moves = Vec::new(alloc);
     let mut left = budget;
     for _turn in 0..MOST_MOVES {
-        let Some(best) = best_candidate(slices, tasks, &loads, left) else {
+        let Some(best) = best_candidate(slices, &ranks, tasks, &loads, left) else {
             break;
         };
         make(slices, &best, &mut loads);

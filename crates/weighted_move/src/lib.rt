@@ -13,6 +13,7 @@ mod moves;
 mod owners;
 mod planning;
 mod policy;
+mod rank;
 mod set;
 mod settle;
 mod weigh;

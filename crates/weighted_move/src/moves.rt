@@ -33,8 +33,9 @@ impl Move {
         }
     }
 
+    /// Whether it is better than another one.
     #[tactic(auto, unfolding(crate::specs::Moves::is_better))]
-    fn is_better(&self, other: &Move) -> bool
+    pub fn is_better(&self, other: &Move) -> bool
         ensures { result ≡ is_better self.now other.now }
     {
         let ours = self.gain as u128 * other.churn as u128;
