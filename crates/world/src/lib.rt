@@ -10,6 +10,7 @@ mod laws;
 mod loads;
 mod plans;
 mod readings;
+mod record;
 mod reply;
 mod step;
 mod table;
@@ -27,6 +28,7 @@ pub use laws::{
 };
 pub use plans::PlanBounds;
 pub use readings::timely;
+pub use record::{CallRecord, RecordedCall, Told};
 pub use reply::{OwnerList, Refusal, Reply};
 pub use step::Step;
 pub use ticket::{MOST_DRAWS, MOST_PASSES, PassesMissing, Spent, Ticket, TicketError, TicketPass};

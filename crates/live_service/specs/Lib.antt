@@ -1,0 +1,5 @@
+-- What callers are promised.
+pub mod Readings
+pub mod Draws
+pub mod Calls
+pub mod Objects

@@ -1,0 +1,104 @@
+-- Shared objects, as callers know them, and what their calls answer.
+use Rattle.std.specs.Prelude.{◌≡◌, ℕ, Bool, true, false, List, Option, Result, Ok, Err, IfOk}
+use Rattle.assignment.specs.Slices.{Slicing}
+use Rattle.policy_rules.specs.declared.answer.Ground.{Ground}
+use Rattle.policy_rules.specs.declared.answer.Verdict.TheVariants.{Deny}
+use Rattle.key_handle.specs.declared.handle.KeyHandle.{KeyHandle}
+use Rattle.lease_table.specs.Calls.{event_step as table_step}
+use Rattle.lease_table.specs.Tables.{Standing}
+use Rattle.lease_table.specs.declared.call.TableCall.{TableCall}
+use Rattle.lease_table.specs.declared.call.TableReply.{TableReply}
+use Rattle.lease_table.specs.declared.error.TableError.{TableError}
+use Rattle.lease_table.specs.declared.values.Row.{Row}
+use Rattle.slicelet.specs.Steps.{History, event_step as slicelet_step}
+use Rattle.slicelet.specs.declared.call.SliceletCall.{SliceletCall}
+use Rattle.slicelet.specs.declared.call.SliceletReply.{SliceletReply}
+use Rattle.slicelet.specs.declared.error.SliceletError.{SliceletError}
+use Rattle.slicelet.specs.declared.error.Stranger.{Stranger}
+use Rattle.clerk.specs.Calls.{event_step as clerk_step}
+use Rattle.clerk.specs.declared.call.ClerkCall.{ClerkCall}
+use Rattle.clerk.specs.declared.call.ClerkReply.{ClerkReply}
+use Rattle.clerk.specs.declared.clerk.Found.{Found}
+use Rattle.clerk.specs.declared.error.ClerkError.{ClerkError}
+use Rattle.clerk.specs.declared.error.Unknown.{Unknown}
+use Rattle.machines.specs.declared.event.Event.{Event}
+use Rattle.history_lock.specs.Passes.{Lock, PassView}
+use Rattle.history_lock.specs.Answers.{HasWaited, Shared}
+use Rattle.world.specs.Tickets.{TicketPassView}
+use Rattle.world.specs.declared.record.RecordedCall.TheVariants as recorded_call
+use Rattle.world.specs.declared.reply.Refusal.TheVariants as refusal
+use Rattle.world.specs.declared.record.Told.{Told}
+use Rattle.world.specs.declared.record.Told.TheVariants as told
+use Rattle.live_service.specs.declared.error.CallError.{CallError}
+use Rattle.live_service.specs.declared.error.Recorded.{Recorded}
+use Rattle.live_service.specs.declared.error.RowsError.{RowsError}
+use Rattle.live_service.specs.declared.error.RowsError.TheVariants.{Spent, NoMemory}
+use Rattle.live_service.specs.Calls.{WasSpent, CalledToWrite, Asks, AsksFor}
+
+-- a clerk under its lock, and the number by which its calls are recorded
+pub record NumberedClerk : Type 0 where
+  pub number : ℕ
+  pub lock : Lock (Option Slicing)
+
+abbrev pub numbered_clerk : ℕ → Lock (Option Slicing) → NumberedClerk
+numbered_clerk number lock = record { number = number; lock = lock }
+
+-- WHAT CALLERS ARE TOLD
+
+abbrev pub table_told : TableError → Told
+table_told fault = told.Refused (refusal.Table fault)
+
+abbrev pub slicelet_told : SliceletError → Told
+slicelet_told fault = told.Refused (refusal.Slicelet fault)
+
+abbrev pub clerk_told : ClerkError → Told
+clerk_told fault = told.Refused (refusal.Clerk fault)
+
+abbrev pub hold_told : Result KeyHandle Ground → Told
+hold_told (Ok handle) = told.Holding handle
+hold_told (Err why) = told.Verdict (Deny why)
+
+abbrev pub check_told : Result Bool Stranger → Told
+check_told (Ok true) = told.Continuous
+check_told (Ok false) = told.Broken
+check_told (Err stranger) = told.Refused refusal.Stranger
+
+abbrev pub look_told : Result Found Unknown → Told
+look_told (Ok found) = told.Found found
+look_told (Err unknown) = told.Refused refusal.Unknown
+
+-- a reply is one of this name
+abbrev pub IsNamed : {A R : Type 0} → (A → R) → R → Type 0
+IsNamed {A} name reply = (answer : A) × (reply ≡ name answer)
+
+-- CALLS THAT WRITE
+
+-- a call that may change the table: one write of its lock, of this call at each ticket; its answer stands for this reply of the table
+module _ (lock : Lock Standing) (old_draws new_draws : TicketPassView) where
+  abbrev pub CalledTable : {A : Type 0} → (ℕ → TableCall) → (A → TableReply)
+      → PassView Standing (Event TableCall) → Result A (CallError TableError) → PassView Standing (Event TableCall) → Type 0
+  CalledTable call reply_for old result new =
+      CalledToWrite table_step lock old_draws new_draws call (λ ticket. recorded_call.Table (call ticket)) table_told reply_for old result new
+
+  -- `rows`
+  abbrev pub AskedForRows : PassView Standing (Event TableCall) → Result (Recorded (List Row)) RowsError → PassView Standing (Event TableCall) → Type 0
+  AskedForRows old (Ok asked) new = AsksFor table_step lock old_draws new_draws (λ table _ rows. rows ≡ table.rows) (λ _. recorded_call.Rows) told.Rows old asked new
+  AskedForRows old (Err Spent) new = WasSpent old_draws new_draws old new
+  AskedForRows old (Err NoMemory) new = (ticket : ℕ) × Asks table_step lock old_draws new_draws (λ _ _ _. Unit {0}) old ticket (tt {0}) new
+
+-- `committed`, which draws no ticket: a copy of the assignment that is committed in the replay of what is seen then
+abbrev pub AskedForCommitted : {E : Type 0} → Lock Standing → PassView Standing (Event TableCall) → Result (Option Slicing) E → PassView Standing (Event TableCall) → Type 0
+AskedForCommitted lock old result new =
+    (late : PassView Standing (Event TableCall)) × HasWaited lock old late × Shared table_step lock (λ table answer. IfOk answer (λ assignment. assignment ≡ table.committed)) late result new
+
+-- a call that may change a slicelet
+abbrev pub CalledSlicelet : {A : Type 0} → Lock History → TicketPassView → TicketPassView → (ℕ → SliceletCall) → (A → SliceletReply)
+    → PassView History (Event SliceletCall) → Result A (CallError SliceletError) → PassView History (Event SliceletCall) → Type 0
+CalledSlicelet lock old_draws new_draws call reply_for old result new =
+    CalledToWrite slicelet_step lock old_draws new_draws call (λ ticket. recorded_call.Task lock.opened.machine.task (call ticket)) slicelet_told reply_for old result new
+
+-- a call that may change a clerk
+abbrev pub CalledClerk : {A : Type 0} → NumberedClerk → TicketPassView → TicketPassView → ClerkCall → (A → ClerkReply)
+    → PassView (Option Slicing) (Event ClerkCall) → Result A (CallError ClerkError) → PassView (Option Slicing) (Event ClerkCall) → Type 0
+CalledClerk clerk old_draws new_draws call reply_for old result new =
+    CalledToWrite clerk_step clerk.lock old_draws new_draws (λ _. call) (λ _. recorded_call.Clerk clerk.number call) clerk_told reply_for old result new

@@ -1,0 +1,17 @@
+//! What workers call inside their shared calls.
+
+use std::sync::Wait;
+
+/// What each worker calls inside its shared call, after it drew its ticket and while its lane is held.
+pub trait Gate {
+    /// Called by the worker with this number for its ask of this number, which drew this ticket.
+    fn inside<R: Wait>(&self, rt: &R, worker: u32, ask: u32, ticket: u64);
+}
+
+/// A gate that does nothing.
+#[derive(Clone, Copy, Debug)]
+pub struct OpenGate;
+
+impl Gate for OpenGate {
+    fn inside<R: Wait>(&self, _rt: &R, _worker: u32, _ask: u32, _ticket: u64) {}
+}

@@ -1,0 +1,461 @@
+//! A task's slicelet that threads share.
+
+ghost use Rattle.std.specs.Prelude.{◌≡◌, ℕ, ◌<◌, true, false, IfOk, OnOk, IfErr, if◌then◌else◌, vec_len};
+ghost use Rattle.history_lock.specs.Closing.{has_lane, IsWhole};
+ghost use Rattle.history_lock.specs.Passes.{AreNewFrom, ArePassesOf, IsPassOf, is_allowed};
+ghost use Rattle.history_lock.specs.declared.error.NewLockError.TheVariants as new_lock_error;
+ghost use Rattle.slicelet.specs.Continuity.{handle_on, held_by, IsChecked};
+ghost use Rattle.slicelet.specs.Rules.{rule_after, covers_key};
+ghost use Rattle.slicelet.specs.Steps.{event_step, opening};
+ghost use Rattle.slicelet.specs.declared.call.SliceletCall.TheVariants as slicelet_call;
+ghost use Rattle.slicelet.specs.declared.call.SliceletReply.TheVariants as slicelet_reply;
+ghost use Rattle.world.specs.Tickets.{DrawsFrom};
+ghost use Rattle.world.specs.declared.record.RecordedCall.TheVariants as recorded_call;
+ghost use Rattle.world.specs.declared.record.Told.TheVariants as told;
+ghost use Rattle.live_service.specs.Readings.{reading_at, slicelet_call_at};
+ghost use Rattle.live_service.specs.Calls.{CalledToAsk, AsksFor, AsksAtOnceFor, TriedToAsk};
+ghost use Rattle.live_service.specs.Objects.{CalledSlicelet, check_told, hold_told};
+
+use crate::ask::{Ask, read, read_gated, try_read};
+use crate::calls::UNREAD;
+use crate::error::{CallError, NotClosed, Recorded, TryError};
+use crate::gate::{Gate, OpenGate};
+use crate::replies::note_of;
+use crate::when::When;
+use crate::write::write;
+use assignment::TaskId;
+use history_lock::{Closed, LaneLock, NewLockError, Pass};
+use key_handle::KeyHandle;
+use key_hash::SliceKey;
+use lease_table::{Grant, ReleaseNote};
+use policy_rules::{Ground, Kind, Verdict};
+use slicelet::{Slicelet, SliceletCall, SliceletError, SliceletReply, Stranger};
+use std::alloc::Global;
+use std::marker::Model;
+use std::sync::Wait;
+use world::{CallRecord, RecordedCall, Refusal, Spent, Ticket, TicketPass, Told};
+
+/// The slicelet of a task under a lock of its own. Contracts see the lock.
+#[derive(Drop)]
+pub struct SharedSlicelet {
+    task: TaskId,
+    lock: LaneLock<Slicelet>,
+}
+
+impl Model for SharedSlicelet {
+    ghost use Rattle.std.specs.Prelude.{◌≡◌};
+    ghost use Rattle.history_lock.specs.Passes.{Lock};
+    ghost use Rattle.slicelet.specs.Steps.{History};
+
+    ghost Value = { Lock History };
+
+    ghost view = { λ s. s.lock };
+
+    ghost invariant = { λ s. s.lock.opened.machine.task ≡ s.task };
+}
+
+// Whether the task may serve a key.
+#[derive(Clone, Copy)]
+struct AskServe {
+    key: SliceKey,
+    when: When,
+}
+
+impl Ask<Slicelet> for AskServe {
+    type Answer = Verdict;
+
+    ghost use Rattle.slicelet.specs.Rules.{rule_after, covers_key};
+    ghost use Rattle.live_service.specs.Readings.{reading_at};
+
+    ghost answers = { λ question slicelet ticket answer. answer ≡ rule_after (covers_key question.key) slicelet.calls (reading_at question.when ticket) };
+
+    fn ask(&self, slicelet: &Slicelet, ticket: u64) -> Verdict {
+        slicelet.serve(self.key, self.when.reading(ticket))
+    }
+}
+
+// A handle on a key.
+#[derive(Clone, Copy)]
+struct AskHold {
+    key: SliceKey,
+    when: When,
+}
+
+impl Ask<Slicelet> for AskHold {
+    type Answer = Result<KeyHandle, Ground>;
+
+    ghost use Rattle.slicelet.specs.Continuity.{handle_on, held_by};
+    ghost use Rattle.slicelet.specs.Rules.{rule_after, covers_key};
+    ghost use Rattle.live_service.specs.Readings.{reading_at};
+
+    ghost answers = { λ question slicelet ticket answer. answer ≡ held_by (rule_after (covers_key question.key) slicelet.calls (reading_at question.when ticket)) (handle_on question.key slicelet) };
+
+    fn ask(&self, slicelet: &Slicelet, ticket: u64) -> Result<KeyHandle, Ground> {
+        slicelet.hold(self.key, self.when.reading(ticket))
+    }
+}
+
+// Whether a handle is continuous.
+#[derive(Clone, Copy)]
+struct AskCheck {
+    handle: KeyHandle,
+    when: When,
+}
+
+impl Ask<Slicelet> for AskCheck {
+    type Answer = Result<bool, Stranger>;
+
+    ghost use Rattle.slicelet.specs.Continuity.{IsChecked};
+    ghost use Rattle.live_service.specs.Readings.{reading_at};
+
+    ghost answers = { λ question slicelet ticket answer. IsChecked slicelet question.handle (reading_at question.when ticket) answer };
+
+    fn ask(&self, slicelet: &Slicelet, ticket: u64) -> Result<bool, Stranger> {
+        slicelet.continuous(&self.handle, self.when.reading(ticket))
+    }
+}
+
+impl SharedSlicelet {
+    /// The slicelet of a task before its first call, and a pass for each lane of its lock, of lane 0 first.
+    ///
+    /// Its history is to have `limit` entries at the most. It is refused with [`NewLockError::Lanes`]
+    /// where `lanes` is not 1 to 8 or `limit` not 1 to 65,536, and then for want of memory.
+    pub fn new(
+        alloc: Global,
+        task: TaskId,
+        lanes: u64,
+        limit: usize,
+    ) -> Result<(SharedSlicelet, Vec<Pass<Slicelet>>), NewLockError>
+        ensures opened { IfOk result (λ made. (made.0.opened ≡ record { machine = opening task; lanes = lanes; limit = limit })
+            × (vec_len made.1 ≡ lanes) × AreNewFrom 0 made.0 made.1.items) }
+        ensures accepted { OnOk result (is_allowed lanes limit ≡ true) }
+        ensures refused { IfErr result (λ e. e ≡ (if is_allowed lanes limit then new_lock_error.NoMemory else new_lock_error.Lanes)) }
+    {
+        match LaneLock::new(alloc, Slicelet::new(alloc, task), lanes, limit) {
+            Ok((lock, passes)) => Ok((SharedSlicelet { task, lock }, passes)),
+            Err(error) => Err(error),
+        }
+    }
+
+    /// Starts a life of the task.
+    ///
+    /// Refused as [`CallError`] says; the slicelet refuses by `OldLife`, `ClockBack` and `HistoryFull`.
+    pub fn start<R: Wait>(
+        &self,
+        rt: &R,
+        ticket: &Ticket,
+        pass: &mut Pass<Slicelet>,
+        draws: &mut TicketPass,
+        life: u32,
+        when: When,
+    ) -> Result<(), CallError<SliceletError>>
+        requires own { IsPassOf self.now pass.old }
+        requires draws { DrawsFrom ticket.now draws.old }
+        ensures own { IsPassOf self.now pass.new }
+        ensures draws { DrawsFrom ticket.now draws.new }
+        ensures answer { CalledSlicelet self.now draws.old draws.new (λ number. slicelet_call.Start life (reading_at when number)) (λ _. slicelet_reply.Started) pass.old result pass.new }
+    {
+        let call = SliceletCall::Start { life, at: UNREAD };
+        match self.call(rt, ticket, pass, draws, call, when) {
+            Ok(_) => Ok(()),
+            Err(error) => Err(error),
+        }
+    }
+
+    /// Hears a grant: its lease takes the place of the one of its kind.
+    ///
+    /// Refused as [`CallError`] says; the slicelet refuses by `NotStarted`, `ClockBack`, `OtherTask`,
+    /// `OtherLife`, `Old`, `TooLate` and `HistoryFull`.
+    pub fn hear<R: Wait>(
+        &self,
+        rt: &R,
+        ticket: &Ticket,
+        pass: &mut Pass<Slicelet>,
+        draws: &mut TicketPass,
+        grant: Grant,
+        when: When,
+    ) -> Result<(), CallError<SliceletError>>
+        requires own { IsPassOf self.now pass.old }
+        requires draws { DrawsFrom ticket.now draws.old }
+        ensures own { IsPassOf self.now pass.new }
+        ensures draws { DrawsFrom ticket.now draws.new }
+        ensures answer { CalledSlicelet self.now draws.old draws.new (λ number. slicelet_call.Hear grant (reading_at when number)) (λ _. slicelet_reply.Heard) pass.old result pass.new }
+    {
+        let call = SliceletCall::Hear { grant, at: UNREAD };
+        match self.call(rt, ticket, pass, draws, call, when) {
+            Ok(_) => Ok(()),
+            Err(error) => Err(error),
+        }
+    }
+
+    /// Gives up the lease of a kind, and answers the note of it.
+    ///
+    /// Refused as [`CallError`] says; the slicelet refuses by `NotStarted`, `ClockBack`, `NothingHeld` and
+    /// `HistoryFull`.
+    pub fn release<R: Wait>(
+        &self,
+        rt: &R,
+        ticket: &Ticket,
+        pass: &mut Pass<Slicelet>,
+        draws: &mut TicketPass,
+        kind: Kind,
+        when: When,
+    ) -> Result<ReleaseNote, CallError<SliceletError>>
+        requires own { IsPassOf self.now pass.old }
+        requires draws { DrawsFrom ticket.now draws.old }
+        ensures own { IsPassOf self.now pass.new }
+        ensures draws { DrawsFrom ticket.now draws.new }
+        ensures answer { CalledSlicelet self.now draws.old draws.new (λ number. slicelet_call.Release kind (reading_at when number)) slicelet_reply.Released pass.old result pass.new }
+    {
+        let call = SliceletCall::Release { kind, at: UNREAD };
+        match self.call(rt, ticket, pass, draws, call, when) {
+            Ok(reply) => Ok(note_of(reply)),
+            Err(error) => Err(error),
+        }
+    }
+
+    /// Whether the task may serve a key at a reading of its clock, in ticks. Refused where the ticket pass is
+    /// spent.
+    pub fn serve<R: Wait>(
+        &self,
+        rt: &R,
+        ticket: &Ticket,
+        pass: &mut Pass<Slicelet>,
+        draws: &mut TicketPass,
+        key: SliceKey,
+        when: When,
+    ) -> Result<Recorded<Verdict>, Spent>
+        requires own { IsPassOf self.now pass.old }
+        requires draws { DrawsFrom ticket.now draws.old }
+        ensures own { IsPassOf self.now pass.new }
+        ensures draws { DrawsFrom ticket.now draws.new }
+        ensures answer { CalledToAsk draws.old draws.new
+            (AsksFor event_step self.now draws.old draws.new (λ slicelet number answer. answer ≡ rule_after (covers_key key) slicelet.calls (reading_at when number))
+            (λ number. recorded_call.Serve self.now.opened.machine.task key (reading_at when number)) told.Verdict)
+            pass.old result pass.new }
+    {
+        self.serve_gated(rt, ticket, pass, draws, key, when, &OpenGate, 0, 0)
+    }
+
+    /// [`Self::serve`] by a worker, which calls the gate for its ask of this number once it drew its ticket,
+    /// while its lane is held.
+    pub fn serve_gated<R: Wait, G: Gate>(
+        &self,
+        rt: &R,
+        ticket: &Ticket,
+        pass: &mut Pass<Slicelet>,
+        draws: &mut TicketPass,
+        key: SliceKey,
+        when: When,
+        gate: &G,
+        worker: u32,
+        number: u32,
+    ) -> Result<Recorded<Verdict>, Spent>
+        requires own { IsPassOf self.now pass.old }
+        requires draws { DrawsFrom ticket.now draws.old }
+        ensures own { IsPassOf self.now pass.new }
+        ensures draws { DrawsFrom ticket.now draws.new }
+        ensures answer { CalledToAsk draws.old draws.new
+            (AsksFor event_step self.now draws.old draws.new (λ slicelet number answer. answer ≡ rule_after (covers_key key) slicelet.calls (reading_at when number))
+            (λ number. recorded_call.Serve self.now.opened.machine.task key (reading_at when number)) told.Verdict)
+            pass.old result pass.new }
+    {
+        let question = AskServe { key, when };
+        let (drawn, answer) = read_gated(
+            rt, &self.lock, ticket, pass, draws, &question, gate, worker, number,
+        )?;
+        Ok(self.served(key, when, drawn, answer))
+    }
+
+    /// [`Self::serve`] that does not wait: refused where the ticket pass is spent, and then where a lane is held.
+    pub fn try_serve(
+        &self,
+        ticket: &Ticket,
+        pass: &mut Pass<Slicelet>,
+        draws: &mut TicketPass,
+        key: SliceKey,
+        when: When,
+    ) -> Result<Recorded<Verdict>, TryError>
+        requires own { IsPassOf self.now pass.old }
+        requires draws { DrawsFrom ticket.now draws.old }
+        ensures own { IsPassOf self.now pass.new }
+        ensures draws { DrawsFrom ticket.now draws.new }
+        ensures answer { TriedToAsk event_step self.now draws.old draws.new
+            (AsksAtOnceFor event_step self.now draws.old draws.new (λ slicelet number answer. answer ≡ rule_after (covers_key key) slicelet.calls (reading_at when number))
+            (λ number. recorded_call.Serve self.now.opened.machine.task key (reading_at when number)) told.Verdict)
+            pass.old result pass.new }
+    {
+        let question = AskServe { key, when };
+        let (drawn, answer) = try_read(&self.lock, ticket, pass, draws, &question)?;
+        Ok(self.served(key, when, drawn, answer))
+    }
+
+    /// A handle on a key, where the task may serve it at a reading of its clock, in ticks; else the reason why it
+    /// may not. Refused where the ticket pass is spent.
+    pub fn hold<R: Wait>(
+        &self,
+        rt: &R,
+        ticket: &Ticket,
+        pass: &mut Pass<Slicelet>,
+        draws: &mut TicketPass,
+        key: SliceKey,
+        when: When,
+    ) -> Result<Recorded<Result<KeyHandle, Ground>>, Spent>
+        requires own { IsPassOf self.now pass.old }
+        requires draws { DrawsFrom ticket.now draws.old }
+        ensures own { IsPassOf self.now pass.new }
+        ensures draws { DrawsFrom ticket.now draws.new }
+        ensures answer { CalledToAsk draws.old draws.new
+            (AsksFor event_step self.now draws.old draws.new
+            (λ slicelet number answer. answer ≡ held_by (rule_after (covers_key key) slicelet.calls (reading_at when number)) (handle_on key slicelet))
+            (λ number. recorded_call.Hold self.now.opened.machine.task key (reading_at when number)) hold_told)
+            pass.old result pass.new }
+    {
+        let question = AskHold { key, when };
+        let (drawn, answer) = read(rt, &self.lock, ticket, pass, draws, &question)?;
+        let step = RecordedCall::Hold {
+            task: self.task.number(),
+            key,
+            at: when.reading(drawn),
+        };
+        let reply = match &answer {
+            Ok(handle) => Told::Holding(*handle),
+            Err(why) => Told::Verdict(Verdict::Deny(*why)),
+        };
+        let record = CallRecord {
+            ticket: drawn,
+            step,
+            reply,
+        };
+        Ok(Recorded {
+            answer,
+            call: record,
+        })
+    }
+
+    /// Whether a handle is continuous at a reading of the task's clock, in ticks; `Stranger` where the slicelet
+    /// cannot have given it. Refused where the ticket pass is spent.
+    pub fn check<R: Wait>(
+        &self,
+        rt: &R,
+        ticket: &Ticket,
+        pass: &mut Pass<Slicelet>,
+        draws: &mut TicketPass,
+        handle: KeyHandle,
+        when: When,
+    ) -> Result<Recorded<Result<bool, Stranger>>, Spent>
+        requires own { IsPassOf self.now pass.old }
+        requires draws { DrawsFrom ticket.now draws.old }
+        ensures own { IsPassOf self.now pass.new }
+        ensures draws { DrawsFrom ticket.now draws.new }
+        ensures answer { CalledToAsk draws.old draws.new
+            (AsksFor event_step self.now draws.old draws.new
+            (λ slicelet number answer. IsChecked slicelet handle (reading_at when number) answer)
+            (λ number. recorded_call.Check self.now.opened.machine.task handle (reading_at when number)) check_told)
+            pass.old result pass.new }
+    {
+        let question = AskCheck { handle, when };
+        let (drawn, answer) = read(rt, &self.lock, ticket, pass, draws, &question)?;
+        Ok(self.checked(&question, drawn, answer))
+    }
+
+    /// Gives back the slicelet and the history of its calls, if the passes of all lanes are there.
+    ///
+    /// [`NotClosed`] hands the object and the passes back.
+    pub fn close(
+        self,
+        passes: Vec<Pass<Slicelet>>,
+    ) -> Result<Closed<Slicelet>, NotClosed<SharedSlicelet, Slicelet>>
+        requires { ArePassesOf self passes.items }
+        ensures closed { IfOk result (λ closed. IsWhole event_step self passes.items closed.machine closed.history) }
+        ensures accepted { OnOk result ((lane : ℕ) → lane < self.opened.lanes → has_lane lane passes.items ≡ true) }
+        ensures missing { IfErr result (λ back. (back.object ≡ self) × (back.passes.items ≡ passes.items)
+            × ((lane : ℕ) × (lane < self.opened.lanes) × (has_lane lane passes.items ≡ false))) }
+    {
+        let SharedSlicelet { task, lock } = self;
+        match lock.close(passes) {
+            Ok(closed) => Ok(closed),
+            Err(missing) => {
+                let (lock, passes) = missing.into_parts();
+                let object = SharedSlicelet { task, lock };
+                Err(NotClosed { object, passes })
+            }
+        }
+    }
+
+    // What is handed out of a key that was asked for.
+    fn served(&self, key: SliceKey, when: When, drawn: u64, answer: Verdict) -> Recorded<Verdict>
+        ensures answer { result.answer ≡ answer }
+        ensures ticket { result.call.ticket ≡ drawn }
+        ensures step { result.call.step ≡ recorded_call.Serve self.now.opened.machine.task key (reading_at when drawn) }
+        ensures reply { result.call.reply ≡ told.Verdict answer }
+    {
+        let step = RecordedCall::Serve {
+            task: self.task.number(),
+            key,
+            at: when.reading(drawn),
+        };
+        let record = CallRecord {
+            ticket: drawn,
+            step,
+            reply: Told::Verdict(answer),
+        };
+        Recorded {
+            answer,
+            call: record,
+        }
+    }
+
+    // What is handed out of a handle that was checked.
+    fn checked(
+        &self,
+        question: &AskCheck,
+        drawn: u64,
+        answer: Result<bool, Stranger>,
+    ) -> Recorded<Result<bool, Stranger>>
+        ensures answer { result.answer ≡ answer }
+        ensures ticket { result.call.ticket ≡ drawn }
+        ensures step { result.call.step ≡ recorded_call.Check self.now.opened.machine.task question.now.handle (reading_at question.now.when drawn) }
+        ensures reply { result.call.reply ≡ check_told answer }
+    {
+        let step = RecordedCall::Check {
+            task: self.task.number(),
+            handle: question.handle,
+            at: question.when.reading(drawn),
+        };
+        let reply = match &answer {
+            Ok(true) => Told::Continuous,
+            Ok(false) => Told::Broken,
+            Err(Stranger) => Told::Refused(Refusal::Stranger),
+        };
+        let record = CallRecord {
+            ticket: drawn,
+            step,
+            reply,
+        };
+        Recorded {
+            answer,
+            call: record,
+        }
+    }
+
+    // One write of a call of the slicelet.
+    fn call<R: Wait>(
+        &self,
+        rt: &R,
+        ticket: &Ticket,
+        pass: &mut Pass<Slicelet>,
+        draws: &mut TicketPass,
+        call: SliceletCall,
+        when: When,
+    ) -> Result<SliceletReply, CallError<SliceletError>>
+        requires own { IsPassOf self.now pass.old }
+        requires draws { DrawsFrom ticket.now draws.old }
+        ensures own { IsPassOf self.now pass.new }
+        ensures draws { DrawsFrom ticket.now draws.new }
+        ensures answer { CalledSlicelet self.now draws.old draws.new (λ number. slicelet_call_at (reading_at when number) call) (λ reply. reply) pass.old result pass.new }
+    {
+        let task = self.task.number();
+        write(rt, &self.lock, ticket, pass, draws, task, call, when)
+    }
+}

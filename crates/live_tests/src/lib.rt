@@ -1,0 +1,7 @@
+//! Tests of objects that threads share.
+#![tactic(auto)]
+
+#[cfg(test)]
+mod calls;
+#[cfg(test)]
+mod objects;
