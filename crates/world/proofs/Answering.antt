@@ -1,5 +1,5 @@
 -- What a layer below answers is what the step is answered.
-use Rattle.std.proofs.Common.{◌≡◌, ℕ, List, true, false, refl, sym, ◌∙◌, ap, subst, inl, inr}
+use Rattle.std.proofs.Common.{◌≡◌, ℕ, List, true, false, refl, sym, ◌∙◌, ap, inl, inr}
 use Rattle.std.specs.Prelude.{Option, Some, None, Result, Ok, Err, is_ok}
 use Rattle.machines.specs.Refusals.{unless_refused}
 use Rattle.lease_table.specs.Policies.{is_within}

@@ -130,10 +130,12 @@ pub data Outcome : Type 0 where
   Checked : Bool → Outcome
   Planned : Plan → Outcome
 
+-- whether a handle is continuous, by the outcome of its `check`; no reply rests on it where the step is another
 abbrev pub is_continuous_in : Outcome → Bool
 is_continuous_in (Checked kept) = kept
 is_continuous_in _ = false
 
+-- the plan, by the outcome of its `plan`; no reply rests on it where the step is another
 abbrev pub plan_in : Outcome → Plan
 plan_in (Planned plan) = plan
 plan_in _ = record { slices = []; moves = [] }

@@ -1,5 +1,5 @@
-use Rattle.std.proofs.Common.{◌≡◌, ℕ, List, [], ◌∷◌, refl, sym, ◌∙◌, ap, subst}
-use Rattle.std.specs.Prelude.{Option, Some, Ok, Err, Result}
+use Rattle.std.proofs.Common.{◌≡◌, ℕ, List, [], refl, sym, ◌∙◌, ap, subst}
+use Rattle.std.specs.Prelude.{Option, Some, Ok, Err}
 use Rattle.machines.specs.Answers.{Takes}
 use Rattle.machines.specs.Refusals.{first_of}
 use Rattle.assignment.specs.Slices.{Slicing}

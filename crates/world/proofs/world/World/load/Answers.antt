@@ -1,9 +1,9 @@
-use Rattle.std.proofs.Common.{◌≡◌, ℕ, ◌<◌, List, length, refl, sym, ◌∙◌, ap, subst}
-use Rattle.std.specs.Prelude.{Ok, Err, Result}
+use Rattle.std.proofs.Common.{◌≡◌, ℕ, ◌<◌, List, length, refl, sym, ap, subst}
+use Rattle.std.specs.Prelude.{Ok, Err}
 use Rattle.machines.specs.Answers.{Takes}
 use Rattle.machines.specs.Refusals.{first_of}
 use Rattle.key_hash.specs.Hash.{slice_key}
-use Rattle.load_ledger.specs.Shares.{Share, add_checks, add_step, with_record, share_total}
+use Rattle.load_ledger.specs.Shares.{Share, add_checks, add_step, with_record}
 use Rattle.world.specs.declared.reply.Refusal.TheVariants as refusal
 use Rattle.world.specs.declared.reply.Reply.TheVariants as reply
 use Rattle.world.specs.declared.step.Step.TheVariants as step

@@ -1,6 +1,5 @@
 use Rattle.std.proofs.Common.{◌≡◌, ◌∙◌, sym, ap, subst, refl}
-use Rattle.std.specs.Prelude.{Option, Some}
-use Rattle.assignment.specs.Slices.{Slicing}
+use Rattle.std.specs.Prelude.{Some}
 use Rattle.lease_table.specs.Policies.{Terms}
 use Rattle.weighted_move.specs.Policies.{Limits}
 use Rattle.weighted_move.specs.Plans.{CanPlan, IsPlan, plan_refusal}
