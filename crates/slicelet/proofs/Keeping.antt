@@ -20,10 +20,10 @@ use Rattle.slicelet.specs.Calls.{reading_of, is_started, last_reading, held, gre
 use Rattle.slicelet.specs.Rules.{covers_key, holding_after, is_permitted}
 use Rattle.slicelet.specs.Steps.{old_number, start_checks, hear_checks, release_checks}
 use Rattle.slicelet.specs.inside.State.{IsStateAfter, holding_of, lease_of_kind, with_lease, number_of_kind, with_number}
-use Rattle.slicelet.specs.inside.Stamping.{turns, stamp_of, serves}
+use Rattle.slicelet.specs.inside.Stamping.{turns, stamp_of, serves, Renews}
 use Rattle.slicelet.proofs.Accepting.{hear_accepted, release_accepted}
 use Rattle.slicelet.proofs.Seeing.{seen_holding}
-use Rattle.slicelet.proofs.Stamping.{length-turns}
+use Rattle.slicelet.proofs.Stamping.{length-turns, after_last, stamp_unchanged}
 use Rattle.slicelet.proofs.OwnLeases.{greatest_above, own_leases}
 
 -- the last call is the newest
@@ -40,6 +40,14 @@ serves_permitted key h at started l =
 serves_at_last : (holding : Holding) (kind : Kind) (lease : Option Lease) (key last at : ℕ) → serves (with_lease holding kind lease) key at ≡ serves (with_lease (record holding { last = last }) kind lease) key at
 serves_at_last holding Guard lease key last at = refl
 serves_at_last holding Bridge lease key last at = refl
+
+-- what is served now was permitted just after the newest call
+left_last : (key : ℕ) (h : List SliceletCall) (at : ℕ) → is_started h ≡ true → last_reading h ≤ at
+    → ((earlier : ℕ) → earlier ≤ at → serves (holding_of h) key earlier ≡ serves (holding_of h) key at) → after_last (turns (covers_key key) h) ≡ serves (holding_of h) key at
+left_last key [] at started l stays = absurd (cc)
+left_last key (c ∷ h) at started l stays =
+    let on_time : reading_of c ≤ reading_of c = omega arith in
+    sym (serves_permitted key (c ∷ h) (reading_of c) started on_time) ∙ stays (reading_of c) l
 
 -- the stamp after one call more
 abbrev pub IsRestamped : List SliceletCall → ℕ → Holding → Stamps → Type 0
@@ -130,6 +138,22 @@ module _ (task : ℕ) (h : List SliceletCall) (life : ℕ) (holding : Holding) (
       let before_is : has before key ≡ is_permitted (covers_key key) h at = (rw k.holds at (permits key)) ∙ ap (λ (s : SeenHolding). is_allowed (rule s at)) (seen_holding key h) in
       let after_is : has after key ≡ serves (with_lease (holding_of h) kind lease) key at = rw k.holds at (serve key) in
       is key ∙ restamped_same _ _ _ _ _ _ _ _ (k.stamped key) before_is after_is counted
+
+  -- after a `hear` of a lease that renews what is held, the stamps stay
+  pub keeps_renewed : (grant : Grant) (at : ℕ) → Renews holding (with_lease holding grant.lease.kind (Some grant.lease)) at → first_of (hear_checks (record { task = task; calls = h }) grant at) ≡ None
+      → IsStateAfter task (Hear grant at ∷ h) life (with_lease (record holding { last = at }) grant.lease.kind (Some grant.lease)) (with_number heard grant.lease.kind grant.number) stamps
+  keeps_renewed grant at renewed accepted = keeps_heard grant at stamps restamps accepted
+    where
+      renews : Renews (holding_of h) (with_lease (holding_of h) grant.lease.kind (Some grant.lease)) at
+      renews = rw k.holds at renewed
+
+      restamps : IsRestamped h at (with_lease (holding_of h) grant.lease.kind (Some grant.lease)) stamps
+      restamps key =
+          let hears = hear_accepted (record { task = task; calls = h }) grant at accepted in
+          let served = serves (holding_of h) key at in
+          let before : is_permitted (covers_key key) h at ≡ served = sym (serves_permitted key h at hears.started hears.in_order) in
+          k.stamped key ∙ stamp_unchanged (turns (covers_key key) h) served (length h + 1) (left_last key h at hears.started hears.in_order (renews.stays key))
+          ∙ sym (restamped_same (stamp_of (covers_key key) h) _ _ _ _ _ (length h + 1) _ refl before (renews.same key) refl)
 
   -- a held lease has the greatest number heard of its kind
   pub number_held : (kind : Kind) → is_some (lease_of_kind (holding_of h) kind) ≡ true → greatest_heard kind h ≡ option_map (λ (grant : Grant). grant.number) (held kind h)

@@ -20,7 +20,7 @@ kept n [] = true
 kept n (t ∷ h) = if nat_le n (length h) then t.0 && (t.1 && kept n h) else true
 
 -- whether the key was permitted just after the newest call
-abbrev after_last : List (Bool × Bool) → Bool
+abbrev pub after_last : List (Bool × Bool) → Bool
 after_last [] = false
 after_last (t ∷ h) = t.1
 
@@ -51,6 +51,17 @@ has_stamp [] e = absurd (cc)
 has_stamp ((before, false) ∷ h) e = absurd (cc)
 has_stamp ((false, true) ∷ h) e = record { stamp = length h + 1; is = refl; at_most = omega arith }
 has_stamp ((true, true) ∷ h) e = one h (stamp_after h) (any_stamp h)
+
+-- a key that the newest call left without permission has no stamp
+no_stamp : (h : List (Bool × Bool)) → after_last h ≡ false → stamp_after h ≡ None
+no_stamp [] e = refl
+no_stamp ((before, false) ∷ h) e = refl
+no_stamp ((before, true) ∷ h) e = absurd (cc)
+
+-- where permission is what the newest call left, the stamp stays
+pub stamp_unchanged : (h : List (Bool × Bool)) (permitted : Bool) (stamp : ℕ) → after_last h ≡ permitted → stamp_after h ≡ restamped (stamp_after h) permitted permitted stamp
+stamp_unchanged h false stamp e = no_stamp h e
+stamp_unchanged h true stamp e = let s = has_stamp h e in rw s.is refl
 
 -- a key with a stamp keeps it while it stays permitted
 stamp_stays : (n stamp : ℕ) (o : Option ℕ) (m : ℕ) → o ≡ Some stamp → is_up_to n (restamped o true true m) ≡ is_up_to n o

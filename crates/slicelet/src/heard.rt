@@ -1,9 +1,9 @@
 //! What a slicelet keeps of each kind of lease.
 
-ghost use Rattle.std.specs.Prelude.{◌≡◌, ℕ, None, is_some, IfOk};
+ghost use Rattle.std.specs.Prelude.{◌≡◌, ℕ, true, Some, None, is_some, IfOk};
 ghost use Rattle.slice_ranges.specs.Sets.{has};
 ghost use Rattle.slicelet.specs.inside.State.{lease_of_kind, with_lease, number_of_kind, with_number};
-ghost use Rattle.slicelet.specs.inside.Stamping.{serves};
+ghost use Rattle.slicelet.specs.inside.Stamping.{serves, Stays, IsRenewed, Renews};
 
 use policy_rules::{Holding, Kind, Lease, live_keys};
 use slice_ranges::Ranges;
@@ -101,5 +101,37 @@ pub fn live_keys_with(
     match kind {
         Kind::Guard => live_keys(alloc, lease, &holding.bridge, at),
         Kind::Bridge => live_keys(alloc, &holding.guard, lease, at),
+    }
+}
+
+/// Whether a lease that is heard at a reading covers the same keys as the one of its kind that is held, and all
+/// that is held is live: then the keys that may be served stay what they are.
+pub fn renews(holding: &Holding, lease: &Lease, at: u64) -> bool
+    ensures { result ≡ true → Renews holding.now (with_lease holding.now lease.now.kind (Some lease.now)) at }
+{
+    let (held, other) = match lease.kind {
+        Kind::Guard => (&holding.guard, &holding.bridge),
+        Kind::Bridge => (&holding.bridge, &holding.guard),
+    };
+    is_renewed(held, lease, at) && is_none_or_live(other, at)
+}
+
+// Whether a held lease and another one are live, and cover the same keys.
+fn is_renewed(held: &Option<Lease>, lease: &Lease, at: u64) -> bool
+    ensures { result ≡ true → IsRenewed at held.now lease.now }
+{
+    match held {
+        Some(held) => held.is_live(at) && lease.is_live(at) && held.ranges == lease.ranges,
+        None => false,
+    }
+}
+
+// Whether a lease, if it is held, is live.
+fn is_none_or_live(held: &Option<Lease>, at: u64) -> bool
+    ensures { result ≡ true → Stays at held.now }
+{
+    match held {
+        Some(lease) => lease.is_live(at),
+        None => true,
     }
 }

@@ -15,7 +15,7 @@ ghost use Rattle.slicelet.specs.Steps.{opening, not_started, clock_back, history
 
 use crate::call::SliceletCall;
 use crate::error::{SliceletError, Stranger};
-use crate::heard::{HeardNumbers, holds, live_keys_with, no_leases, put_lease};
+use crate::heard::{HeardNumbers, holds, live_keys_with, no_leases, put_lease, renews};
 use assignment::TaskId;
 use key_handle::{KeyHandle, Stamped};
 use key_hash::SliceKey;
@@ -98,13 +98,19 @@ impl Slicelet {
             at,
         };
         let lease = Some(grant.lease.copy()?);
-        let stamps = self.restamped(grant.lease.kind, &lease, at)?;
+        let stamps = if renews(&self.holding, &grant.lease, at) {
+            None
+        } else {
+            Some(self.restamped(grant.lease.kind, &lease, at)?)
+        };
         self.calls.reserve(1)?;
         self.calls.push_reserved(call);
         self.holding.last = at;
         put_lease(&mut self.holding, grant.lease.kind, lease);
         self.heard = self.heard.with(grant.lease.kind, grant.number);
-        self.stamps = stamps;
+        if let Some(stamps) = stamps {
+            self.stamps = stamps;
+        }
         Ok(())
     }
 

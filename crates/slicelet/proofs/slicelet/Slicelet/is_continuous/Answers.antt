@@ -1,5 +1,5 @@
-use Rattle.std.proofs.Common.{◌≡◌, true, false, refl, sym, ◌∙◌}
-use Rattle.slicelet.specs.Rules.{covers_key, is_permitted}
+use Rattle.std.proofs.Common.{true, false, refl, sym, ◌∙◌}
+use Rattle.slicelet.specs.Rules.{covers_key}
 use Rattle.slicelet.proofs.Stamping.{continuous_as_stamped}
 use Rattle.slicelet.proofs.slicelet.Slicelet.is_continuous.Goals as goal
 

@@ -1,4 +1,4 @@
-use Rattle.std.proofs.Common.{◌≡◌, ℕ, ◌+◌, ◌∙◌, length, ap, sym}
+use Rattle.std.proofs.Common.{ℕ, ◌+◌, ap, sym}
 use Rattle.slicelet.proofs.Keeping.{restamped_next}
 use Rattle.slicelet.proofs.slicelet.Slicelet.restamped.Goals as goal
 
