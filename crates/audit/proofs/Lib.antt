@@ -1,0 +1,4 @@
+pub mod Rising
+pub mod Turning
+pub mod Clocking
+pub mod Staging
