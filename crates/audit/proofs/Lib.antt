@@ -2,3 +2,4 @@ pub mod Rising
 pub mod Turning
 pub mod Clocking
 pub mod Staging
+pub mod Comparing

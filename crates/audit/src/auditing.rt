@@ -203,8 +203,7 @@ pub fn audit(
     if let Some((ticket, why)) = misfit(alloc, *job, &points)? {
         return Ok(Audit::No { ticket, why });
     }
-    Ok(Audit::One {
-        steps: points.len() as u64,
-        timely: is_timely(&points, job.policy().skew()),
-    })
+    let steps = points.len() as u64;
+    let timely = is_timely(&points, job.policy().skew());
+    Ok(Audit::One { steps, timely })
 }
