@@ -14,3 +14,9 @@ returns-in-Some c =
     let two = doubled (λ (s : Turn). s.ticket) shown c.in_ok-points.points.items at.0 t at.1 at.2 in
     let same = sum_by-IsPermutation (λ (s : Turn). cond (s.ticket == t) 1 0) (all_turns (evidence c.args.table.now c.args.tasks.now c.args.clerks.now c.args.records.now)) (map shown c.in_ok-points.points.items) c.in_ok-points.ensures.each in
     omega (arith, two, same)
+
+pub returns-in-Some-2 : goal.returns-in-Some-2
+returns-in-Some-2 c = ?
+
+pub returns : goal.returns
+returns c = ?
