@@ -31,5 +31,6 @@ found_decides a b = (equal, λ e. rw e (alike b))
         let generation = eqb-true a.generation b.generation parts.0 in
         let owners = (bytes_decides a.owners.items b.owners.items).0 parts.1 in
         λ i. record { generation = generation i; owners = record { items = owners i } }
+
     alike : (f : Found) → (nat_eq f.generation f.generation && pointwise nat_eq f.owners.items f.owners.items) ≡ true
     alike f = let g = nat_eq_equiv.refl f.generation in let o = nat_list_eq_equiv.refl f.owners.items in λ i. g i && o i

@@ -1,10 +1,11 @@
 -- What calls leave at a stage.
-use Rattle.std.proofs.Common.{◌≡◌, ℕ, zero, suc, ◌+◌, ◌-◌, ◌<◌, ◌≤◌, Bool, true, false, List, [], ◌∷◌, length, refl, sym, ◌∙◌, ap, subst, arith}
+use Rattle.std.proofs.Common.{◌≡◌, ℕ, zero, suc, ◌+◌, ◌-◌, ◌<◌, Bool, true, false, List, [], ◌∷◌, ◌++◌, map, length, refl, sym, ◌∙◌, ap, subst, arith}
 use Rattle.std.specs.Prelude.{◌==◌, nat_le, slice_get, Option, Some, None, Result, Ok, Err}
-use Rattle.std.specs.List.{list_any}
+use Rattle.std.specs.List.{list_any, range_with_len}
 use Rattle.std.proofs.Math.ListN.{set, get_or}
 use Rattle.std.proofs.lemmas.Bool.Decides.{nat_tests}
 use Rattle.std.proofs.lemmas.List.{set-get_or, get_or_default}
+use Rattle.std.proofs.lemmas.List.FromFn.{map-range_with_len_more}
 use Rattle.std.proofs.lemmas.Option.{slice_get-get_or, slice_get_past}
 use Rattle.assignment.specs.Slices.{Slicing}
 use Rattle.lease_table.specs.Policies.{is_within}
@@ -24,6 +25,13 @@ use Rattle.world.specs.declared.reply.Refusal.TheVariants as refusal
 use Rattle.world.specs.declared.record.Told.TheVariants as told
 use Rattle.world.specs.Told.{numbered}
 use Rattle.audit.specs.Stages.{Stage, Turned, by, unless, refused, notes_with, task_refusal, task_took, task_turn, clerk_refusal, clerk_took, clerk_turn, same_handle, checked, IsCheckBy, IsCheckTurn}
+
+-- one actor more
+pub one_more : {A : Type 0} (f : ℕ → A) (many : ℕ) (before new : List A) (a : A) → before ≡ map f (range_with_len 1 many) → a ≡ f (many + 1) → new ≡ before ++ a ∷ []
+    → new ≡ map f (range_with_len 1 (many + 1))
+one_more {A} f many before new a so_far is pushed =
+    let next : 1 + many ≡ many + 1 = omega arith in
+    pushed ∙ ap (λ (xs : List A). xs ++ a ∷ []) so_far ∙ ap (λ (x : A). map f (range_with_len 1 many) ++ x ∷ []) is ∙ sym (map-range_with_len_more f 1 many (many + 1) next)
 
 numbered_at : {A : Type 0} (n : ℕ) (xs : List A) → numbered (suc n) xs ≡ slice_get xs n
 numbered_at n xs =

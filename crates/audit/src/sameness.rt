@@ -3,14 +3,13 @@
 ghost use Rattle.std.specs.Prelude.{◌≡◌, ◌≢◌, MatchBool};
 ghost use Rattle.world.specs.declared.record.Told.TheVariants as answer;
 
-use world::{Refusal, Told};
-
 use assignment::Listed;
 use clerk::{ClerkReply, Found};
 use key_handle::KeyHandle;
 use lease_table::{Phase, Row, TableReply};
 use policy_rules::Verdict;
 use slicelet::SliceletReply;
+use world::{Refusal, Told};
 
 fn is_reply_of_table(reply: &TableReply, other: &TableReply) -> bool
     ensures { MatchBool result (other.now ≡ reply.now) (other.now ≢ reply.now) }

@@ -1,4 +1,4 @@
-use Rattle.std.proofs.Common.{◌≡◌, ℕ, ◌==◌, arith, sym, subst, ◌∙◌, cond, map, length, List}
+use Rattle.std.proofs.Common.{◌≡◌, ◌==◌, arith, subst, ◌∙◌, cond, map, length, List}
 use Rattle.std.proofs.lemmas.List.{length-map}
 use Rattle.std.proofs.lemmas.List.Sorted.{sum_by-IsPermutation}
 use Rattle.audit.specs.declared.points.Point.{Point}

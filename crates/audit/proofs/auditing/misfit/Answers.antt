@@ -1,7 +1,7 @@
-use Rattle.std.proofs.Common.{◌≡◌, List, map, subst}
+use Rattle.std.proofs.Common.{List, map, subst}
 use Rattle.std.proofs.lemmas.List.{take_all}
 use Rattle.audit.specs.declared.points.Point.{Point}
-use Rattle.audit.specs.Stages.{Stage, first_stage}
+use Rattle.audit.specs.Stages.{first_stage}
 use Rattle.audit.specs.OneRun.{IsRunFrom}
 use Rattle.audit.specs.Shown.{shown}
 use Rattle.audit.proofs.Turning.{replayed_more, breaks_here}

@@ -1,4 +1,4 @@
-use Rattle.std.proofs.Common.{◌≡◌, List, All, sym, subst, ◌∙◌}
+use Rattle.std.proofs.Common.{List, All, subst, ◌∙◌}
 use Rattle.std.proofs.lemmas.List.{take_all}
 use Rattle.std.proofs.lemmas.List.Elements.{All-more}
 use Rattle.audit.specs.OneRun.{Entries, Rises, ticket_of}

@@ -1,4 +1,4 @@
-use Rattle.std.proofs.Common.{◌≡◌, ◌∙◌, sym}
+use Rattle.std.proofs.Common.{◌∙◌, sym}
 use Rattle.audit.specs.Shown.{shown}
 use Rattle.audit.specs.declared.points.Point.{Point}
 use Rattle.audit.proofs.Rising.{twice_at, rises_on}

@@ -1,14 +1,10 @@
-use Rattle.std.proofs.Common.{rules, ◌≡◌, ℕ, ◌+◌, List, [], ◌∷◌, ◌++◌, map, sym, ◌∙◌, ap, arith}
+use Rattle.std.proofs.Common.{ℕ}
 use Rattle.std.specs.Prelude.{Option, None}
-use Rattle.std.specs.List.{range_with_len}
-use Rattle.std.proofs.lemmas.List.FromFn.{map-range_with_len_more}
 use Rattle.assignment.specs.Slices.{Slicing}
+use Rattle.audit.proofs.Staging.{one_more}
 use Rattle.audit.proofs.replay.clerks_of.Goals as goal
 
 pub loop-place-preserved : goal.loop-place-preserved
 loop-place-preserved c =
     let f : ℕ → Option Slicing = λ n. None in
-    let new : c.new.result ≡ f (c.loop-place._place + 1) = search rules in
-    let next : 1 + c.loop-place._place ≡ c.loop-place._place + 1 = omega arith in
-    c.in_ok-push.ensures.items ∙ ap (λ (cs : List (Option Slicing)). cs ++ c.new.result ∷ []) c.loop-place.invariant
-    ∙ ap (λ (clerk : Option Slicing). map f (range_with_len 1 c.loop-place._place) ++ clerk ∷ []) new ∙ sym (map-range_with_len_more f 1 c.loop-place._place (c.loop-place._place + 1) next)
+    one_more f c.loop-place._place c.loop-place.clerks.items c.push.new.self.items c.new.result c.loop-place.invariant c.new.ensures c.in_ok-push.ensures.items

@@ -32,14 +32,14 @@ returns c =
     let inside : c.in-Some.place < length before.clerks = (let low = c.in-Some.ensures.1 in let many = c.len.ensures in let e = c.self.inside.clerks.ok.0 in omega arith) in
     let left : Stage = record before { clerks = set before.clerks c.in-Some.place c.call_clerk.new.clerk } in
     elim c.match-call_clerk.branch [
-      in-Ok w ↦
-        rw w.result-is
-        (subst (λ (s : Stage). let t : Turned = (left, told.Clerk w.in-Ok.reply) in t ≡ clerk_turn s c.args.clerk c.args.call.now) is
-        (clerk_done before c.args.clerk c.in-Some.place c.index_mut.result.now c.in-Some.ensures.0 inside c.index_mut.ensures.value c.args.call.now c.call_clerk.new.clerk w.in-Ok.reply sent w.in-Ok.ensures))
-    | in-Err-Refused w ↦
-        let x = rw w.in-Err-Refused.field-0-is at w.in-Err-Refused.ensures in
-        rw w.result-is
-        (subst (λ (s : Stage). let t : Turned = (left, told.Refused (refusal.Clerk w.in-Err-Refused.why)) in t ≡ clerk_turn s c.args.clerk c.args.call.now) is
-        (clerk_kept before c.args.clerk c.in-Some.place c.index_mut.result.now c.in-Some.ensures.0 inside c.index_mut.ensures.value c.args.call.now c.call_clerk.new.clerk w.in-Err-Refused.why sent x.0 x.1))
-    | in-Err-NoMemory w ↦ rw w.result-is tt
+      | in-Ok w ↦
+          rw w.result-is
+          (subst (λ (s : Stage). let t : Turned = (left, told.Clerk w.in-Ok.reply) in t ≡ clerk_turn s c.args.clerk c.args.call.now) is
+          (clerk_done before c.args.clerk c.in-Some.place c.index_mut.result.now c.in-Some.ensures.0 inside c.index_mut.ensures.value c.args.call.now c.call_clerk.new.clerk w.in-Ok.reply sent w.in-Ok.ensures))
+      | in-Err-Refused w ↦
+          let x = rw w.in-Err-Refused.field-0-is at w.in-Err-Refused.ensures in
+          rw w.result-is
+          (subst (λ (s : Stage). let t : Turned = (left, told.Refused (refusal.Clerk w.in-Err-Refused.why)) in t ≡ clerk_turn s c.args.clerk c.args.call.now) is
+          (clerk_kept before c.args.clerk c.in-Some.place c.index_mut.result.now c.in-Some.ensures.0 inside c.index_mut.ensures.value c.args.call.now c.call_clerk.new.clerk w.in-Err-Refused.why sent x.0 x.1))
+      | in-Err-NoMemory w ↦ rw w.result-is tt
     ]
