@@ -21,6 +21,7 @@ mod values;
 mod world;
 
 pub use crate::world::World;
+pub use actors::numbered;
 pub use job::{Job, MOST_ASSIGNERS, MOST_CLERKS};
 pub use judge::{Question, WrittenLease};
 pub use laws::{

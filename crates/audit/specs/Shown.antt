@@ -1,0 +1,25 @@
+-- The turn that a point shows.
+use Rattle.std.specs.Prelude.{List, Option, Some, None}
+use denote.Ref.{Bor}
+use Rattle.lease_table.specs.declared.call.TableCall.{TableCall}
+use Rattle.slicelet.specs.declared.call.SliceletCall.{SliceletCall}
+use Rattle.clerk.specs.declared.call.ClerkCall.{ClerkCall}
+use Rattle.world.specs.declared.record.RecordedCall.TheVariants as call
+use Rattle.world.specs.declared.record.CallRecord.{CallRecord}
+use Rattle.world.specs.declared.record.Told.{Told}
+use Rattle.audit.specs.declared.points.Point.{Point}
+use Rattle.audit.specs.declared.points.Point.TheVariants as point
+use Rattle.audit.specs.OneRun.{Entries, Evidence, Turn}
+
+abbrev pub shown : Point → Turn
+shown (point.Table e) = record { ticket = e.now.ticket; call = call.Table e.now.call; told = None }
+shown (point.Task task e) = record { ticket = e.now.ticket; call = call.Task task e.now.call; told = None }
+shown (point.Clerk clerk e) = record { ticket = e.now.ticket; call = call.Clerk clerk e.now.call; told = None }
+shown (point.Record r) = record { ticket = r.now.ticket; call = r.now.step; told = Some r.now.reply }
+
+abbrev pub evidence : Entries TableCall → List (Entries SliceletCall) → List (Entries ClerkCall) → List CallRecord → Evidence
+evidence table tasks clerks records = record { table = table; tasks = tasks; clerks = clerks; records = records }
+
+abbrev pub shown_told : Option (Bor Told) → Option Told
+shown_told None = None
+shown_told (Some t) = Some t.now

@@ -1,0 +1,11 @@
+//! Whether the closed histories of locks and the records of callers are one run of a job's machines.
+#![tactic(auto)]
+
+mod auditing;
+mod finding;
+mod points;
+mod replay;
+mod sameness;
+
+pub use auditing::audit;
+pub use finding::{Audit, Why};
