@@ -2,3 +2,11 @@ pub mod Rising
 pub mod Turning
 pub mod Clocking
 pub mod Staging
+pub mod Splitting
+pub mod Looking
+pub mod Numbering
+pub mod Knowing
+pub mod Leaving
+pub mod Following
+pub mod TableTimes
+pub mod Serving

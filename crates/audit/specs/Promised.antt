@@ -1,0 +1,56 @@
+-- What one run promises, and with timely clocks whoever serves a key.
+use Rattle.std.specs.Prelude.{◌≡◌, ℕ, IsTrue, List, [], ◌∷◌, ◌++◌, Contains, Some, false, ◌⊎◌}
+use Rattle.policy_rules.specs.declared.answer.Verdict.{Verdict}
+use Rattle.assignment.specs.Owners.{owns}
+use Rattle.lease_table.specs.Tables.{slices_of}
+use Rattle.key_handle.specs.declared.handle.KeyHandle.{KeyHandle}
+use Rattle.slicelet.specs.Steps.{History}
+use Rattle.slicelet.specs.Rules.{rule_after, covers_key, is_allowed}
+use Rattle.slicelet.specs.Continuity.{IsContinuous, is_strange}
+use Rattle.world.specs.Jobs.{Job}
+use Rattle.world.specs.Told.{numbered}
+use Rattle.world.specs.declared.record.RecordedCall.TheVariants as call
+use Rattle.world.specs.declared.record.Told.{Told}
+use Rattle.world.specs.declared.record.Told.TheVariants as told
+use Rattle.audit.specs.Stages.{Stage, first_stage}
+use Rattle.audit.specs.OneRun.{Turn, IsRunFrom, IsTimelyRun}
+
+-- a point of a run: the turns before it, and where the machines stand then
+pub record IsPoint (job : Job) (run before : List Turn) (stage : Stage) : Type 0 where
+  pub later : List Turn
+  pub whole : run ≡ before ++ later
+  pub reached : IsRunFrom job (first_stage job) before stage
+
+-- a turn of a run, and the point just before it
+pub record IsTurnAt (job : Job) (run before : List Turn) (stage : Stage) (turn : Turn) : Type 0 where
+  pub later : List Turn
+  pub whole : run ≡ before ++ turn ∷ later
+  pub reached : IsRunFrom job (first_stage job) before stage
+
+-- the written rule on the calls that a task accepted
+abbrev pub IsRuled : Stage → ℕ → ℕ → ℕ → Verdict → Type 0
+IsRuled stage task key at verdict = (s : History) × (numbered task stage.tasks ≡ Some s) × (verdict ≡ rule_after (covers_key key) s.calls at)
+
+-- a task may serve a key at a point: at some reading a `serve` would be timely, and allowed by the written rule
+pub record MayServe (job : Job) (before : List Turn) (stage : Stage) (task key : ℕ) : Type 0 where
+  pub at : ℕ
+  pub turn : Turn
+  pub serves : turn.call ≡ call.Serve task key at
+  pub timely : IsTimelyRun job (before ++ turn ∷ [])
+  pub verdict : Verdict
+  pub ruled : IsRuled stage task key at verdict
+  pub allowed : IsTrue (is_allowed verdict)
+
+-- a task owns a key in the committed assignment
+abbrev pub IsOwner : Stage → ℕ → ℕ → Type 0
+IsOwner stage task key = IsTrue (owns (slices_of stage.table.committed) key task)
+
+-- a handle on which it was told that it is continuous was so on what its task was told, one that was told to be broken
+-- was not, and of one that was made, and that the task can have given, the one or the other was told
+pub record IsCheckedByHistory (stage : Stage) (task : ℕ) (handle : KeyHandle) (at : ℕ) (reply : Told) : Type 0 where
+  pub continuous : reply ≡ told.Continuous
+      → (s : History) × (numbered task stage.tasks ≡ Some s) × IsContinuous (covers_key handle.key) s.calls handle at
+  pub broken : reply ≡ told.Broken
+      → (s : History) × (numbered task stage.tasks ≡ Some s) × (IsContinuous (covers_key handle.key) s.calls handle at → ⊥)
+  pub answered : (s : History) → numbered task stage.tasks ≡ Some s → Contains stage.handles handle → is_strange s handle ≡ false
+      → (reply ≡ told.Continuous) ⊎ (reply ≡ told.Broken)

@@ -1,0 +1,62 @@
+//! What holds of every run that an audit finds: laws over the turns of a run.
+
+ghost use Rattle.std.specs.Prelude.{◌≡◌, ℕ, ◌++◌, ◌<◌, List, true, Some};
+ghost use Rattle.policy_rules.specs.declared.answer.Verdict.{Verdict};
+ghost use Rattle.policy_rules.specs.declared.answer.Verdict.TheVariants.{Allow};
+ghost use Rattle.policy_rules.specs.declared.lease.Kind.{Kind};
+ghost use Rattle.lease_table.specs.Policies.{is_policy};
+ghost use Rattle.key_handle.specs.declared.handle.KeyHandle.{KeyHandle};
+ghost use Rattle.world.specs.Jobs.{Job};
+ghost use Rattle.world.specs.declared.record.RecordedCall.TheVariants as call;
+ghost use Rattle.world.specs.declared.record.Told.{Told};
+ghost use Rattle.world.specs.declared.record.Told.TheVariants as told;
+ghost use Rattle.audit.specs.Stages.{Stage};
+ghost use Rattle.audit.specs.OneRun.{Turn, IsOneRun, IsTimelyRun};
+ghost use Rattle.audit.specs.Promised.{IsPoint, IsTurnAt, IsRuled, MayServe, IsOwner, IsCheckedByHistory};
+
+use key_hash::KEYS;
+
+/// At each point of a run the machines stand somewhere, and nowhere else.
+pub fn points_law()
+    ensures reached { (job : Job) (before later : List Turn) → IsOneRun job (before ++ later)
+        → (stage : Stage) × IsPoint job (before ++ later) before stage }
+    ensures one { (job : Job) (run before : List Turn) (stage other : Stage)
+        → IsPoint job run before stage → IsPoint job run before other → stage ≡ other }
+{}
+
+/// Whoever was told a verdict on a `serve` was told that of the written rule on the calls that the
+/// task accepted before, and whoever was told that a handle is continuous, or that it is broken, was
+/// told what those calls say.
+pub fn answers_law()
+    ensures rule { (job : Job) (run before : List Turn) (stage : Stage) (turn : Turn) (task key at : ℕ) (verdict : Verdict)
+        → IsOneRun job run → IsTurnAt job run before stage turn → turn.call ≡ call.Serve task key at
+        → turn.told ≡ Some (told.Verdict verdict) → IsRuled stage task key at verdict }
+    ensures handle { (job : Job) (run before : List Turn) (stage : Stage) (turn : Turn) (task at : ℕ) (handle : KeyHandle) (reply : Told)
+        → IsOneRun job run → IsTurnAt job run before stage turn → turn.call ≡ call.Check task handle at
+        → turn.told ≡ Some reply → IsCheckedByHistory stage task handle at reply }
+{}
+
+/// With timely clocks, whoever may serve a key at a point of a run owns it in the assignment that is
+/// committed there: at redundancy one, never two tasks. So did, in a run whose clocks were timely,
+/// each task of which a caller was told that the key is served.
+pub fn audit_law()
+    ensures owner { (job : Job) (run before : List Turn) (stage : Stage) (task key : ℕ) → is_policy job.policy ≡ true
+        → IsOneRun job run → IsPoint job run before stage → key < KEYS
+        → MayServe job before stage task key → IsOwner stage task key }
+    ensures one { (job : Job) (run before : List Turn) (stage : Stage) (task other key : ℕ) → is_policy job.policy ≡ true
+        → job.policy.redundancy ≡ 1 → IsOneRun job run → IsPoint job run before stage → key < KEYS
+        → MayServe job before stage task key → MayServe job before stage other key → task ≡ other }
+    ensures served { (job : Job) (run before : List Turn) (stage : Stage) (turn : Turn) (task key at generation : ℕ) (kind : Kind)
+        → is_policy job.policy ≡ true → IsOneRun job run → IsTimelyRun job run → IsTurnAt job run before stage turn
+        → turn.call ≡ call.Serve task key at → key < KEYS → turn.told ≡ Some (told.Verdict (Allow kind generation))
+        → IsOwner stage task key }
+{
+    lease_table::standing_law();
+    lease_table::leases_law();
+    lease_table::covers_law();
+    lease_table::rows_law();
+    lease_table::assignments_law();
+    assignment::one_owner_law();
+    slicelet::held_law();
+    slicelet::covering_lease_law();
+}
