@@ -1,6 +1,6 @@
 -- Every run keeps what is known of the machines.
 use Rattle.std.proofs.Common.{◌≡◌, ℕ, Bool, true, false, not, List, [], ◌∷◌, refl, sym, subst}
-use Rattle.std.specs.Prelude.{Some, None}
+use Rattle.std.specs.Prelude.{None}
 use Rattle.std.specs.List.{list_any}
 use Rattle.machines.specs.Refusals.{when}
 use Rattle.lease_table.specs.declared.call.TableCall.{TableCall}

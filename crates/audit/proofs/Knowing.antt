@@ -1,16 +1,16 @@
 -- What is known of the machines at each point of a run.
-use Rattle.std.proofs.Common.{◌≡◌, ℕ, ◌+◌, ◌-◌, Bool, true, false, List, [], ◌∷◌, ◌++◌, refl, sym, ◌∙◌, ap, subst, inl, inr, ◌⊎◌, arith, set}
-use Rattle.std.specs.Prelude.{◌≢◌, Option, Some, None, Result, Ok, Err, Contains}
-use Rattle.std.specs.List.{AllByRecursion, list_any}
+use Rattle.std.proofs.Common.{◌≡◌, ℕ, ◌-◌, true, false, List, [], ◌∷◌, refl, sym, ◌∙◌, ap, subst, inl, inr, ◌⊎◌, arith, set}
+use Rattle.std.specs.Prelude.{◌≢◌, Option, Some, None, Result, Ok, Contains}
+use Rattle.std.specs.List.{AllByRecursion}
 use Rattle.std.proofs.lemmas.List.Elements.{Contains-append_left}
-use Rattle.machines.specs.Refusals.{first_of, unless_refused, when}
+use Rattle.machines.specs.Refusals.{first_of, unless_refused}
 use Rattle.machines.specs.Answers.{replied}
 use Rattle.machines.specs.Calls.{answered, answer_of, LeadsOn}
 use Rattle.machines.proofs.Every.{all_weaker, all_push}
 use Rattle.lease_table.specs.declared.call.TableCall.{TableCall}
 use Rattle.lease_table.specs.declared.call.TableCall.TheVariants as table_call
 use Rattle.lease_table.specs.declared.call.TableReply.{TableReply}
-use Rattle.lease_table.specs.declared.call.TableReply.TheVariants.{Term, Proposed, Committed, Granted, Freed}
+use Rattle.lease_table.specs.declared.call.TableReply.TheVariants.{Granted}
 use Rattle.lease_table.specs.declared.error.TableError.{TableError}
 use Rattle.lease_table.specs.declared.values.Grant.{Grant}
 use Rattle.lease_table.specs.declared.values.ReleaseNote.{ReleaseNote}
@@ -18,15 +18,15 @@ use Rattle.lease_table.specs.Policies.{Terms, is_policy}
 use Rattle.lease_table.specs.Tables.{Standing}
 use Rattle.lease_table.specs.Calls.{AnsweredTableCall, standing_after, table_step, grants_after, grants_sent, LeadsTo}
 use Rattle.lease_table.specs.Runs.{IsRun as IsTableRun}
-use Rattle.lease_table.proofs.Members.{here, there, nowhere, first_or_rest}
+use Rattle.lease_table.proofs.Members.{here, there, first_or_rest}
 use Rattle.slicelet.specs.declared.call.SliceletCall.{SliceletCall}
 use Rattle.slicelet.specs.declared.call.SliceletCall.TheVariants.{Start, Hear, Release}
 use Rattle.slicelet.specs.declared.call.SliceletReply.{SliceletReply}
 use Rattle.slicelet.specs.declared.call.SliceletReply.TheVariants.{Started, Heard, Released}
-use Rattle.slicelet.specs.declared.error.SliceletError.{SliceletError}
 use Rattle.slicelet.specs.Steps.{History, with_call, slicelet_step, note_of, start_checks, hear_checks, release_checks}
 use Rattle.slicelet.specs.Accepted.{AreAccepted, checks_of, notes_sent}
 use Rattle.world.specs.Told.{numbered}
+use Rattle.world.proofs.Answering.{answer_is}
 use Rattle.world.proofs.Sending.{HearsSent, made_of_number}
 use Rattle.audit.specs.Stages.{grants_with, notes_with, is_grant}
 use Rattle.audit.proofs.Numbering.{numbered_set, numbered_other, equal_grants}
@@ -55,7 +55,10 @@ pub record Knows (policy : Terms) (table : Standing) (tasks : List History) (gra
 
 -- what an answered step leaves and replies
 pub done : {M R S F : Type 0} (name : R → S) (o : Option F) (v : M × R) (p : M × S) → replied name (unless_refused o v) ≡ Ok p → (o ≡ None) × (v.0 ≡ p.0) × (name v.1 ≡ p.1)
-done name None v p e = (refl, cc, cc)
+done {M = M} {S = S} {F = F} name None v p e =
+    let w : M × S = (v.0, name v.1) in
+    let same : w ≡ p = answer_is {A = M × S} {E = F} None w p e in
+    (refl, ap (λ (x : M × S). x.0) same, ap (λ (x : M × S). x.1) same)
 done name (Some why) v p e = absurd (cc)
 
 -- A CALL OF THE TABLE
@@ -156,7 +159,7 @@ module _ (task : ℕ) (tasks : List History) (s : History) (at_task : numbered t
 
       by_number : (task ≡ number) ⊎ (task ≢ number) → IsTold calls number x
       by_number (inl same) =
-          let there : Some (with_call s c) ≡ Some x = sym here_after ∙ (ap (λ (n : ℕ). numbered n (with_task_call task tasks s c)) same ∙ e) in
+          let found : Some (with_call s c) ≡ Some x = sym here_after ∙ (ap (λ (n : ℕ). numbered n (with_task_call task tasks s c)) same ∙ e) in
           let is : with_call s c ≡ x = cc in
           subst (λ (n : ℕ). IsTold calls n x) same (subst (IsTold calls task) is new)
       by_number (inr differ) = each number x (sym (other_after number differ) ∙ e)
@@ -166,7 +169,7 @@ module _ (task : ℕ) (tasks : List History) (s : History) (at_task : numbered t
     where
       by_number : (task ≡ note.task) ⊎ (task ≢ note.task) → IsSentBy (with_task_call task tasks s c) note
       by_number (inl same) =
-          let there : Some s ≡ Some h.task = sym at_task ∙ (ap (λ (n : ℕ). numbered n tasks) same ∙ h.of_number) in
+          let found : Some s ≡ Some h.task = sym at_task ∙ (ap (λ (n : ℕ). numbered n tasks) same ∙ h.of_number) in
           let is : h.task ≡ s = cc in
           record {
             task = with_call s c;

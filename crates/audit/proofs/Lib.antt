@@ -10,3 +10,4 @@ pub mod Leaving
 pub mod Following
 pub mod TableTimes
 pub mod Serving
+pub mod Telling

@@ -1,6 +1,6 @@
 -- What those were told who looked.
-use Rattle.std.proofs.Common.{◌≡◌, ℕ, Bool, true, false, List, [], ◌∷◌, refl, sym, ◌∙◌, ap, subst, inl, inr, ◌⊎◌, arith}
-use Rattle.std.specs.Prelude.{Option, Some, None, Result, Ok, Err, Contains, ◌==◌, ◌&&◌}
+use Rattle.std.proofs.Common.{◌≡◌, ℕ, Bool, true, false, List, refl, sym, ◌∙◌, ap, subst, inl, inr, ◌⊎◌, arith}
+use Rattle.std.specs.Prelude.{Option, Some, None, Result, Ok, Err, Contains, ◌==◌}
 use Rattle.std.specs.List.{list_any}
 use Rattle.std.proofs.lemmas.Bool.Decides.{nat_tests}
 use Rattle.std.proofs.lemmas.List.Folds.{list_any_at}
@@ -17,8 +17,8 @@ use Rattle.world.specs.declared.record.RecordedCall.TheVariants as call
 use Rattle.world.specs.declared.record.Told.{Told}
 use Rattle.world.specs.declared.record.Told.TheVariants as told
 use Rattle.world.specs.declared.reply.Refusal.TheVariants as refusal
-use Rattle.audit.specs.Stages.{Stage, Turned, by, same_handle, checked, refused, IsCheckTurn, IsCheckBy, IsTurn}
-use Rattle.audit.specs.OneRun.{Turn, Fits, IsRunFrom, IsOneRun}
+use Rattle.audit.specs.Stages.{Stage, Turned, by, same_handle, checked, IsCheckTurn, IsCheckBy, IsTurn}
+use Rattle.audit.specs.OneRun.{Turn, Fits, IsOneRun}
 use Rattle.audit.specs.Promised.{IsTurnAt, IsRuled, IsCheckedByHistory}
 use Rattle.audit.proofs.Splitting.{run_from_turn}
 

@@ -1,12 +1,13 @@
 -- Actors by their numbers, and values that are compared field by field.
-use Rattle.std.proofs.Common.{◌≡◌, ℕ, zero, suc, ◌+◌, ◌-◌, ◌<◌, Bool, true, false, ◌&&◌, ◌||◌, List, [], ◌∷◌, refl, sym, ◌∙◌, ap, subst, arith, map, eqb-true, get_or, set}
-use Rattle.std.specs.Prelude.{◌≢◌, slice_get, Option, Some, None}
+use Rattle.std.proofs.Common.{◌≡◌, ℕ, zero, suc, ◌+◌, ◌-◌, ◌<◌, Bool, true, false, ◌&&◌, ◌||◌, List, [], ◌∷◌, refl, sym, ◌∙◌, ap, subst, arith, map, eqb-true, set}
+use Rattle.std.specs.Prelude.{◌≢◌, ◌==◌, slice_get, Some, None, if◌then◌else◌}
 use Rattle.std.specs.List.{range_with_len, list_any, AllByRecursion}
 use Rattle.std.specs.Cmp.Lexicographic.{bytes_decides}
 use Rattle.std.proofs.lemmas.List.FromFn.{get_or-map-range_with_len, length-map-range_with_len}
-use Rattle.std.proofs.lemmas.Option.{slice_get_within, get_or_from_slice_get}
+use Rattle.std.proofs.lemmas.Option.{slice_get_within, get_or_from_slice_get, slice_get-get_or}
+use Rattle.std.proofs.lemmas.Bool.Decides.{nat_tests}
+use Rattle.lease_table.specs.Policies.{is_within}
 use Rattle.policy_rules.specs.declared.lease.Lease.{Lease}
-use Rattle.policy_rules.specs.Leases.{same_kind}
 use Rattle.policy_rules.specs.Equality.{lease_eq}
 use Rattle.lease_table.specs.declared.values.Grant.{Grant}
 use Rattle.lease_table.specs.declared.values.ReleaseNote.{ReleaseNote}
@@ -28,25 +29,47 @@ module _ {X : Type 0} where
   get_other (z ∷ zs) (suc i) zero y e = refl
   get_other (z ∷ zs) (suc i) (suc j) y e = get_other zs i j y (λ same. e (ap suc same))
 
+  numbered_at : (n : ℕ) (xs : List X) → numbered (suc n) xs ≡ slice_get xs n
+  numbered_at n xs =
+      let test : (suc n == 0) ≡ false = grind (arith, nat_tests) in
+      let less : suc n - 1 ≡ n = omega arith in
+      ap (λ (b : Bool). if b then None else slice_get xs (suc n - 1)) test ∙ ap (λ (i : ℕ). slice_get xs i) less
+
   -- the actor of a number after it changed, and those of other numbers
   pub numbered_set : (number : ℕ) (xs : List X) (x y : X) → numbered number xs ≡ Some x → numbered number (set xs (number - 1) y) ≡ Some y
   numbered_set zero xs x y e = absurd (cc)
-  numbered_set (suc n) xs x y e = get_set xs (suc n - 1) x y e
+  numbered_set (suc n) xs x y e =
+      let less : suc n - 1 ≡ n = omega arith in
+      numbered_at n (set xs (suc n - 1) y) ∙ (ap (λ (i : ℕ). slice_get (set xs i y) n) less ∙ get_set xs n x y (sym (numbered_at n xs) ∙ e))
 
   pub numbered_other : (number other : ℕ) (xs : List X) (x y : X) → numbered number xs ≡ Some x → number ≢ other
       → numbered other (set xs (number - 1) y) ≡ numbered other xs
   numbered_other zero other xs x y e differ = absurd (cc)
   numbered_other (suc n) zero xs x y e differ = refl
-  numbered_other (suc n) (suc m) xs x y e differ = get_other xs (suc n - 1) (suc m - 1) y (λ same. differ (omega (arith, same)))
+  numbered_other (suc n) (suc m) xs x y e differ =
+      let less : suc n - 1 ≡ n = omega arith in
+      numbered_at m (set xs (suc n - 1) y)
+      ∙ (ap (λ (i : ℕ). slice_get (set xs i y) m) less ∙ (get_other xs n m y (λ same. differ (ap suc same)) ∙ sym (numbered_at m xs)))
 
   -- the actors of a job, at first
   pub numbered_first : (f : ℕ → X) (many number : ℕ) (x : X) → numbered number (map f (range_with_len 1 many)) ≡ Some x → x ≡ f number
   numbered_first f many zero x e = absurd (cc)
   numbered_first f many (suc n) x e =
       let xs : List X = map f (range_with_len 1 many) in
-      let inside = subst (λ (l : ℕ). suc n - 1 < l) (length-map-range_with_len f 1 many) (slice_get_within xs (suc n - 1) x e) in
-      let next : 1 + (suc n - 1) ≡ suc n = omega arith in
-      sym (get_or_from_slice_get xs (suc n - 1) x x e) ∙ get_or-map-range_with_len f 1 many (suc n - 1) (suc n) x inside next
+      let at : slice_get xs n ≡ Some x = sym (numbered_at n xs) ∙ e in
+      let inside = subst (λ (l : ℕ). n < l) (length-map-range_with_len f 1 many) (slice_get_within xs n x at) in
+      let next : 1 + n ≡ suc n = omega arith in
+      sym (get_or_from_slice_get xs n x x at) ∙ get_or-map-range_with_len f 1 many n (suc n) x inside next
+
+  pub numbered_within : (f : ℕ → X) (many number : ℕ) → is_within number many ≡ true → numbered number (map f (range_with_len 1 many)) ≡ Some (f number)
+  numbered_within f many zero within = absurd (let g : false ≡ true = within in cc)
+  numbered_within f many (suc n) within =
+      let xs : List X = map f (range_with_len 1 many) in
+      let inside : n < many = grind (arith, nat_tests) in
+      let next : 1 + n ≡ suc n = omega arith in
+      numbered_at n xs
+      ∙ (slice_get-get_or xs n (f n) (subst (λ (l : ℕ). n < l) (sym (length-map-range_with_len f 1 many)) inside)
+      ∙ ap (λ (x : X). Some x) (get_or-map-range_with_len f 1 many n (suc n) (f n) inside next))
 
 -- EQUAL FIELDS
 
@@ -92,9 +115,9 @@ equal_notes a b e =
 -- what holds of all notes that were made holds of one that is found among them
 pub of_made_note : (P : ReleaseNote → Type 0) (notes : List ReleaseNote) (note : ReleaseNote) → AllByRecursion P notes
     → list_any (same_note note) notes ≡ true → P note
-of_made_note P [] note all e = absurd (cc)
-of_made_note P (x ∷ xs) note all e = by_test (same_note note x) refl e
+of_made_note P [] note all e = absurd (let f : false ≡ true = e in cc)
+of_made_note P (x ∷ xs) note all e = by_test (same_note note x) refl e (of_made_note P xs note all.1)
   where
-    by_test : (b : Bool) → same_note note x ≡ b → (b || list_any (same_note note) xs) ≡ true → P note
-    by_test true same t = subst P (sym (equal_notes note x same)) all.0
-    by_test false same t = of_made_note P xs note all.1 t
+    by_test : (b : Bool) → same_note note x ≡ b → (b || list_any (same_note note) xs) ≡ true → (list_any (same_note note) xs ≡ true → P note) → P note
+    by_test true same t later = subst P (sym (equal_notes note x same)) all.0
+    by_test false same t later = later t

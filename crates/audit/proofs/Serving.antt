@@ -1,22 +1,20 @@
 -- Whoever may serve a key at a point of a run owns it in the assignment committed there.
-use Rattle.std.proofs.Common.{◌≡◌, ℕ, ◌+◌, ◌<◌, ◌≤◌, true, List, [], ◌∷◌, ◌++◌, refl, sym, ◌∙◌, ap, subst, arith}
+use Rattle.std.proofs.Common.{◌≡◌, ℕ, ◌+◌, ◌<◌, ◌≤◌, true, List, sym, ◌∙◌, ap, subst, arith}
 use Rattle.std.specs.Prelude.{Some, Contains}
-use Rattle.std.specs.List.{AllByRecursion}
 use Rattle.key_hash.specs.declared.TheConstants.{KEYS}
 use Rattle.policy_rules.specs.declared.lease.Kind.{Kind}
 use Rattle.slice_ranges.specs.Sets.{has}
-use Rattle.assignment.specs.Slices.{Slicing}
 use Rattle.assignment.specs.Owners.{owns}
 use Rattle.lease_table.specs.declared.values.Grant.{Grant}
-use Rattle.lease_table.specs.Policies.{Terms, is_policy}
-use Rattle.lease_table.specs.Tables.{Standing, opening, slices_of}
-use Rattle.lease_table.specs.Calls.{AnsweredTableCall, standing_after, committed_in}
+use Rattle.lease_table.specs.Policies.{Terms}
+use Rattle.lease_table.specs.Tables.{Standing, slices_of}
+use Rattle.lease_table.specs.Calls.{AnsweredTableCall, standing_after}
 use Rattle.lease_table.specs.Generations.{covers_by_owners}
 use Rattle.lease_table.specs.OpenRows.{IsSent}
 use Rattle.slicelet.specs.declared.call.SliceletCall.{SliceletCall}
 use Rattle.slicelet.specs.Steps.{History}
 use Rattle.slicelet.specs.Calls.{held}
-use Rattle.slicelet.specs.Rules.{rule_after, covers_key}
+use Rattle.slicelet.specs.Rules.{covers_key}
 use Rattle.slicelet.specs.Accepted.{AreAccepted, notes_sent}
 use Rattle.slicelet.specs.Laws.{HoldsOwnLeases}
 use Rattle.slicelet.proofs.Hearing.{held_heard, all_at_heard}
@@ -24,14 +22,12 @@ use Rattle.world.specs.Jobs.{Job}
 use Rattle.world.specs.Pasts.{task_reading}
 use Rattle.world.specs.Told.{numbered}
 use Rattle.world.specs.declared.record.RecordedCall.{RecordedCall}
-use Rattle.world.specs.declared.record.RecordedCall.TheVariants as call
 use Rattle.world.proofs.Sending.{HearsSent}
 use Rattle.world.proofs.LiveLeases.{TableFacts, FreesSentNotes, Covering, by_verdict, lease_owner}
 use Rattle.audit.specs.Stages.{Stage, first_stage}
 use Rattle.audit.specs.OneRun.{Turn, clocked, IsRunFrom}
 use Rattle.audit.specs.Promised.{MayServe, IsOwner}
-use Rattle.audit.proofs.Knowing.{IsSentBy, IsTold, Leads}
-use Rattle.audit.proofs.Following.{KnowsAt, known_first, known_run}
+use Rattle.audit.proofs.Following.{KnowsAt}
 use Rattle.audit.proofs.TableTimes.{last_read, near_readings}
 
 -- what laws of the layers below say of the calls of a table, and of those of a task
@@ -48,7 +44,7 @@ module _ (job : Job) (stage : Stage) (k : KnowsAt job stage) (laws : Laws job.po
   frees_sent_notes : (task : ℕ) (s : History) → numbered task stage.tasks ≡ Some s → FreesSentNotes k.calls task s.calls
   frees_sent_notes task s at_task = λ note at answer of_task i.
       let by = k.freed note at answer i in
-      let there : Some by.task ≡ Some s = sym by.of_number ∙ (ap (λ (n : ℕ). numbered n stage.tasks) of_task ∙ at_task) in
+      let found : Some by.task ≡ Some s = sym by.of_number ∙ (ap (λ (n : ℕ). numbered n stage.tasks) of_task ∙ at_task) in
       let same : by.task ≡ s = cc in
       subst (λ (n : ℕ). Contains (notes_sent n s.calls) note) of_task (subst (λ (x : History). Contains (notes_sent note.task x.calls) note) same by.sent)
 
@@ -62,8 +58,9 @@ module _ (job : Job) (stage : Stage) (k : KnowsAt job stage) (laws : Laws job.po
   owner_known before task key run low may =
       let s = may.ruled.0 in
       let read : task_reading (clocked may.turn.call) ≡ Some may.at = ap (λ (c : RecordedCall). task_reading (clocked c)) may.serves in
+      let first : 0 ≤ may.at + job.policy.skew = omega arith in
       let near : stage.table.last ≤ may.at + job.policy.skew =
-      last_read job (λ (r : ℕ). r ≤ may.at + job.policy.skew) before (first_stage job) stage (omega arith) (near_readings job before may.turn may.at read may.timely) run in
+      last_read job (λ (r : ℕ). r ≤ may.at + job.policy.skew) before (first_stage job) stage first (near_readings job before may.turn may.at read may.timely) run in
       let last : (standing_after job.policy k.calls).last ≤ may.at + job.policy.skew = subst (λ (t : Standing). t.last ≤ may.at + job.policy.skew) (sym k.stands) near in
       let lease = (by_verdict task_laws.covering (covers_key key) s.calls may.at may.verdict (sym may.ruled.2) may.allowed).2 in
       let kind = (by_verdict task_laws.covering (covers_key key) s.calls may.at may.verdict (sym may.ruled.2) may.allowed).0 in

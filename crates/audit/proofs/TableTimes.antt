@@ -1,6 +1,6 @@
 -- The table's last reading was read in the run, and a timely reading is near to it.
-use Rattle.std.proofs.Common.{◌≡◌, ℕ, ◌+◌, ◌≤◌, List, [], ◌∷◌, ◌++◌, refl, sym, ◌∙◌, ap, subst, inl, inr, ◌⊎◌, map, reverse, arith}
-use Rattle.std.specs.Prelude.{Option, Some, Result, Ok, Contains}
+use Rattle.std.proofs.Common.{◌≡◌, ℕ, ◌+◌, ◌≤◌, List, [], ◌∷◌, ◌++◌, refl, sym, ◌∙◌, ap, subst, inl, inr, ◌⊎◌, map, reverse}
+use Rattle.std.specs.Prelude.{Some, Ok}
 use Rattle.std.specs.List.{AllByRecursion}
 use Rattle.std.proofs.lemmas.List.{map-append, reverse-append, append_assoc}
 use Rattle.machines.specs.Refusals.{first_of}
@@ -15,7 +15,6 @@ use Rattle.lease_table.specs.Calls.{reading_of, table_step}
 use Rattle.world.specs.Jobs.{Job}
 use Rattle.world.specs.declared.step.Step.{Step}
 use Rattle.world.specs.declared.record.RecordedCall.{RecordedCall}
-use Rattle.world.specs.declared.record.RecordedCall.TheVariants as call
 use Rattle.world.specs.Pasts.{table_reading, task_reading, IsNear, IsTimely}
 use Rattle.world.proofs.Timing.{timely_before}
 use Rattle.audit.specs.Stages.{Stage, Turned, IsTurn}

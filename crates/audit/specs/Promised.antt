@@ -1,25 +1,67 @@
 -- What one run promises, and with timely clocks whoever serves a key.
-use Rattle.std.specs.Prelude.{◌≡◌, ℕ, IsTrue, List, [], ◌∷◌, ◌++◌, Contains, Some, false, ◌⊎◌}
+use Rattle.std.specs.Prelude.{◌≡◌, ℕ, ◌==◌, Bool, true, false, not, IsTrue, List, [], ◌∷◌, ◌++◌, Contains, Option, Some, None, ◌⊎◌, if◌then◌else◌}
 use Rattle.policy_rules.specs.declared.answer.Verdict.{Verdict}
+use Rattle.assignment.specs.Slices.{Slicing}
 use Rattle.assignment.specs.Owners.{owns}
 use Rattle.lease_table.specs.Tables.{slices_of}
+use Rattle.lease_table.specs.Calls.{pending_after, committed_after}
 use Rattle.key_handle.specs.declared.handle.KeyHandle.{KeyHandle}
+use Rattle.slicelet.specs.declared.call.SliceletCall.{SliceletCall}
 use Rattle.slicelet.specs.Steps.{History}
 use Rattle.slicelet.specs.Rules.{rule_after, covers_key, is_allowed}
 use Rattle.slicelet.specs.Continuity.{IsContinuous, is_strange}
 use Rattle.world.specs.Jobs.{Job}
 use Rattle.world.specs.Told.{numbered}
+use Rattle.world.specs.declared.record.RecordedCall.{RecordedCall}
 use Rattle.world.specs.declared.record.RecordedCall.TheVariants as call
 use Rattle.world.specs.declared.record.Told.{Told}
 use Rattle.world.specs.declared.record.Told.TheVariants as told
 use Rattle.audit.specs.Stages.{Stage, first_stage}
-use Rattle.audit.specs.OneRun.{Turn, IsRunFrom, IsTimelyRun}
+use Rattle.audit.specs.OneRun.{Turn, is_refused, IsRunFrom, IsTimelyRun}
 
 -- a point of a run: the turns before it, and where the machines stand then
 pub record IsPoint (job : Job) (run before : List Turn) (stage : Stage) : Type 0 where
   pub later : List Turn
   pub whole : run ≡ before ++ later
   pub reached : IsRunFrom job (first_stage job) before stage
+
+-- an entry was accepted, and a record's call where its caller was not refused
+abbrev pub was_accepted : Option Told → Bool
+was_accepted None = true
+was_accepted (Some reply) = not (is_refused reply)
+
+-- the calls that a task accepted in some turns, after these calls, the last one first
+abbrev pub with_call : ℕ → RecordedCall → List SliceletCall → List SliceletCall
+with_call task (call.Task by c) calls = if by == task then c ∷ calls else calls
+with_call task _ calls = calls
+
+abbrev pub calls_after : ℕ → List SliceletCall → List Turn → List SliceletCall
+calls_after task calls [] = calls
+calls_after task calls (t ∷ turns) = calls_after task (if was_accepted t.told then with_call task t.call calls else calls) turns
+
+-- a task with the calls that it accepted in some turns
+abbrev pub history_after : ℕ → List Turn → History
+history_after task turns = record { task = task; calls = calls_after task [] turns }
+
+-- what is proposed and what is committed
+pub record Assigned : Type 0 where
+  pub pending : Option Slicing
+  pub committed : Option Slicing
+
+-- after an accepted `propose` its assignment is proposed, and after an accepted `commit` it is committed and none is proposed
+abbrev pub with_assigned : RecordedCall → Assigned → Assigned
+with_assigned (call.Table c) old = record { pending = pending_after c old.pending; committed = committed_after c old.pending old.committed }
+with_assigned _ old = old
+
+abbrev pub assigned_after : Assigned → List Turn → Assigned
+assigned_after old [] = old
+assigned_after old (t ∷ turns) = assigned_after (if was_accepted t.told then with_assigned t.call old else old) turns
+
+abbrev pub assigned_in : Stage → Assigned
+assigned_in stage = record { pending = stage.table.pending; committed = stage.table.committed }
+
+abbrev pub nothing_assigned : Assigned
+nothing_assigned = record { pending = None; committed = None }
 
 -- a turn of a run, and the point just before it
 pub record IsTurnAt (job : Job) (run before : List Turn) (stage : Stage) (turn : Turn) : Type 0 where

@@ -4,15 +4,16 @@ ghost use Rattle.std.specs.Prelude.{◌≡◌, ℕ, ◌++◌, ◌<◌, List, tru
 ghost use Rattle.policy_rules.specs.declared.answer.Verdict.{Verdict};
 ghost use Rattle.policy_rules.specs.declared.answer.Verdict.TheVariants.{Allow};
 ghost use Rattle.policy_rules.specs.declared.lease.Kind.{Kind};
-ghost use Rattle.lease_table.specs.Policies.{is_policy};
+ghost use Rattle.lease_table.specs.Policies.{is_policy, is_within};
 ghost use Rattle.key_handle.specs.declared.handle.KeyHandle.{KeyHandle};
 ghost use Rattle.world.specs.Jobs.{Job};
+ghost use Rattle.world.specs.Told.{numbered};
 ghost use Rattle.world.specs.declared.record.RecordedCall.TheVariants as call;
 ghost use Rattle.world.specs.declared.record.Told.{Told};
 ghost use Rattle.world.specs.declared.record.Told.TheVariants as told;
 ghost use Rattle.audit.specs.Stages.{Stage};
 ghost use Rattle.audit.specs.OneRun.{Turn, IsOneRun, IsTimelyRun};
-ghost use Rattle.audit.specs.Promised.{IsPoint, IsTurnAt, IsRuled, MayServe, IsOwner, IsCheckedByHistory};
+ghost use Rattle.audit.specs.Promised.{IsPoint, IsTurnAt, history_after, assigned_in, assigned_after, nothing_assigned, IsRuled, MayServe, IsOwner, IsCheckedByHistory};
 
 use key_hash::KEYS;
 
@@ -22,6 +23,17 @@ pub fn points_law()
         → (stage : Stage) × IsPoint job (before ++ later) before stage }
     ensures one { (job : Job) (run before : List Turn) (stage other : Stage)
         → IsPoint job run before stage → IsPoint job run before other → stage ≡ other }
+{}
+
+/// At each point of a run each task of the job stands at the calls that it accepted in the turns
+/// before, and the proposed and the committed assignment are those of the turns before: an accepted
+/// `commit` commits what the last accepted `propose` before it proposed.
+pub fn told_law()
+    ensures tasks { (job : Job) (run before : List Turn) (stage : Stage) (task : ℕ) → IsPoint job run before stage
+        → is_within task job.tasks ≡ true
+        → numbered task stage.tasks ≡ Some (history_after task before) }
+    ensures assigned { (job : Job) (run before : List Turn) (stage : Stage) → IsPoint job run before stage
+        → assigned_in stage ≡ assigned_after nothing_assigned before }
 {}
 
 /// Whoever was told a verdict on a `serve` was told that of the written rule on the calls that the

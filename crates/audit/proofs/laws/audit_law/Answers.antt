@@ -1,11 +1,10 @@
-use Rattle.std.proofs.Common.{◌≡◌, ℕ, false, [], ◌∷◌, ◌++◌, length, refl, sym, ◌∙◌, ap, subst}
+use Rattle.std.proofs.Common.{◌≡◌, ℕ, false, ◌∷◌, length, refl, ◌∙◌, ap, subst}
 use Rattle.std.specs.Prelude.{Option, nat_lt}
 use Rattle.std.specs.List.{list_any}
 use Rattle.policy_rules.specs.declared.answer.Verdict.TheVariants.{Allow}
 use Rattle.assignment.specs.Slices.{Slicing}
 use Rattle.lease_table.specs.Policies.{Terms}
 use Rattle.lease_table.specs.Tables.{Standing, slices_of}
-use Rattle.lease_table.specs.Calls.{committed_in}
 use Rattle.lease_table.specs.Runs.{commits_in}
 use Rattle.lease_table.specs.Generations.{HasFewOwners}
 use Rattle.world.specs.declared.record.RecordedCall.TheVariants as call
