@@ -11,3 +11,4 @@ pub mod Following
 pub mod TableTimes
 pub mod Serving
 pub mod Telling
+pub mod Holding

@@ -1,6 +1,6 @@
 -- What those were told who looked.
-use Rattle.std.proofs.Common.{◌≡◌, ℕ, Bool, true, false, List, refl, sym, ◌∙◌, ap, subst, inl, inr, ◌⊎◌, arith}
-use Rattle.std.specs.Prelude.{Option, Some, None, Result, Ok, Err, Contains, ◌==◌}
+use Rattle.std.proofs.Common.{◌≡◌, ℕ, Bool, true, false, not, ◌&&◌, ◌||◌, List, length, refl, sym, ◌∙◌, ap, subst, inl, inr, ◌⊎◌, arith, eqb-true}
+use Rattle.std.specs.Prelude.{Option, Some, None, Result, Ok, Err, Contains, ◌==◌, nat_lt}
 use Rattle.std.specs.List.{list_any}
 use Rattle.std.proofs.lemmas.Bool.Decides.{nat_tests}
 use Rattle.std.proofs.lemmas.List.Folds.{list_any_at}
@@ -8,6 +8,7 @@ use Rattle.policy_rules.specs.declared.answer.Verdict.{Verdict}
 use Rattle.key_handle.specs.declared.handle.KeyHandle.{KeyHandle}
 use Rattle.slicelet.specs.declared.error.Stranger.{Stranger}
 use Rattle.slicelet.specs.Steps.{History}
+use Rattle.slicelet.specs.Calls.{life_of}
 use Rattle.slicelet.specs.Rules.{rule_after, covers_key}
 use Rattle.slicelet.specs.Continuity.{IsContinuous, is_strange, IsChecked}
 use Rattle.world.specs.Jobs.{Job}
@@ -23,7 +24,7 @@ use Rattle.audit.specs.Promised.{IsTurnAt, IsRuled, IsCheckedByHistory}
 use Rattle.audit.proofs.Splitting.{run_from_turn}
 
 -- a caller was told what the machines answer
-told_reply : (reply : Told) (o : Option Told) (answer : Told) → o ≡ Some answer → Fits reply o → reply ≡ answer
+pub told_reply : (reply : Told) (o : Option Told) (answer : Told) → o ≡ Some answer → Fits reply o → reply ≡ answer
 told_reply reply None answer e fits = absurd (cc)
 told_reply reply (Some other) answer e fits = let same : other ≡ answer = cc in fits ∙ same
 
@@ -95,7 +96,7 @@ found : (handles : List KeyHandle) (handle : KeyHandle) → Contains handles han
 found handles handle i = list_any_at (same_handle handle) handles i.0 handle i.1 (ap (same_handle handle) i.2 ∙ same_itself handle)
 
 module _ (stage : Stage) (handle : KeyHandle) (at : ℕ) (turned : Turned) where
-  by_continuous : (o : Option History) → IsCheckBy o stage handle at turned → turned.1 ≡ told.Continuous
+  pub by_continuous : (o : Option History) → IsCheckBy o stage handle at turned → turned.1 ≡ told.Continuous
       → (s : History) × (o ≡ Some s) × IsContinuous (covers_key handle.key) s.calls handle at
   by_continuous None h e = absurd (let f : told.Refused refusal.NoActor ≡ told.Continuous = sym (ap (λ (x : Turned). x.1) h) ∙ e in cc)
   by_continuous (Some s) h e = (s, refl, turn_continuous s handle at stage turned (list_any (same_handle handle) stage.handles) h e)
@@ -112,6 +113,32 @@ module _ (stage : Stage) (handle : KeyHandle) (at : ℕ) (turned : Turned) where
       let same : other ≡ s = cc in
       turn_either other handle at stage turned (list_any (same_handle handle) stage.handles) (found stage.handles handle made) h
       (subst (λ (x : History). is_strange x handle ≡ false) (sym same) familiar)
+
+-- a handle of which a task was told that it is continuous is of this task
+familiar_task : (s : History) (handle : KeyHandle) → is_strange s handle ≡ false → handle.task ≡ s.task
+familiar_task s handle familiar = by_test (handle.task == s.task) refl familiar
+  where
+    by_test : (b : Bool) → b ≡ (handle.task == s.task)
+        → (not b || nat_lt (life_of s.calls) handle.life || (handle.life == life_of s.calls && nat_lt (length s.calls) handle.position)) ≡ false → handle.task ≡ s.task
+    by_test true e f = eqb-true handle.task s.task (sym e)
+    by_test false e f = absurd (let g : true ≡ false = f in cc)
+
+continuous_result : (s : History) (handle : KeyHandle) (at : ℕ) (result : Result Bool Stranger) → IsChecked s handle at result → checked result ≡ told.Continuous
+    → is_strange s handle ≡ false
+continuous_result s handle at (Ok true) is e = is.0
+continuous_result s handle at (Ok false) is e = is.0
+continuous_result s handle at (Err stranger) is e = absurd (cc)
+
+continuous_turn : (stage : Stage) (s : History) (handle : KeyHandle) (at : ℕ) (turned : Turned) (b : Bool) → IsCheckTurn b stage s handle at turned
+    → turned.1 ≡ told.Continuous → is_strange s handle ≡ false
+continuous_turn stage s handle at turned true h e = continuous_result s handle at h.0 h.1 (sym (ap (λ (x : Turned). x.1) h.2) ∙ e)
+continuous_turn stage s handle at turned false h e = absurd (let f : told.Refused refusal.NotSent ≡ told.Continuous = sym (ap (λ (x : Turned). x.1) h) ∙ e in cc)
+
+pub own_handle : (stage : Stage) (task : ℕ) (s : History) (handle : KeyHandle) (at : ℕ) (turned : Turned) → numbered task stage.tasks ≡ Some s
+    → IsCheckBy (numbered task stage.tasks) stage handle at turned → turned.1 ≡ told.Continuous → handle.task ≡ s.task
+own_handle stage task s handle at turned here is e =
+    familiar_task s handle (continuous_turn stage s handle at turned (list_any (same_handle handle) stage.handles)
+    (subst (λ (o : Option History). IsCheckBy o stage handle at turned) here is) e)
 
 pub checked_by_history : (job : Job) (stage : Stage) (task at : ℕ) (handle : KeyHandle) (turned : Turned) (reply : Told)
     → IsTurn job stage (call.Check task handle at) turned → turned.1 ≡ reply → IsCheckedByHistory stage task handle at reply

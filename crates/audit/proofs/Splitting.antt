@@ -57,6 +57,12 @@ point_reached job before later run =
     let parts = split_run job before later (first_stage job) run.0 run.1 in
     (parts.middle, record { later = later; whole = refl; reached = parts.reached })
 
+-- a run goes on where it stands
+pub join_runs : (job : Job) (turns more : List Turn) (stage middle last : Stage) → IsRunFrom job stage turns middle → IsRunFrom job middle more last
+    → IsRunFrom job stage (turns ++ more) last
+join_runs job [] more stage middle last first then = subst (λ (s : Stage). IsRunFrom job s more last) first then
+join_runs job (t ∷ turns) more stage middle last first then = (first.0, first.1, first.2, join_runs job turns more first.0.0 middle last first.3 then)
+
 -- what follows a point of a run is a run from there
 pub run_from_turn : (job : Job) (run before : List Turn) (stage : Stage) (turn : Turn) → IsOneRun job run → (here : IsTurnAt job run before stage turn)
     → (last : Stage) × IsRunFrom job stage (turn ∷ here.later) last

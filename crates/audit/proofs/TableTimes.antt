@@ -2,9 +2,9 @@
 use Rattle.std.proofs.Common.{◌≡◌, ℕ, ◌+◌, ◌≤◌, List, [], ◌∷◌, ◌++◌, refl, sym, ◌∙◌, ap, subst, inl, inr, ◌⊎◌, map, reverse}
 use Rattle.std.specs.Prelude.{Some, Ok}
 use Rattle.std.specs.List.{AllByRecursion}
-use Rattle.std.proofs.lemmas.List.{map-append, reverse-append, append_assoc}
+use Rattle.std.proofs.lemmas.List.{map-append, reverse-append, append_assoc, append-nil}
 use Rattle.machines.specs.Refusals.{first_of}
-use Rattle.machines.proofs.Every.{all_weaker}
+use Rattle.machines.proofs.Every.{all_weaker, all_push}
 use Rattle.lease_table.specs.declared.call.TableCall.{TableCall}
 use Rattle.lease_table.specs.declared.call.TableCall.TheVariants as table_call
 use Rattle.lease_table.specs.declared.call.TableReply.{TableReply}
@@ -67,7 +67,7 @@ last_read job P (t ∷ turns) stage last first all run =
 
 -- TIMELY TURNS
 
-all_append : {X : Type 0} (P : X → Type 0) (xs ys : List X) → AllByRecursion P (xs ++ ys) → AllByRecursion P xs × AllByRecursion P ys
+pub all_append : {X : Type 0} (P : X → Type 0) (xs ys : List X) → AllByRecursion P (xs ++ ys) → AllByRecursion P xs × AllByRecursion P ys
 all_append P [] ys all = (tt, all)
 all_append P (x ∷ xs) ys all = let rest = all_append P xs ys all.1 in ((all.0, rest.0), rest.1)
 
@@ -78,6 +78,15 @@ all_reversed P f (x ∷ xs) all =
     let parts = all_append P (reverse (map f xs)) (f x ∷ []) (subst (AllByRecursion P) (reverse-append (f x ∷ []) (map f xs)) all) in
     (parts.1.0, all_reversed P f xs parts.0)
 
+all_in_reverse : {X : Type 0} (P : Step → Type 0) (f : X → Step) (xs : List X) → AllByRecursion (λ (x : X). P (f x)) xs → AllByRecursion P (reverse (map f xs))
+all_in_reverse P f [] all = tt
+all_in_reverse P f (x ∷ xs) all =
+    subst (AllByRecursion P) (sym (reverse-append (f x ∷ []) (map f xs))) (all_push P (reverse (map f xs)) (f x) (all_in_reverse P f xs all.1) all.0)
+
+-- each reading of the table in these turns is near to a reading of a task
+abbrev pub AreNear : Job → List Turn → ℕ → Type 0
+AreNear job turns at = AllByRecursion (λ (t : Turn). (r : ℕ) → table_reading (clocked t.call) ≡ Some r → r ≤ at + job.policy.skew) turns
+
 module _ (job : Job) (before : List Turn) (turn : Turn) where
   newest_first : reverse (map (λ (t : Turn). clocked t.call) (before ++ turn ∷ [])) ≡ clocked turn.call ∷ reverse (map (λ (t : Turn). clocked t.call) before)
   newest_first =
@@ -86,13 +95,22 @@ module _ (job : Job) (before : List Turn) (turn : Turn) where
 
   -- every reading of the table before a timely reading of a task is near to it
   pub near_readings : (at : ℕ) → task_reading (clocked turn.call) ≡ Some at → IsTimelyRun job (before ++ turn ∷ [])
-      → AllByRecursion (λ (t : Turn). (r : ℕ) → table_reading (clocked t.call) ≡ Some r → r ≤ at + job.policy.skew) before
+      → AreNear job before at
   near_readings at read timely =
       let near : AllByRecursion (IsNear job.policy.skew (clocked turn.call)) (reverse (map (λ (t : Turn). clocked t.call) before)) =
       (subst (IsTimely job.policy.skew) newest_first timely).0 in
       all_weaker (λ (t : Turn). IsNear job.policy.skew (clocked turn.call) (clocked t.call))
       (λ (t : Turn). (r : ℕ) → table_reading (clocked t.call) ≡ Some r → r ≤ at + job.policy.skew) before (λ t h r e. h at r read e)
       (all_reversed (IsNear job.policy.skew (clocked turn.call)) (λ (t : Turn). clocked t.call) before near)
+
+  -- a turn with such a reading is timely after timely turns
+  pub timely_next : (at : ℕ) → task_reading (clocked turn.call) ≡ Some at → AreNear job before at → IsTimelyRun job before → IsTimelyRun job (before ++ turn ∷ [])
+  timely_next at read near timely =
+      let each : (t : Turn) → ((r : ℕ) → table_reading (clocked t.call) ≡ Some r → r ≤ at + job.policy.skew) → IsNear job.policy.skew (clocked turn.call) (clocked t.call) =
+      λ t below s r e f. (let both : Some at ≡ Some s = sym read ∙ e in let same : at ≡ s = cc in subst (λ (n : ℕ). r ≤ n + job.policy.skew) same (below r f)) in
+      let all = all_weaker (λ (t : Turn). (r : ℕ) → table_reading (clocked t.call) ≡ Some r → r ≤ at + job.policy.skew)
+      (λ (t : Turn). IsNear job.policy.skew (clocked turn.call) (clocked t.call)) before each near in
+      subst (IsTimely job.policy.skew) (sym newest_first) (all_in_reverse (IsNear job.policy.skew (clocked turn.call)) (λ (t : Turn). clocked t.call) before all, timely)
 
   -- a run with timely clocks was timely up to each turn
   pub timely_up_to : (later : List Turn) → IsTimelyRun job (before ++ turn ∷ later) → IsTimelyRun job (before ++ turn ∷ [])
@@ -102,3 +120,28 @@ module _ (job : Job) (before : List Turn) (turn : Turn) where
       ap (λ (ts : List Turn). reverse (map clock ts)) (sym (append_assoc before (turn ∷ []) later))
       ∙ (ap reverse (map-append clock (before ++ turn ∷ []) later) ∙ reverse-append (map clock (before ++ turn ∷ [])) (map clock later)) in
       timely_before job.policy.skew (reverse (map clock later)) (reverse (map clock (before ++ turn ∷ []))) (subst (IsTimely job.policy.skew) same timely)
+
+pub timely_first : (job : Job) (before later : List Turn) → IsTimelyRun job (before ++ later) → IsTimelyRun job before
+timely_first job before later timely =
+    let clock : Turn → Step = λ t. clocked t.call in
+    let same : reverse (map clock (before ++ later)) ≡ reverse (map clock later) ++ reverse (map clock before) =
+    ap reverse (map-append clock before later) ∙ reverse-append (map clock before) (map clock later) in
+    timely_before job.policy.skew (reverse (map clock later)) (reverse (map clock before)) (subst (IsTimely job.policy.skew) same timely)
+
+-- in a timely run the readings of the table before a point are near to each later reading of a task
+near_after : (job : Job) (before middle turns : List Turn) → IsTimelyRun job ((before ++ middle) ++ turns)
+    → AllByRecursion (λ (t : Turn). (at : ℕ) → task_reading (clocked t.call) ≡ Some at → AreNear job before at) turns
+near_after job before middle [] timely = tt
+near_after job before middle (t ∷ turns) timely =
+    let next : (before ++ middle) ++ t ∷ turns ≡ (before ++ (middle ++ t ∷ [])) ++ turns =
+    sym (append_assoc (before ++ middle) (t ∷ []) turns) ∙ ap (λ (ts : List Turn). ts ++ turns) (append_assoc before middle (t ∷ [])) in
+    (
+        λ at read. (all_append (λ (t : Turn). (r : ℕ) → table_reading (clocked t.call) ≡ Some r → r ≤ at + job.policy.skew) before middle
+        (near_readings job (before ++ middle) t at read (timely_up_to job (before ++ middle) t turns timely))).0,
+        near_after job before (middle ++ t ∷ []) turns (subst (IsTimelyRun job) next timely),
+    )
+
+pub near_later : (job : Job) (before turns : List Turn) → IsTimelyRun job (before ++ turns)
+    → AllByRecursion (λ (t : Turn). (at : ℕ) → task_reading (clocked t.call) ≡ Some at → AreNear job before at) turns
+near_later job before turns timely =
+    near_after job before [] turns (subst (λ (ts : List Turn). IsTimelyRun job (ts ++ turns)) (sym (append-nil before)) timely)

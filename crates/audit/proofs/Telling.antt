@@ -89,7 +89,7 @@ module _ (job : Job) (task : ℕ) (stage : Stage) (calls : List SliceletCall) (a
     clerk = λ clerk made clerks reply same. at_task ∙ ap (λ (x : RecordedCall). Some (told_history task (with_call task x calls))) (sym same);
   }) turned is
 
-told_from : (job : Job) (task : ℕ) (turns : List Turn) (stage last : Stage) (calls : List SliceletCall) → numbered task stage.tasks ≡ Some (told_history task calls)
+pub told_from : (job : Job) (task : ℕ) (turns : List Turn) (stage last : Stage) (calls : List SliceletCall) → numbered task stage.tasks ≡ Some (told_history task calls)
     → IsRunFrom job stage turns last → numbered task last.tasks ≡ Some (told_history task (calls_after task calls turns))
 told_from job task [] stage last calls at_task run = ap (λ (s : Stage). numbered task s.tasks) run ∙ at_task
 told_from job task (t ∷ turns) stage last calls at_task run =

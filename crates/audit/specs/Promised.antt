@@ -96,3 +96,32 @@ pub record IsCheckedByHistory (stage : Stage) (task : ℕ) (handle : KeyHandle) 
       → (s : History) × (numbered task stage.tasks ≡ Some s) × (IsContinuous (covers_key handle.key) s.calls handle at → ⊥)
   pub answered : (s : History) → numbered task stage.tasks ≡ Some s → Contains stage.handles handle → is_strange s handle ≡ false
       → (reply ≡ told.Continuous) ⊎ (reply ≡ told.Broken)
+
+-- a `hold` was told a handle
+pub record IsHold (turn : Turn) (handle : KeyHandle) : Type 0 where
+  pub task : ℕ
+  pub key : ℕ
+  pub at : ℕ
+  pub holds : turn.call ≡ call.Hold task key at
+  pub makes : turn.told ≡ Some (told.Holding handle)
+
+-- a `check` by a task was told that a handle is continuous
+pub record IsContinuousCheck (turn : Turn) (task : ℕ) (handle : KeyHandle) : Type 0 where
+  pub at : ℕ
+  pub checks : turn.call ≡ call.Check task handle at
+  pub finds : turn.told ≡ Some told.Continuous
+
+-- the turns before a point of a run that stands from the `hold` of a handle on, and before a `check` by a task that was told that the handle is continuous
+pub record IsWhileHeld (run before : List Turn) (task : ℕ) (handle : KeyHandle) : Type 0 where
+  pub first : List Turn
+  pub middle : List Turn
+  pub rest : List Turn
+  pub later : List Turn
+  pub hold : Turn
+  pub others : List Turn
+  pub check : Turn
+  pub up_to : before ≡ first ++ middle
+  pub whole : run ≡ before ++ (rest ++ check ∷ later)
+  pub opens : middle ++ rest ≡ hold ∷ others
+  pub made : IsHold hold handle
+  pub found : IsContinuousCheck check task handle

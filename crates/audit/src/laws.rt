@@ -13,7 +13,7 @@ ghost use Rattle.world.specs.declared.record.Told.{Told};
 ghost use Rattle.world.specs.declared.record.Told.TheVariants as told;
 ghost use Rattle.audit.specs.Stages.{Stage};
 ghost use Rattle.audit.specs.OneRun.{Turn, IsOneRun, IsTimelyRun};
-ghost use Rattle.audit.specs.Promised.{IsPoint, IsTurnAt, history_after, assigned_in, assigned_after, nothing_assigned, IsRuled, MayServe, IsOwner, IsCheckedByHistory};
+ghost use Rattle.audit.specs.Promised.{IsPoint, IsTurnAt, history_after, assigned_in, assigned_after, nothing_assigned, IsRuled, MayServe, IsOwner, IsCheckedByHistory, IsWhileHeld};
 
 use key_hash::KEYS;
 
@@ -71,4 +71,20 @@ pub fn audit_law()
     assignment::one_owner_law();
     slicelet::held_law();
     slicelet::covering_lease_law();
+}
+
+/// In a run whose clocks were timely, where a `check` by a task was told that a handle is continuous,
+/// the task owned its key in the committed assignment at each point from the handle's `hold` to that
+/// `check`: at redundancy one, no other task may serve the key at any of these points.
+pub fn interval_law()
+    ensures owner { (job : Job) (run before : List Turn) (stage : Stage) (task : ℕ) (handle : KeyHandle) → is_policy job.policy ≡ true
+        → IsOneRun job run → IsTimelyRun job run → IsPoint job run before stage → IsWhileHeld run before task handle → handle.key < KEYS
+        → IsOwner stage task handle.key }
+    ensures alone { (job : Job) (run before : List Turn) (stage : Stage) (task other : ℕ) (handle : KeyHandle) → is_policy job.policy ≡ true
+        → job.policy.redundancy ≡ 1 → IsOneRun job run → IsTimelyRun job run → IsPoint job run before stage
+        → IsWhileHeld run before task handle → handle.key < KEYS → MayServe job before stage other handle.key → other ≡ task }
+{
+    lease_table::standing_law();
+    slicelet::between_law();
+    audit_law();
 }

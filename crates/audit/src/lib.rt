@@ -10,4 +10,4 @@ mod sameness;
 
 pub use auditing::audit;
 pub use finding::{Audit, Why};
-pub use laws::{answers_law, audit_law, points_law, told_law};
+pub use laws::{answers_law, audit_law, interval_law, points_law, told_law};
