@@ -4,13 +4,15 @@ use Rattle.std.specs.Prelude.{Option, Some, None, Result, Ok, Err, Contains, ◌
 use Rattle.std.specs.List.{list_any}
 use Rattle.std.proofs.lemmas.Bool.Decides.{nat_tests}
 use Rattle.std.proofs.lemmas.List.Folds.{list_any_at}
+use Rattle.policy_rules.specs.declared.answer.Ground.{Ground}
 use Rattle.policy_rules.specs.declared.answer.Verdict.{Verdict}
+use Rattle.policy_rules.specs.declared.answer.Verdict.TheVariants.{Allow, Deny}
 use Rattle.key_handle.specs.declared.handle.KeyHandle.{KeyHandle}
 use Rattle.slicelet.specs.declared.error.Stranger.{Stranger}
 use Rattle.slicelet.specs.Steps.{History}
 use Rattle.slicelet.specs.Calls.{life_of}
 use Rattle.slicelet.specs.Rules.{rule_after, covers_key}
-use Rattle.slicelet.specs.Continuity.{IsContinuous, is_strange, IsChecked}
+use Rattle.slicelet.specs.Continuity.{handle_on, held_by, IsContinuous, is_strange, IsChecked}
 use Rattle.world.specs.Jobs.{Job}
 use Rattle.world.specs.Told.{numbered}
 use Rattle.world.specs.declared.record.RecordedCall.{RecordedCall}
@@ -18,9 +20,9 @@ use Rattle.world.specs.declared.record.RecordedCall.TheVariants as call
 use Rattle.world.specs.declared.record.Told.{Told}
 use Rattle.world.specs.declared.record.Told.TheVariants as told
 use Rattle.world.specs.declared.reply.Refusal.TheVariants as refusal
-use Rattle.audit.specs.Stages.{Stage, Turned, by, same_handle, checked, IsCheckTurn, IsCheckBy, IsTurn}
+use Rattle.audit.specs.Stages.{Stage, Turned, by, held_turn, same_handle, checked, IsCheckTurn, IsCheckBy, IsTurn}
 use Rattle.audit.specs.OneRun.{Turn, Fits, IsOneRun}
-use Rattle.audit.specs.Promised.{IsTurnAt, IsRuled, IsCheckedByHistory}
+use Rattle.audit.specs.Promised.{IsTurnAt, IsRuled, IsServedByRule, IsHeldByRule, IsCheckedByHistory}
 use Rattle.audit.proofs.Splitting.{run_from_turn}
 
 -- a caller was told what the machines answer
@@ -47,6 +49,54 @@ pub ruled : (job : Job) (stage : Stage) (task key at : ℕ) (verdict : Verdict) 
     → turned.1 ≡ told.Verdict verdict → IsRuled stage task key at verdict
 ruled job stage task key at verdict turned is said =
     verdict_by stage key at verdict (numbered task stage.tasks) (sym said ∙ ap (λ (x : Turned). x.1) is)
+
+told_by : (stage : Stage) (key at : ℕ) (o : Option History) (s : History) → o ≡ Some s
+    → (by stage o (λ s. (stage, told.Verdict (rule_after (covers_key key) s.calls at)))).1 ≡ told.Verdict (rule_after (covers_key key) s.calls at)
+told_by stage key at o s e = ap (λ (x : Option History). (by stage x (λ s. (stage, told.Verdict (rule_after (covers_key key) s.calls at)))).1) e
+
+pub served_by_rule : (job : Job) (stage : Stage) (task key at : ℕ) (turned : Turned) (reply : Told) → IsTurn job stage (call.Serve task key at) turned
+    → turned.1 ≡ reply → IsServedByRule stage task key at reply
+served_by_rule job stage task key at turned reply is said = record {
+  told_verdict = λ verdict e. ruled job stage task key at verdict turned is (said ∙ e);
+  answered = λ s here. sym said ∙ (ap (λ (x : Turned). x.1) is ∙ told_by stage key at (numbered task stage.tasks) s here);
+}
+
+-- A HANDLE
+
+allowed_handle : (stage : Stage) (v : Verdict) (made handle : KeyHandle) → (held_turn stage (held_by v made)).1 ≡ told.Holding handle → held_by v made ≡ Ok handle
+allowed_handle stage (Allow kind generation) made handle e = let same : made ≡ handle = cc in ap (λ (h : KeyHandle). let r : Result KeyHandle Ground = Ok h in r) same
+allowed_handle stage (Deny why) made handle e = absurd (cc)
+
+abbrev told_hold : Result KeyHandle Ground → Told
+told_hold (Ok handle) = told.Holding handle
+told_hold (Err why) = told.Verdict (Deny why)
+
+held_reply : (stage : Stage) (r : Result KeyHandle Ground) → (held_turn stage r).1 ≡ told_hold r
+held_reply stage (Ok handle) = refl
+held_reply stage (Err why) = refl
+
+module _ (stage : Stage) (key at : ℕ) where
+  abbrev turn_of : Option History → Turned
+  turn_of o = by stage o (λ s. held_turn stage (held_by (rule_after (covers_key key) s.calls at) (handle_on key s)))
+
+  pub hold_by : (handle : KeyHandle) (o : Option History) → (turn_of o).1 ≡ told.Holding handle
+      → (s : History) × (o ≡ Some s) × (held_by (rule_after (covers_key key) s.calls at) (handle_on key s) ≡ Ok handle)
+  hold_by handle None e = absurd (cc)
+  hold_by handle (Some s) e = (s, refl, allowed_handle stage (rule_after (covers_key key) s.calls at) (handle_on key s) handle e)
+
+  hold_told : (o : Option History) (s : History) (r : Result KeyHandle Ground) → o ≡ Some s → held_by (rule_after (covers_key key) s.calls at) (handle_on key s) ≡ r
+      → (turn_of o).1 ≡ told_hold r
+  hold_told o s r here e =
+      ap (λ (x : Option History). (turn_of x).1) here
+      ∙ (ap (λ (x : Result KeyHandle Ground). (held_turn stage x).1) e ∙ held_reply stage r)
+
+pub held_by_rule : (job : Job) (stage : Stage) (task key at : ℕ) (turned : Turned) (reply : Told) → IsTurn job stage (call.Hold task key at) turned
+    → turned.1 ≡ reply → IsHeldByRule stage task key at reply
+held_by_rule job stage task key at turned reply is said = record {
+  made = λ handle e. hold_by stage key at handle (numbered task stage.tasks) (sym (ap (λ (x : Turned). x.1) is) ∙ (said ∙ e));
+  allowed = λ s handle here e. sym said ∙ (ap (λ (x : Turned). x.1) is ∙ hold_told stage key at (numbered task stage.tasks) s (Ok handle) here e);
+  denied = λ s why here e. sym said ∙ (ap (λ (x : Turned). x.1) is ∙ hold_told stage key at (numbered task stage.tasks) s (Err why) here e);
+}
 
 -- A CHECK
 

@@ -134,11 +134,10 @@ near_after : (job : Job) (before middle turns : List Turn) → IsTimelyRun job (
 near_after job before middle [] timely = tt
 near_after job before middle (t ∷ turns) timely =
     let next : (before ++ middle) ++ t ∷ turns ≡ (before ++ (middle ++ t ∷ [])) ++ turns =
-    sym (append_assoc (before ++ middle) (t ∷ []) turns) ∙ ap (λ (ts : List Turn). ts ++ turns) (append_assoc before middle (t ∷ [])) in
-    (
-        λ at read. (all_append (λ (t : Turn). (r : ℕ) → table_reading (clocked t.call) ≡ Some r → r ≤ at + job.policy.skew) before middle
-        (near_readings job (before ++ middle) t at read (timely_up_to job (before ++ middle) t turns timely))).0,
-        near_after job before (middle ++ t ∷ []) turns (subst (IsTimelyRun job) next timely),
+    sym (append_assoc (before ++ middle) (t ∷ []) turns) ∙ ap (λ (ts : List Turn). ts ++ turns) (append_assoc before middle (t ∷ [])) in (
+      λ at read. (all_append (λ (t : Turn). (r : ℕ) → table_reading (clocked t.call) ≡ Some r → r ≤ at + job.policy.skew) before middle
+          (near_readings job (before ++ middle) t at read (timely_up_to job (before ++ middle) t turns timely))).0,
+      near_after job before (middle ++ t ∷ []) turns (subst (IsTimelyRun job) next timely),
     )
 
 pub near_later : (job : Job) (before turns : List Turn) → IsTimelyRun job (before ++ turns)

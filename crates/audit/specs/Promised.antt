@@ -1,6 +1,8 @@
 -- What one run promises, and with timely clocks whoever serves a key.
-use Rattle.std.specs.Prelude.{◌≡◌, ℕ, ◌==◌, Bool, true, false, not, IsTrue, List, [], ◌∷◌, ◌++◌, Contains, Option, Some, None, ◌⊎◌, if◌then◌else◌}
+use Rattle.std.specs.Prelude.{◌≡◌, ℕ, ◌==◌, Bool, true, false, not, IsTrue, List, [], ◌∷◌, ◌++◌, Contains, Option, Some, None, Ok, Err, ◌⊎◌, if◌then◌else◌}
+use Rattle.policy_rules.specs.declared.answer.Ground.{Ground}
 use Rattle.policy_rules.specs.declared.answer.Verdict.{Verdict}
+use Rattle.policy_rules.specs.declared.answer.Verdict.TheVariants.{Deny}
 use Rattle.assignment.specs.Slices.{Slicing}
 use Rattle.assignment.specs.Owners.{owns}
 use Rattle.lease_table.specs.Tables.{slices_of}
@@ -9,7 +11,7 @@ use Rattle.key_handle.specs.declared.handle.KeyHandle.{KeyHandle}
 use Rattle.slicelet.specs.declared.call.SliceletCall.{SliceletCall}
 use Rattle.slicelet.specs.Steps.{History}
 use Rattle.slicelet.specs.Rules.{rule_after, covers_key, is_allowed}
-use Rattle.slicelet.specs.Continuity.{IsContinuous, is_strange}
+use Rattle.slicelet.specs.Continuity.{handle_on, held_by, IsContinuous, is_strange}
 use Rattle.world.specs.Jobs.{Job}
 use Rattle.world.specs.Told.{numbered}
 use Rattle.world.specs.declared.record.RecordedCall.{RecordedCall}
@@ -72,6 +74,20 @@ pub record IsTurnAt (job : Job) (run before : List Turn) (stage : Stage) (turn :
 -- the written rule on the calls that a task accepted
 abbrev pub IsRuled : Stage → ℕ → ℕ → ℕ → Verdict → Type 0
 IsRuled stage task key at verdict = (s : History) × (numbered task stage.tasks ≡ Some s) × (verdict ≡ rule_after (covers_key key) s.calls at)
+
+-- who was told a verdict on a key was told that of the written rule on the calls that a task accepted, and of a task of the job this was told
+pub record IsServedByRule (stage : Stage) (task key at : ℕ) (reply : Told) : Type 0 where
+  pub told_verdict : (verdict : Verdict) → reply ≡ told.Verdict verdict → IsRuled stage task key at verdict
+  pub answered : (s : History) → numbered task stage.tasks ≡ Some s → reply ≡ told.Verdict (rule_after (covers_key key) s.calls at)
+
+-- who was told a handle on a key was told the one that the task takes there, where the written rule allows the key, and else why it does not
+pub record IsHeldByRule (stage : Stage) (task key at : ℕ) (reply : Told) : Type 0 where
+  pub made : (handle : KeyHandle) → reply ≡ told.Holding handle
+      → (s : History) × (numbered task stage.tasks ≡ Some s) × (held_by (rule_after (covers_key key) s.calls at) (handle_on key s) ≡ Ok handle)
+  pub allowed : (s : History) (handle : KeyHandle) → numbered task stage.tasks ≡ Some s
+      → held_by (rule_after (covers_key key) s.calls at) (handle_on key s) ≡ Ok handle → reply ≡ told.Holding handle
+  pub denied : (s : History) (why : Ground) → numbered task stage.tasks ≡ Some s
+      → held_by (rule_after (covers_key key) s.calls at) (handle_on key s) ≡ Err why → reply ≡ told.Verdict (Deny why)
 
 -- a task may serve a key at a point: at some reading a `serve` would be timely, and allowed by the written rule
 pub record MayServe (job : Job) (before : List Turn) (stage : Stage) (task key : ℕ) : Type 0 where

@@ -1,7 +1,6 @@
 //! What holds of every run that an audit finds: laws over the turns of a run.
 
 ghost use Rattle.std.specs.Prelude.{◌≡◌, ℕ, ◌++◌, ◌<◌, List, true, Some};
-ghost use Rattle.policy_rules.specs.declared.answer.Verdict.{Verdict};
 ghost use Rattle.policy_rules.specs.declared.answer.Verdict.TheVariants.{Allow};
 ghost use Rattle.policy_rules.specs.declared.lease.Kind.{Kind};
 ghost use Rattle.lease_table.specs.Policies.{is_policy, is_within};
@@ -13,7 +12,7 @@ ghost use Rattle.world.specs.declared.record.Told.{Told};
 ghost use Rattle.world.specs.declared.record.Told.TheVariants as told;
 ghost use Rattle.audit.specs.Stages.{Stage};
 ghost use Rattle.audit.specs.OneRun.{Turn, IsOneRun, IsTimelyRun};
-ghost use Rattle.audit.specs.Promised.{IsPoint, IsTurnAt, history_after, assigned_in, assigned_after, nothing_assigned, IsRuled, MayServe, IsOwner, IsCheckedByHistory, IsWhileHeld};
+ghost use Rattle.audit.specs.Promised.{IsPoint, IsTurnAt, history_after, assigned_in, assigned_after, nothing_assigned, IsServedByRule, IsHeldByRule, MayServe, IsOwner, IsCheckedByHistory, IsWhileHeld};
 
 use key_hash::KEYS;
 
@@ -37,12 +36,16 @@ pub fn told_law()
 {}
 
 /// Whoever was told a verdict on a `serve` was told that of the written rule on the calls that the
-/// task accepted before, and whoever was told that a handle is continuous, or that it is broken, was
+/// task accepted before; whoever was told a handle was told it where that rule allows the key, and
+/// else why it does not; and whoever was told that a handle is continuous, or that it is broken, was
 /// told what those calls say.
 pub fn answers_law()
-    ensures rule { (job : Job) (run before : List Turn) (stage : Stage) (turn : Turn) (task key at : ℕ) (verdict : Verdict)
+    ensures rule { (job : Job) (run before : List Turn) (stage : Stage) (turn : Turn) (task key at : ℕ) (reply : Told)
         → IsOneRun job run → IsTurnAt job run before stage turn → turn.call ≡ call.Serve task key at
-        → turn.told ≡ Some (told.Verdict verdict) → IsRuled stage task key at verdict }
+        → turn.told ≡ Some reply → IsServedByRule stage task key at reply }
+    ensures hold { (job : Job) (run before : List Turn) (stage : Stage) (turn : Turn) (task key at : ℕ) (reply : Told)
+        → IsOneRun job run → IsTurnAt job run before stage turn → turn.call ≡ call.Hold task key at
+        → turn.told ≡ Some reply → IsHeldByRule stage task key at reply }
     ensures handle { (job : Job) (run before : List Turn) (stage : Stage) (turn : Turn) (task at : ℕ) (handle : KeyHandle) (reply : Told)
         → IsOneRun job run → IsTurnAt job run before stage turn → turn.call ≡ call.Check task handle at
         → turn.told ≡ Some reply → IsCheckedByHistory stage task handle at reply }
