@@ -3,3 +3,13 @@ pub mod Turning
 pub mod Clocking
 pub mod Staging
 pub mod Comparing
+pub mod Splitting
+pub mod Looking
+pub mod Numbering
+pub mod Knowing
+pub mod Leaving
+pub mod Following
+pub mod TableTimes
+pub mod Serving
+pub mod Telling
+pub mod Holding

@@ -18,6 +18,7 @@ pub mod Noting
 pub mod TableReadings
 pub mod Lengthening
 pub mod Ruling
+pub mod LiveLeases
 pub mod Owning
 pub mod TaskShares
 pub mod Planning

@@ -11,7 +11,8 @@ use Rattle.lease_table.specs.Generations.{assignment_in, HasFewOwners}
 use Rattle.world.specs.Told.{table_calls, task_calls}
 use Rattle.world.proofs.Sending.{table_run}
 use Rattle.world.proofs.TaskAcceptance.{accepted_calls}
-use Rattle.world.proofs.Owning.{TableFacts, owner}
+use Rattle.world.proofs.LiveLeases.{TableFacts}
+use Rattle.world.proofs.Owning.{owner}
 use Rattle.world.proofs.laws.owner_law.Goals as goal
 
 pub returns-clause-owner : goal.returns-clause-owner
