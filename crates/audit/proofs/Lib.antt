@@ -2,6 +2,7 @@ pub mod Rising
 pub mod Turning
 pub mod Clocking
 pub mod Staging
+pub mod Comparing
 pub mod Splitting
 pub mod Looking
 pub mod Numbering

@@ -1,7 +1,7 @@
 -- Lists that rise, and tickets that stand twice.
-use Rattle.std.proofs.Common.{◌≡◌, ◌≢◌, ℕ, zero, suc, ◌+◌, ◌-◌, ◌<◌, ◌≤◌, ◌==◌, cond, Bool, true, false, List, [], ◌∷◌, ◌++◌, map, length, get_or, sym, refl, ap, ◌∙◌, ⊎_elim, arith, rules}
-use Rattle.std.specs.List.{sum_by, count_by, AllAdjacentBelow}
-use Rattle.std.specs.List.Sorted.{IsPermutation, IsNonDecreasingBy}
+use Rattle.std.proofs.Common.{◌≡◌, ◌≢◌, ℕ, zero, suc, ◌+◌, ◌-◌, ◌<◌, ◌≤◌, ◌==◌, cond, Bool, true, List, [], ◌∷◌, map, length, get_or, sym, refl, ap, ◌∙◌, ⊎_elim, arith}
+use Rattle.std.specs.List.{count_by, AllAdjacentBelow}
+use Rattle.std.specs.List.Sorted.{IsNonDecreasingBy}
 use Rattle.std.proofs.lemmas.List.{get_or_default, length-map, get_or-map}
 use Rattle.std.proofs.lemmas.List.Sums.{sum_by-cons}
 use Rattle.std.proofs.lemmas.List.Sorted.{all_adjacent_more}
@@ -9,27 +9,30 @@ use Rattle.std.proofs.lemmas.Bool.Decides.{eqb_tells}
 use Rattle.audit.specs.OneRun.{Rises}
 
 module _ {X : Type 0} (n : X → ℕ) where
-  pub twice_at : (xs : List X) (i : ℕ) (e : X) → 1 ≤ i → i < length xs → n (get_or xs i e) ≡ n (get_or xs (i - 1) e)
-      → (k : ℕ) × (k + 1 < length xs) × ((d : X) → (n (get_or xs k d) ≡ n (get_or xs i e)) × (n (get_or xs (k + 1) d) ≡ n (get_or xs i e)))
-  twice_at xs i e one low same = (
-    i - 1,
-    omega arith,
-    λ d. (ap n (get_or_default xs (i - 1) d e (omega arith)) ∙ sym same, ap (λ j. n (get_or xs j d)) (omega arith) ∙ ap n (get_or_default xs i d e low)),
-  )
+  module _ (xs : List X) (i : ℕ) (x y : X) (one : 1 ≤ i) (low : i < length xs) (before : x ≡ get_or xs (i - 1) x) (here : y ≡ get_or xs i y) where
+    next : i - 1 + 1 ≡ i
+    next = omega arith
 
-  pub falls_at : (xs : List X) (i : ℕ) (e : X) → 1 ≤ i → i < length xs → n (get_or xs i e) ≤ n (get_or xs (i - 1) e)
-      → (k : ℕ) × (k + 1 < length xs) × ((d : X) → n (get_or xs (k + 1) d) ≡ n (get_or xs i e)) × ((d : X) → n (get_or xs i e) ≤ n (get_or xs k d))
-  falls_at xs i e one low below = (
-    i - 1,
-    omega arith,
-    (λ d. ap (λ j. n (get_or xs j d)) (omega arith) ∙ ap n (get_or_default xs i d e low)),
-    λ d. let h = ap n (get_or_default xs (i - 1) d e (omega arith)) in omega (arith, h, below),
-  )
+    first : (d : X) → n (get_or xs (i - 1) d) ≡ n x
+    first d = ap n (get_or_default xs (i - 1) d x (omega arith) ∙ sym before)
 
-  pub rises_more : (xs : List X) (i : ℕ) (e : X) → 1 ≤ i → i < length xs → AllAdjacentBelow (λ x y. n x < n y) xs i → n (get_or xs (i - 1) e) < n (get_or xs i e) → AllAdjacentBelow (λ x y. n x < n y) xs (i + 1)
-  rises_more xs i e one low before up =
-      all_adjacent_more xs (λ x y. n x < n y) i one before
-      (λ d. let a = ap n (get_or_default xs (i - 1) d e (omega arith)) in let b = ap n (get_or_default xs i d e low) in omega (arith, a, b, up))
+    second : (d : X) → n (get_or xs (i - 1 + 1) d) ≡ n y
+    second d = ap (λ (j : ℕ). n (get_or xs j d)) next ∙ ap n (get_or_default xs i d y low ∙ sym here)
+
+    pub twice_at : n y ≡ n x → (k : ℕ) × (k + 1 < length xs) × ((d : X) → (n (get_or xs k d) ≡ n y) × (n (get_or xs (k + 1) d) ≡ n y))
+    twice_at same = (i - 1, omega arith, λ d. (first d ∙ sym same, second d))
+
+    pub falls_at : n y ≤ n x → (k : ℕ) × (k + 1 < length xs) × ((d : X) → n (get_or xs (k + 1) d) ≡ n y) × ((d : X) → n y ≤ n (get_or xs k d))
+    falls_at below = (i - 1, omega arith, second, λ d. let h = first d in omega (arith, h, below))
+
+    pub rises_more : AllAdjacentBelow (λ x y. n x < n y) xs i → n x < n y → AllAdjacentBelow (λ x y. n x < n y) xs (i + 1)
+    rises_more so_far up =
+        all_adjacent_more xs (λ x y. n x < n y) i one so_far
+        (λ d. let a = first d in let b = ap n (get_or_default xs i d y low ∙ sym here) in omega (arith, a, b, up))
+
+    pub rises_on : IsNonDecreasingBy n xs → AllAdjacentBelow (λ x y. n x < n y) xs i → n y ≢ n x → AllAdjacentBelow (λ x y. n x < n y) xs (i + 1)
+    rises_on up so_far other =
+        rises_more so_far (let h = up (i - 1) i x (omega arith) low in let a = first x in let b = ap n (get_or_default xs i x y low ∙ sym here) in omega (arith, h, a, b, other))
 
   test : (x : X) (t : ℕ) → n x ≡ t → (n x == t) ≡ true
   test x t is = ⊎_elim (λ u. u.0) (λ u. absurd (u.1 is)) (eqb_tells (n x) t)
@@ -44,9 +47,6 @@ module _ {X : Type 0} (n : X → ℕ) where
   counts_twice (x ∷ xs) zero d t low is too =
       let e = test x t is in let r = counts_here xs 0 d t (omega arith) too in omega (arith, r, sum_by-cons (λ y. cond (n y == t) 1 0) x xs, ap {B = ℕ} (λ b. cond b 1 0) e)
   counts_twice (x ∷ xs) (suc k) d t low is too = let r = counts_twice xs k d t (omega arith) is too in omega (arith, r, sum_by-cons (λ y. cond (n y == t) 1 0) x xs)
-
-  pub rises_on : (xs : List X) (i : ℕ) (e : X) → 1 ≤ i → i < length xs → IsNonDecreasingBy n xs → AllAdjacentBelow (λ x y. n x < n y) xs i → n (get_or xs i e) ≢ n (get_or xs (i - 1) e) → AllAdjacentBelow (λ x y. n x < n y) xs (i + 1)
-  rises_on xs i e one low up before other = rises_more xs i e one low before (let h = up (i - 1) i e (omega arith) low in omega (arith, h, other))
 
   pub rises_map : {Z : Type 0} (f : Z → X) (xs : List Z) → Rises (λ z. n (f z)) xs → Rises n (map f xs)
   rises_map f [] up k d low = absurd (omega arith)

@@ -1,11 +1,12 @@
 -- What calls leave at a stage.
-use Rattle.std.proofs.Common.{◌≡◌, ℕ, zero, suc, ◌+◌, ◌-◌, ◌<◌, ◌≤◌, Bool, true, false, List, [], ◌∷◌, length, refl, sym, ◌∙◌, ap, subst, arith}
+use Rattle.std.proofs.Common.{◌≡◌, ℕ, zero, suc, ◌+◌, ◌-◌, ◌<◌, Bool, true, false, List, [], ◌∷◌, ◌++◌, map, length, refl, sym, ◌∙◌, ap, subst, arith}
 use Rattle.std.specs.Prelude.{◌==◌, nat_le, slice_get, Option, Some, None, Result, Ok, Err}
-use Rattle.std.specs.List.{list_any}
+use Rattle.std.specs.List.{list_any, range_with_len}
 use Rattle.std.proofs.Math.ListN.{set, get_or}
 use Rattle.std.proofs.lemmas.Bool.Decides.{nat_tests}
-use Rattle.std.proofs.lemmas.List.{set-get_or}
-use Rattle.std.proofs.lemmas.Option.{slice_get-get_or}
+use Rattle.std.proofs.lemmas.List.{set-get_or, get_or_default}
+use Rattle.std.proofs.lemmas.List.FromFn.{map-range_with_len_more}
+use Rattle.std.proofs.lemmas.Option.{slice_get-get_or, slice_get_past}
 use Rattle.assignment.specs.Slices.{Slicing}
 use Rattle.lease_table.specs.Policies.{is_within}
 use Rattle.key_handle.specs.declared.handle.KeyHandle.{KeyHandle}
@@ -25,22 +26,33 @@ use Rattle.world.specs.declared.record.Told.TheVariants as told
 use Rattle.world.specs.Told.{numbered}
 use Rattle.audit.specs.Stages.{Stage, Turned, by, unless, refused, notes_with, task_refusal, task_took, task_turn, clerk_refusal, clerk_took, clerk_turn, same_handle, checked, IsCheckBy, IsCheckTurn}
 
-beyond : {A : Type 0} (xs : List A) (i : ℕ) → length xs ≤ i → slice_get xs i ≡ None
-beyond [] i l = refl
-beyond (x ∷ xs) zero l = absurd (omega arith)
-beyond (x ∷ xs) (suc i) l = beyond xs i (omega arith)
+-- one actor more
+pub one_more : {A : Type 0} (f : ℕ → A) (many : ℕ) (before new : List A) (a : A) → before ≡ map f (range_with_len 1 many) → a ≡ f (many + 1) → new ≡ before ++ a ∷ []
+    → new ≡ map f (range_with_len 1 (many + 1))
+one_more {A} f many before new a so_far is pushed =
+    let next : 1 + many ≡ many + 1 = omega arith in
+    pushed ∙ ap (λ (xs : List A). xs ++ a ∷ []) so_far ∙ ap (λ (x : A). map f (range_with_len 1 many) ++ x ∷ []) is ∙ sym (map-range_with_len_more f 1 many (many + 1) next)
+
+numbered_at : {A : Type 0} (n : ℕ) (xs : List A) → numbered (suc n) xs ≡ slice_get xs n
+numbered_at n xs =
+    let here : (suc n == 0) ≡ false = grind (arith, nat_tests) in
+    let place : suc n - 1 ≡ n = omega arith in
+    rw (here, place) refl
 
 -- no actor is of this number
 pub none_at : {A : Type 0} (number : ℕ) (xs : List A) → is_within number (length xs) ≡ false → numbered number xs ≡ None
 none_at zero xs e = refl
-none_at (suc n) xs e = beyond xs n (let high : nat_le (suc n) (length xs) ≡ false = e in grind (arith, nat_tests))
+none_at (suc n) xs e =
+    let one : nat_le 1 (suc n) ≡ true = grind (arith, nat_tests) in
+    let high : nat_le (suc n) (length xs) ≡ false = rw one at e in
+    numbered_at n xs ∙ slice_get_past xs n (grind (arith, nat_tests))
 
 -- the actor of a number is that at its place
 pub one_at : {A : Type 0} (number place : ℕ) (xs : List A) (x : A) → place + 1 ≡ number → place < length xs → x ≡ get_or xs place x → numbered number xs ≡ Some x
 one_at zero place xs x e inside at = absurd (omega arith)
 one_at (suc n) place xs x e inside at =
     let same : n ≡ place = omega arith in
-    ap (λ (i : ℕ). slice_get xs i) same ∙ slice_get-get_or xs place x inside ∙ ap (λ (y : _). Some y) (sym at)
+    numbered_at n xs ∙ ap (λ (i : ℕ). slice_get xs i) same ∙ slice_get-get_or xs place x inside ∙ ap (λ (y : _). Some y) (sym at)
 
 module _ (stage : Stage) (task place : ℕ) (s : History) (e : place + 1 ≡ task) (inside : place < length stage.tasks) (at : s ≡ get_or stage.tasks place s) (c : SliceletCall) where
   -- a call of a task at its place, for which nothing is wanting
@@ -48,11 +60,6 @@ module _ (stage : Stage) (task place : ℕ) (s : History) (e : place + 1 ≡ tas
   task_goes sent =
       ap (λ (o : Option History). by stage o (λ s. unless stage (task_refusal stage c) (task_took stage task (slicelet_step s c)))) (one_at task place stage.tasks s e inside at)
       ∙ ap (λ (o : Option Refusal). unless stage o (task_took stage task (slicelet_step s c))) sent
-
-  pub task_unsent : (why : Refusal) → task_refusal stage c ≡ Some why → refused stage why ≡ task_turn stage task c
-  task_unsent why unsent = sym
-      (ap (λ (o : Option History). by stage o (λ s. unless stage (task_refusal stage c) (task_took stage task (slicelet_step s c)))) (one_at task place stage.tasks s e inside at)
-      ∙ ap (λ (o : Option Refusal). unless stage o (task_took stage task (slicelet_step s c))) unsent)
 
   pub task_done : (new : History) (reply : SliceletReply) → task_refusal stage c ≡ None → slicelet_step s c ≡ Ok (new, reply)
       → (record stage { tasks = set stage.tasks place new; notes = notes_with reply stage.notes }, told.Task reply) ≡ task_turn stage task c
@@ -68,6 +75,16 @@ module _ (stage : Stage) (task place : ℕ) (s : History) (e : place + 1 ≡ tas
       let same : set stage.tasks place new ≡ stage.tasks = ap (set stage.tasks place) (kept ∙ at) ∙ set-get_or stage.tasks place s in
       ap (λ (ts : List History). let t : Turned = (record stage { tasks = ts }, told.Refused (refusal.Slicelet why)) in t) same ∙ sym (task_goes sent ∙ ap (task_took stage task) is)
 
+-- what is delivered to a task was not made
+pub task_unsent : (stage : Stage) (task place : ℕ) → place + 1 ≡ task → place < length stage.tasks → (c : SliceletCall) (why : Refusal) → task_refusal stage c ≡ Some why
+    → refused stage why ≡ task_turn stage task c
+task_unsent stage task place e inside c why unsent =
+    let s : History = record { task = 0; calls = [] } in
+    let at = get_or_default stage.tasks place s (get_or stage.tasks place s) inside in
+    sym
+    (ap (λ (o : Option History). by stage o (λ s. unless stage (task_refusal stage c) (task_took stage task (slicelet_step s c)))) (one_at task place stage.tasks (get_or stage.tasks place s) e inside at)
+    ∙ ap (λ (o : Option Refusal). unless stage o (task_took stage task (slicelet_step (get_or stage.tasks place s) c))) unsent)
+
 -- there is no such task
 pub task_missing : (stage : Stage) (task : ℕ) (c : SliceletCall) → is_within task (length stage.tasks) ≡ false → refused stage refusal.NoActor ≡ task_turn stage task c
 task_missing stage task c e = sym
@@ -78,11 +95,6 @@ module _ (stage : Stage) (clerk place : ℕ) (s : Option Slicing) (e : place + 1
   clerk_goes sent =
       ap (λ (o : Option (Option Slicing)). by stage o (λ s. unless stage (clerk_refusal stage c) (clerk_took stage clerk (clerk_step s c)))) (one_at clerk place stage.clerks s e inside at)
       ∙ ap (λ (o : Option Refusal). unless stage o (clerk_took stage clerk (clerk_step s c))) sent
-
-  pub clerk_unsent : (why : Refusal) → clerk_refusal stage c ≡ Some why → refused stage why ≡ clerk_turn stage clerk c
-  clerk_unsent why unsent = sym
-      (ap (λ (o : Option (Option Slicing)). by stage o (λ s. unless stage (clerk_refusal stage c) (clerk_took stage clerk (clerk_step s c)))) (one_at clerk place stage.clerks s e inside at)
-      ∙ ap (λ (o : Option Refusal). unless stage o (clerk_took stage clerk (clerk_step s c))) unsent)
 
   pub clerk_done : (new : Option Slicing) (reply : ClerkReply) → clerk_refusal stage c ≡ None → clerk_step s c ≡ Ok (new, reply)
       → (record stage { clerks = set stage.clerks place new }, told.Clerk reply) ≡ clerk_turn stage clerk c
@@ -96,6 +108,16 @@ module _ (stage : Stage) (clerk place : ℕ) (s : Option Slicing) (e : place + 1
   clerk_kept new why sent is kept =
       let same : set stage.clerks place new ≡ stage.clerks = ap (set stage.clerks place) (kept ∙ at) ∙ set-get_or stage.clerks place s in
       ap (λ (ts : List (Option Slicing)). let t : Turned = (record stage { clerks = ts }, told.Refused (refusal.Clerk why)) in t) same ∙ sym (clerk_goes sent ∙ ap (clerk_took stage clerk) is)
+
+-- what is delivered to a clerk was not made
+pub clerk_unsent : (stage : Stage) (clerk place : ℕ) → place + 1 ≡ clerk → place < length stage.clerks → (c : ClerkCall) (why : Refusal) → clerk_refusal stage c ≡ Some why
+    → refused stage why ≡ clerk_turn stage clerk c
+clerk_unsent stage clerk place e inside c why unsent =
+    let s : Option Slicing = None in
+    let at = get_or_default stage.clerks place s (get_or stage.clerks place s) inside in
+    sym
+    (ap (λ (o : Option (Option Slicing)). by stage o (λ s. unless stage (clerk_refusal stage c) (clerk_took stage clerk (clerk_step s c)))) (one_at clerk place stage.clerks (get_or stage.clerks place s) e inside at)
+    ∙ ap (λ (o : Option Refusal). unless stage o (clerk_took stage clerk (clerk_step (get_or stage.clerks place s) c))) unsent)
 
 -- there is no such clerk
 pub clerk_missing : (stage : Stage) (clerk : ℕ) (c : ClerkCall) → is_within clerk (length stage.clerks) ≡ false → refused stage refusal.NoActor ≡ clerk_turn stage clerk c

@@ -1,5 +1,5 @@
 -- Turns of several histories, and runs that grow by one turn.
-use Rattle.std.proofs.Common.{◌≡◌, ℕ, zero, suc, ◌+◌, ◌<◌, List, [], ◌∷◌, ◌++◌, map, length, get_or, take, drop, sym, refl, ap, ◌∙◌, subst, arith, rules}
+use Rattle.std.proofs.Common.{◌≡◌, ℕ, ◌+◌, ◌<◌, List, [], ◌∷◌, ◌++◌, map, length, get_or, take, drop, sym, refl, ap, ◌∙◌, subst, arith}
 use Rattle.std.specs.Prelude.{Option, Some, None}
 use Rattle.std.proofs.lemmas.List.{map_more, map-append, take-append-drop, append_assoc, append-nil, take_more, length-take-le}
 use Rattle.world.specs.Jobs.{Job}
@@ -8,7 +8,9 @@ use Rattle.world.specs.declared.record.Told.{Told}
 use Rattle.audit.specs.declared.finding.Why.{Why}
 use Rattle.audit.specs.declared.finding.Why.TheVariants.{Double, Order, RefusedEntry, OtherReply}
 use Rattle.audit.specs.Stages.{Stage, Turned, first_stage, IsTurn}
-use Rattle.audit.specs.OneRun.{Turn, Entries, Evidence, entry_turn, turns_from, Fits, IsRunFrom, IsWrong, IsBreak, IsInOrder, IsFault}
+use Rattle.audit.proofs.Rising.{rises_map}
+use Rattle.std.specs.List.Sorted.{IsPermutation}
+use Rattle.audit.specs.OneRun.{Turn, Entries, Evidence, all_turns, HistoriesRise, Rises, entry_turn, turns_from, Fits, IsRunFrom, IsWrong, IsBreak, IsInOrder, IsFault}
 
 -- one history more
 pub turns_more : {C : Type 0} (name : ℕ → C → RecordedCall) (number : ℕ) (hs : List (Entries C)) (h : Entries C)
@@ -32,6 +34,10 @@ add_more name hs i h d before old new low is was made =
     ∙ ap (λ (n : ℕ). turns_from name 1 (take i hs) ++ map (entry_turn (name n)) h) count in
     made ∙ ap (λ (ts : List Turn). ts ++ map (entry_turn (name (i + 1))) h) was
     ∙ append_assoc before (turns_from name 1 (take i hs)) (map (entry_turn (name (i + 1))) h) ∙ ap (λ (ts : List Turn). before ++ ts) (sym more)
+
+-- points with distinct tickets, of histories that rise, show turns in order
+pub in_order : {X : Type 0} (f : X → Turn) (e : Evidence) (points : List X) → IsPermutation (all_turns e) (map f points) → Rises (λ p. (f p).ticket) points → HistoriesRise e → IsInOrder e (map f points)
+in_order f e points each distinct rising = record { each = each; distinct = rises_map (λ (t : Turn). t.ticket) f points distinct; rising = rising }
 
 module _ (job : Job) where
   -- one turn more

@@ -11,15 +11,15 @@ ghost use Rattle.audit.specs.OneRun.{Fits, HistoriesRise, HistoryFalls, IsAudit,
 ghost use Rattle.world.specs.Jobs.{Job};
 
 use crate::finding::{Audit, Why};
-
 use crate::points::{Point, fall, falls, sorted_points, twice};
-use world::{CallRecord, Job, RecordedCall, Told};
 use crate::replay::Replay;
+use crate::sameness::is_same;
 use clerk::ClerkEvent;
 use history_lock::History;
 use lease_table::{TableCall, TableEvent};
 use slicelet::SliceletEvent;
 use std::alloc::{AllocError, Global};
+use world::{CallRecord, Job, RecordedCall, Told};
 
 fn is_refused(reply: &Told) -> bool
     ensures { result ≡ is_refused reply.now }
@@ -38,7 +38,7 @@ fn judge(reply: &Told, told: Option<&Told>) -> Option<Why>
             }
         }
         Some(told) => {
-            if !told.is_same(reply) {
+            if !is_same(told, reply) {
                 return Some(Why::OtherReply);
             }
         }
@@ -203,8 +203,7 @@ pub fn audit(
     if let Some((ticket, why)) = misfit(alloc, *job, &points)? {
         return Ok(Audit::No { ticket, why });
     }
-    Ok(Audit::One {
-        steps: points.len() as u64,
-        timely: is_timely(&points, job.policy().skew()),
-    })
+    let steps = points.len() as u64;
+    let timely = is_timely(&points, job.policy().skew());
+    Ok(Audit::One { steps, timely })
 }

@@ -6,13 +6,13 @@ ghost use Rattle.world.specs.declared.record.RecordedCall.TheVariants as call;
 ghost use Rattle.audit.specs.OneRun.{all_turns, entry_turn, record_turn, ticket_of, turns_from, Falls, OneFalls, Rises};
 ghost use Rattle.audit.specs.Shown.{evidence, shown};
 
-use world::CallRecord;
 use clerk::{ClerkCall, ClerkEvent};
 use history_lock::{Entry, History};
 use lease_table::{TableCall, TableEvent};
 use machines::Event;
 use slicelet::{SliceletCall, SliceletEvent};
 use std::alloc::{AllocError, Global};
+use world::CallRecord;
 
 // An entry or a record.
 #[derive(Clone, Copy)]

@@ -19,8 +19,6 @@ ghost use Rattle.audit.specs.Stages.{IsCheckBy, IsTurn, by, clerk_refusal, clerk
 ghost use Rattle.audit.specs.Shown.{shown};
 
 use crate::points::Point;
-use world::{Job, RecordedCall, Refusal, Told, numbered};
-
 use assignment::{Assignment, Listed, TaskId};
 use clerk::{Clerk, ClerkCall, ClerkError, ClerkReply};
 use key_handle::KeyHandle;
@@ -31,6 +29,7 @@ use policy_rules::Verdict;
 use slicelet::{Slicelet, SliceletCall, SliceletError, SliceletReply};
 use std::alloc::{AllocError, Global};
 use std::marker::Model;
+use world::{Job, RecordedCall, Refusal, Told, numbered};
 
 /// The machines, and what was made so far.
 #[derive(Drop)]

@@ -3,14 +3,13 @@
 ghost use Rattle.std.specs.Prelude.{◌≡◌, ◌≢◌, MatchBool};
 ghost use Rattle.world.specs.declared.record.Told.TheVariants as answer;
 
-use world::{Refusal, Told};
-
 use assignment::Listed;
 use clerk::{ClerkReply, Found};
 use key_handle::KeyHandle;
 use lease_table::{Phase, Row, TableReply};
 use policy_rules::Verdict;
 use slicelet::SliceletReply;
+use world::{Refusal, Told};
 
 fn is_reply_of_table(reply: &TableReply, other: &TableReply) -> bool
     ensures { MatchBool result (other.now ≡ reply.now) (other.now ≢ reply.now) }
@@ -106,23 +105,21 @@ fn is_refusal(why: Refusal, told: &Told) -> bool
     }
 }
 
-impl Told {
-    /// Whether another caller was told the same.
-    pub fn is_same(&self, other: &Told) -> bool
-        ensures { MatchBool result (other.now ≡ self.now) (other.now ≢ self.now) }
-    {
-        match self {
-            Told::Table(reply) => is_table(reply, other),
-            Told::Task(reply) => is_task(*reply, other),
-            Told::Clerk(reply) => is_clerk(*reply, other),
-            Told::Phase(phase) => is_phase(*phase, other),
-            Told::Rows(rows) => is_rows(rows, other),
-            Told::Verdict(verdict) => is_verdict(*verdict, other),
-            Told::Holding(handle) => is_holding(*handle, other),
-            Told::Continuous => matches!(other, Told::Continuous),
-            Told::Broken => matches!(other, Told::Broken),
-            Told::Found(found) => is_found(found, other),
-            Told::Refused(why) => is_refusal(*why, other),
-        }
+/// Whether two callers were told the same.
+pub(crate) fn is_same(told: &Told, other: &Told) -> bool
+    ensures { MatchBool result (other.now ≡ told.now) (other.now ≢ told.now) }
+{
+    match told {
+        Told::Table(reply) => is_table(reply, other),
+        Told::Task(reply) => is_task(*reply, other),
+        Told::Clerk(reply) => is_clerk(*reply, other),
+        Told::Phase(phase) => is_phase(*phase, other),
+        Told::Rows(rows) => is_rows(rows, other),
+        Told::Verdict(verdict) => is_verdict(*verdict, other),
+        Told::Holding(handle) => is_holding(*handle, other),
+        Told::Continuous => matches!(other, Told::Continuous),
+        Told::Broken => matches!(other, Told::Broken),
+        Told::Found(found) => is_found(found, other),
+        Told::Refused(why) => is_refusal(*why, other),
     }
 }

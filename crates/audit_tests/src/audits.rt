@@ -1,10 +1,11 @@
 //! Audits of one job's first steps.
 
+use audit::{Audit, Why, audit};
 use crate::histories::{asked, policy, table_history, task_history};
 use policy_rules::{Ground, Kind, Verdict};
 use std::alloc::Global;
 use std::test::Fail;
-use world::{Audit, CallRecord, Job, Told, Why, audit};
+use world::{CallRecord, Job, Told};
 
 // What an audit of the job finds; `None` where the histories cannot be made.
 fn found(

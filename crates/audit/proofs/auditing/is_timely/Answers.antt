@@ -3,7 +3,6 @@ use Rattle.audit.specs.declared.points.Point.{Point}
 use Rattle.audit.specs.OneRun.{clocked}
 use Rattle.audit.specs.Shown.{shown}
 use Rattle.audit.proofs.Clocking.{late_here, timely_more}
-use Rattle.world.proofs.Timing.{IsLeast}
 use Rattle.audit.proofs.auditing.is_timely.Goals as goal
 
 pub returns-then-is_late : goal.returns-then-is_late

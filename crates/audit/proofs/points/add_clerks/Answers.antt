@@ -6,5 +6,5 @@ use Rattle.audit.proofs.points.add_clerks.Goals as goal
 
 pub loop-place-preserved : goal.loop-place-preserved
 loop-place-preserved c =
-    add_more call.Clerk c.args.histories.now c.loop-place.place c.index-histories-place.result c.index-histories-place.result (map shown c.initial.points.items) (map shown c.loop-place.points.items) _ c.loop-place-test.true
-    c.index-histories-place.is c.loop-place.invariant c.add_clerk.ensures
+    add_more call.Clerk c.args.histories.now c.loop-place.place c.index-histories-place.result c.index-histories-place.result (map shown c.args.points.now.items) (map shown c.loop-place.points.items)
+    _ c.loop-place-test.true c.index-histories-place.is c.loop-place.invariant (rw c.entries.ensures at c.in_ok-add_clerk.ensures)

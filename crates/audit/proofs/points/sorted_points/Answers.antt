@@ -1,4 +1,4 @@
-use Rattle.std.proofs.Common.{rules, subst, map, ◌≡◌, List}
+use Rattle.std.proofs.Common.{subst, map, List}
 use Rattle.std.specs.List.Sorted.{IsPermutation}
 use Rattle.std.proofs.lemmas.List.Sorted.{IsPermutation-map}
 use Rattle.audit.specs.OneRun.{Turn}
