@@ -52,9 +52,7 @@ fn write<M: Machine>(lock: &LaneLock<M>, pass: &mut Pass<M>, event: M::Event) ->
         pass,
         &mut || -> M::Event
             requires { IsSome next }
-        {
-            next.take().unwrap()
-        },
+        { next.take().unwrap() },
     )
     .is_ok()
 }
