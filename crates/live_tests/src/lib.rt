@@ -1,7 +1,0 @@
-//! Tests of objects that threads share.
-#![tactic(auto)]
-
-#[cfg(test)]
-mod calls;
-#[cfg(test)]
-mod objects;
