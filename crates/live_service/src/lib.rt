@@ -2,9 +2,9 @@
 #![tactic(auto)]
 
 mod ask;
-mod assigner;
 mod calls;
 mod clerk_loop;
+mod commit_loop;
 mod crew;
 mod error;
 mod gate;

@@ -3,8 +3,8 @@
 ghost use Rattle.std.specs.Prelude.{◌≡◌, ◌*◌, IfOk};
 ghost use Rattle.live_service.specs.Reports.{commits, serves};
 
-use crate::assigner::assign;
 use crate::clerk_loop::{ClerkSeat, learn_all};
+use crate::commit_loop::assign;
 use crate::crew::{Crew, CrewLeft, MOST_ENTRIES};
 use crate::gate::Gate;
 use crate::job::LiveJob;
