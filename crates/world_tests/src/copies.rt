@@ -1,9 +1,9 @@
 //! Copies of steps and of what they are answered.
 
+use crate::acts::Act;
 use crate::stories::{AFTER, BASE, CHANGE, LOADS, Told, VALUES, job_of, steps_of, text_of};
 use machines::Duplicate;
 use std::alloc::{AllocError, Global};
-use std::process::Abort;
 use std::test::Fail;
 use world::{Step, World};
 
@@ -16,28 +16,34 @@ fn copies_of(alloc: Global, story: &[Told]) -> Result<Vec<Step>, AllocError> {
     Ok(copies)
 }
 
-// Plays copies of a story's steps, and compares the texts of copies of what they are answered.
-fn play_copies(
-    rt: &impl Abort,
-    alloc: Global,
-    world: &mut World,
-    story: &[Told],
-) -> Result<(), Fail> {
+// Plays copies of a story's steps, and answers its first act whose reply's copy has another text.
+fn other_copy(alloc: Global, world: &mut World, story: &[Told]) -> Result<Option<Act>, AllocError> {
     let replies = world.run(copies_of(alloc, story)?.as_slice())?;
-    assert_eq!(rt; replies.len(), story.len());
-    for (reply, (act, wanted)) in replies.iter().zip(story.iter()) {
-        let text = text_of(alloc, &reply.copy()?)?;
-        assert_eq!(rt; text.as_str(), *wanted, "{act:?}");
+    for (place, (act, wanted)) in story.iter().enumerate() {
+        match replies.as_slice().get(place) {
+            Some(reply) if text_of(alloc, &reply.copy()?)?.as_str() == *wanted => {}
+            _ => return Ok(Some(*act)),
+        }
     }
-    Ok(())
+    Ok(None)
+}
+
+// The same of all stories.
+fn first_other_copy(alloc: Global) -> Result<Option<Act>, Fail> {
+    let stories: [&[Told]; 5] = [&VALUES, &LOADS, &BASE, &CHANGE, &AFTER];
+    let mut world = World::new(alloc, job_of()?)?;
+    for story in stories {
+        let other = other_copy(alloc, &mut world, story)?;
+        if other.is_some() {
+            return Ok(other);
+        }
+    }
+    Ok(None)
 }
 
 #[test]
 fn copies_every_kind_of_step_and_reply(rt: HostRuntime) -> Result<(), Fail> {
-    let mut world = World::new(rt.alloc(), job_of()?)?;
-    play_copies(&rt, rt.alloc(), &mut world, &VALUES)?;
-    play_copies(&rt, rt.alloc(), &mut world, &LOADS)?;
-    play_copies(&rt, rt.alloc(), &mut world, &BASE)?;
-    play_copies(&rt, rt.alloc(), &mut world, &CHANGE)?;
-    play_copies(&rt, rt.alloc(), &mut world, &AFTER)
+    let other = first_other_copy(rt.alloc())?;
+    assert!(rt; other.is_none(), "{other:?}");
+    Ok(())
 }

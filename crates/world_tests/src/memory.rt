@@ -1,9 +1,8 @@
 //! A world where memory is refused.
 
-use crate::acts::step_of;
+use crate::acts::{Act, step_of};
 use crate::stories::{AFTER, BASE, CHANGE, LOADS, Told, VALUES, job_of, text_of};
 use std::alloc::Global;
-use std::process::Abort;
 use std::test::Fail;
 use world::{Reply, Step, World};
 
@@ -16,13 +15,9 @@ fn answer(alloc: Global, world: &mut World, step: Step) -> Option<Reply> {
     }
 }
 
-// Plays a story a step at a time, and a step once more where there was no memory for it.
-fn play_at_last(
-    rt: &impl Abort,
-    alloc: Global,
-    world: &mut World,
-    story: &[Told],
-) -> Result<(), Fail> {
+// Plays a story a step at a time, and a step once more where there was no memory for it: the first act
+// that is answered otherwise, if there is one.
+fn other_at_last(alloc: Global, world: &mut World, story: &[Told]) -> Result<Option<Act>, Fail> {
     for (act, wanted) in story {
         let step = step_of(alloc, *act).or_else(|_| step_of(alloc, *act))?;
         let reply = match answer(alloc, world, step) {
@@ -30,21 +25,32 @@ fn play_at_last(
             None => answer(alloc, world, step_of(alloc, *act)?).ok_or("a second time")?,
         };
         let text = text_of(alloc, &reply).or_else(|_| text_of(alloc, &reply))?;
-        assert_eq!(rt; text.as_str(), *wanted, "{act:?}");
+        if text.as_str() != *wanted {
+            return Ok(Some(*act));
+        }
     }
-    Ok(())
+    Ok(None)
+}
+
+// The same of all stories.
+fn first_other_at_last(alloc: Global) -> Result<Option<Act>, Fail> {
+    let stories: [&[Told]; 5] = [&VALUES, &LOADS, &BASE, &CHANGE, &AFTER];
+    let job = job_of()?;
+    let mut world = World::new(alloc, job).or_else(|_| World::new(alloc, job))?;
+    for story in stories {
+        let other = other_at_last(alloc, &mut world, story)?;
+        if other.is_some() {
+            return Ok(other);
+        }
+    }
+    Ok(None)
 }
 
 // Where one allocation is refused (`rt try --test --fail-alloc N`), the step that wanted it leaves
 // the world as it was, and is answered the next time as with ample memory.
 #[test]
 fn stays_as_it_was_without_memory(rt: HostRuntime) -> Result<(), Fail> {
-    let alloc = rt.alloc();
-    let job = job_of()?;
-    let mut world = World::new(alloc, job).or_else(|_| World::new(alloc, job))?;
-    play_at_last(&rt, alloc, &mut world, &VALUES)?;
-    play_at_last(&rt, alloc, &mut world, &LOADS)?;
-    play_at_last(&rt, alloc, &mut world, &BASE)?;
-    play_at_last(&rt, alloc, &mut world, &CHANGE)?;
-    play_at_last(&rt, alloc, &mut world, &AFTER)
+    let other = first_other_at_last(rt.alloc())?;
+    assert!(rt; other.is_none(), "{other:?}");
+    Ok(())
 }

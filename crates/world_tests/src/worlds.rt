@@ -1,31 +1,49 @@
 //! What steps are answered.
 
 use crate::acts::Act;
-use crate::stories::{AFTER, BASE, CHANGE, LOADS, VALUES, job_of, play};
+use crate::stories::{AFTER, BASE, CHANGE, LOADS, VALUES, first_other, job_of, other_answer};
+use std::alloc::Global;
 use std::test::Fail;
 use world::World;
 
 #[test]
 fn answers_every_kind_of_step(rt: HostRuntime) -> Result<(), Fail> {
-    let mut world = World::new(rt.alloc(), job_of()?)?;
-    play(&rt, rt.alloc(), &mut world, &VALUES)?;
-    play(&rt, rt.alloc(), &mut world, &LOADS)?;
-    play(&rt, rt.alloc(), &mut world, &BASE)?;
-    play(&rt, rt.alloc(), &mut world, &CHANGE)?;
-    play(&rt, rt.alloc(), &mut world, &AFTER)
+    let other = first_other(rt.alloc(), &[&VALUES, &LOADS, &BASE, &CHANGE, &AFTER])?;
+    assert!(rt; other.is_none(), "{other:?}");
+    Ok(())
 }
 
-// A story is cut in two at each place.
+// A story is cut in two at each place: the first cut where its parts are answered otherwise.
+fn first_bad_cut(alloc: Global) -> Result<Option<usize>, Fail> {
+    for cut in 0..=CHANGE.len() {
+        let (first, second) = CHANGE.split_at(cut);
+        if first_other(alloc, &[&BASE, first, second])?.is_some() {
+            return Ok(Some(cut));
+        }
+    }
+    Ok(None)
+}
+
 #[test]
 fn answers_two_calls_as_the_joined_one(rt: HostRuntime) -> Result<(), Fail> {
-    for cut in 0..=CHANGE.len() {
-        let mut world = World::new(rt.alloc(), job_of()?)?;
-        let (first, second) = CHANGE.split_at(cut);
-        play(&rt, rt.alloc(), &mut world, &BASE)?;
-        play(&rt, rt.alloc(), &mut world, first)?;
-        play(&rt, rt.alloc(), &mut world, second)?;
-    }
+    assert_eq!(rt; first_bad_cut(rt.alloc())?, None);
     Ok(())
+}
+
+// The first of these acts, after the base, that is answered otherwise than by this text; and the first
+// of the change that is, after them.
+fn other_after_the_base(
+    alloc: Global,
+    acts: &[Act],
+    text: &'static str,
+) -> Result<(Option<Act>, Option<Act>), Fail> {
+    let mut world = World::new(alloc, job_of()?)?;
+    let mut other = other_answer(alloc, &mut world, &BASE)?;
+    for act in acts {
+        let answered = other_answer(alloc, &mut world, &[(*act, text)])?;
+        other = other.or(answered);
+    }
+    Ok((other, other_answer(alloc, &mut world, &CHANGE)?))
 }
 
 const NO_ACTORS: [Act; 12] = [
@@ -45,13 +63,9 @@ const NO_ACTORS: [Act; 12] = [
 
 #[test]
 fn knows_no_actor_beyond_the_job(rt: HostRuntime) -> Result<(), Fail> {
-    let mut world = World::new(rt.alloc(), job_of()?)?;
-    play(&rt, rt.alloc(), &mut world, &BASE)?;
-    for act in NO_ACTORS {
-        let story = [(act, "Refused(NoActor)")];
-        play(&rt, rt.alloc(), &mut world, &story)?;
-    }
-    play(&rt, rt.alloc(), &mut world, &CHANGE)
+    let (other, later) = other_after_the_base(rt.alloc(), &NO_ACTORS, "Refused(NoActor)")?;
+    assert!(rt; other.is_none() && later.is_none(), "{other:?}, {later:?}");
+    Ok(())
 }
 
 // Some at a reading that would be refused, had the thing been made.
@@ -68,11 +82,7 @@ const NOT_SENT: [Act; 8] = [
 
 #[test]
 fn delivers_nothing_that_was_not_made(rt: HostRuntime) -> Result<(), Fail> {
-    let mut world = World::new(rt.alloc(), job_of()?)?;
-    play(&rt, rt.alloc(), &mut world, &BASE)?;
-    for act in NOT_SENT {
-        let story = [(act, "Refused(NotSent)")];
-        play(&rt, rt.alloc(), &mut world, &story)?;
-    }
+    let (other, later) = other_after_the_base(rt.alloc(), &NOT_SENT, "Refused(NotSent)")?;
+    assert!(rt; other.is_none() && later.is_none(), "{other:?}, {later:?}");
     Ok(())
 }
