@@ -1,5 +1,7 @@
+pub mod Asked
 pub mod Asking
-pub mod NamedReplies
-pub mod Writing
+pub mod Keeping
 pub mod Lanes
+pub mod NamedReplies
 pub mod Quiet
+pub mod Writing

@@ -16,6 +16,7 @@ use world::Ticket;
 const HALF: u64 = 1 << 62;
 
 /// Takes the job, and proposes and commits one generation after another.
+#[tactic(auto, using(crate::proofs::Keeping::keeps_same, crate::proofs::Keeping::keeps_more))]
 pub(crate) fn assign<R: Wait>(
     rt: &R,
     alloc: Global,
@@ -34,6 +35,7 @@ pub(crate) fn assign<R: Wait>(
     }
 }
 
+#[tactic(auto, using(crate::proofs::Keeping::keeps_same, crate::proofs::Keeping::keeps_more))]
 fn commit_all<R: Wait>(
     rt: &R,
     alloc: Global,
@@ -56,6 +58,7 @@ fn commit_all<R: Wait>(
 }
 
 // Reads the table until no row of an earlier generation is open.
+#[tactic(auto, using(crate::proofs::Keeping::keeps_same, crate::proofs::Keeping::keeps_more))]
 fn await_rows<R: Wait>(
     rt: &R,
     table: &SharedTable,

@@ -81,6 +81,7 @@ pub(crate) fn written<A: Drop, F: Drop>(
 
 impl TableSeat {
     /// Takes the job.
+    #[tactic(auto, using(crate::proofs::Lanes::called_lane, crate::proofs::Quiet::called_quiet))]
     pub(crate) fn take<R: Wait>(
         &mut self,
         rt: &R,
@@ -96,6 +97,7 @@ impl TableSeat {
     }
 
     /// Proposes an assignment under a term.
+    #[tactic(auto, using(crate::proofs::Lanes::called_lane, crate::proofs::Quiet::called_quiet))]
     pub(crate) fn propose<R: Wait>(
         &mut self,
         rt: &R,
@@ -113,6 +115,7 @@ impl TableSeat {
     }
 
     /// Commits the proposal under a term.
+    #[tactic(auto, using(crate::proofs::Lanes::called_lane, crate::proofs::Quiet::called_quiet))]
     pub(crate) fn commit<R: Wait>(
         &mut self,
         rt: &R,
@@ -129,6 +132,7 @@ impl TableSeat {
     }
 
     /// Asks for a lease for a task.
+    #[tactic(auto, using(crate::proofs::Lanes::called_lane, crate::proofs::Quiet::called_quiet))]
     pub(crate) fn grant<R: Wait>(
         &mut self,
         rt: &R,
@@ -145,6 +149,7 @@ impl TableSeat {
     }
 
     /// Frees the rows of a lease that was given up.
+    #[tactic(auto, using(crate::proofs::Lanes::called_lane, crate::proofs::Quiet::called_quiet))]
     pub(crate) fn free<R: Wait>(
         &mut self,
         rt: &R,
@@ -161,6 +166,7 @@ impl TableSeat {
     }
 
     /// Looks at the table's phase. No record is kept of it.
+    #[tactic(auto, using(crate::proofs::Lanes::asked_lane))]
     pub(crate) fn phase<R: Wait>(
         &mut self,
         rt: &R,
@@ -175,6 +181,7 @@ impl TableSeat {
     }
 
     /// Looks at the table's open rows. No record is kept of it.
+    #[tactic(auto, using(crate::proofs::Lanes::rows_lane))]
     pub(crate) fn rows<R: Wait>(
         &mut self,
         rt: &R,
@@ -192,6 +199,7 @@ impl TableSeat {
     }
 
     /// A copy of the committed assignment.
+    #[tactic(auto, using(crate::proofs::Lanes::committed_lane))]
     pub(crate) fn committed<R: Wait>(
         &mut self,
         rt: &R,

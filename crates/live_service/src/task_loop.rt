@@ -1,6 +1,9 @@
 //! The thread of a task of a live run, which sees to its leases.
 
-ghost use Rattle.std.specs.Prelude.{IfOk};
+ghost use Rattle.std.specs.Prelude.{◌≡◌, IfOk};
+ghost use Rattle.history_lock.specs.Passes.{IsPassOf};
+ghost use Rattle.world.specs.Tickets.{DrawsFrom};
+ghost use Rattle.live_service.specs.Reports.{serves};
 ghost use Rattle.live_service.specs.Seats.{IsTaskSeatOf, KeepsTaskSeat};
 
 use crate::job::LiveJob;
@@ -66,38 +69,65 @@ impl HeldGenerations {
 
 impl TaskSeat {
     // Starts the task's life.
+    #[tactic(auto, using(crate::proofs::Lanes::called_lane, crate::proofs::Quiet::called_quiet))]
     fn start<R: Wait>(
         &mut self,
         rt: &R,
         slicelet: &SharedSlicelet,
         ticket: &Ticket,
-    ) -> Result<(), Halt> {
+    ) -> Result<(), Halt>
+        requires own { IsPassOf slicelet.now self.old.own }
+        requires draws { DrawsFrom ticket.now self.old.table.draws }
+        ensures own { IsPassOf slicelet.now self.new.own }
+        ensures lane { self.new.own.lane ≡ self.old.own.lane }
+        ensures draws { DrawsFrom ticket.now self.new.table.draws }
+        ensures table { self.new.table.pass ≡ self.old.table.pass }
+        ensures served { serves self.new.table.records.items ≡ serves self.old.table.records.items }
+    {
         let (own, draws) = (&mut self.own, &mut self.table.draws);
         let answer = slicelet.start(rt, ticket, own, draws, LIFE, When::AtTicket);
         written(&mut self.table.records, answer)
     }
 
     // Hears a grant.
+    #[tactic(auto, using(crate::proofs::Lanes::called_lane, crate::proofs::Quiet::called_quiet))]
     fn hear<R: Wait>(
         &mut self,
         rt: &R,
         slicelet: &SharedSlicelet,
         ticket: &Ticket,
         grant: Grant,
-    ) -> Result<(), Halt> {
+    ) -> Result<(), Halt>
+        requires own { IsPassOf slicelet.now self.old.own }
+        requires draws { DrawsFrom ticket.now self.old.table.draws }
+        ensures own { IsPassOf slicelet.now self.new.own }
+        ensures lane { self.new.own.lane ≡ self.old.own.lane }
+        ensures draws { DrawsFrom ticket.now self.new.table.draws }
+        ensures table { self.new.table.pass ≡ self.old.table.pass }
+        ensures served { serves self.new.table.records.items ≡ serves self.old.table.records.items }
+    {
         let (own, draws) = (&mut self.own, &mut self.table.draws);
         let answer = slicelet.hear(rt, ticket, own, draws, grant, When::AtTicket);
         written(&mut self.table.records, answer)
     }
 
     // Gives up the lease of a kind.
+    #[tactic(auto, using(crate::proofs::Lanes::called_lane, crate::proofs::Quiet::called_quiet))]
     fn release<R: Wait>(
         &mut self,
         rt: &R,
         slicelet: &SharedSlicelet,
         ticket: &Ticket,
         kind: Kind,
-    ) -> Result<ReleaseNote, Halt> {
+    ) -> Result<ReleaseNote, Halt>
+        requires own { IsPassOf slicelet.now self.old.own }
+        requires draws { DrawsFrom ticket.now self.old.table.draws }
+        ensures own { IsPassOf slicelet.now self.new.own }
+        ensures lane { self.new.own.lane ≡ self.old.own.lane }
+        ensures draws { DrawsFrom ticket.now self.new.table.draws }
+        ensures table { self.new.table.pass ≡ self.old.table.pass }
+        ensures served { serves self.new.table.records.items ≡ serves self.old.table.records.items }
+    {
         let (own, draws) = (&mut self.own, &mut self.table.draws);
         let answer = slicelet.release(rt, ticket, own, draws, kind, When::AtTicket);
         written(&mut self.table.records, answer)
@@ -105,6 +135,7 @@ impl TaskSeat {
 }
 
 /// Starts the task's life, and sees to its leases until it has a guard lease of the last generation.
+#[tactic(auto, using(crate::proofs::Keeping::task_same, crate::proofs::Keeping::task_more, crate::proofs::Keeping::task_by_table, crate::proofs::Keeping::task_by_own))]
 pub(crate) fn see_to_leases<R: Wait>(
     rt: &R,
     table: &SharedTable,
@@ -113,7 +144,10 @@ pub(crate) fn see_to_leases<R: Wait>(
     job: LiveJob,
     task: TaskId,
     mut seat: TaskSeat,
-) -> Result<TaskSeat, AllocError> {
+) -> Result<TaskSeat, AllocError>
+    requires { IsTaskSeatOf table.now slicelet.now ticket.now seat }
+    ensures { IfOk result (λ left. KeepsTaskSeat table.now slicelet.now ticket.now seat left) }
+{
     match follow_phases(rt, table, slicelet, ticket, job.rounds(), task, &mut seat) {
         Err(Halt::NoMemory) => Err(AllocError),
         Ok(()) => Ok(seat),
@@ -121,6 +155,7 @@ pub(crate) fn see_to_leases<R: Wait>(
     }
 }
 
+#[tactic(auto, using(crate::proofs::Keeping::task_same, crate::proofs::Keeping::task_more, crate::proofs::Keeping::task_by_table, crate::proofs::Keeping::task_by_own))]
 fn follow_phases<R: Wait>(
     rt: &R,
     table: &SharedTable,
@@ -129,7 +164,10 @@ fn follow_phases<R: Wait>(
     rounds: u64,
     task: TaskId,
     seat: &mut TaskSeat,
-) -> Result<(), Halt> {
+) -> Result<(), Halt>
+    requires { IsTaskSeatOf table.now slicelet.now ticket.now seat.old }
+    ensures { KeepsTaskSeat table.now slicelet.now ticket.now seat.old seat.new }
+{
     seat.start(rt, slicelet, ticket)?;
     let mut held = HeldGenerations {
         guard: None,
@@ -152,6 +190,7 @@ fn follow_phases<R: Wait>(
 
 // Asks for a lease and hears it. The lease of its kind is given up before, and after a bridge a guard of a
 // lower generation.
+#[tactic(auto, using(crate::proofs::Keeping::task_same, crate::proofs::Keeping::task_more, crate::proofs::Keeping::task_by_table, crate::proofs::Keeping::task_by_own))]
 fn renew<R: Wait>(
     rt: &R,
     table: &SharedTable,
@@ -160,7 +199,10 @@ fn renew<R: Wait>(
     task: TaskId,
     mut held: HeldGenerations,
     seat: &mut TaskSeat,
-) -> Result<HeldGenerations, Halt> {
+) -> Result<HeldGenerations, Halt>
+    requires { IsTaskSeatOf table.now slicelet.now ticket.now seat.old }
+    ensures { KeepsTaskSeat table.now slicelet.now ticket.now seat.old seat.new }
+{
     let grant = seat.table.grant(rt, table, ticket, task)?;
     let kind = grant.lease.kind;
     let generation = grant.lease.generation;
@@ -179,6 +221,7 @@ fn renew<R: Wait>(
 }
 
 // Gives up the lease of a kind, and frees its row at the table.
+#[tactic(auto, using(crate::proofs::Keeping::task_same, crate::proofs::Keeping::task_more, crate::proofs::Keeping::task_by_table, crate::proofs::Keeping::task_by_own))]
 fn give_up<R: Wait>(
     rt: &R,
     table: &SharedTable,
@@ -186,7 +229,10 @@ fn give_up<R: Wait>(
     ticket: &Ticket,
     kind: Kind,
     seat: &mut TaskSeat,
-) -> Result<(), Halt> {
+) -> Result<(), Halt>
+    requires { IsTaskSeatOf table.now slicelet.now ticket.now seat.old }
+    ensures { KeepsTaskSeat table.now slicelet.now ticket.now seat.old seat.new }
+{
     let note = seat.release(rt, slicelet, ticket, kind)?;
     seat.table.free(rt, table, ticket, note)?;
     Ok(())

@@ -82,6 +82,7 @@ fn nth_key(alloc: Global, number: u32) -> Result<SliceKey, AllocError>
 }
 
 // One ask for a key, at its ticket, and the record of it.
+#[tactic(auto, using(crate::proofs::Lanes::asked_lane, crate::proofs::Asked::asked_drew, crate::proofs::Asked::asked_step, crate::proofs::Asked::spent_not))]
 fn ask_for<R: Wait, G: Gate>(
     rt: &R,
     slicelet: &SharedSlicelet,
