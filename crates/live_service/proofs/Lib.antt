@@ -1,3 +1,7 @@
+pub mod Asked
 pub mod Asking
+pub mod Keeping
+pub mod Lanes
 pub mod NamedReplies
+pub mod Quiet
 pub mod Writing

@@ -4,19 +4,21 @@ ghost use Rattle.history_lock.specs.Passes.{IsPassOf};
 ghost use Rattle.world.specs.Tickets.{DrawsFrom};
 
 use crate::objects::{
-    first_assignment, first_task, open_clerk, open_table, open_task, open_ticket,
+    first_assignment, first_task, open_clerk, open_table, open_task, open_ticket, policy,
 };
+use audit::{Audit, audit};
 use clerk::Clerk;
-use history_lock::Pass;
+use history_lock::{History, Pass};
 use key_hash::slice_key;
 use lease_table::{LeaseTable, Phase};
 use live_service::{SharedClerk, SharedSlicelet, SharedTable, When};
+use machines::Event;
 use policy_rules::{Kind, Verdict};
 use slicelet::Slicelet;
 use std::alloc::Global;
 use std::sync::Wait;
 use std::test::Fail;
-use world::{Ticket, TicketPass, Told};
+use world::{CallRecord, Job, Ticket, TicketPass, Told};
 
 // Assigner 1 takes the job, and proposes and commits generation 1: its term's end, and the generation.
 fn commit_first<R: Wait>(
@@ -74,14 +76,25 @@ fn hear_first<R: Wait>(
     Ok(granted)
 }
 
-// What task 1 answers about "hello", and the tickets of the records of its answers.
+// What task 1 answers about "hello".
 #[derive(Clone, Copy, Debug, PartialEq, Eq)]
 struct Asked {
     served: Verdict,
     tried: Verdict,
     continuous: bool,
-    tickets: [u64; 4],
 }
+
+const SERVED: Asked = Asked {
+    served: Verdict::Allow {
+        kind: Kind::Guard,
+        generation: 1,
+    },
+    tried: Verdict::Allow {
+        kind: Kind::Guard,
+        generation: 1,
+    },
+    continuous: true,
+};
 
 fn ask_task<R: Wait>(
     rt: &R,
@@ -89,6 +102,7 @@ fn ask_task<R: Wait>(
     ticket: &Ticket,
     pass: &mut Pass<Slicelet>,
     draws: &mut TicketPass,
+    records: &mut Vec<CallRecord>,
 ) -> Result<Asked, Fail>
     requires own { IsPassOf task.now pass.old }
     requires draws { DrawsFrom ticket.now draws.old }
@@ -109,17 +123,16 @@ fn ask_task<R: Wait>(
     let checked = task
         .check(rt, ticket, pass, draws, handle, When::At(8))
         .map_err(|_| "a draw is left")?;
-    Ok(Asked {
+    let asked = Asked {
         served: served.answer,
         tried: tried.answer,
         continuous: checked.answer == Ok(true) && matches!(checked.call.reply, Told::Continuous),
-        tickets: [
-            served.call.ticket,
-            tried.call.ticket,
-            held.call.ticket,
-            checked.call.ticket,
-        ],
-    })
+    };
+    records.push(served.call)?;
+    records.push(tried.call)?;
+    records.push(held.call)?;
+    records.push(checked.call)?;
+    Ok(asked)
 }
 
 // The table's phase, the numbers of its rows, and the end of the renewed term.
@@ -129,6 +142,7 @@ fn ask_table<R: Wait>(
     ticket: &Ticket,
     pass: &mut Pass<LeaseTable>,
     draws: &mut TicketPass,
+    records: &mut Vec<CallRecord>,
 ) -> Result<(Phase, bool, u64), Fail>
     requires own { IsPassOf table.now pass.old }
     requires draws { DrawsFrom ticket.now draws.old }
@@ -146,6 +160,8 @@ fn ask_table<R: Wait>(
     let term = table
         .renew(rt, ticket, pass, draws, 1, When::At(8))
         .map_err(|_| "assigner 1 holds the job")?;
+    records.push(phase.call)?;
+    records.push(rows.call)?;
     Ok((phase.answer, alone, term.until))
 }
 
@@ -159,6 +175,7 @@ fn ask_clerk<R: Wait>(
     table_pass: &mut Pass<LeaseTable>,
     clerk_pass: &mut Pass<Clerk>,
     draws: &mut TicketPass,
+    records: &mut Vec<CallRecord>,
 ) -> Result<(u64, bool), Fail>
     requires table { IsPassOf table.now table_pass.old }
     requires clerk { IsPassOf clerk.now.lock clerk_pass.old }
@@ -182,6 +199,7 @@ fn ask_clerk<R: Wait>(
     clerk
         .forget(rt, ticket, clerk_pass, draws)
         .map_err(|_| "a clerk forgets at any time")?;
+    records.push(looked.call)?;
     Ok((found.generation, alone))
 }
 
@@ -212,6 +230,15 @@ fn give_up<R: Wait>(
     )
 }
 
+// The tickets of a history's entries.
+fn tickets_of<C>(history: &History<Event<C>>, alloc: Global) -> Result<Vec<u64>, Fail> {
+    let mut tickets = Vec::new(alloc);
+    for entry in history.entries() {
+        tickets.push(entry.event.ticket)?;
+    }
+    Ok(tickets)
+}
+
 #[test]
 fn plays_the_calls_of_a_table_a_task_and_a_clerk(rt: HostRuntime) -> Result<(), Fail> {
     let alloc = rt.alloc();
@@ -219,60 +246,48 @@ fn plays_the_calls_of_a_table_a_task_and_a_clerk(rt: HostRuntime) -> Result<(), 
     let (task, mut task_passes, mut q) = open_task(alloc)?;
     let (clerk, mut clerk_passes, mut r) = open_clerk(alloc)?;
     let (ticket, _, mut draws) = open_ticket(alloc, 18)?;
+    let mut records = Vec::new(alloc);
     let first = commit_first(&rt, alloc, &table, &ticket, &mut p, &mut draws)?;
     assert_eq!(rt; first, (1000, 1));
     let granted = hear_first(&rt, &table, &task, &ticket, &mut p, &mut q, &mut draws)?;
     assert_eq!(rt; granted, (1, 95, 105));
-    let asked = ask_task(&rt, &task, &ticket, &mut q, &mut draws)?;
-    let allowed = Verdict::Allow {
-        kind: Kind::Guard,
-        generation: 1,
-    };
-    let wanted = Asked {
-        served: allowed,
-        tried: allowed,
-        continuous: true,
-        tickets: [6, 7, 8, 9],
-    };
-    assert_eq!(rt; asked, wanted);
-    let asked = ask_table(&rt, &table, &ticket, &mut p, &mut draws)?;
+    let asked = ask_task(&rt, &task, &ticket, &mut q, &mut draws, &mut records)?;
+    assert_eq!(rt; asked, SERVED);
+    let asked = ask_table(&rt, &table, &ticket, &mut p, &mut draws, &mut records)?;
     assert_eq!(rt; asked, (Phase::Steady(1), true, 1008));
-    let known = ask_clerk(&rt, &table, &clerk, &ticket, &mut p, &mut r, &mut draws)?;
+    let known = ask_clerk(
+        &rt, &table, &clerk, &ticket, &mut p, &mut r, &mut draws, &mut records,
+    )?;
     assert_eq!(rt; known, (1, true));
     let freed = give_up(&rt, &table, &task, &ticket, &mut p, &mut q, &mut draws)?;
     assert_eq!(rt; (freed, draws.left()), (1, 0));
     table_passes.push(p)?;
-    let closed = table
+    let table = table
         .close(table_passes)
         .ok()
-        .expect(&rt, "its one pass is there");
-    let tickets = closed
-        .history
-        .entries()
-        .iter()
-        .map(|entry| entry.event.ticket);
-    assert!(rt; tickets.eq([0, 1, 2, 4, 12, 17]));
+        .expect(&rt, "its one pass is there")
+        .history;
     task_passes.push(q)?;
-    let closed = task
+    let task = task
         .close(task_passes)
         .ok()
-        .expect(&rt, "its one pass is there");
-    let tickets = closed
-        .history
-        .entries()
-        .iter()
-        .map(|entry| entry.event.ticket);
-    assert!(rt; tickets.eq([3, 5, 16]));
+        .expect(&rt, "its one pass is there")
+        .history;
     clerk_passes.push(r)?;
-    let closed = clerk
+    let clerk = clerk
         .close(clerk_passes)
         .ok()
-        .expect(&rt, "its one pass is there");
-    let tickets = closed
-        .history
-        .entries()
-        .iter()
-        .map(|entry| entry.event.ticket);
-    assert!(rt; tickets.eq([13, 15]));
+        .expect(&rt, "its one pass is there")
+        .history;
+    assert!(rt; tickets_of(&table, alloc)?.as_slice() == [0, 1, 2, 4, 12, 17]);
+    assert!(rt; tickets_of(&task, alloc)?.as_slice() == [3, 5, 16]);
+    assert!(rt; tickets_of(&clerk, alloc)?.as_slice() == [13, 15]);
+    let job = Job::new(policy()?, 1, 2, 1).ok_or("within the limits")?;
+    let found = audit(alloc, &job, &table, &[task], &[clerk], records.as_slice())?;
+    let wanted = Audit::One {
+        steps: 18,
+        timely: true,
+    };
+    assert_eq!(rt; found, wanted);
     Ok(())
 }

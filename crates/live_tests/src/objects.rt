@@ -33,14 +33,17 @@ pub fn first_task() -> Result<TaskId, Fail> {
     Ok(TaskId::new(1).ok_or("1 is the number of a task")?)
 }
 
+pub fn policy() -> Result<Policy, Fail> {
+    Ok(Policy::new(1, 10, 100, 100, 1000, 1000).ok_or("within the limits")?)
+}
+
 pub fn open_table(
     alloc: Global,
 ) -> Result<(SharedTable, Vec<Pass<LeaseTable>>, Pass<LeaseTable>), Fail>
     ensures others { IfOk result (λ made. ArePassesOf made.0 made.1.items) }
     ensures first { IfOk result (λ made. IsPassOf made.0 made.2) }
 {
-    let policy = Policy::new(1, 10, 100, 100, 1000, 1000).ok_or("within the limits")?;
-    let made = SharedTable::new(alloc, policy, 1, 10);
+    let made = SharedTable::new(alloc, policy()?, 1, 10);
     let (table, mut others) = made.map_err(|_| "one lane and ten entries")?;
     let pass = others.pop().ok_or("the pass of lane 0")?;
     Ok((table, others, pass))
