@@ -1,15 +1,19 @@
 -- The passes of a task's threads, lane by lane.
-use Rattle.std.proofs.Common.{◌≡◌, ◌∙◌, ℕ, suc, ◌+◌, ◌*◌, ◌<◌, ◌≤◌, ◌==◌, Bool, List, [], ◌∷◌, ◌++◌, length, true, false, refl, sym, ap, arith, subst, nat_tests, All}
-use Rattle.std.specs.Prelude.{Result, Ok, Err, IfOk, slice_index_or, ◌||◌}
+use Rattle.std.proofs.Common.{◌≡◌, ◌∙◌, ℕ, suc, ◌+◌, ◌*◌, ◌<◌, ◌≤◌, ◌==◌, Bool, List, [], ◌∷◌, ◌++◌, length, true, false, refl, sym, ap, arith, subst, length-append}
+use Rattle.std.proofs.lemmas.Bool.Decides.{nat_tests}
+use Rattle.std.specs.Prelude.{All, vec_len, Result, Ok, Err, IfOk, slice_index_or, ◌||◌}
 use Rattle.std.specs.declared.alloc.AllocError.{AllocError}
-use Rattle.std.proofs.lemmas.List.Elements.{All-cons}
-use Rattle.history_lock.specs.Passes.{Lock, PassView, IsPassOf, ArePassesOf}
+use Rattle.std.proofs.lemmas.List.Elements.{All-cons, All-push}
+use Rattle.history_lock.specs.Passes.{Lock, PassView, IsPassOf, ArePassesOf, new_pass}
 use Rattle.history_lock.specs.Closing.{has_lane}
 use Rattle.slicelet.specs.Steps.{History}
-use Rattle.world.specs.Tickets.{TicketView, new_ticket_pass}
+use Rattle.world.specs.Tickets.{TicketView, TicketPassView, DrawsFrom, new_ticket_pass}
+use Rattle.live_service.specs.declared.crew.Gathered.{Gathered}
+use Rattle.live_service.specs.Reports.{serves}
+use Rattle.live_service.proofs.Asked.{serves_all, serves-append}
 use Rattle.live_service.specs.declared.worker.Member.{Member}
 use Rattle.live_service.specs.declared.worker.Worked.{Worked}
-use Rattle.live_service.specs.Crews.{AreOfLanesFrom, AreMembersFrom, IsMember, HasWorked, HaveWorkedFrom}
+use Rattle.live_service.specs.Crews.{AreOfLanesFrom, AreMembersFrom, IsMember, IsGathered, HasWorked, HaveWorkedFrom}
 
 module _ {M E : Type 0} where
   pub lanes_push : (lane : ℕ) (passes : List (PassView M E)) (pass : PassView M E) → AreOfLanesFrom lane passes → pass.lane ≡ lane + length passes → AreOfLanesFrom lane (passes ++ pass ∷ [])
@@ -19,6 +23,9 @@ module _ {M E : Type 0} where
   pub passes_push : (lock : Lock M) (passes : List (PassView M E)) (pass : PassView M E) → ArePassesOf lock passes → IsPassOf lock pass → ArePassesOf lock (passes ++ pass ∷ [])
   passes_push lock [] pass are is = (is, tt)
   passes_push lock (other ∷ passes) pass are is = (are.0, passes_push lock passes pass are.1 is)
+
+one_more : (n asks : ℕ) → (n + 1) * asks ≡ n * asks + asks
+one_more n asks = omega arith
 
 either_true : (b c : Bool) → (b ≡ false → c ≡ true) → (b || c) ≡ true
 either_true true c f = refl
@@ -39,7 +46,9 @@ module _ (slicelet : Lock History) (ticket : TicketView) where
   -- each of the threads of a task has passes of its lock and new ones of the ticket
   pub members_all : (lane : ℕ) (members : List Member) → AreMembersFrom slicelet ticket lane members → All (λ (m : Member). IsPassOf slicelet m.pass × (m.draws ≡ new_ticket_pass ticket)) members
   members_all lane [] are = λ k d below. let b : k < 0 = below in absurd (omega (arith, b))
-  members_all lane (member ∷ members) are = All-cons _ member members (are.0.own, are.0.draws) (members_all (lane + 1) members are.1)
+  members_all lane (member ∷ members) are =
+      let Is : Member → Type 0 = λ m. IsPassOf slicelet m.pass × (m.draws ≡ new_ticket_pass ticket) in
+      let one : Is member = (are.0.own, are.0.draws) in All-cons Is member members one (members_all (lane + 1) members are.1)
 
   pub members_push : (lane : ℕ) (members : List Member) (member : Member) → AreMembersFrom slicelet ticket lane members → IsMember slicelet ticket (lane + length members) member
       → AreMembersFrom slicelet ticket lane (members ++ member ∷ [])
@@ -58,3 +67,31 @@ module _ (slicelet : Lock History) (ticket : TicketView) where
     subst (λ n. IfOk r (λ worked. HasWorked slicelet ticket asks n worked)) are.0.of_lane (each 0 m r (omega arith)),
     worked_from asks (lane + 1) ms rs (let l : length (r ∷ rs) ≡ length (m ∷ ms) = len in omega (arith, l)) are.1 (λ i d e below. each (suc i) d e (let b : i < length ms = below in omega (arith, b))),
   )
+
+  -- a thread with new passes
+  pub new_member : (lane n : ℕ) (member : Member) → lane ≡ n → member.pass ≡ new_pass slicelet lane → member.draws ≡ new_ticket_pass ticket → IsMember slicelet ticket n member
+  new_member lane n member same pass draws = record {
+    own = rw pass (refl, refl);
+    of_lane = ap (λ p. p.lane) pass ∙ same;
+    draws = draws;
+  }
+
+  -- one worker more
+  pub gathered_more : (asks : ℕ) (before after : Gathered) (worked : Worked) → IsGathered slicelet ticket asks before → HasWorked slicelet ticket asks (vec_len before.passes) worked
+      → after.passes.items ≡ before.passes.items ++ worked.pass ∷ [] → after.draws.items ≡ before.draws.items ++ worked.draws ∷ [] → after.records.items ≡ before.records.items ++ worked.records.items
+      → IsGathered slicelet ticket asks after
+  gathered_more asks before after worked g w passes draws records =
+      let more : vec_len after.passes ≡ vec_len before.passes + 1 = omega (arith, after.passes.ok.0, before.passes.ok.0, ap length passes, length-append before.passes.items (worked.pass ∷ [])) in
+      let drew : vec_len after.draws ≡ vec_len before.draws + 1 = omega (arith, after.draws.ok.0, before.draws.ok.0, ap length draws, length-append before.draws.items (worked.draws ∷ [])) in
+      let at : worked.pass.lane ≡ 0 + length before.passes.items = omega (arith, w.of_lane, before.passes.ok.0) in
+      let own : serves worked.records.items ≡ asks = serves_all slicelet.opened.machine.task 0 worked.records.items w.asked ∙ (sym worked.records.ok.0 ∙ w.many) in
+      let both : serves after.records.items ≡ serves before.records.items + serves worked.records.items = ap serves records ∙ serves-append before.records.items worked.records.items in
+      let product : (vec_len before.passes + 1) * asks ≡ vec_len before.passes * asks + asks = one_more (vec_len before.passes) asks in
+      let served : serves before.records.items + asks ≡ vec_len before.passes * asks = g.served in
+      let Draws : TicketPassView → Type 0 = λ pass. DrawsFrom ticket pass in record {
+        own = subst (λ ps. ArePassesOf slicelet ps) (sym passes) (passes_push slicelet before.passes.items worked.pass g.own w.own);
+        lanes = subst (λ ps. AreOfLanesFrom 0 ps) (sym passes) (lanes_push 0 before.passes.items worked.pass g.lanes at);
+        draws = subst (λ ps. All Draws ps) (sym draws) (All-push Draws before.draws.items worked.draws g.draws w.draws);
+        even = omega (arith, more, drew, g.even);
+        served = omega (arith, both, own, served) ∙ (sym product ∙ ap (λ (n : ℕ). n * asks) (sym more));
+      }

@@ -1,6 +1,7 @@
 //! The threads of a task of a live run: the task's own, and one for each of its workers.
 
 ghost use Rattle.std.specs.Prelude.{◌≡◌, ℕ, ◌≤◌, ◌<◌, ◌+◌, [], All, IfOk, OnOk, vec_len, slice_index_or};
+ghost use Rattle.std.specs.Thread.{IsSync};
 ghost use Rattle.history_lock.specs.Passes.{AreNewFrom, IsPassOf};
 ghost use Rattle.world.specs.Tickets.{DrawsFrom, new_ticket_pass};
 ghost use Rattle.live_service.specs.Crews.{AreMembersFrom, HasLeft, HasWorked, HaveWorkedFrom, IsCrew, IsGathered, IsMember};
@@ -208,10 +209,15 @@ fn run_threads<R: Threads + Wait + Sync, G: Gate + Sync>(
     ensures worked { IfOk result (λ left. HaveWorkedFrom slicelet.now ticket.now job.asks 1 left.1.items) }
     ensures many { IfOk result (λ left. vec_len left.1 ≡ vec_len workers) }
 {
+    let asks = job.asks();
     let (seat, worked) = join(
         rt,
         || see_to_leases(rt, table, slicelet, ticket, job, task, seat),
-        || work_all(rt, alloc, slicelet, ticket, gate, job.asks(), workers),
+        || -> Result<Vec<Result<Worked, AllocError>>, AllocError>
+            requires { IsSync R.row × IsSync G.row × AreMembersFrom slicelet.now ticket.now 1 workers.items × (asks ≤ ticket.now.terms.quota) }
+            ensures worked { IfOk result (λ results. HaveWorkedFrom slicelet.entry.now ticket.entry.now asks 1 results.items) }
+            ensures many { IfOk result (λ results. vec_len results ≡ vec_len workers.entry) }
+        { work_all(rt, alloc, slicelet, ticket, gate, asks, workers) },
     );
     Ok((seat?, worked?))
 }
