@@ -1,5 +1,6 @@
 pub mod Asked
 pub mod Asking
+pub mod Crewing
 pub mod Keeping
 pub mod Lanes
 pub mod NamedReplies

@@ -1,6 +1,6 @@
 //! The thread that proposes and commits the generations of a live run.
 
-ghost use Rattle.std.specs.Prelude.{IfOk};
+ghost use Rattle.std.specs.Prelude.{◌≤◌, IfOk};
 ghost use Rattle.live_service.specs.Seats.{IsSeatOf, KeepsSeat};
 
 use crate::job::LiveJob;
@@ -85,10 +85,15 @@ fn await_rows<R: Wait>(
 }
 
 // The assignment of a generation: two tasks that follow one another own a half of the keys each.
-fn halves(alloc: Global, generation: u64, tasks: u64) -> Result<Assignment, Halt> {
+fn halves(alloc: Global, generation: u64, tasks: u64) -> Result<Assignment, Halt>
+    requires few { generation ≤ 16 }
+    requires some { (1 ≤ tasks) × (tasks ≤ 6) }
+{
     let mut slices = Vec::new(alloc);
-    for (start, place) in [(0, 0), (HALF, 1)] {
-        let owner = (generation + place) % tasks + 1;
+    for (start, owner) in [
+        (0, generation % tasks + 1),
+        (HALF, (generation + 1) % tasks + 1),
+    ] {
         slices.push(Slice {
             start,
             owners: Listed::from_vec(Vec::from_slice(alloc, &[owner])?),

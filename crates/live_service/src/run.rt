@@ -100,7 +100,7 @@ impl Stage {
             own: own.pop().unwrap(),
         };
         let assigner = seat(alloc, &mut passes, &mut draws);
-        let crews = crews(alloc, job, others, draws)?;
+        let crews = crews(alloc, &table, &ticket, job, others, draws)?;
         Ok(Stage {
             ticket,
             table,
@@ -128,6 +128,8 @@ fn seat(
 // The tasks with these passes of the table's lock, the first of which is task 1.
 fn crews(
     alloc: Global,
+    table: &SharedTable,
+    ticket: &Ticket,
     job: LiveJob,
     passes: Vec<Pass<LeaseTable>>,
     mut draws: Vec<TicketPass>,
@@ -141,7 +143,7 @@ fn crews(
             unreachable!()
         };
         let own = draws.split_off(draws.len() - members)?;
-        crews.push(Crew::new(alloc, task, job.workers(), pass, own)?)?;
+        crews.push(Crew::new(alloc, table, ticket, task, job.workers(), pass, own)?)?;
     }
     Ok(crews)
 }

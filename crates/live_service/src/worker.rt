@@ -1,12 +1,12 @@
 //! The threads of a task's workers, which ask the task for keys.
 
-ghost use Rattle.std.specs.Prelude.{◌≡◌, ◌≤◌, ◌+◌, [], IfOk, length, vec_len, decimal};
+ghost use Rattle.std.specs.Prelude.{◌≡◌, ◌≤◌, ◌+◌, IfOk, length, decimal};
 ghost use Rattle.history_lock.specs.Passes.{IsPassOf};
 ghost use Rattle.key_hash.specs.Hash.{slice_key};
-ghost use Rattle.world.specs.Tickets.{DrawsFrom};
+ghost use Rattle.world.specs.Tickets.{DrawsFrom, new_ticket_pass};
 ghost use Rattle.world.specs.declared.record.RecordedCall.TheVariants as recorded_call;
 ghost use Rattle.live_service.specs.Draws.{CanDraw};
-ghost use Rattle.live_service.specs.Reports.{AreServesFrom};
+ghost use Rattle.live_service.specs.Crews.{HasWorked};
 
 use crate::gate::Gate;
 use crate::shared_slicelet::SharedSlicelet;
@@ -46,12 +46,9 @@ pub(crate) fn work<R: Wait, G: Gate>(
     member: Member,
 ) -> Result<Worked, AllocError>
     requires own { IsPassOf slicelet.now member.pass }
-    requires draws { DrawsFrom ticket.now member.draws }
-    requires fresh { member.draws.drawn ≡ [] }
+    requires draws { member.draws ≡ new_ticket_pass ticket.now }
     requires enough { asks ≤ ticket.now.terms.quota }
-    ensures own { IfOk result (λ worked. IsPassOf slicelet.now worked.pass × (worked.pass.lane ≡ member.pass.lane)) }
-    ensures draws { IfOk result (λ worked. DrawsFrom ticket.now worked.draws) }
-    ensures asked { IfOk result (λ worked. (vec_len worked.records ≡ asks) × AreServesFrom slicelet.now.opened.machine.task 0 worked.records.items) }
+    ensures { IfOk result (λ worked. HasWorked slicelet.now ticket.now asks member.pass.lane worked) }
 {
     let Member {
         number,
