@@ -1,5 +1,5 @@
 -- What live runs report.
-use Rattle.std.specs.Prelude.{◌≡◌, ℕ, ◌+◌, Bool, true, false, List, [], ◌∷◌, Result, Ok, Err, decimal}
+use Rattle.std.specs.Prelude.{◌≡◌, ℕ, ◌+◌, ◌*◌, Bool, true, false, List, [], ◌∷◌, Result, Ok, Err, decimal}
 use Rattle.std.specs.List.{count_by}
 use Rattle.key_hash.specs.Hash.{slice_key}
 use Rattle.lease_table.specs.declared.call.TableCall.{TableCall}
@@ -7,6 +7,10 @@ use Rattle.lease_table.specs.declared.call.TableCall.TheVariants.{Commit}
 use Rattle.machines.specs.declared.event.Event.{Event}
 use Rattle.history_lock.specs.declared.entry.Entry.{Entry}
 use Rattle.world.specs.declared.record.CallRecord.{CallRecord}
+use Rattle.audit.specs.Shown.{evidence}
+use Rattle.audit.specs.OneRun.{IsAudit}
+use Rattle.live_service.specs.LiveJobs.{LiveSizes, played_job}
+use Rattle.live_service.specs.declared.report.LiveReport.{LiveReport}
 use Rattle.world.specs.declared.record.RecordedCall.{RecordedCall}
 use Rattle.world.specs.declared.record.RecordedCall.TheVariants.{Serve}
 
@@ -32,3 +36,10 @@ commits history = count_by (λ (entry : Entry (Event TableCall)). is_commit entr
 abbrev pub AreServesFrom : ℕ → ℕ → List CallRecord → Type 0
 AreServesFrom task number [] = Unit {0}
 AreServesFrom task number (entry ∷ entries) = (entry.step ≡ Serve task (slice_key (decimal number)) entry.ticket) × AreServesFrom task (number + 1) entries
+
+-- the report of a run: each worker asked for its keys, the generation is how many were committed, and what was audited are the histories and the records of the report
+pub record IsReported (job : LiveSizes) (report : LiveReport) : Type 0 where
+  pub asked : report.asked ≡ serves report.records.items
+  pub all_asked : report.asked ≡ job.tasks * job.workers * job.asks
+  pub generation : report.generation ≡ commits report.table
+  pub audited : IsAudit (played_job job) (evidence report.table report.tasks.items report.clerks.items report.records.items) report.audit

@@ -1,9 +1,11 @@
 //! How large a live run is.
 
 ghost use Rattle.std.specs.Prelude.{◌≡◌, ◌≤◌, is_some, IfSome};
-ghost use Rattle.live_service.specs.LiveJobs.{is_live_job, live_sizes};
+ghost use Rattle.live_service.specs.LiveJobs.{is_live_job, live_policy, live_sizes, played_job};
 
+use lease_table::Policy;
 use std::marker::Model;
+use world::Job;
 
 /// How many tasks a live run has at the most.
 pub const MOST_TASKS: u64 = 6;
@@ -16,6 +18,16 @@ pub const MOST_ROUNDS: u64 = 16;
 
 /// How many keys each worker asks for at the most.
 pub const MOST_ASKS: u32 = 1000;
+
+/// How many ticks each lease of a live run and its job lease last, and how many grants there may be.
+const LONG: u64 = 1 << 32;
+
+/// What the table of a live run and its leases are held to.
+pub(crate) fn live_policy() -> Policy
+    ensures { result ≡ live_policy }
+{
+    Policy::new(1, 0, LONG, LONG, LONG, LONG).unwrap()
+}
 
 /// How large a live run is. Contracts see its sizes.
 #[derive(Clone, Copy, Debug, PartialEq, Eq)]
@@ -93,5 +105,12 @@ impl LiveJob {
         ensures within { (1 ≤ result) × (result ≤ 1000) }
     {
         self.asks
+    }
+
+    /// The job whose machines the threads of the run play: one assigner, the tasks, and one clerk.
+    pub fn played(self) -> Job
+        ensures { result ≡ played_job self }
+    {
+        Job::new(live_policy(), 1, self.tasks, 1).unwrap()
     }
 }

@@ -3,6 +3,7 @@
 ghost use Rattle.std.specs.Prelude.{◌≡◌};
 ghost use Rattle.live_service.specs.Reports.{commits, is_commit, is_serve, serves};
 
+use audit::Audit;
 use clerk::ClerkEvent;
 use history_lock::{Entry, History};
 use lease_table::{TableCall, TableEvent};
@@ -25,6 +26,8 @@ pub struct LiveReport {
     pub clerks: Vec<History<ClerkEvent>>,
     /// The records, in no order.
     pub records: Vec<CallRecord>,
+    /// What an audit of these histories and records finds.
+    pub audit: Audit,
 }
 
 // How many of the records tell of a key that a task was asked for.

@@ -1,29 +1,27 @@
 //! Live runs: the assigner, the clerk, the tasks and their workers as threads.
 
-ghost use Rattle.std.specs.Prelude.{◌≡◌, ◌*◌, IfOk};
-ghost use Rattle.live_service.specs.Reports.{commits, serves};
+ghost use Rattle.std.specs.Prelude.{IfOk};
+ghost use Rattle.live_service.specs.Reports.{IsReported};
 
 use crate::clerk_loop::{ClerkSeat, learn_all};
 use crate::commit_loop::assign;
 use crate::crew::{Crew, CrewLeft, MOST_ENTRIES};
 use crate::gate::Gate;
-use crate::job::LiveJob;
+use crate::job::{LiveJob, live_policy};
 use crate::report::{LiveReport, count_commits, count_serves};
 use crate::seat::TableSeat;
 use crate::shared_clerk::SharedClerk;
 use crate::shared_table::SharedTable;
 use assignment::TaskId;
+use audit::audit;
 use clerk::{Clerk, ClerkEvent};
 use history_lock::{Closed, History, Pass};
-use lease_table::{LeaseTable, Policy, TableEvent};
+use lease_table::{LeaseTable, TableEvent};
 use slicelet::SliceletEvent;
 use std::alloc::{AllocError, Global};
 use std::sync::Wait;
 use std::thread::{Threads, join, map_vec};
 use world::{CallRecord, MOST_DRAWS, Ticket, TicketPass};
-
-// How long each lease of a live run lasts, in ticks, and how many grants there may be.
-const LONG: u64 = 1 << 32;
 
 // The objects that the threads of a live run share, and what each thread is given.
 #[derive(Drop)]
@@ -57,9 +55,7 @@ pub fn run_live<R: Threads + Wait + Sync, G: Gate + Sync>(
     job: &LiveJob,
     gate: &G,
 ) -> Result<LiveReport, AllocError>
-    ensures asked { IfOk result (λ report. report.asked ≡ serves report.records.items) }
-    ensures all_asked { IfOk result (λ report. report.asked ≡ job.now.tasks * job.now.workers * job.now.asks) }
-    ensures generation { IfOk result (λ report. report.generation ≡ commits report.table) }
+    ensures { IfOk result (IsReported job.now) }
 {
     let Stage {
         ticket,
@@ -73,7 +69,7 @@ pub fn run_live<R: Threads + Wait + Sync, G: Gate + Sync>(
         rt, alloc, &ticket, &table, &clerk, gate, *job, assigner, learner, crews,
     )?;
     let remains = remains_of(alloc, assigner, learner, crews)?;
-    close_all(alloc, ticket, table, clerk, remains)
+    close_all(alloc, *job, ticket, table, clerk, remains)
 }
 
 impl Stage {
@@ -84,11 +80,8 @@ impl Stage {
         let Ok((ticket, mut draws)) = Ticket::new(alloc, threads, MOST_DRAWS) else {
             return Err(AllocError);
         };
-        let Some(policy) = Policy::new(1, 0, LONG, LONG, LONG, LONG) else {
-            return Err(AllocError);
-        };
         let lanes = job.tasks() + 2;
-        let Ok((table, mut passes)) = SharedTable::new(alloc, policy, lanes, MOST_ENTRIES) else {
+        let Ok((table, mut passes)) = SharedTable::new(alloc, live_policy(), lanes, MOST_ENTRIES) else {
             return Err(AllocError);
         };
         let Ok((clerk, mut own)) = SharedClerk::new(alloc, 1, 1, MOST_ENTRIES) else {
@@ -251,6 +244,7 @@ impl Remains {
 // Closes what is not closed yet, and reports.
 fn close_all(
     alloc: Global,
+    job: LiveJob,
     ticket: Ticket,
     table: SharedTable,
     clerk: SharedClerk,
@@ -286,6 +280,14 @@ fn close_all(
         unreachable!()
     };
     clerks.push(learnt)?;
+    let audit = audit(
+        alloc,
+        &job.played(),
+        &table,
+        tasks.as_slice(),
+        clerks.as_slice(),
+        records.as_slice(),
+    )?;
     Ok(LiveReport {
         asked: count_serves(records.as_slice()),
         generation: count_commits(table.entries()),
@@ -293,5 +295,6 @@ fn close_all(
         tasks,
         clerks,
         records,
+        audit,
     })
 }

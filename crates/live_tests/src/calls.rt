@@ -279,9 +279,9 @@ fn plays_the_calls_of_a_table_a_task_and_a_clerk(rt: HostRuntime) -> Result<(), 
         .ok()
         .expect(&rt, "its one pass is there")
         .history;
-    assert!(rt; tickets_of(&table, alloc)?.as_slice() == [0, 1, 2, 4, 12, 17]);
-    assert!(rt; tickets_of(&task, alloc)?.as_slice() == [3, 5, 16]);
-    assert!(rt; tickets_of(&clerk, alloc)?.as_slice() == [13, 15]);
+    assert!(rt; tickets_of(&table, alloc)?.as_slice() == [0, 1, 2, 4, 12, 17].as_slice());
+    assert!(rt; tickets_of(&task, alloc)?.as_slice() == [3, 5, 16].as_slice());
+    assert!(rt; tickets_of(&clerk, alloc)?.as_slice() == [13, 15].as_slice());
     let job = Job::new(policy()?, 1, 2, 1).ok_or("within the limits")?;
     let found = audit(alloc, &job, &table, &[task], &[clerk], records.as_slice())?;
     let wanted = Audit::One {
