@@ -1,18 +1,11 @@
 -- How the program of live runs ends, and the status that it exits with.
-use Rattle.std.specs.Prelude.{◌≡◌, ◌⊎◌, ℕ, true, List, Option}
+use Rattle.std.specs.Prelude.{◌≡◌, ◌⊎◌, ℕ, List, Option}
 use Rattle.std.specs.Io.KnownBytes.{Keeps}
 use Rattle.audit.specs.declared.finding.Audit.{Audit}
 use Rattle.audit.specs.declared.finding.Audit.TheVariants.{One, No}
 use Rattle.live_text.specs.declared.fault.LiveFault.{LiveFault}
-use Rattle.live_text.specs.declared.fault.LiveFault.TheVariants as fault
+use Rattle.live_text.specs.Faults.{status_of}
 use Rattle.live_text.specs.Inputs.{Answered, Failed}
-
--- the status for a fault: 2 where the input is refused, and else 3
-abbrev pub status_of : LiveFault → ℕ
-status_of fault.Input = 2
-status_of fault.Read = 3
-status_of fault.Write = 3
-status_of fault.Memory = 3
 
 -- the status for what the audit found: 0 where it is one run, and else 4
 abbrev pub status_found : Audit → ℕ

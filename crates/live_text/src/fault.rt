@@ -2,9 +2,9 @@
 
 ghost use Rattle.std.specs.Prelude.{◌≡◌};
 ghost use Rattle.live_text.specs.declared.fault.LiveFault.TheVariants as fault;
-ghost use Rattle.live_text.specs.Status.{status_of};
+ghost use Rattle.live_text.specs.Faults.{of_stream, status_of};
 
-use service::WrongForm;
+use service::{Fault, WrongForm};
 use std::alloc::AllocError;
 use thiserror::Error;
 
@@ -33,6 +33,19 @@ impl LiveFault {
         match self {
             LiveFault::Input => 2,
             LiveFault::Read | LiveFault::Write | LiveFault::Memory => 3,
+        }
+    }
+}
+
+impl From<Fault> for LiveFault {
+    ghost from_gives = { λ fault e. e ≡ of_stream fault };
+
+    fn from(fault: Fault) -> Self {
+        match fault {
+            Fault::Script(_) => LiveFault::Input,
+            Fault::Read => LiveFault::Read,
+            Fault::Write => LiveFault::Write,
+            Fault::Memory => LiveFault::Memory,
         }
     }
 }

@@ -8,7 +8,7 @@ use crate::input::parsed;
 use crate::lines::text_of;
 use audit::Audit;
 use live_service::{Gate, run_live};
-use service::{Fault, read_all, write_all};
+use service::{read_all, write_all};
 use std::alloc::Global;
 use std::io::{Read, Write};
 use std::sync::Wait;
@@ -30,10 +30,10 @@ pub fn run_live_text<H: Threads + Wait + Sync, R: Read, W: Write, G: Gate + Sync
     ensures err { IfErr result (Failed (R.remaining reader.old) (R.remaining reader.new)
         (W.contents writer.old) (W.contents writer.new)) }
 {
-    let bytes = read_all(alloc, reader).map_err(of_stream)?;
+    let bytes = read_all(alloc, reader)?;
     let job = parsed(alloc, bytes.as_slice())?;
     let report = run_live(rt, alloc, &job, gate)?;
     let text = text_of(alloc, &report)?;
-    write_all(writer, text.as_str().as_bytes()).map_err(of_stream)?;
+    write_all(writer, text.as_str().as_bytes())?;
     Ok(report.audit)
 }
