@@ -176,7 +176,7 @@ fn first_fall(
 ///
 /// [`Audit::One`] says that they are; [`Audit::No`] names a fault and the ticket at which it stands:
 /// first tickets that stand twice are looked for, then entries that do not rise, then the first
-/// answer that is another.
+/// answer that is another. Where memory is refused nothing is said.
 pub fn audit(
     alloc: Global,
     job: &Job,

@@ -1,7 +1,7 @@
 //! Audits of one job's first steps.
 
+use crate::histories::{asked, policy, refused, table_history, task_history};
 use audit::{Audit, Why, audit};
-use crate::histories::{asked, policy, table_history, task_history};
 use policy_rules::{Ground, Kind, Verdict};
 use std::alloc::Global;
 use std::test::Fail;
@@ -40,6 +40,18 @@ fn finds_one_run(rt: HostRuntime) -> Result<(), Fail> {
         timely: true,
     };
     assert_eq!(rt; one, Some(wanted));
+    Ok(())
+}
+
+#[test]
+fn counts_refused_readings_for_timely_clocks(rt: HostRuntime) -> Result<(), Fail> {
+    let records = [refused(6, 100), asked(7, Told::Verdict(SERVED))];
+    let late = found(rt.alloc(), 1, &[1], [0, 1, 2], 95, &records);
+    let wanted = Audit::One {
+        steps: 8,
+        timely: false,
+    };
+    assert_eq!(rt; late, Some(wanted));
     Ok(())
 }
 

@@ -12,7 +12,7 @@ use policy_rules::{Kind, Lease};
 use slice_ranges::Ranges;
 use slicelet::{Slicelet, SliceletCall, SliceletEvent};
 use std::alloc::Global;
-use world::{CallRecord, RecordedCall, Told};
+use world::{CallRecord, RecordedCall, Refusal, Told};
 
 /// Half of the key space.
 const HALF: u64 = 4_611_686_018_427_387_904;
@@ -52,9 +52,7 @@ fn write<M: Machine>(lock: &LaneLock<M>, pass: &mut Pass<M>, event: M::Event) ->
         pass,
         &mut || -> M::Event
             requires { IsSome next }
-        {
-            next.take().unwrap()
-        },
+        { next.take().unwrap() },
     )
     .is_ok()
 }
@@ -138,5 +136,15 @@ pub fn asked(ticket: u64, reply: Told) -> CallRecord {
             at: 7,
         },
         reply,
+    }
+}
+
+/// Assigner 9 asked for the job lease at this reading, and was refused, since the job has no such
+/// assigner.
+pub fn refused(ticket: u64, at: u64) -> CallRecord {
+    CallRecord {
+        ticket,
+        step: RecordedCall::Table(TableCall::JobTake { assigner: 9, at }),
+        reply: Told::Refused(Refusal::NoActor),
     }
 }

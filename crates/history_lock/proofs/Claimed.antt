@@ -1,5 +1,5 @@
 -- What a writer holds after each claim, and after its lanes were given back.
-use Rattle.std.proofs.Common.{◌≡◌, ℕ, zero, suc, ◌+◌, ◌<◌, ◌≤◌, List, [], ◌∷◌, ◌++◌, length, replicate, refl, sym, ap, ◌∙◌, subst, arith, Option, Some, None, Result}
+use Rattle.std.proofs.Common.{◌≡◌, ℕ, zero, suc, ◌+◌, ◌<◌, ◌≤◌, List, [], ◌∷◌, ◌++◌, length, refl, sym, ap, ◌∙◌, subst, arith, Option, Some, None, Result}
 use mathlib.Core.Logic.{dite}
 use mathlib.Core.Option.{some}
 use native.Mathlib.Decide.{ℕ_discrete}
@@ -123,22 +123,14 @@ pub length_snoc : {A : Type 0} (xs : List A) (x : A) → length (xs ++ x ∷ [])
 length_snoc [] x = refl
 length_snoc (y ∷ xs) x = ap suc (length_snoc xs x)
 
--- a word and a book more
-abbrev zeros : ℕ → List ℕ
-zeros n = replicate n 0
+-- a book more
+pub blank_none : {M E : Type 0} (m : M) → IsBlank {M = M} {E = E} m 0 []
+blank_none m = record { deep = refl; books = λ l below. absurd (omega arith) }
 
-zeros_snoc : (n : ℕ) → zeros n ++ 0 ∷ [] ≡ zeros (suc n)
-zeros_snoc zero = refl
-zeros_snoc (suc n) = ap (λ l. 0 ∷ l) (zeros_snoc n)
-
-pub blank_none : {M E : Type 0} (m : M) → IsBlank {M = M} {E = E} m 0 [] []
-blank_none m = record { words_are = refl; deep = refl; books = λ l below. absurd (omega arith) }
-
-pub blank_more : {M E : Type 0} (m : M) (n next : ℕ) (ws ws' : List ℕ) (slots slots' : List (Option (Book M E))) (b : Book M E) → next ≡ suc n → ws' ≡ ws ++ 0 ∷ [] → slots' ≡ slots ++ Some b ∷ [] → b.machine ≡ m → b.history.items ≡ []
-    → IsBlank m n ws slots → IsBlank m next ws' slots'
-blank_more m n next ws ws' slots slots' b is words same machine empty h =
+pub blank_more : {M E : Type 0} (m : M) (n next : ℕ) (slots slots' : List (Option (Book M E))) (b : Book M E) → next ≡ suc n → slots' ≡ slots ++ Some b ∷ [] → b.machine ≡ m → b.history.items ≡ []
+    → IsBlank m n slots → IsBlank m next slots'
+blank_more m n next slots slots' b is same machine empty h =
     let all : get_elem? (slots ++ Some b ∷ []) n ≡ some (Some b) = at_last slots (Some b) n h.deep in record {
-      words_are = words ∙ (ap (λ l. l ++ 0 ∷ []) h.words_are ∙ (zeros_snoc n ∙ ap zeros (sym is)));
       deep = ap length same ∙ (length_snoc slots (Some b) ∙ (ap suc h.deep ∙ sym is));
       books = λ l below. dite (ℕ_discrete l n)
           (λ e. (b, ap (λ (x : List (Option (Book _ _))). get_elem? x l) same ∙ (ap (get_elem? (slots ++ Some b ∷ [])) e ∙ all), machine, empty))

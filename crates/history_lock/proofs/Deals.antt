@@ -11,7 +11,7 @@ use Rattle.history_lock.specs.declared.view.Role.TheVariants.{Dealer, Lane, Bare
 use Rattle.history_lock.specs.declared.view.GatheredPass.{GatheredPass}
 use Rattle.history_lock.specs.declared.view.View.{View}
 use Rattle.history_lock.specs.declared.view.Book.{Book}
-use Rattle.history_lock.specs.Rule.{LockState, HasLane, KnowsRole, KnowsPasses, Knows, HasOneHistory}
+use Rattle.history_lock.specs.Rule.{spot, LockState, HasLane, KnowsRole, KnowsPasses, Knows, HasOneHistory}
 use Rattle.history_lock.specs.Inside.Views.{first_view, spent_view, role_after, dealt_role, dealer_after, dealt_view, news_view, view_after_meeting, lane_of, view_after_gathering}
 use Rattle.history_lock.specs.Inside.Seats.{IsBlank}
 use Rattle.history_lock.proofs.Lists.{update, update_here, update_else, each_set, at_end}
@@ -78,9 +78,9 @@ module _ {M E R F : Type 0} (step : M → E → Result (M × R) F) (opened : Ope
   home_is (y ∷ xs) zero x e = ap some e
   home_is (y ∷ xs) (suc l) x e = home_is xs l x e
 
-  pub starts : (words : List ℕ) (slots : List (Option (Book M E))) → IsBlank opened.machine opened.lanes words slots → HasOneHistory step opened (opening words slots (first_view opened))
-  starts words slots blank = subst (λ ws. HasOneHistory step opened (opening ws slots (first_view opened))) (sym blank.words_are) (
-      let ws : List ℕ = zeros opened.lanes in let long = wide_is opened.lanes in let deep = deep_is slots in let all = blank.deep in record {
+  pub starts : (words : List ℕ) (slots : List (Option (Book M E))) → words ≡ zeros (spot opened.lanes) → IsBlank opened.machine opened.lanes slots → HasOneHistory step opened (opening words slots (first_view opened))
+  starts words slots is blank = subst (λ ws. HasOneHistory step opened (opening ws slots (first_view opened))) (sym is) (
+      let ws : List ℕ = zeros (spot opened.lanes) in let long = wide_is (spot opened.lanes) in let deep = deep_is slots in let all = blank.deep in record {
         log = [];
         holder = λ l. 0;
         next = 0;
@@ -88,10 +88,10 @@ module _ {M E R F : Type 0} (step : M → E → Result (M × R) F) (opened : Ope
         owner = λ n. 0;
         few = omega arith;
         short = omega arith;
-        wide = deep ∙ (all ∙ sym long);
-        each_lane = long;
+        wide = ap spot (deep ∙ all) ∙ sym long;
+        each_lane = deep ∙ all;
         home = λ l below z. let t = blank.books l (omega arith) in (t.0, home_is slots l (Some t.0) t.1, record { legal = ap Some (sym t.2); logged = λ _. t.3 });
-        away = λ l below busy. absurd (busy (word_is opened.lanes l));
+        away = λ l below busy. absurd (busy (word_is (spot opened.lanes) (spot l)));
         undealt = λ n h. refl;
         each = first_known ws;
       })

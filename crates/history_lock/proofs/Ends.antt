@@ -16,7 +16,7 @@ use Rattle.history_lock.specs.declared.view.View.{View}
 use Rattle.history_lock.specs.declared.view.Book.{Book}
 use Rattle.history_lock.specs.Histories.{replay, of_lane, StartsWith}
 use Rattle.history_lock.specs.Passes.{Lock, PassView}
-use Rattle.history_lock.specs.Rule.{HasLane, KnowsRole, KnowsPasses, HasOneHistory}
+use Rattle.history_lock.specs.Rule.{spot, HasLane, KnowsRole, KnowsPasses, HasOneHistory}
 use Rattle.history_lock.specs.Closing.{has_lane, Agrees, IsWhole}
 use Rattle.history_lock.specs.Inside.Gathering.{gathered_pass, gathered_pass_of, IsGathered, IsEnd}
 
@@ -37,7 +37,7 @@ module _ {M E R F : Type 0} (step : M → E → Result (M × R) F) (opened : Ope
       let s = f.0 in let r = f.1.0 in let at = f.1.1 in let q = r.each id v at in let wide = r.wide in let deep = f.3 in
       let mine : HasLane r.log r.next r.dealer r.owner id k v.mine = subst (λ (x : Role). KnowsRole r.log r.next r.dealer r.owner id x v.mine) role q.role in
       let few = r.few in
-      dite (ℕ_discrete (get_or s.words l 0) 0)
+      dite (ℕ_discrete (get_or s.words (spot l) 0) 0)
       (λ hit. let h = r.home l (omega arith) hit in let b : Book M E = h.0 in let same : b.history.items ≡ r.log = h.2.logged last in (
         b,
         f.4 l (Some b) h.1,

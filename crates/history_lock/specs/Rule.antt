@@ -1,11 +1,11 @@
 -- The rule of a lock over lanes, and the steps that there are.
--- A lane is a word and a slot. The word is 0 while its book is at home, 1 while the pass of the lane reads, and n + 2 while the pass of lane n writes.
+-- A lane is a word, at its `spot` among the words, and a slot. The word is 0 while its book is at home, 1 while the pass of the lane reads, and n + 2 while the pass of lane n writes.
 -- Each book has the machine. The history is kept once, in the book of the last lane, so that what a writer gives back first has the new history.
 -- `HasOneHistory` holds between any two steps. These steps are all there are, since `src/rule.rt` is private and names no other:
 -- a lane is claimed, or the claim refused (`Claims`); a writer that holds all lanes gives the first of them back with a new book, by which its event happens
 -- (`Publishes`); a lane is given back with its book as it was (`GivesBack`); and those at which no word changes (`Inside/Views.antt`): a lane is dealt,
 -- a pass tells another what it has seen, or is taken in at the end. The history grows where a book is published, and `turned` where a claim is refused.
-use Rattle.std.specs.Prelude.{◌≡◌, ◌≢◌, ◌⊎◌, ℕ, ◌+◌, ◌-◌, ◌<◌, ◌≤◌, ◌==◌, if◌then◌else◌, List, [], ◌∷◌, ◌++◌, length, slice_index, Option, Some, None, Result}
+use Rattle.std.specs.Prelude.{◌≡◌, ◌≢◌, ◌⊎◌, ℕ, ◌+◌, ◌-◌, ◌*◌, ◌<◌, ◌≤◌, ◌==◌, if◌then◌else◌, List, [], ◌∷◌, ◌++◌, length, slice_index, Option, Some, None, Result}
 use mathlib.Core.Option.{some, none}
 use lib.ListN.{get_elem?}
 use Rattle.atomic_table.specs.Table.{State, Me, Step, rest}
@@ -13,6 +13,7 @@ use Rattle.history_lock.specs.declared.entry.Entry.{Entry}
 use Rattle.history_lock.specs.declared.error.Holder.{Holder}
 use Rattle.history_lock.specs.declared.error.Holder.TheVariants.{Reader, Writer}
 use Rattle.history_lock.specs.declared.error.Busy.{Busy}
+use Rattle.history_lock.specs.declared.rule.TheConstants.{WORDS_A_LANE}
 use Rattle.history_lock.specs.declared.view.Opened.{Opened}
 use Rattle.history_lock.specs.declared.view.Role.{Role}
 use Rattle.history_lock.specs.declared.view.Role.TheVariants.{Dealer, Lane, Bare}
@@ -31,6 +32,10 @@ SeatState M E = Me (Option (Book M E)) (View M E)
 
 abbrev pub LaneStep : Type 0 → Type 0 → Type 0
 LaneStep M E = Step (Option (Book M E))
+
+-- the place of the word of the lane l in the table: no two lanes have their words in one cache line
+abbrev pub spot : ℕ → ℕ
+spot l = l * WORDS_A_LANE
 
 -- the word of the lane l that a pass with this role holds: its own lane as a reader, any lane as a writer
 abbrev pub IsWordOf : Role → ℕ → ℕ → Type 0
@@ -62,8 +67,8 @@ module _ {E : Type 0} (log : List (Entry E)) (next dealer : ℕ) (owner : ℕ �
 module _ {M E : Type 0} where
   -- the seat holds the lane l, whose word shows what the seat put there, and has seen the whole history
   pub record Holds (words : List ℕ) (log : List (Entry E)) (holder : ℕ → ℕ) (seat : ℕ) (v : View M E) (l : ℕ) : Type 0 where
-    pub inside : l < length words
-    pub shown : slice_index words l ≡ v.word
+    pub inside : spot l < length words
+    pub shown : slice_index words (spot l) ≡ v.word
     pub held : holder l ≡ seat
     pub whole : v.seen ≡ log
     pub word : IsWordOf v.role l v.word
@@ -100,10 +105,10 @@ module _ {M E R F : Type 0} (step : M → E → Result (M × R) F) where
     pub owner : ℕ → ℕ
     pub few : next ≤ opened.lanes
     pub short : length log ≤ opened.limit
-    pub wide : length s.homes ≡ length s.words
-    pub each_lane : length s.words ≡ opened.lanes
-    pub home : (l : ℕ) → l < length s.words → slice_index s.words l ≡ 0 → IsAtHome opened log s l
-    pub away : (l : ℕ) → l < length s.words → slice_index s.words l ≢ 0 → IsAway holder s l
+    pub wide : spot (length s.homes) ≡ length s.words
+    pub each_lane : length s.homes ≡ opened.lanes
+    pub home : (l : ℕ) → l < length s.homes → slice_index s.words (spot l) ≡ 0 → IsAtHome opened log s l
+    pub away : (l : ℕ) → l < length s.homes → slice_index s.words (spot l) ≢ 0 → IsAway holder s l
     pub undealt : (n : ℕ) → next ≤ n → of_lane n log ≡ []
     pub each : (j : ℕ) (v : View M E) → get_elem? s.views j ≡ some v → Knows opened s.words log holder next dealer owner j v
 
@@ -142,11 +147,11 @@ module _ {M E : Type 0} where
 
   -- a lane is given back with a new book, and what the book says was seen
   abbrev pub Publishes : LaneStep M E → SeatState M E → ℕ → SeatState M E → Type 0
-  Publishes at before found after = after ≡ (view_after_write before.0 at.word (log_of before.1), rest before.1)
+  Publishes at before found after = (l : ℕ) → at.word ≡ spot l → after ≡ (view_after_write before.0 l (log_of before.1), rest before.1)
 
   -- a lane is given back with its book as it was
   abbrev pub GivesBack : LaneStep M E → SeatState M E → ℕ → SeatState M E → Type 0
-  GivesBack at before found after = after ≡ (view_after_return before.0 at.word, rest before.1)
+  GivesBack at before found after = (l : ℕ) → at.word ≡ spot l → after ≡ (view_after_return before.0 l, rest before.1)
 
 module _ {M E R F : Type 0} (step : M → E → Result (M × R) F) where
   -- the book of the lane l came out, with the machine after the whole history, which goes on from what the seat knew
@@ -158,17 +163,17 @@ module _ {M E R F : Type 0} (step : M → E → Result (M × R) F) where
     pub short : (o : Opened M) → v.opened ≡ Some o → length log ≤ o.limit
     pub same : v.start < v.end → log ≡ v.seen
 
-  -- the lane was free, and is held now with those from `start` on; or its word showed who holds it
-  abbrev pub Claims : (ℕ → ℕ) → LaneStep M E → SeatState M E → ℕ → SeatState M E → Type 0
-  Claims start at before found after =
+  -- the lane l was free, and is held now with those from `start` on, with this word; or its word showed who holds it
+  abbrev pub Claims : (ℕ → ℕ) → ℕ → ℕ → SeatState M E → ℕ → SeatState M E → Type 0
+  Claims start l word before found after =
       (found ≡ 0 → (b : Book M E) × (log : List (Entry E))
-      × (after ≡ (view_after_claim before.0 (start at.word) at.word at.second log, (at.word, Some b) ∷ before.1)) × IsTaken before.0 log at.word b)
-      × (found ≢ 0 → (after ≡ (view_after_refusal before.0 at.word found, before.1)) × IsHeldByAnother before.0 at.word found)
+      × (after ≡ (view_after_claim before.0 (start l) l word log, (l, Some b) ∷ before.1)) × IsTaken before.0 log l b)
+      × (found ≢ 0 → (after ≡ (view_after_refusal before.0 l found, before.1)) × IsHeldByAnother before.0 l found)
 
   -- a reader claims its own lane
   abbrev pub ClaimsOwn : LaneStep M E → SeatState M E → ℕ → SeatState M E → Type 0
-  ClaimsOwn at before found after = Claims (λ l. l) at before found after
+  ClaimsOwn at before found after = (l : ℕ) → at.word ≡ spot l → Claims (λ l. l) l at.second before found after
 
   -- a writer claims the next lane
   abbrev pub ClaimsNext : LaneStep M E → SeatState M E → ℕ → SeatState M E → Type 0
-  ClaimsNext at before found after = Claims (λ l. 0) at before found after
+  ClaimsNext at before found after = (l : ℕ) → at.word ≡ spot l → Claims (λ l. 0) l at.second before found after

@@ -3,12 +3,13 @@
 ghost use Rattle.std.specs.Prelude.{◌≡◌, ◌+◌, ◌<◌, ◌≤◌, [], ◌∷◌, true, Some, IfOk, OnOk, IfErr, if◌then◌else◌, vec_len, vec_capacity};
 ghost use Rattle.history_lock.specs.declared.error.NewLockError.TheVariants as new_lock_error;
 ghost use Rattle.history_lock.specs.Passes.{lock_at, new_pass, AreNewFrom, is_allowed};
+ghost use Rattle.history_lock.specs.Rule.{spot};
 ghost use Rattle.history_lock.specs.Inside.Views.{first_view};
 ghost use Rattle.history_lock.specs.Inside.Seats.{IsDealing, IsBlank};
 
 use crate::error::NewLockError;
 use crate::pass::{LaneLock, Pass};
-use crate::rule::{Board, Common, Deal, Place};
+use crate::rule::{Board, Common, Deal, Place, WORDS_A_LANE};
 use crate::view::{Book, Opened};
 use atomic_table::{Refused, Table};
 use machines::Machine;
@@ -72,13 +73,13 @@ fn open<M: Machine>(
     Ok((lock, passes))
 }
 
-// The table with a word and a book for each lane, and the seat that deals the lanes.
+// The table with a line of words and a book for each lane, and the seat that deals the lanes.
 fn new_table<M: Machine>(
     alloc: Global,
     opened: Opened<M>,
 ) -> Result<(Board<M, M::Event>, Place<M, M::Event>), AllocError>
     requires { (0 < opened.lanes) × (opened.lanes ≤ MOST_LANES) }
-    ensures { IfOk result (λ t. (t.0.shared.table_id.words ≡ opened.lanes) × (t.0.shared.table_id.slots ≡ opened.lanes)
+    ensures { IfOk result (λ t. (t.0.shared.table_id.words ≡ spot opened.lanes) × (t.0.shared.table_id.slots ≡ opened.lanes)
         × (t.1.table_id ≡ t.0.shared.table_id) × (t.0.shared.key.value ≡ opened) × (t.1.me ≡ (first_view opened, []))) }
 {
     let key = Snapshot::of(&opened);
@@ -87,38 +88,36 @@ fn new_table<M: Machine>(
         lanes,
         limit: _,
     } = opened;
-    let (words, slots) = blank(alloc, machine, lanes)?;
+    let words = vec![in alloc; 0; lanes as usize * WORDS_A_LANE]?;
+    let slots = blank(alloc, machine, lanes)?;
     match Table::new(alloc, words.as_slice(), slots, &key) {
         Ok(made) => Ok(made),
         Err(Refused { slots: _ }) => Err(AllocError),
     }
 }
 
-// A word and a book for each lane.
+// A book for each lane.
 fn blank<M: Machine>(
     alloc: Global,
     machine: M,
     lanes: u64,
-) -> Result<(Vec<u64>, Vec<Option<Book<M, M::Event>>>), AllocError>
+) -> Result<Vec<Option<Book<M, M::Event>>>, AllocError>
     requires { (0 < lanes) × (lanes ≤ MOST_LANES) }
-    ensures { IfOk result (λ made. IsBlank machine lanes made.0.items made.1.items) }
+    ensures { IfOk result (λ made. IsBlank machine lanes made.items) }
 {
-    let mut words = Vec::new(alloc);
     let mut slots = Vec::new(alloc);
     for done in 1..lanes {
         let _count = done;
-        words.push(0)?;
         slots.push(Some(Book {
             machine: machine.copy()?,
             history: Vec::new(alloc),
         }))?;
     }
-    words.push(0)?;
     slots.push(Some(Book {
         machine,
         history: Vec::new(alloc),
     }))?;
-    Ok((words, slots))
+    Ok(slots)
 }
 
 // The passes of all lanes.

@@ -2,13 +2,17 @@
 //!
 //! A lane is a word and a slot with a book. The word is 0 while the book is at home, 1 while a pass
 //! reads, and `n + 2` while the pass of lane n writes. `specs/Rule.antt` has the rule. Every
-//! book has the machine, and that of the last lane has the history.
+//! book has the machine, and that of the last lane has the history. The words of two lanes are a cache
+//! line apart, so that readers do not meet there; the words between them stay 0.
 
 use crate::view::{Book, Opened, View};
 use atomic_table::{Join, Play, Seat, Shared, Split, Table, TableRule};
 use machines::Machine;
 use std::alloc::Global;
 use std::snapshot::Snapshot;
+
+/// How many words of the table a lane has, of which the first is in use: as many as a cache line has.
+pub(crate) const WORDS_A_LANE: usize = 8;
 
 pub type Board<M, E> = Table<Option<Book<M, E>>, View<M, E>, Snapshot<Opened<M>>, Lanes, Global>;
 

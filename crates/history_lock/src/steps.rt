@@ -6,13 +6,13 @@ ghost use Rattle.history_lock.specs.declared.entry.Entry.{Entry};
 ghost use Rattle.history_lock.specs.declared.view.Book.{Book};
 ghost use Rattle.history_lock.specs.declared.view.Role.TheVariants.{Lane};
 ghost use Rattle.history_lock.specs.Histories.{replay, GrowsBy};
-ghost use Rattle.history_lock.specs.Rule.{IsBook, IsTaken, view_after_claim, view_after_write, view_after_return, refused_claim};
+ghost use Rattle.history_lock.specs.Rule.{spot, IsBook, IsTaken, view_after_claim, view_after_write, view_after_return, refused_claim};
 ghost use Rattle.history_lock.specs.Answers.{IsWriterAt};
 ghost use Rattle.history_lock.specs.Inside.Seats.{IsRefusedClaim, IsHolding, HaveBooks, HasClaimed, IsTurned};
 ghost use Rattle.history_lock.specs.declared.open.TheConstants.{MOST_LANES};
 
 use crate::error::{Busy, Holder};
-use crate::rule::{Claim, ClaimNext, Common, GiveBack, Place, Publish};
+use crate::rule::{Claim, ClaimNext, Common, GiveBack, Place, Publish, WORDS_A_LANE};
 use crate::view::Book;
 use machines::Machine;
 
@@ -22,7 +22,7 @@ pub(crate) fn claim<M: Machine>(
     place: &mut Place<M, M::Event>,
     lane: u64,
 ) -> Result<(), Busy>
-    requires table { (place.old.table_id ≡ common.now.table_id) × (lane < common.now.table_id.words) × (lane < common.now.table_id.slots) × (lane < MOST_LANES) }
+    requires table { (place.old.table_id ≡ common.now.table_id) × (spot lane < common.now.table_id.words) × (lane < common.now.table_id.slots) × (lane < MOST_LANES) }
     requires idle { (place.old.me.0.end ≤ place.old.me.0.start) × (place.old.me.1 ≡ []) }
     requires lane { place.old.me.0.role ≡ Lane lane }
     ensures table { place.new.table_id ≡ place.old.table_id }
@@ -32,7 +32,7 @@ pub(crate) fn claim<M: Machine>(
         (λ busy. (place.new.me ≡ (record place.old.me.0 { turned = place.old.me.0.turned ++ busy ∷ [] }, []))
         × IsRefusedClaim place.old.me.0 busy × IsWriterAt lane busy) }
 {
-    let found = common.compare_exchange::<Claim>(place, lane as usize, 0, 1);
+    let found = common.compare_exchange::<Claim>(place, lane as usize * WORDS_A_LANE, 0, 1);
     if found == 0 {
         Ok(())
     } else {
@@ -47,7 +47,7 @@ fn claim_next<M: Machine>(
     next: u64,
     lane: u64,
 ) -> Result<(), Busy>
-    requires table { (place.old.table_id ≡ common.now.table_id) × (next < common.now.table_id.words) × (next < common.now.table_id.slots) × (next < MOST_LANES) × (lane < MOST_LANES) }
+    requires table { (place.old.table_id ≡ common.now.table_id) × (spot next < common.now.table_id.words) × (next < common.now.table_id.slots) × (next < MOST_LANES) × (lane < MOST_LANES) }
     requires holds { IsHolding place.old.me.0 next (lane + 2) }
     requires role { place.old.me.0.role ≡ Lane lane }
     ensures table { place.new.table_id ≡ place.old.table_id }
@@ -57,7 +57,12 @@ fn claim_next<M: Machine>(
         (λ busy. (place.new.me ≡ (record place.old.me.0 { turned = place.old.me.0.turned ++ busy ∷ [] }, place.old.me.1))
         × IsRefusedClaim place.old.me.0 busy) }
 {
-    let found = common.compare_exchange::<ClaimNext>(place, next as usize, 0, lane + 2);
+    let found = common.compare_exchange::<ClaimNext>(
+        place,
+        next as usize * WORDS_A_LANE,
+        0,
+        lane + 2,
+    );
     if found == 0 {
         Ok(())
     } else {
@@ -85,7 +90,7 @@ pub(crate) fn give_back<M: Machine>(
     lane: u64,
     book: Book<M, M::Event>,
 )
-    requires table { (place.old.table_id ≡ common.now.table_id) × (lane < common.now.table_id.words) × (lane < common.now.table_id.slots) × (lane < MOST_LANES) }
+    requires table { (place.old.table_id ≡ common.now.table_id) × (spot lane < common.now.table_id.words) × (lane < common.now.table_id.slots) × (lane < MOST_LANES) }
     requires out { (old : Option (Book M M.Event)) × (place.old.me.1 ≡ (lane, old) ∷ rest place.old.me.1) }
     requires range { (place.old.me.0.start ≤ lane) × (place.old.me.0.end ≡ lane + 1) }
     requires book { IsBook M.step common.now.key.value place.old.me.0.seen lane book }
@@ -93,7 +98,7 @@ pub(crate) fn give_back<M: Machine>(
     ensures back { place.new.me ≡ (view_after_return place.old.me.0 lane, rest place.old.me.1) }
 {
     drop(common.exchange(place, lane as usize, Some(book)));
-    common.store::<GiveBack>(place, lane as usize, 0);
+    common.store::<GiveBack>(place, lane as usize * WORDS_A_LANE, 0);
 }
 
 // Gives the lane that was claimed last back as it was.
@@ -102,13 +107,13 @@ pub(crate) fn hand_back<M: Machine>(
     place: &mut Place<M, M::Event>,
     lane: u64,
 )
-    requires table { (place.old.table_id ≡ common.now.table_id) × (lane < common.now.table_id.words) × (lane < common.now.table_id.slots) × (lane < MOST_LANES) }
+    requires table { (place.old.table_id ≡ common.now.table_id) × (spot lane < common.now.table_id.words) × (lane < common.now.table_id.slots) × (lane < MOST_LANES) }
     requires out { (book : Book M M.Event) × (place.old.me.1 ≡ (lane, Some book) ∷ rest place.old.me.1) × IsBook M.step common.now.key.value place.old.me.0.seen lane book }
     requires range { (place.old.me.0.start ≤ lane) × (place.old.me.0.end ≡ lane + 1) }
     ensures table { place.new.table_id ≡ place.old.table_id }
     ensures back { place.new.me ≡ (view_after_return place.old.me.0 lane, rest place.old.me.1) }
 {
-    common.store::<GiveBack>(place, lane as usize, 0);
+    common.store::<GiveBack>(place, lane as usize * WORDS_A_LANE, 0);
 }
 
 // Gives the last lane back with a book that has one event more, by which the event happens.
@@ -118,7 +123,7 @@ pub(crate) fn publish<M: Machine>(
     lane: u64,
     book: Book<M, M::Event>,
 )
-    requires table { (place.old.table_id ≡ common.now.table_id) × (lane < common.now.table_id.words) × (common.now.table_id.slots ≡ lane + 1) × (lane < MOST_LANES) }
+    requires table { (place.old.table_id ≡ common.now.table_id) × (spot lane < common.now.table_id.words) × (common.now.table_id.slots ≡ lane + 1) × (lane < MOST_LANES) }
     requires out { (old : Option (Book M M.Event)) × (place.old.me.1 ≡ (lane, old) ∷ rest place.old.me.1) }
     requires range { (place.old.me.0.start ≡ 0) × (place.old.me.0.end ≡ lane + 1) × (place.old.me.0.passes ≡ []) }
     requires grows { (n : ℕ) × (place.old.me.0.role ≡ Lane n) × GrowsBy n place.old.me.0.seen book.history.items }
@@ -128,7 +133,7 @@ pub(crate) fn publish<M: Machine>(
     ensures back { place.new.me ≡ (view_after_write place.old.me.0 lane book.history.items, rest place.old.me.1) }
 {
     drop(common.exchange(place, lane as usize, Some(book)));
-    common.store::<Publish>(place, lane as usize, 0);
+    common.store::<Publish>(place, lane as usize * WORDS_A_LANE, 0);
 }
 
 // Gives the lanes below this one back as they were, the highest first.
@@ -138,7 +143,7 @@ pub(crate) fn give_all_back<M: Machine>(
     lanes: u64,
     _word: u64,
 )
-    requires table { (place.old.table_id ≡ common.now.table_id) × (lanes ≤ common.now.table_id.words) × (lanes ≤ common.now.table_id.slots) × (lanes ≤ MOST_LANES) }
+    requires table { (place.old.table_id ≡ common.now.table_id) × (spot lanes ≤ common.now.table_id.words) × (lanes ≤ common.now.table_id.slots) × (lanes ≤ MOST_LANES) }
     requires holds { IsHolding place.old.me.0 lanes _word }
     requires books { HaveBooks M.step common.now.key.value place.old.me.0.seen lanes place.old.me.1 }
     ensures table { place.new.table_id ≡ place.old.table_id }
@@ -148,7 +153,7 @@ pub(crate) fn give_all_back<M: Machine>(
     let mut left = lanes;
     while left > 0 {
         left -= 1;
-        common.store::<GiveBack>(place, left as usize, 0);
+        common.store::<GiveBack>(place, left as usize * WORDS_A_LANE, 0);
     }
 }
 
@@ -159,7 +164,7 @@ pub(crate) fn claim_all<M: Machine>(
     lanes: u64,
     lane: u64,
 ) -> Result<(), Busy>
-    requires table { (place.old.table_id ≡ common.now.table_id) × (lanes ≤ common.now.table_id.words) × (lanes ≤ common.now.table_id.slots) × (lanes ≤ MOST_LANES) × (lane < MOST_LANES) }
+    requires table { (place.old.table_id ≡ common.now.table_id) × (spot lanes ≤ common.now.table_id.words) × (lanes ≤ common.now.table_id.slots) × (lanes ≤ MOST_LANES) × (lane < MOST_LANES) }
     requires idle { (place.old.me.0.end ≤ place.old.me.0.start) × (place.old.me.1 ≡ []) }
     requires role { place.old.me.0.role ≡ Lane lane }
     requires opened { place.old.me.0.opened ≡ Some common.now.key.value }

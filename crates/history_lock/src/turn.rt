@@ -3,7 +3,7 @@
 ghost use Rattle.std.specs.Prelude.{◌≡◌, ◌⊎◌, ◌+◌, ◌<◌, ◌≤◌, [], Some, MatchResult, IfOk, IfErr};
 ghost use Rattle.std.specs.Fn.{CalledAt, TakesAt};
 ghost use Rattle.history_lock.specs.Histories.{replay};
-ghost use Rattle.history_lock.specs.Rule.{view_after_return};
+ghost use Rattle.history_lock.specs.Rule.{spot, view_after_return};
 ghost use Rattle.history_lock.specs.Passes.{lock_at, pass_view};
 ghost use Rattle.history_lock.specs.Answers.{Wrote, Shared, IsTurnedAway, TriedToShare, TriedToMeet, IsWriterAt};
 ghost use Rattle.history_lock.specs.Inside.Turns.{IsTurn, only_reply};
@@ -64,7 +64,7 @@ fn spread<M: Machine>(
     mut machines: Vec<M>,
     _lanes: u64,
 )
-    requires table { (place.old.table_id ≡ common.now.table_id) × (_lanes + 1 ≡ common.now.key.value.lanes) × (_lanes ≤ common.now.table_id.words) × (_lanes ≤ common.now.table_id.slots) × (_lanes ≤ MOST_LANES) }
+    requires table { (place.old.table_id ≡ common.now.table_id) × (_lanes + 1 ≡ common.now.key.value.lanes) × (spot _lanes ≤ common.now.table_id.words) × (_lanes ≤ common.now.table_id.slots) × (_lanes ≤ MOST_LANES) }
     requires range { (place.old.me.0.start ≡ 0) × (place.old.me.0.end ≡ _lanes) }
     requires out { AreOut _lanes place.old.me.1 }
     requires machines { (machine : M) × AreCopies machine _lanes machines.items × (replay M.step common.now.key.value.machine place.old.me.0.seen ≡ Some machine) }

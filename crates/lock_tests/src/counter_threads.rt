@@ -1,14 +1,14 @@
 //! Threads, each with a pass of its own.
 
-ghost use Rattle.std.specs.Prelude.{◌≡◌, ◌+◌, ◌≤◌, length};
-ghost use Rattle.history_lock.specs.Passes.{IsPassOf};
+ghost use Rattle.std.specs.Prelude.{◌≡◌, ◌+◌, ◌≤◌, length, IfOk, All};
+ghost use Rattle.history_lock.specs.Passes.{IsPassOf, ArePassesOf};
 
 use crate::counter::Counter;
-use crate::two_lanes::{TwoLanes, two_lanes};
 use history_lock::{LaneLock, Pass};
+use std::alloc::{AllocError, Global};
 use std::sync::Wait;
 use std::test::Fail;
-use std::thread::{Threads, join};
+use std::thread::{Threads, join, map_vec};
 
 // Adds 1 so many times, and counts the replies: the pass has as many more events of its own.
 fn add<R: Wait>(
@@ -91,42 +91,61 @@ fn read_and_write<R: Wait>(
     (pass, answered)
 }
 
-// The same by two threads: the passes, and how many writes of each were answered so.
-fn read_and_write_in_two_threads<R: Threads + Wait + Sync>(
+// The same by each pass, in a thread of its own: the passes, and how many writes of each were answered so.
+fn read_and_write_in_threads<R: Threads + Wait + Sync>(
     rt: &R,
     lock: &LaneLock<Counter>,
-    first: Pass<Counter>,
-    second: Pass<Counter>,
+    passes: Vec<Pass<Counter>>,
     times: u64,
-) -> ((Pass<Counter>, u64), (Pass<Counter>, u64))
-    requires first { IsPassOf lock.now first }
-    requires second { IsPassOf lock.now second }
-    ensures own { IsPassOf lock.now result.0.0 × IsPassOf lock.now result.1.0 }
-    ensures most { (result.0.1 ≤ times) × (result.1.1 ≤ times) }
+) -> Result<Vec<(Pass<Counter>, u64)>, AllocError>
+    requires { ArePassesOf lock.now passes.items }
+    ensures { IfOk result (λ done. All (λ both. IsPassOf lock.now both.0) done.items) }
 {
-    join(
+    map_vec(
         rt,
-        || read_and_write(rt, lock, first, times),
-        || read_and_write(rt, lock, second, times),
+        passes,
+        &|pass: Pass<Counter>| -> (Pass<Counter>, u64)
+            requires { IsPassOf lock.now pass }
+            ensures { IsPassOf lock.entry.now result.0 }
+        { read_and_write(rt, lock, pass, times) },
     )
 }
 
+// The passes alone, and how many writes were answered in all.
+fn all_answered(
+    alloc: Global,
+    _lock: &LaneLock<Counter>,
+    mut done: Vec<(Pass<Counter>, u64)>,
+) -> Result<(Vec<Pass<Counter>>, u64), AllocError>
+    requires { All (λ both. IsPassOf _lock.now both.0) done.items }
+    ensures { IfOk result (λ all. ArePassesOf _lock.now all.0.items) }
+{
+    let mut passes = Vec::new(alloc);
+    let mut answered = 0u64;
+    while let Some((pass, count)) = done.pop() {
+        passes.push(pass)?;
+        answered = answered.saturating_add(count);
+    }
+    Ok((passes, answered))
+}
+
 #[test]
-fn has_just_the_writes_of_two_threads(rt: HostRuntime) -> Result<(), Fail> {
-    let TwoLanes {
-        lock,
-        others: mut passes,
-        p0,
-        p1,
-    } = two_lanes(rt.alloc(), Counter { count: 0 }, 10_000)?;
-    let ((p0, first), (p1, second)) = read_and_write_in_two_threads(&rt, &lock, p0, p1, 5_000);
-    assert_eq!(rt; (first, second), (5_000, 5_000));
-    passes.push(p0)?;
-    passes.push(p1)?;
-    let closed = lock.close(passes).ok().expect(&rt, "both passes are there");
-    let entries = closed.history.entries();
-    let of_lane = |lane: u64| entries.iter().filter(|entry| entry.lane == lane).count() as u64;
-    assert_eq!(rt; (of_lane(0), of_lane(1)), (5_000, 5_000));
-    assert_eq!(rt; closed.machine.count, 10_000);
+fn has_just_the_writes_of_many_threads(rt: HostRuntime) -> Result<(), Fail> {
+    for threads in [2, 4, 8] {
+        let times = 10_000 / threads;
+        let made = LaneLock::new(rt.alloc(), Counter { count: 0 }, threads, 10_000);
+        let (lock, passes) = made.map_err(|_| "a lane for each thread")?;
+        let done = read_and_write_in_threads(&rt, &lock, passes, times)?;
+        let (passes, answered) = all_answered(rt.alloc(), &lock, done)?;
+        assert_eq!(rt; answered, 10_000);
+        let closed = lock.close(passes).ok().expect(&rt, "all passes are there");
+        let entries = closed.history.entries();
+        assert_eq!(rt; entries.len(), 10_000);
+        for lane in 0..threads {
+            let of_lane = entries.iter().filter(|entry| entry.lane == lane).count() as u64;
+            assert_eq!(rt; of_lane, times);
+        }
+        assert_eq!(rt; closed.machine.count, 10_000);
+    }
     Ok(())
 }

@@ -1,5 +1,5 @@
 -- Seats between two calls.
-use Rattle.std.specs.Prelude.{◌≡◌, ◌≢◌, ℕ, zero, suc, ◌<◌, ◌≤◌, List, [], ◌∷◌, ◌++◌, length, replicate, Option, Some, Result}
+use Rattle.std.specs.Prelude.{◌≡◌, ◌≢◌, ℕ, zero, suc, ◌<◌, ◌≤◌, List, [], ◌∷◌, ◌++◌, length, Option, Some, Result}
 use mathlib.Core.Option.{some}
 use lib.ListN.{get_elem?}
 use Rattle.atomic_table.specs.Seated.{TableId}
@@ -13,7 +13,7 @@ use Rattle.history_lock.specs.declared.view.View.{View}
 use Rattle.history_lock.specs.declared.view.Book.{Book}
 use Rattle.history_lock.specs.declared.open.TheConstants.{MOST_LANES}
 use Rattle.history_lock.specs.Histories.{IsLegal, StartsWith}
-use Rattle.history_lock.specs.Rule.{IsBook, mine_of, refused_claim, IsHeldByAnother}
+use Rattle.history_lock.specs.Rule.{spot, IsBook, mine_of, refused_claim, IsHeldByAnother}
 
 -- the seat of a lane holds nothing, and has taken in these passes
 pub record IsTaking {M E : Type 0} (me : Me (Option (Book M E)) (View M E)) (lane : ℕ) (passes : List (GatheredPass E)) : Type 0 where
@@ -85,24 +85,23 @@ pub record IsTurned {M E R F : Type 0} (step : M → E → Result (M × R) F) (o
   pub refused : IsRefusedClaim v busy
   pub only : me.0 ≡ record v { start = me.0.start; end = me.0.end; word = me.0.word; seen = me.0.seen; turned = v.turned ++ busy ∷ [] }
 
--- words and books of a new lock with so many lanes
-pub record IsBlank {M E : Type 0} (machine : M) (lanes : ℕ) (words : List ℕ) (slots : List (Option (Book M E))) : Type 0 where
-  pub words_are : words ≡ replicate lanes 0
+-- the books of a new lock with so many lanes
+pub record IsBlank {M E : Type 0} (machine : M) (lanes : ℕ) (slots : List (Option (Book M E))) : Type 0 where
   pub deep : length slots ≡ lanes
   pub books : (l : ℕ) → l < lanes → (b : Book M E) × (get_elem? slots l ≡ some (Some b)) × (b.machine ≡ machine) × (b.history.items ≡ [])
 
--- a lock with a word and a slot for each lane, and these numbers of passes and of entries at the most
+-- a lock with a line of words and a slot for each lane, and these numbers of passes and of entries at the most
 pub record IsOfLanes {M : Type 0} (table : TableId) (opened : Opened M) (lanes limit : ℕ) : Type 0 where
-  pub words : table.words ≡ lanes
+  pub words : table.words ≡ spot lanes
   pub slots : table.slots ≡ lanes
   pub lanes_are : opened.lanes ≡ lanes
   pub limit_is : opened.limit ≡ limit
   pub some : 0 < lanes
   pub few : lanes ≤ MOST_LANES
 
--- a table with a word and a slot for each lane
+-- a table with a line of words and a slot for each lane
 pub record IsTable {M : Type 0} (table : TableId) (opened : Opened M) : Type 0 where
-  pub words : table.words ≡ opened.lanes
+  pub words : table.words ≡ spot opened.lanes
   pub slots : table.slots ≡ opened.lanes
   pub some : 0 < opened.lanes
   pub few : opened.lanes ≤ MOST_LANES

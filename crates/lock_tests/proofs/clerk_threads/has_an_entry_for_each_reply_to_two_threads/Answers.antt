@@ -1,4 +1,4 @@
-use Rattle.std.proofs.Common.{rules, ◌≡◌}
+use Rattle.std.proofs.Common.{rules}
 use Rattle.history_lock.specs.Passes.{AreNewFrom}
 use Rattle.history_lock.proofs.Dealt.{last_new}
 use Rattle.lock_tests.proofs.clerk_threads.has_an_entry_for_each_reply_to_two_threads.Goals as goal
