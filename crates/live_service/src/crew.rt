@@ -109,7 +109,7 @@ impl Crew {
             unreachable!()
         };
         let seat = task_seat(alloc, pass, first);
-        let (seat, worked) = run_threads(
+        let (seat, worked) = run_members(
             rt, alloc, table, &slicelet, ticket, gate, job, task, seat, workers,
         )?;
         let (table, gathered) = gather(alloc, &slicelet, ticket, job.asks(), seat, worked)?;
@@ -190,7 +190,7 @@ fn task_seat(alloc: Global, table: Pass<LeaseTable>, member: Member) -> TaskSeat
 }
 
 // The task's thread beside its workers.
-fn run_threads<R: Threads + Wait + Sync, G: Gate + Sync>(
+fn run_members<R: Threads + Wait + Sync, G: Gate + Sync>(
     rt: &R,
     alloc: Global,
     table: &SharedTable,
@@ -216,14 +216,14 @@ fn run_threads<R: Threads + Wait + Sync, G: Gate + Sync>(
         || -> Result<Vec<Result<Worked, AllocError>>, AllocError>
             requires { IsSync R.row × IsSync G.row × AreMembersFrom slicelet.now ticket.now 1 workers.items × (asks ≤ ticket.now.terms.quota) }
             ensures worked { IfOk result (λ results. HaveWorkedFrom slicelet.entry.now ticket.entry.now asks 1 results.items) }
-            ensures many { IfOk result (λ results. vec_len results ≡ vec_len workers.entry) }
+            ensures many { IfOk result (λ results. vec_len results ≡ vec_len workers) }
         { work_all(rt, alloc, slicelet, ticket, gate, asks, workers) },
     );
     Ok((seat?, worked?))
 }
 
 // Each worker in a thread of its own: the workers of the lanes from 1 on.
-#[tactic(auto, using(crate::proofs::Crewing::members_all, crate::proofs::Crewing::worked_from))]
+#[tactic(auto, using(crate::proofs::Crewing::worked_from))]
 fn work_all<R: Threads + Wait + Sync, G: Gate + Sync>(
     rt: &R,
     alloc: Global,
