@@ -113,26 +113,43 @@ impl Crew {
             rt, alloc, table, &slicelet, ticket, gate, job, task, seat, workers,
         )?;
         let (table, gathered) = gather(alloc, &slicelet, ticket, job.asks(), seat, worked)?;
-        let Gathered {
-            passes,
-            draws,
-            records,
-        } = gathered;
-        let Ok(
-            Closed {
-                machine: _,
-                history,
-            },
-        ) = slicelet.close(passes)
-        else {
-            unreachable!()
-        };
-        Ok(CrewLeft {
-            table,
+        Ok(dismiss(slicelet, ticket, job.asks(), table, gathered))
+    }
+}
+
+// Closes a task's lock, and puts together what its threads leave.
+fn dismiss(
+    slicelet: SharedSlicelet,
+    ticket: &Ticket,
+    asks: u32,
+    table: Pass<LeaseTable>,
+    gathered: Gathered,
+) -> CrewLeft
+    requires gathered { IsGathered slicelet ticket.now asks gathered }
+    requires many { vec_len gathered.passes ≡ slicelet.opened.lanes }
+    ensures table { result.table ≡ table }
+    ensures draws { result.draws ≡ gathered.draws }
+    ensures records { result.records ≡ gathered.records }
+{
+    let Gathered {
+        passes,
+        draws,
+        records,
+    } = gathered;
+    let Ok(
+        Closed {
+            machine: _,
             history,
-            draws,
-            records,
-        })
+        },
+    ) = slicelet.close(passes)
+    else {
+        unreachable!()
+    };
+    CrewLeft {
+        table,
+        history,
+        draws,
+        records,
     }
 }
 
