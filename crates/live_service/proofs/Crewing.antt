@@ -42,6 +42,13 @@ lanes_have lane n (pass ∷ passes) are low high =
     let h : n < lane + length (pass ∷ passes) = high in
     lanes_have (lane + 1) n passes are.1 (grind (arith, nat_tests)) (omega (arith, h)))
 
+-- so none is missing
+pub never_missing : {M E : Type 0} (lanes : ℕ) (passes : List (PassView M E)) → AreOfLanesFrom 0 passes → length passes ≡ lanes
+    → (lane : ℕ) × (lane < lanes) × (has_lane lane passes ≡ false) → false ≡ true
+never_missing lanes passes are many missing =
+    let below : missing.0 < lanes = missing.1 in
+    let here : has_lane missing.0 passes ≡ true = lanes_have 0 missing.0 passes are (omega arith) (omega (arith, below, many)) in sym missing.2 ∙ here
+
 module _ (slicelet : Lock History) (ticket : TicketView) where
   -- each of the threads of a task has passes of its lock and new ones of the ticket
   pub members_all : (lane : ℕ) (members : List Member) → AreMembersFrom slicelet ticket lane members → All (λ (m : Member). IsPassOf slicelet m.pass × (m.draws ≡ new_ticket_pass ticket)) members

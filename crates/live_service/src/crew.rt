@@ -109,30 +109,47 @@ impl Crew {
             unreachable!()
         };
         let seat = task_seat(alloc, pass, first);
-        let (seat, worked) = run_threads(
+        let (seat, worked) = run_members(
             rt, alloc, table, &slicelet, ticket, gate, job, task, seat, workers,
         )?;
         let (table, gathered) = gather(alloc, &slicelet, ticket, job.asks(), seat, worked)?;
-        let Gathered {
-            passes,
-            draws,
-            records,
-        } = gathered;
-        let Ok(
-            Closed {
-                machine: _,
-                history,
-            },
-        ) = slicelet.close(passes)
-        else {
-            unreachable!()
-        };
-        Ok(CrewLeft {
-            table,
+        Ok(dismiss(slicelet, ticket, job.asks(), table, gathered))
+    }
+}
+
+// Closes a task's lock, and puts together what its threads leave.
+fn dismiss(
+    slicelet: SharedSlicelet,
+    ticket: &Ticket,
+    asks: u32,
+    table: Pass<LeaseTable>,
+    gathered: Gathered,
+) -> CrewLeft
+    requires gathered { IsGathered slicelet ticket.now asks gathered }
+    requires many { vec_len gathered.passes ≡ slicelet.opened.lanes }
+    ensures table { result.table ≡ table }
+    ensures draws { result.draws ≡ gathered.draws }
+    ensures records { result.records ≡ gathered.records }
+{
+    let Gathered {
+        passes,
+        draws,
+        records,
+    } = gathered;
+    let Ok(
+        Closed {
+            machine: _,
             history,
-            draws,
-            records,
-        })
+        },
+    ) = slicelet.close(passes)
+    else {
+        unreachable!()
+    };
+    CrewLeft {
+        table,
+        history,
+        draws,
+        records,
     }
 }
 
@@ -190,7 +207,7 @@ fn task_seat(alloc: Global, table: Pass<LeaseTable>, member: Member) -> TaskSeat
 }
 
 // The task's thread beside its workers.
-fn run_threads<R: Threads + Wait + Sync, G: Gate + Sync>(
+fn run_members<R: Threads + Wait + Sync, G: Gate + Sync>(
     rt: &R,
     alloc: Global,
     table: &SharedTable,
@@ -216,14 +233,14 @@ fn run_threads<R: Threads + Wait + Sync, G: Gate + Sync>(
         || -> Result<Vec<Result<Worked, AllocError>>, AllocError>
             requires { IsSync R.row × IsSync G.row × AreMembersFrom slicelet.now ticket.now 1 workers.items × (asks ≤ ticket.now.terms.quota) }
             ensures worked { IfOk result (λ results. HaveWorkedFrom slicelet.entry.now ticket.entry.now asks 1 results.items) }
-            ensures many { IfOk result (λ results. vec_len results ≡ vec_len workers.entry) }
+            ensures many { IfOk result (λ results. vec_len results ≡ vec_len workers) }
         { work_all(rt, alloc, slicelet, ticket, gate, asks, workers) },
     );
     Ok((seat?, worked?))
 }
 
 // Each worker in a thread of its own: the workers of the lanes from 1 on.
-#[tactic(auto, using(crate::proofs::Crewing::members_all, crate::proofs::Crewing::worked_from))]
+#[tactic(auto, using(crate::proofs::Crewing::worked_from))]
 fn work_all<R: Threads + Wait + Sync, G: Gate + Sync>(
     rt: &R,
     alloc: Global,

@@ -1,7 +1,10 @@
 //! Live runs: the assigner, the clerk, the tasks and their workers as threads.
 
-ghost use Rattle.std.specs.Prelude.{IfOk};
-ghost use Rattle.live_service.specs.Reports.{IsReported};
+ghost use Rattle.std.specs.Prelude.{◌≡◌, All, IfOk, vec_len};
+ghost use Rattle.history_lock.specs.Passes.{ArePassesOf};
+ghost use Rattle.world.specs.Tickets.{DrawsFrom};
+ghost use Rattle.live_service.specs.Crews.{AreOfLanesFrom};
+ghost use Rattle.live_service.specs.Reports.{IsReported, commits, serves};
 
 use crate::clerk_loop::{ClerkSeat, learn_all};
 use crate::commit_loop::assign;
@@ -242,6 +245,7 @@ impl Remains {
 }
 
 // Closes what is not closed yet, and reports.
+#[tactic(auto, using(crate::proofs::Crewing::never_missing))]
 fn close_all(
     alloc: Global,
     job: LiveJob,
@@ -249,7 +253,14 @@ fn close_all(
     table: SharedTable,
     clerk: SharedClerk,
     remains: Remains,
-) -> Result<LiveReport, AllocError> {
+) -> Result<LiveReport, AllocError>
+    requires table { ArePassesOf table remains.table.items × AreOfLanesFrom 0 remains.table.items × (vec_len remains.table ≡ table.opened.lanes) }
+    requires clerk { ArePassesOf clerk.lock remains.clerk.items × AreOfLanesFrom 0 remains.clerk.items × (vec_len remains.clerk ≡ clerk.lock.opened.lanes) }
+    requires draws { All (λ pass. DrawsFrom ticket pass) remains.draws.items × (vec_len remains.draws ≡ ticket.terms.passes) }
+    ensures records { IfOk result (λ report. report.records.items ≡ remains.records.items) }
+    ensures asked { IfOk result (λ report. report.asked ≡ serves report.records.items) }
+    ensures generation { IfOk result (λ report. report.generation ≡ commits report.table) }
+{
     let Remains {
         table: table_passes,
         clerk: clerk_passes,
