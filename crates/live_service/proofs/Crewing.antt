@@ -4,16 +4,18 @@ use Rattle.std.proofs.lemmas.Bool.Decides.{nat_tests}
 use Rattle.std.specs.Prelude.{All, vec_len, Result, Ok, Err, IfOk, slice_index_or, ◌||◌}
 use Rattle.std.specs.declared.alloc.AllocError.{AllocError}
 use Rattle.std.proofs.lemmas.List.Elements.{All-cons, All-push}
+use Rattle.lease_table.specs.Tables.{Standing}
 use Rattle.history_lock.specs.Passes.{Lock, PassView, IsPassOf, ArePassesOf, new_pass}
 use Rattle.history_lock.specs.Closing.{has_lane}
 use Rattle.slicelet.specs.Steps.{History}
 use Rattle.world.specs.Tickets.{TicketView, TicketPassView, DrawsFrom, new_ticket_pass}
+use Rattle.live_service.specs.declared.crew.CrewLeft.{CrewLeft}
 use Rattle.live_service.specs.declared.crew.Gathered.{Gathered}
 use Rattle.live_service.specs.Reports.{serves}
 use Rattle.live_service.proofs.Asked.{serves_all, serves-append}
 use Rattle.live_service.specs.declared.worker.Member.{Member}
 use Rattle.live_service.specs.declared.worker.Worked.{Worked}
-use Rattle.live_service.specs.Crews.{AreOfLanesFrom, AreMembersFrom, IsMember, IsGathered, HasWorked, HaveWorkedFrom}
+use Rattle.live_service.specs.Crews.{AreOfLanesFrom, AreMembersFrom, IsMember, IsGathered, HasLeft, HasWorked, HaveWorkedFrom}
 
 module _ {M E : Type 0} where
   pub lanes_push : (lane : ℕ) (passes : List (PassView M E)) (pass : PassView M E) → AreOfLanesFrom lane passes → pass.lane ≡ lane + length passes → AreOfLanesFrom lane (passes ++ pass ∷ [])
@@ -26,6 +28,9 @@ module _ {M E : Type 0} where
 
 one_more : (n asks : ℕ) → (n + 1) * asks ≡ n * asks + asks
 one_more n asks = omega arith
+
+less : (a s p : ℕ) → s + a ≡ p + a → s ≡ p
+less a s p e = let f : s + a ≡ p + a = e in omega (arith, f)
 
 either_true : (b c : Bool) → (b ≡ false → c ≡ true) → (b || c) ≡ true
 either_true true c f = refl
@@ -48,6 +53,12 @@ pub never_missing : {M E : Type 0} (lanes : ℕ) (passes : List (PassView M E)) 
 never_missing lanes passes are many missing =
     let below : missing.0 < lanes = missing.1 in
     let here : has_lane missing.0 passes ≡ true = lanes_have 0 missing.0 passes are (omega arith) (omega (arith, below, many)) in sym missing.2 ∙ here
+
+-- the same, of passes that are counted
+pub none_missing : {M E : Type 0} (count lanes : ℕ) (passes : List (PassView M E)) → AreOfLanesFrom 0 passes → count ≡ length passes → count ≡ lanes
+    → (lane : ℕ) × (lane < lanes) × (has_lane lane passes ≡ false) → ⊥
+none_missing count lanes passes are counted many missing =
+    absurd (let f : false ≡ true = never_missing lanes passes are (sym counted ∙ many) missing in cc)
 
 module _ (slicelet : Lock History) (ticket : TicketView) where
   -- each of the threads of a task has passes of its lock and new ones of the ticket
@@ -101,4 +112,17 @@ module _ (slicelet : Lock History) (ticket : TicketView) where
         draws = subst (λ ps. All Draws ps) (sym draws) (All-push Draws before.draws.items worked.draws g.draws w.draws);
         even = omega (arith, more, drew, g.even);
         served = omega (arith, both, own, served) ∙ (sym product ∙ ap (λ (n : ℕ). n * asks) (sym more));
+      }
+
+  -- what all threads of a task leave
+  pub has_left : (table : Lock Standing) (workers asks lane : ℕ) (left : CrewLeft) (gathered : Gathered) → IsGathered slicelet ticket asks gathered → vec_len gathered.passes ≡ workers + 1
+      → IsPassOf table left.table → left.table.lane ≡ lane → left.draws ≡ gathered.draws → left.records ≡ gathered.records → HasLeft table ticket workers asks lane left
+  has_left table workers asks lane left gathered g many own at draws records =
+      let Draws : TicketPassView → Type 0 = λ pass. DrawsFrom ticket pass in
+      let served : serves gathered.records.items + asks ≡ workers * asks + asks = g.served ∙ (ap (λ (n : ℕ). n * asks) many ∙ one_more workers asks) in record {
+        table_pass = own;
+        of_lane = at;
+        draws = subst (λ ds. All Draws ds) (sym (ap (λ d. d.items) draws)) g.draws;
+        many = ap (λ d. vec_len d) draws ∙ (g.even ∙ many);
+        served = ap (λ r. serves r.items) records ∙ less asks (serves gathered.records.items) (workers * asks) served;
       }

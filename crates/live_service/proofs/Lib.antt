@@ -5,4 +5,5 @@ pub mod Keeping
 pub mod Lanes
 pub mod NamedReplies
 pub mod Quiet
+pub mod Staging
 pub mod Writing

@@ -7,3 +7,4 @@ pub mod LiveJobs
 pub mod Reports
 pub mod Seats
 pub mod Crews
+pub mod Stages

@@ -55,16 +55,19 @@ pub(crate) struct CrewLeft {
 }
 
 impl Crew {
-    /// The task of this number, with a lane of its lock for its own thread and for each worker.
+    /// The task of this number, with a lane of its lock for its own thread and for each worker. The tasks before
+    /// it have this many workers in all.
     pub(crate) fn new(
         alloc: Global,
         shared: &SharedTable,
         ticket: &Ticket,
         task: TaskId,
         workers: u32,
+        before: u32,
         table: Pass<LeaseTable>,
         draws: Vec<TicketPass>,
     ) -> Result<Crew, AllocError>
+        requires before { before ≤ 35 }
         requires table { IsPassOf shared.now table }
         requires draws { All (λ pass. pass ≡ new_ticket_pass ticket.now) draws.items }
         requires many { vec_len draws ≡ workers + 1 }
@@ -75,7 +78,7 @@ impl Crew {
         let Ok((slicelet, passes)) = SharedSlicelet::new(alloc, task, lanes, MOST_ENTRIES) else {
             return Err(AllocError);
         };
-        let members = members_of(alloc, &slicelet, ticket, passes, draws)?;
+        let members = members_of(alloc, &slicelet, ticket, before, passes, draws)?;
         Ok(Crew {
             task,
             slicelet,
@@ -153,14 +156,17 @@ fn dismiss(
     }
 }
 
-// The threads of a task, by the passes of its lock and as many passes of the ticket.
+// The threads of a task, by the passes of its lock and as many passes of the ticket. The tasks before it have this
+// many workers in all.
 fn members_of(
     alloc: Global,
     slicelet: &SharedSlicelet,
     ticket: &Ticket,
+    before: u32,
     passes: Vec<Pass<Slicelet>>,
     mut draws: Vec<TicketPass>,
 ) -> Result<Vec<Member>, AllocError>
+    requires before { before ≤ 35 }
     requires passes { AreNewFrom 0 slicelet.now passes.items }
     requires few { vec_len passes ≤ 8 }
     requires draws { All (λ pass. pass ≡ new_ticket_pass ticket.now) draws.items }
@@ -169,7 +175,7 @@ fn members_of(
     ensures many { IfOk result (λ members. vec_len members ≡ vec_len passes) }
 {
     let mut members = Vec::with_capacity(alloc, passes.len())?;
-    let mut number = 0;
+    let mut number = before;
     for pass in passes {
         let Some(own) = draws.pop() else {
             unreachable!()

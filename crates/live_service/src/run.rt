@@ -1,10 +1,11 @@
 //! Live runs: the assigner, the clerk, the tasks and their workers as threads.
 
-ghost use Rattle.std.specs.Prelude.{◌≡◌, All, IfOk, vec_len};
-ghost use Rattle.history_lock.specs.Passes.{ArePassesOf};
-ghost use Rattle.world.specs.Tickets.{DrawsFrom};
-ghost use Rattle.live_service.specs.Crews.{AreOfLanesFrom};
-ghost use Rattle.live_service.specs.Reports.{IsReported, commits, serves};
+ghost use Rattle.std.specs.Prelude.{◌≡◌, ℕ, ◌≤◌, ◌<◌, ◌+◌, ◌*◌, ◌∷◌, [], ◌++◌, All, IfOk, OnOk, vec_len, slice_index_or};
+ghost use Rattle.history_lock.specs.Passes.{AreNewFrom, ArePassesOf, IsPassOf};
+ghost use Rattle.world.specs.Tickets.{DrawsFrom, new_ticket_pass};
+ghost use Rattle.live_service.specs.Crews.{AreOfLanesFrom, HasLeft, IsCrew};
+ghost use Rattle.live_service.specs.Reports.{IsReported, serves};
+ghost use Rattle.live_service.specs.Stages.{AreCrewsFrom, HaveLeftFrom, IsQuietClerkSeat, IsQuietSeat, IsRemains, IsStaged};
 
 use crate::clerk_loop::{ClerkSeat, learn_all};
 use crate::commit_loop::assign;
@@ -71,32 +72,30 @@ pub fn run_live<R: Threads + Wait + Sync, G: Gate + Sync>(
     let (assigner, learner, crews) = run_threads(
         rt, alloc, &ticket, &table, &clerk, gate, *job, assigner, learner, crews,
     )?;
-    let remains = remains_of(alloc, assigner, learner, crews)?;
+    let remains = remains_of(
+        alloc, &table, &clerk, &ticket, *job, assigner, learner, crews,
+    )?;
     close_all(alloc, *job, ticket, table, clerk, remains)
 }
 
 impl Stage {
     // Makes the ticket and all locks, and deals their passes to the threads.
-    fn open(alloc: Global, job: LiveJob) -> Result<Stage, AllocError> {
+    fn open(alloc: Global, job: LiveJob) -> Result<Stage, AllocError>
+        ensures { IfOk result (λ stage. IsStaged job stage) }
+    {
         let members = u64::from(job.workers()) + 1;
         let threads = job.tasks() * members + 2;
-        let Ok((ticket, mut draws)) = Ticket::new(alloc, threads, MOST_DRAWS) else {
+        let Ok((ticket, draws)) = Ticket::new(alloc, threads, MOST_DRAWS) else {
             return Err(AllocError);
         };
         let lanes = job.tasks() + 2;
-        let Ok((table, mut passes)) = SharedTable::new(alloc, live_policy(), lanes, MOST_ENTRIES) else {
+        let Ok((table, passes)) = SharedTable::new(alloc, live_policy(), lanes, MOST_ENTRIES) else {
             return Err(AllocError);
         };
-        let Ok((clerk, mut own)) = SharedClerk::new(alloc, 1, 1, MOST_ENTRIES) else {
+        let Ok((clerk, own)) = SharedClerk::new(alloc, 1, 1, MOST_ENTRIES) else {
             return Err(AllocError);
         };
-        let others = passes.split_off(2)?;
-        let learner = ClerkSeat {
-            table: seat(alloc, &mut passes, &mut draws),
-            own: own.pop().unwrap(),
-        };
-        let assigner = seat(alloc, &mut passes, &mut draws);
-        let crews = crews(alloc, &table, &ticket, job, others, draws)?;
+        let (assigner, learner, crews) = deal(alloc, &ticket, &table, &clerk, job, passes, own, draws)?;
         Ok(Stage {
             ticket,
             table,
@@ -108,16 +107,80 @@ impl Stage {
     }
 }
 
+// What the assigner's thread, the clerk's and the tasks are given, by new passes of all locks and of the ticket.
+fn deal(
+    alloc: Global,
+    ticket: &Ticket,
+    table: &SharedTable,
+    clerk: &SharedClerk,
+    job: LiveJob,
+    mut passes: Vec<Pass<LeaseTable>>,
+    own: Vec<Pass<Clerk>>,
+    mut draws: Vec<TicketPass>,
+) -> Result<(TableSeat, ClerkSeat, Vec<Crew>), AllocError>
+    requires passes { AreNewFrom 0 table.now passes.items × (vec_len passes ≡ job.tasks + 2) }
+    requires few { (job.tasks ≤ 6) × (job.workers ≤ 7) }
+    requires own { AreNewFrom 0 clerk.now.lock own.items × (vec_len own ≡ 1) }
+    requires draws { All (λ pass. pass ≡ new_ticket_pass ticket.now) draws.items }
+    requires many { vec_len draws ≡ job.tasks * (job.workers + 1) + 2 }
+    ensures assigner { IfOk result (λ dealt. IsQuietSeat table.now ticket.now 0 dealt.0) }
+    ensures learner { IfOk result (λ dealt. IsQuietClerkSeat table.now clerk.now.lock ticket.now dealt.1) }
+    ensures crews { IfOk result (λ dealt. AreCrewsFrom table.now ticket.now job.workers 2 dealt.2.items) }
+    ensures many { IfOk result (λ dealt. vec_len dealt.2 ≡ job.tasks) }
+{
+    let others = passes.split_off(2)?;
+    let learner = seat(alloc, table, ticket, &mut passes, &mut draws);
+    let learner = clerk_seat(table, clerk, ticket, learner, own);
+    let assigner = seat(alloc, table, ticket, &mut passes, &mut draws);
+    let crews = crews(alloc, table, ticket, job, others, draws)?;
+    Ok((assigner, learner, crews))
+}
+
 // What a thread that calls the table is given: the last of the passes of each.
 fn seat(
     alloc: Global,
+    table: &SharedTable,
+    ticket: &Ticket,
     passes: &mut Vec<Pass<LeaseTable>>,
     draws: &mut Vec<TicketPass>,
-) -> TableSeat {
+) -> TableSeat
+    requires passes { AreNewFrom 0 table.now passes.old.items × (0 < vec_len passes.old) }
+    requires draws { All (λ pass. pass ≡ new_ticket_pass ticket.now) draws.old.items × (0 < vec_len draws.old) }
+    ensures passes { AreNewFrom 0 table.now passes.new.items × (vec_len passes.new + 1 ≡ vec_len passes.old) }
+    ensures draws { All (λ pass. pass ≡ new_ticket_pass ticket.now) draws.new.items × (vec_len draws.new + 1 ≡ vec_len draws.old) }
+    ensures seat { IsQuietSeat table.now ticket.now (vec_len passes.new) result }
+{
+    let Some(pass) = passes.pop() else {
+        unreachable!()
+    };
+    let Some(drawn) = draws.pop() else {
+        unreachable!()
+    };
     TableSeat {
-        pass: passes.pop().unwrap(),
-        draws: draws.pop().unwrap(),
+        pass,
+        draws: drawn,
         records: Vec::new(alloc),
+    }
+}
+
+// What the clerk's thread is given.
+fn clerk_seat(
+    table: &SharedTable,
+    clerk: &SharedClerk,
+    ticket: &Ticket,
+    seat: TableSeat,
+    mut own: Vec<Pass<Clerk>>,
+) -> ClerkSeat
+    requires seat { IsQuietSeat table.now ticket.now 1 seat }
+    requires own { AreNewFrom 0 clerk.now.lock own.items × (vec_len own ≡ 1) }
+    ensures { IsQuietClerkSeat table.now clerk.now.lock ticket.now result }
+{
+    let Some(pass) = own.pop() else {
+        unreachable!()
+    };
+    ClerkSeat {
+        table: seat,
+        own: pass,
     }
 }
 
@@ -129,19 +192,53 @@ fn crews(
     job: LiveJob,
     passes: Vec<Pass<LeaseTable>>,
     mut draws: Vec<TicketPass>,
-) -> Result<Vec<Crew>, AllocError> {
-    let members = job.workers() as usize + 1;
+) -> Result<Vec<Crew>, AllocError>
+    requires passes { AreNewFrom 2 table.now passes.items × (vec_len passes ≡ job.tasks) }
+    requires few { (job.tasks ≤ 6) × (job.workers ≤ 7) }
+    requires draws { All (λ pass. pass ≡ new_ticket_pass ticket.now) draws.items }
+    requires many { vec_len draws ≡ job.tasks * (job.workers + 1) }
+    ensures crews { IfOk result (λ crews. AreCrewsFrom table.now ticket.now job.workers 2 crews.items) }
+    ensures many { IfOk result (λ crews. vec_len crews ≡ job.tasks) }
+{
     let mut crews = Vec::with_capacity(alloc, passes.len())?;
     let mut number = 0;
+    let mut before = 0;
     for pass in passes {
         number += 1;
         let Some(task) = TaskId::new(number) else {
             unreachable!()
         };
-        let own = draws.split_off(draws.len() - members)?;
-        crews.push(Crew::new(alloc, table, ticket, task, job.workers(), pass, own)?)?;
+        let crew = next_crew(alloc, table, ticket, job, task, before, pass, &mut draws)?;
+        crews.push(crew)?;
+        before += job.workers();
     }
     Ok(crews)
+}
+
+// The task of this number, with the last of the passes of the ticket. The tasks before it have this many workers in
+// all.
+fn next_crew(
+    alloc: Global,
+    table: &SharedTable,
+    ticket: &Ticket,
+    job: LiveJob,
+    task: TaskId,
+    before: u32,
+    pass: Pass<LeaseTable>,
+    draws: &mut Vec<TicketPass>,
+) -> Result<Crew, AllocError>
+    requires before { before ≤ 35 }
+    requires pass { IsPassOf table.now pass }
+    requires draws { All (λ pass. pass ≡ new_ticket_pass ticket.now) draws.old.items }
+    requires enough { job.workers + 1 ≤ vec_len draws.old }
+    ensures crew { IfOk result (λ crew. IsCrew table.now ticket.now job.workers crew) }
+    ensures lane { IfOk result (λ crew. crew.table.lane ≡ pass.lane) }
+    ensures draws { All (λ pass. pass ≡ new_ticket_pass ticket.now) draws.new.items }
+    ensures left { OnOk result (vec_len draws.new + (job.workers + 1) ≡ vec_len draws.old) }
+{
+    let members = job.workers() as usize + 1;
+    let own = draws.split_off(draws.len() - members)?;
+    Crew::new(alloc, table, ticket, task, job.workers(), before, pass, own)
 }
 
 // The assigner and the clerk beside the tasks.
@@ -156,20 +253,49 @@ fn run_threads<R: Threads + Wait + Sync, G: Gate + Sync>(
     assigner: TableSeat,
     learner: ClerkSeat,
     crews: Vec<Crew>,
-) -> Result<(TableSeat, ClerkSeat, Vec<Result<CrewLeft, AllocError>>), AllocError> {
+) -> Result<(TableSeat, ClerkSeat, Vec<Result<CrewLeft, AllocError>>), AllocError>
+    requires assigner { IsQuietSeat table.now ticket.now 0 assigner }
+    requires learner { IsQuietClerkSeat table.now clerk.now.lock ticket.now learner }
+    requires crews { AreCrewsFrom table.now ticket.now job.workers 2 crews.items }
+    requires enough { job.asks ≤ ticket.now.terms.quota }
+    ensures assigner { IfOk result (λ left. IsQuietSeat table.now ticket.now 0 left.0) }
+    ensures learner { IfOk result (λ left. IsQuietClerkSeat table.now clerk.now.lock ticket.now left.1) }
+    ensures crews { IfOk result (λ left. HaveLeftFrom table.now ticket.now job.workers job.asks 2 left.2.items) }
+    ensures many { IfOk result (λ left. vec_len left.2 ≡ vec_len crews) }
+{
     let ((assigner, learner), crews) = join(
         rt,
-        || join(
-            rt,
-            || assign(rt, alloc, table, ticket, job, assigner),
-            || learn_all(rt, table, clerk, ticket, job, learner),
-        ),
+        || run_pair(rt, alloc, ticket, table, clerk, job, assigner, learner),
         || run_crews(rt, alloc, ticket, table, gate, job, crews),
     );
     Ok((assigner?, learner?, crews?))
 }
 
-// Each task in a thread of its own.
+// The assigner beside the clerk.
+fn run_pair<R: Threads + Wait + Sync>(
+    rt: &R,
+    alloc: Global,
+    ticket: &Ticket,
+    table: &SharedTable,
+    clerk: &SharedClerk,
+    job: LiveJob,
+    assigner: TableSeat,
+    learner: ClerkSeat,
+) -> (Result<TableSeat, AllocError>, Result<ClerkSeat, AllocError>)
+    requires assigner { IsQuietSeat table.now ticket.now 0 assigner }
+    requires learner { IsQuietClerkSeat table.now clerk.now.lock ticket.now learner }
+    ensures assigner { IfOk result.0 (λ left. IsQuietSeat table.now ticket.now 0 left) }
+    ensures learner { IfOk result.1 (λ left. IsQuietClerkSeat table.now clerk.now.lock ticket.now left) }
+{
+    join(
+        rt,
+        || assign(rt, alloc, table, ticket, job, assigner),
+        || learn_all(rt, table, clerk, ticket, job, learner),
+    )
+}
+
+// Each task in a thread of its own: the tasks of the lanes from 2 on.
+#[tactic(auto, using(crate::proofs::Staging::left_from))]
 fn run_crews<R: Threads + Wait + Sync, G: Gate + Sync>(
     rt: &R,
     alloc: Global,
@@ -178,7 +304,31 @@ fn run_crews<R: Threads + Wait + Sync, G: Gate + Sync>(
     gate: &G,
     job: LiveJob,
     crews: Vec<Crew>,
-) -> Result<Vec<Result<CrewLeft, AllocError>>, AllocError> {
+) -> Result<Vec<Result<CrewLeft, AllocError>>, AllocError>
+    requires crews { AreCrewsFrom table.now ticket.now job.workers 2 crews.items }
+    requires enough { job.asks ≤ ticket.now.terms.quota }
+    ensures left { IfOk result (λ results. HaveLeftFrom table.now ticket.now job.workers job.asks 2 results.items) }
+    ensures many { IfOk result (λ results. vec_len results ≡ vec_len crews) }
+{
+    run_each(rt, alloc, ticket, table, gate, job, crews)
+}
+
+// The same, by the places of the tasks.
+fn run_each<R: Threads + Wait + Sync, G: Gate + Sync>(
+    rt: &R,
+    alloc: Global,
+    ticket: &Ticket,
+    table: &SharedTable,
+    gate: &G,
+    job: LiveJob,
+    crews: Vec<Crew>,
+) -> Result<Vec<Result<CrewLeft, AllocError>>, AllocError>
+    requires crews { All (λ crew. IsCrew table.now ticket.now job.workers crew) crews.items }
+    requires enough { job.asks ≤ ticket.now.terms.quota }
+    ensures many { IfOk result (λ results. vec_len results ≡ vec_len crews) }
+    ensures each { IfOk result (λ results. (i : ℕ) (c : _) (r : _) → i < vec_len crews
+        → IfOk (slice_index_or results.items i r) (λ left. HasLeft table.now ticket.now job.workers job.asks (slice_index_or crews.items i c).table.lane left)) }
+{
     map_vec(
         rt,
         crews,
@@ -189,25 +339,21 @@ fn run_crews<R: Threads + Wait + Sync, G: Gate + Sync>(
 // What all threads leave, put together.
 fn remains_of(
     alloc: Global,
+    table: &SharedTable,
+    clerk: &SharedClerk,
+    ticket: &Ticket,
+    job: LiveJob,
     assigner: TableSeat,
     learner: ClerkSeat,
     crews: Vec<Result<CrewLeft, AllocError>>,
-) -> Result<Remains, AllocError> {
-    let ClerkSeat {
-        table: learner,
-        own,
-    } = learner;
-    let mut clerk = Vec::new(alloc);
-    clerk.push(own)?;
-    let mut remains = Remains {
-        table: Vec::new(alloc),
-        clerk,
-        draws: Vec::new(alloc),
-        tasks: Vec::new(alloc),
-        records: Vec::new(alloc),
-    };
-    remains.take_seat(assigner)?;
-    remains.take_seat(learner)?;
+) -> Result<Remains, AllocError>
+    requires assigner { IsQuietSeat table.now ticket.now 0 assigner }
+    requires learner { IsQuietClerkSeat table.now clerk.now.lock ticket.now learner }
+    requires crews { HaveLeftFrom table.now ticket.now job.workers job.asks 2 crews.items }
+    ensures remains { IfOk result (λ remains. IsRemains table.now clerk.now.lock ticket.now job.workers job.asks remains) }
+    ensures many { IfOk result (λ remains. vec_len remains.table ≡ vec_len crews + 2) }
+{
+    let mut remains = Remains::of_seats(alloc, assigner, learner)?;
     for crew in crews {
         remains.take_crew(crew?)?;
     }
@@ -215,21 +361,52 @@ fn remains_of(
 }
 
 impl Remains {
-    // What a thread that called the table leaves.
-    fn take_seat(&mut self, seat: TableSeat) -> Result<(), AllocError> {
+    // What the assigner's thread and the clerk's leave.
+    fn of_seats(alloc: Global, assigner: TableSeat, learner: ClerkSeat) -> Result<Remains, AllocError>
+        ensures table { IfOk result (λ remains. remains.table.items ≡ assigner.pass ∷ learner.table.pass ∷ []) }
+        ensures clerk { IfOk result (λ remains. remains.clerk.items ≡ learner.own ∷ []) }
+        ensures draws { IfOk result (λ remains. remains.draws.items ≡ assigner.draws ∷ learner.table.draws ∷ []) }
+        ensures records { IfOk result (λ remains. remains.records.items ≡ assigner.records.items ++ learner.table.records.items) }
+    {
         let TableSeat {
-            pass,
-            draws,
+            pass: first_pass,
+            draws: first_draws,
             mut records,
-        } = seat;
-        self.table.push(pass)?;
-        self.draws.push(draws)?;
-        self.records.append(&mut records)?;
-        Ok(())
+        } = assigner;
+        let ClerkSeat {
+            table: learner,
+            own,
+        } = learner;
+        let TableSeat {
+            pass: second_pass,
+            draws: second_draws,
+            records: mut others,
+        } = learner;
+        let mut table = Vec::new(alloc);
+        table.push(first_pass)?;
+        table.push(second_pass)?;
+        let mut clerk = Vec::new(alloc);
+        clerk.push(own)?;
+        let mut draws = Vec::new(alloc);
+        draws.push(first_draws)?;
+        draws.push(second_draws)?;
+        records.append(&mut others)?;
+        Ok(Remains {
+            table,
+            clerk,
+            draws,
+            tasks: Vec::new(alloc),
+            records,
+        })
     }
 
-    // What a task leaves.
-    fn take_crew(&mut self, crew: CrewLeft) -> Result<(), AllocError> {
+    // What a task leaves comes after what is there.
+    fn take_crew(&mut self, crew: CrewLeft) -> Result<(), AllocError>
+        ensures table { OnOk result (self.new.table.items ≡ self.old.table.items ++ crew.table ∷ []) }
+        ensures clerk { self.new.clerk ≡ self.old.clerk }
+        ensures draws { OnOk result (self.new.draws.items ≡ self.old.draws.items ++ crew.draws.items) }
+        ensures records { OnOk result (self.new.records.items ≡ self.old.records.items ++ crew.records.items) }
+    {
         let CrewLeft {
             table,
             history,
@@ -245,7 +422,6 @@ impl Remains {
 }
 
 // Closes what is not closed yet, and reports.
-#[tactic(auto, using(crate::proofs::Crewing::never_missing))]
 fn close_all(
     alloc: Global,
     job: LiveJob,
@@ -254,12 +430,11 @@ fn close_all(
     clerk: SharedClerk,
     remains: Remains,
 ) -> Result<LiveReport, AllocError>
-    requires table { ArePassesOf table remains.table.items × AreOfLanesFrom 0 remains.table.items × (vec_len remains.table ≡ table.opened.lanes) }
-    requires clerk { ArePassesOf clerk.lock remains.clerk.items × AreOfLanesFrom 0 remains.clerk.items × (vec_len remains.clerk ≡ clerk.lock.opened.lanes) }
-    requires draws { All (λ pass. DrawsFrom ticket pass) remains.draws.items × (vec_len remains.draws ≡ ticket.terms.passes) }
-    ensures records { IfOk result (λ report. report.records.items ≡ remains.records.items) }
-    ensures asked { IfOk result (λ report. report.asked ≡ serves report.records.items) }
-    ensures generation { IfOk result (λ report. report.generation ≡ commits report.table) }
+    requires remains { IsRemains table clerk.lock ticket job.workers job.asks remains }
+    requires lanes { (vec_len remains.table ≡ table.opened.lanes) × (clerk.lock.opened.lanes ≡ 1) }
+    requires draws { vec_len remains.draws ≡ ticket.terms.passes }
+    requires served { serves remains.records.items ≡ job.tasks * job.workers * job.asks }
+    ensures { IfOk result (IsReported job) }
 {
     let Remains {
         table: table_passes,
@@ -269,28 +444,9 @@ fn close_all(
         records,
     } = remains;
     let mut clerks: Vec<History<ClerkEvent>> = Vec::with_capacity(alloc, 1)?;
-    let Ok(_) = ticket.close(draws) else {
-        unreachable!()
-    };
-    let Ok(
-        Closed {
-            machine: _,
-            history: table,
-        },
-    ) = table.close(table_passes)
-    else {
-        unreachable!()
-    };
-    let Ok(
-        Closed {
-            machine: _,
-            history: learnt,
-        },
-    ) = clerk.close(clerk_passes)
-    else {
-        unreachable!()
-    };
-    clerks.push(learnt)?;
+    close_ticket(ticket, draws);
+    let table = close_table(table, table_passes);
+    clerks.push(close_clerk(clerk, clerk_passes))?;
     let audit = audit(
         alloc,
         &job.played(),
@@ -308,4 +464,50 @@ fn close_all(
         records,
         audit,
     })
+}
+
+// Closes the ticket.
+fn close_ticket(ticket: Ticket, draws: Vec<TicketPass>)
+    requires own { All (λ pass. DrawsFrom ticket pass) draws.items }
+    requires many { vec_len draws ≡ ticket.terms.passes }
+{
+    let Ok(_) = ticket.close(draws) else {
+        unreachable!()
+    };
+}
+
+// Closes the table's lock.
+fn close_table(table: SharedTable, passes: Vec<Pass<LeaseTable>>) -> History<TableEvent>
+    requires own { ArePassesOf table passes.items }
+    requires lanes { AreOfLanesFrom 0 passes.items }
+    requires many { vec_len passes ≡ table.opened.lanes }
+{
+    let Ok(
+        Closed {
+            machine: _,
+            history,
+        },
+    ) = table.close(passes)
+    else {
+        unreachable!()
+    };
+    history
+}
+
+// Closes the clerk's lock.
+fn close_clerk(clerk: SharedClerk, passes: Vec<Pass<Clerk>>) -> History<ClerkEvent>
+    requires own { ArePassesOf clerk.lock passes.items }
+    requires lanes { AreOfLanesFrom 0 passes.items }
+    requires many { vec_len passes ≡ clerk.lock.opened.lanes }
+{
+    let Ok(
+        Closed {
+            machine: _,
+            history,
+        },
+    ) = clerk.close(passes)
+    else {
+        unreachable!()
+    };
+    history
 }

@@ -18,8 +18,8 @@ use std::alloc::{AllocError, Global};
 use std::sync::Wait;
 use world::{CallRecord, Ticket, TicketPass};
 
-/// The passes of a thread of a task, by the number of their lane of the task's lock: the task's own thread has
-/// lane 0, and its workers the lanes from 1 on.
+/// The passes of a thread of a task, and the number by which it calls the gate. The task's own thread calls none;
+/// it has lane 0 of the task's lock, and the workers the lanes from 1 on.
 #[derive(Drop)]
 pub(crate) struct Member {
     pub(crate) number: u32,
