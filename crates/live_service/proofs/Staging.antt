@@ -1,7 +1,8 @@
 -- The passes and the records of all threads of a live run.
-use Rattle.std.proofs.Common.{◌≡◌, ◌∙◌, ℕ, suc, ◌+◌, ◌*◌, ◌<◌, ◌≤◌, List, [], ◌∷◌, ◌++◌, length, refl, sym, ap, arith, subst, length-append}
+use Rattle.std.proofs.Common.{◌≡◌, ◌∙◌, ℕ, suc, ◌+◌, ◌*◌, ◌<◌, ◌≤◌, List, [], ◌∷◌, ◌++◌, length, refl, sym, ap, arith, subst, length-append, take, drop}
 use Rattle.std.specs.Prelude.{All, vec_len, Result, IfOk, slice_index_or, Option}
 use Rattle.std.specs.declared.alloc.AllocError.{AllocError}
+use Rattle.std.proofs.lemmas.List.{take-append-drop}
 use Rattle.std.proofs.lemmas.List.Elements.{All-cons, All-append}
 use Rattle.assignment.specs.Slices.{Slicing}
 use Rattle.history_lock.specs.Passes.{Lock, PassView, IsPassOf, ArePassesOf, AreNewFrom, new_pass}
@@ -48,11 +49,31 @@ some_more : (before after own t u p k : ℕ) → after ≡ before + own → own 
 some_more before after own t u p k a b c f = sum_more before after own (t * p) p k a b c ∙ (sym (one_more t p) ∙ sym (ap (λ (m : ℕ). m * p) f))
 
 -- all passes of the ticket, and all keys asked for
-pub all_passes : (draws workers tasks : ℕ) → draws + 2 * workers ≡ (tasks + 2) * (workers + 1) → draws ≡ tasks * (workers + 1) + 2
-all_passes draws workers tasks e = let f : draws + 2 * workers ≡ (tasks + 2) * (workers + 1) = e in omega (arith, f)
+passes_sum : (draws workers tasks : ℕ) → draws + 2 * workers ≡ (tasks + 2) * (workers + 1) → draws ≡ tasks * (workers + 1) + 2
+passes_sum draws workers tasks e = let f : draws + 2 * workers ≡ (tasks + 2) * (workers + 1) = e in omega (arith, f)
 
-pub all_asks : (served tasks workers asks : ℕ) → served + 2 * (workers * asks) ≡ (tasks + 2) * (workers * asks) → served ≡ tasks * workers * asks
-all_asks served tasks workers asks e = let f : served + 2 * (workers * asks) ≡ (tasks + 2) * (workers * asks) = e in omega (arith, f)
+pub all_passes : (draws workers tasks lanes : ℕ) → lanes ≡ tasks + 2 → draws + 2 * workers ≡ lanes * (workers + 1) → draws ≡ tasks * (workers + 1) + 2
+all_passes draws workers tasks lanes e f = passes_sum draws workers tasks (f ∙ ap (λ (n : ℕ). n * (workers + 1)) e)
+
+asks_sum : (served tasks p : ℕ) → served + 2 * p ≡ (tasks + 2) * p → served ≡ tasks * p
+asks_sum served tasks p e = let f : served + 2 * p ≡ (tasks + 2) * p = e in omega (arith, f)
+
+three : (a b c : ℕ) → a * (b * c) ≡ a * b * c
+three a b c = omega arith
+
+pub all_asks : (served tasks workers asks lanes : ℕ) → lanes ≡ tasks + 2 → served + 2 * (workers * asks) ≡ lanes * (workers * asks) → served ≡ tasks * workers * asks
+all_asks served tasks workers asks lanes e f = asks_sum served tasks (workers * asks) (f ∙ ap (λ (n : ℕ). n * (workers * asks)) e) ∙ three tasks workers asks
+
+-- the first passes, and the others
+pub new_parts : {M E : Type 0} (lock : Lock M) (n : ℕ) (all front back : List (PassView M E)) → AreNewFrom 0 lock all → front ≡ take n all → back ≡ drop n all → length front ≡ n
+    → AreNewFrom 0 lock front × AreNewFrom n lock back
+new_parts {M} {E} lock n all front back are t r len =
+    let parts = subst (λ (ps : List (PassView M E)). AreNewFrom 0 lock ps) (sym (take-append-drop n all)) are in
+    let both = new_split lock 0 (take n all) (drop n all) parts in
+    let count : 0 + length (take n all) ≡ n = omega (arith, ap length t, len) in (
+      subst (λ (ps : List (PassView M E)). AreNewFrom 0 lock ps) (sym t) both.0,
+      subst (λ (ps : List (PassView M E)). AreNewFrom n lock ps) (sym r) (subst (λ (k : ℕ). AreNewFrom k lock (drop n all)) count both.1),
+    )
 
 module _ (table : Lock Standing) (ticket : TicketView) where
   pub crews_all : (workers lane : ℕ) (crews : List Crew) → AreCrewsFrom table ticket workers lane crews → All (λ (crew : Crew). IsCrew table ticket workers crew) crews
@@ -88,8 +109,8 @@ module _ (table : Lock Standing) (clerk : Lock (Option Slicing)) (ticket : Ticke
       let both : serves remains.records.items ≡ serves seat.records.items + serves learner.table.records.items = ap serves records ∙ serves-append seat.records.items learner.table.records.items in
       let none : serves remains.records.items ≡ 0 = omega (arith, both, a.quiet, l.table_seat.quiet) in
       let Draws : TicketPassView → Type 0 = λ pass. DrawsFrom ticket pass in record {
-        own = subst (λ ps. ArePassesOf table ps) (sym passes) (a.own, l.table_seat.own, tt);
-        lanes = subst (λ ps. AreOfLanesFrom 0 ps) (sym passes) (a.of_lane, l.table_seat.of_lane, tt);
+        own = subst (λ ps. ArePassesOf table ps) (sym passes) (a.own, (l.table_seat.own, tt));
+        lanes = subst (λ ps. AreOfLanesFrom 0 ps) (sym passes) (a.of_lane, (l.table_seat.of_lane, tt));
         clerk_own = subst (λ ps. ArePassesOf clerk ps) (sym own) (l.own, tt);
         clerk_lanes = subst (λ ps. AreOfLanesFrom 0 ps) (sym own) (l.of_lane, tt);
         one_clerk = remains.clerk.ok.0 ∙ ap length own;

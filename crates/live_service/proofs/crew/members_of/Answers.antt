@@ -1,5 +1,6 @@
 use Rattle.std.proofs.Common.{◌≡◌, ◌∙◌, ℕ, ◌+◌, List, ◌∷◌, length, Some, sym, ap, subst, arith, refl, vec_len}
 use Rattle.std.proofs.lemmas.List.Elements.{All-pop}
+use Rattle.std.specs.Vec.Iter.{into_iter_items}
 use Rattle.history_lock.specs.Passes.{PassView, AreNewFrom, IsPassOf}
 use Rattle.world.specs.Tickets.{TicketPassView, new_ticket_pass}
 use Rattle.live_service.specs.declared.worker.Member.{Member}
@@ -18,7 +19,7 @@ loop-pass-preserved c =
     let at : lane ≡ 0 + length c.loop-pass.members.items = omega (arith, c.loop-pass.members.ok.0) in record {
       count = omega (arith, c.in_ok-push.ensures.len, i.count);
       rest = omega (arith, i.rest, step.1, c.in_ok-push.ensures.len);
-      passes = subst (λ (n : ℕ). AreNewFrom n slicelet _) (sym c.in_ok-push.ensures.len) new.1;
+      passes = subst (λ (n : ℕ). AreNewFrom n slicelet (into_iter_items c.next.new.self)) (sym c.in_ok-push.ensures.len) new.1;
       draws = taken.0;
       left = omega (arith, c.in-Some-pop.ensures.len, step.1, i.left);
       members = subst (λ (members : List Member). AreMembersFrom slicelet ticket 0 members) (sym c.in_ok-push.ensures.items)
