@@ -1,6 +1,6 @@
 //! The bytes of a job in, the lines of its report out.
 
-ghost use Rattle.std.specs.Prelude.{IfErr, OnOk};
+ghost use Rattle.std.specs.Prelude.{IfErr, IfOk};
 ghost use Rattle.live_text.specs.Inputs.{Answered, Failed};
 
 use crate::fault::LiveFault;
