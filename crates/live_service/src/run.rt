@@ -1,6 +1,7 @@
 //! Live runs: the assigner, the clerk, the tasks and their workers as threads.
 
 ghost use Rattle.std.specs.Prelude.{◌≡◌, ℕ, ◌≤◌, ◌<◌, ◌+◌, ◌*◌, ◌∷◌, [], ◌++◌, All, IfOk, OnOk, vec_len, slice_index_or};
+ghost use Rattle.std.specs.Thread.{IsSync};
 ghost use Rattle.history_lock.specs.Passes.{AreNewFrom, ArePassesOf, IsPassOf};
 ghost use Rattle.world.specs.Tickets.{DrawsFrom, new_ticket_pass};
 ghost use Rattle.live_service.specs.Crews.{AreOfLanesFrom, HasLeft, IsCrew};
@@ -265,8 +266,16 @@ fn run_threads<R: Threads + Wait + Sync, G: Gate + Sync>(
 {
     let ((assigner, learner), crews) = join(
         rt,
-        || run_pair(rt, alloc, ticket, table, clerk, job, assigner, learner),
-        || run_crews(rt, alloc, ticket, table, gate, job, crews),
+        || -> (Result<TableSeat, AllocError>, Result<ClerkSeat, AllocError>)
+            requires { IsSync R.row × IsQuietSeat table.now ticket.now 0 assigner × IsQuietClerkSeat table.now clerk.now.lock ticket.now learner }
+            ensures assigner { IfOk result.0 (λ left. IsQuietSeat table.entry.now ticket.entry.now 0 left) }
+            ensures learner { IfOk result.1 (λ left. IsQuietClerkSeat table.entry.now clerk.entry.now.lock ticket.entry.now left) }
+        { run_pair(rt, alloc, ticket, table, clerk, job, assigner, learner) },
+        || -> Result<Vec<Result<CrewLeft, AllocError>>, AllocError>
+            requires { IsSync R.row × IsSync G.row × AreCrewsFrom table.now ticket.now job.workers 2 crews.items × (job.asks ≤ ticket.now.terms.quota) }
+            ensures left { IfOk result (λ results. HaveLeftFrom table.entry.now ticket.entry.now job.workers job.asks 2 results.items) }
+            ensures many { IfOk result (λ results. vec_len results ≡ vec_len crews) }
+        { run_crews(rt, alloc, ticket, table, gate, job, crews) },
     );
     Ok((assigner?, learner?, crews?))
 }
