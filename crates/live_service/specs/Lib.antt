@@ -3,3 +3,8 @@ pub mod Readings
 pub mod Draws
 pub mod Calls
 pub mod Objects
+pub mod LiveJobs
+pub mod Reports
+pub mod Seats
+pub mod Crews
+pub mod Stages

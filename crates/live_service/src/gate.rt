@@ -4,7 +4,10 @@ use std::sync::Wait;
 
 /// What each worker calls inside its shared call, after it drew its ticket and while its lane is held.
 pub trait Gate {
-    /// Called by the worker with this number for its ask of this number, which drew this ticket.
+    /// Called by the worker with this number for its ask of this number, from 0 on, which drew this ticket.
+    ///
+    /// The workers of a job are numbered from 1 on through all its tasks: of a job with `workers` workers a task,
+    /// worker `w` of task `t`, both from 1 on, has the number `(t - 1) * workers + w`.
     fn inside<R: Wait>(&self, rt: &R, worker: u32, ask: u32, ticket: u64);
 }
 

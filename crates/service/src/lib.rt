@@ -20,6 +20,8 @@ mod table_steps;
 mod task_steps;
 mod words;
 
-pub use fault::{Fault, ProgramError, ScriptError};
-pub use program::slicer_run;
+pub use fault::{Fault, ProgramError, ScriptError, WrongForm};
+pub use members::{exactly, number_in};
+pub use program::{has_arguments, slicer_run};
 pub use run::run_script;
+pub use streams::{read_all, write_all};

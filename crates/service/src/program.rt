@@ -9,8 +9,8 @@ use std::env::{Env, FillError};
 use std::io::{Eprint, Read, Write};
 use std::process::ExitCode;
 
-// Whether the program was given an argument beside its name.
-fn has_arguments(rt: &impl Env) -> bool {
+/// Whether the program was given an argument beside its name.
+pub fn has_arguments(rt: &impl Env) -> bool {
     !matches!(rt.arg(1, &mut []), Err(FillError::NotPresent))
 }
 

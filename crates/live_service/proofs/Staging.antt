@@ -1,0 +1,141 @@
+-- The passes and the records of all threads of a live run.
+use Rattle.std.proofs.Common.{◌≡◌, ◌∙◌, ℕ, suc, ◌+◌, ◌*◌, ◌<◌, List, [], ◌∷◌, ◌++◌, length, sym, ap, arith, subst, length-append, take, drop}
+use Rattle.std.specs.Prelude.{All, vec_len, Result, IfOk, slice_index_or, Option}
+use Rattle.std.specs.declared.alloc.AllocError.{AllocError}
+use Rattle.std.proofs.lemmas.List.{take-append-drop}
+use Rattle.std.proofs.lemmas.List.Elements.{All-cons, All-append}
+use Rattle.assignment.specs.Slices.{Slicing}
+use Rattle.history_lock.specs.Passes.{Lock, PassView, ArePassesOf, AreNewFrom, new_pass}
+use Rattle.lease_table.specs.Tables.{Standing}
+use Rattle.world.specs.Tickets.{TicketView, TicketPassView, DrawsFrom}
+use Rattle.live_service.specs.declared.seat.TableSeat.{TableSeat}
+use Rattle.live_service.specs.declared.clerk_loop.ClerkSeat.{ClerkSeat}
+use Rattle.live_service.specs.declared.run.Remains.{Remains}
+use Rattle.live_service.specs.declared.crew.Crew.{Crew}
+use Rattle.live_service.specs.declared.crew.CrewLeft.{CrewLeft}
+use Rattle.live_service.specs.Crews.{AreOfLanesFrom, IsCrew, HasLeft}
+use Rattle.live_service.specs.Reports.{serves}
+use Rattle.live_service.specs.Stages.{AreCrewsFrom, HaveLeftFrom, IsQuietClerkSeat, IsQuietSeat, IsRemains}
+use Rattle.live_service.proofs.Asked.{serves-append}
+use Rattle.live_service.proofs.Crewing.{lanes_push, passes_push}
+
+-- new passes of lanes that follow one another are such in each of two parts
+pub new_split : {M E : Type 0} (lock : Lock M) (lane : ℕ) (xs ys : List (PassView M E)) → AreNewFrom lane lock (xs ++ ys) → AreNewFrom lane lock xs × AreNewFrom (lane + length xs) lock ys
+new_split lock lane [] ys are = (tt, subst (λ (n : ℕ). AreNewFrom n lock ys) (let e : lane ≡ lane + 0 = omega arith in e) are)
+new_split lock lane (x ∷ xs) ys are =
+    let more = new_split lock (lane + 1) xs ys are.1 in
+    ((are.0, more.0), subst (λ (n : ℕ). AreNewFrom n lock ys) (let e : lane + 1 + length xs ≡ lane + length (x ∷ xs) = omega arith in e) more.1)
+
+-- the one that comes last
+pub new_last : {M E : Type 0} (lock : Lock M) (xs : List (PassView M E)) (x : PassView M E) → AreNewFrom 0 lock (xs ++ x ∷ []) → AreNewFrom 0 lock xs × (x ≡ new_pass lock (length xs))
+new_last lock xs x are =
+    let both = new_split lock 0 xs (x ∷ []) are in
+    (both.0, subst (λ (n : ℕ). x ≡ new_pass lock n) (let e : 0 + length xs ≡ length xs = omega arith in e) both.1.0)
+
+-- what two threads and the workers of some tasks leave
+two_of : (n t p k : ℕ) → n + k ≡ 2 * p → t ≡ 2 → n + k ≡ t * p
+two_of n t p k e f = e ∙ sym (ap (λ (m : ℕ). m * p) f)
+
+none_of : (n p : ℕ) → n ≡ 0 → n + 2 * p ≡ 2 * p
+none_of n p e = let f : n ≡ 0 = e in omega (arith, f)
+
+one_more : (n p : ℕ) → (n + 1) * p ≡ n * p + p
+one_more n p = omega arith
+
+sum_more : (before after own q p k : ℕ) → after ≡ before + own → own ≡ p → before + k ≡ q → after + k ≡ q + p
+sum_more before after own q p k a b c = let a : after ≡ before + own = a in let b : own ≡ p = b in let c : before + k ≡ q = c in omega (arith, a, b, c)
+
+some_more : (before after own t u p k : ℕ) → after ≡ before + own → own ≡ p → before + k ≡ t * p → u ≡ t + 1 → after + k ≡ u * p
+some_more before after own t u p k a b c f = sum_more before after own (t * p) p k a b c ∙ (sym (one_more t p) ∙ sym (ap (λ (m : ℕ). m * p) f))
+
+-- all passes of the ticket, and all keys asked for
+passes_sum : (draws workers tasks : ℕ) → draws + 2 * workers ≡ (tasks + 2) * (workers + 1) → draws ≡ tasks * (workers + 1) + 2
+passes_sum draws workers tasks e = let f : draws + 2 * workers ≡ (tasks + 2) * (workers + 1) = e in omega (arith, f)
+
+pub all_passes : (draws workers tasks lanes : ℕ) → lanes ≡ tasks + 2 → draws + 2 * workers ≡ lanes * (workers + 1) → draws ≡ tasks * (workers + 1) + 2
+all_passes draws workers tasks lanes e f = passes_sum draws workers tasks (f ∙ ap (λ (n : ℕ). n * (workers + 1)) e)
+
+asks_sum : (served tasks p : ℕ) → served + 2 * p ≡ (tasks + 2) * p → served ≡ tasks * p
+asks_sum served tasks p e = let f : served + 2 * p ≡ (tasks + 2) * p = e in omega (arith, f)
+
+three : (a b c : ℕ) → a * (b * c) ≡ a * b * c
+three a b c = omega arith
+
+pub all_asks : (served tasks workers asks lanes : ℕ) → lanes ≡ tasks + 2 → served + 2 * (workers * asks) ≡ lanes * (workers * asks) → served ≡ tasks * workers * asks
+all_asks served tasks workers asks lanes e f = asks_sum served tasks (workers * asks) (f ∙ ap (λ (n : ℕ). n * (workers * asks)) e) ∙ three tasks workers asks
+
+-- the first passes, and the others
+pub new_parts : {M E : Type 0} (lock : Lock M) (n : ℕ) (all front back : List (PassView M E)) → AreNewFrom 0 lock all → front ≡ take n all → back ≡ drop n all → length front ≡ n
+    → AreNewFrom 0 lock front × AreNewFrom n lock back
+new_parts {M} {E} lock n all front back are t r len =
+    let parts = subst (λ (ps : List (PassView M E)). AreNewFrom 0 lock ps) (sym (take-append-drop n all)) are in
+    let both = new_split lock 0 (take n all) (drop n all) parts in
+    let count : 0 + length (take n all) ≡ n = omega (arith, ap length t, len) in (
+      subst (λ (ps : List (PassView M E)). AreNewFrom 0 lock ps) (sym t) both.0,
+      subst (λ (ps : List (PassView M E)). AreNewFrom n lock ps) (sym r) (subst (λ (k : ℕ). AreNewFrom k lock (drop n all)) count both.1),
+    )
+
+module _ (table : Lock Standing) (ticket : TicketView) where
+  pub crews_all : (workers lane : ℕ) (crews : List Crew) → AreCrewsFrom table ticket workers lane crews → All (λ (crew : Crew). IsCrew table ticket workers crew) crews
+  crews_all workers lane [] are = λ k d below. let b : k < 0 = below in absurd (omega (arith, b))
+  crews_all workers lane (crew ∷ crews) are = All-cons (λ (c : Crew). IsCrew table ticket workers c) crew crews are.0.0 (crews_all workers (lane + 1) crews are.1)
+
+  pub crews_push : (workers lane : ℕ) (crews : List Crew) (crew : Crew) → AreCrewsFrom table ticket workers lane crews → IsCrew table ticket workers crew → crew.table.lane ≡ lane + length crews
+      → AreCrewsFrom table ticket workers lane (crews ++ crew ∷ [])
+  crews_push workers lane [] crew are is at = ((is, let e : crew.table.lane ≡ lane + 0 = at in omega (arith, e)), tt)
+  crews_push workers lane (other ∷ crews) crew are is at =
+      (are.0, crews_push workers (lane + 1) crews crew are.1 is (let e : crew.table.lane ≡ lane + length (other ∷ crews) = at in omega (arith, e)))
+
+  -- what tasks of lanes that follow one another leave
+  pub left_from : (workers asks lane : ℕ) (crews : List Crew) (results : List (Result CrewLeft AllocError)) → length results ≡ length crews → AreCrewsFrom table ticket workers lane crews
+      → ((i : ℕ) (c : Crew) (r : Result CrewLeft AllocError) → i < length crews → IfOk (slice_index_or results i r) (λ left. HasLeft table ticket workers asks (slice_index_or crews i c).table.lane left))
+      → HaveLeftFrom table ticket workers asks lane results
+  left_from workers asks lane [] [] len are each = tt
+  left_from workers asks lane [] (r ∷ rs) len are each = let l : length (r ∷ rs) ≡ 0 = len in absurd (omega (arith, l))
+  left_from workers asks lane (m ∷ ms) [] len are each = let l : 0 ≡ length (m ∷ ms) = len in absurd (omega (arith, l))
+  left_from workers asks lane (m ∷ ms) (r ∷ rs) len are each = (
+    subst (λ n. IfOk r (λ left. HasLeft table ticket workers asks n left)) are.0.1 (each 0 m r (omega arith)),
+    left_from workers asks (lane + 1) ms rs (let l : length (r ∷ rs) ≡ length (m ∷ ms) = len in omega (arith, l)) are.1 (λ i d e below. each (suc i) d e (let b : i < length ms = below in omega (arith, b))),
+  )
+
+module _ (table : Lock Standing) (clerk : Lock (Option Slicing)) (ticket : TicketView) where
+  -- what the threads of the assigner and the clerk leave
+  pub remains_two : (workers asks : ℕ) (seat : TableSeat) (learner : ClerkSeat) (remains : Remains) → IsQuietSeat table ticket 0 seat → IsQuietClerkSeat table clerk ticket learner
+      → remains.table.items ≡ seat.pass ∷ learner.table.pass ∷ [] → remains.clerk.items ≡ learner.own ∷ [] → remains.draws.items ≡ seat.draws ∷ learner.table.draws ∷ []
+      → remains.records.items ≡ seat.records.items ++ learner.table.records.items → IsRemains table clerk ticket workers asks remains
+  remains_two workers asks seat learner remains a l passes own draws records =
+      let two : vec_len remains.table ≡ 2 = remains.table.ok.0 ∙ ap length passes in
+      let drew : vec_len remains.draws ≡ 2 = remains.draws.ok.0 ∙ ap length draws in
+      let both : serves remains.records.items ≡ serves seat.records.items + serves learner.table.records.items = ap serves records ∙ serves-append seat.records.items learner.table.records.items in
+      let none : serves remains.records.items ≡ 0 = omega (arith, both, a.quiet, l.table_seat.quiet) in
+      let Draws : TicketPassView → Type 0 = λ pass. DrawsFrom ticket pass in record {
+        own = subst (λ ps. ArePassesOf table ps) (sym passes) (a.own, (l.table_seat.own, tt));
+        lanes = subst (λ ps. AreOfLanesFrom 0 ps) (sym passes) (a.of_lane, (l.table_seat.of_lane, tt));
+        clerk_own = subst (λ ps. ArePassesOf clerk ps) (sym own) (l.own, tt);
+        clerk_lanes = subst (λ ps. AreOfLanesFrom 0 ps) (sym own) (l.of_lane, tt);
+        one_clerk = remains.clerk.ok.0 ∙ ap length own;
+        draws = subst (λ ps. All Draws ps) (sym draws)
+            (All-cons Draws seat.draws (learner.table.draws ∷ []) a.draws (All-cons Draws learner.table.draws [] l.table_seat.draws (λ k d below. let b : k < 0 = below in absurd (omega (arith, b)))));
+        many = two_of (vec_len remains.draws) (vec_len remains.table) (workers + 1) (2 * workers) (omega (arith, drew)) two;
+        served = two_of (serves remains.records.items) (vec_len remains.table) (workers * asks) (2 * (workers * asks)) (none_of (serves remains.records.items) (workers * asks) none) two;
+      }
+
+  -- one task more
+  pub remains_more : (workers asks : ℕ) (before after : Remains) (left : CrewLeft) → IsRemains table clerk ticket workers asks before → HasLeft table ticket workers asks (vec_len before.table) left
+      → after.table.items ≡ before.table.items ++ left.table ∷ [] → after.clerk ≡ before.clerk → after.draws.items ≡ before.draws.items ++ left.draws.items
+      → after.records.items ≡ before.records.items ++ left.records.items → IsRemains table clerk ticket workers asks after
+  remains_more workers asks before after left r h passes own draws records =
+      let more : vec_len after.table ≡ vec_len before.table + 1 = omega (arith, after.table.ok.0, before.table.ok.0, ap length passes, length-append before.table.items (left.table ∷ [])) in
+      let drew : vec_len after.draws ≡ vec_len before.draws + vec_len left.draws = omega (arith, after.draws.ok.0, before.draws.ok.0, left.draws.ok.0, ap length draws, length-append before.draws.items left.draws.items) in
+      let at : left.table.lane ≡ 0 + length before.table.items = omega (arith, h.of_lane, before.table.ok.0) in
+      let both : serves after.records.items ≡ serves before.records.items + serves left.records.items = ap serves records ∙ serves-append before.records.items left.records.items in
+      let Draws : TicketPassView → Type 0 = λ pass. DrawsFrom ticket pass in record {
+        own = subst (λ ps. ArePassesOf table ps) (sym passes) (passes_push table before.table.items left.table r.own h.table_pass);
+        lanes = subst (λ ps. AreOfLanesFrom 0 ps) (sym passes) (lanes_push 0 before.table.items left.table r.lanes at);
+        clerk_own = subst (λ ps. ArePassesOf clerk ps) (sym (ap (λ v. v.items) own)) r.clerk_own;
+        clerk_lanes = subst (λ ps. AreOfLanesFrom 0 ps) (sym (ap (λ v. v.items) own)) r.clerk_lanes;
+        one_clerk = ap (λ v. vec_len v) own ∙ r.one_clerk;
+        draws = subst (λ ps. All Draws ps) (sym draws) (All-append Draws before.draws.items left.draws.items r.draws h.draws);
+        many = some_more (vec_len before.draws) (vec_len after.draws) (vec_len left.draws) (vec_len before.table) (vec_len after.table) (workers + 1) (2 * workers) drew h.many r.many more;
+        served = some_more (serves before.records.items) (serves after.records.items) (serves left.records.items) (vec_len before.table) (vec_len after.table) (workers * asks) (2 * (workers * asks)) both h.served r.served more;
+      }

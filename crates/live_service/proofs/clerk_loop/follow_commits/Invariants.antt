@@ -1,0 +1,5 @@
+use Rattle.live_service.specs.Seats.{KeepsClerkSeat}
+use Rattle.live_service.proofs.clerk_loop.follow_commits.Given as goal
+
+abbrev pub invariant-loop : goal.invariant-loop
+invariant-loop g l = KeepsClerkSeat l.table l.clerk.lock l.ticket l.initial.seat l.seat

@@ -1,0 +1,5 @@
+use Rattle.live_service.specs.Seats.{KeepsSeat}
+use Rattle.live_service.proofs.commit_loop.await_rows.Given as goal
+
+abbrev pub invariant-loop : goal.invariant-loop
+invariant-loop g l = KeepsSeat l.table l.ticket l.initial.seat l.seat

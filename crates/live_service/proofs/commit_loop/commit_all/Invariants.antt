@@ -1,0 +1,5 @@
+use Rattle.live_service.specs.Seats.{KeepsSeat}
+use Rattle.live_service.proofs.commit_loop.commit_all.Given as goal
+
+abbrev pub invariant-loop-generation : goal.invariant-loop-generation
+invariant-loop-generation g l = KeepsSeat l.table l.ticket l.initial.seat l.seat

@@ -1,0 +1,19 @@
+use Rattle.std.proofs.Common.{◌≡◌, ◌∙◌, ℕ, ◌+◌, ap, arith, subst, vec_len}
+use Rattle.live_service.specs.Crews.{IsGathered}
+use Rattle.live_service.proofs.Crewing.{has_left}
+use Rattle.live_service.proofs.crew.Crew.run.Goals as goal
+
+pub returns : goal.returns
+returns g c =
+    let left = c.dismiss.ensures in
+    let keeps = c.in_ok-seat.ensures.seat in
+    let gathered = c.in_ok-table.ensures in
+    let table = c.args.table.now in
+    let same = left.table ∙ gathered.table in
+    let many : vec_len c.in_ok-table.gathered.passes ≡ c.args.job.workers + 1 =
+    omega (arith, gathered.many, c.in_ok-seat.ensures.many, c.in_ok-workers.ensures.tail_len, c.requires.crew.many) in
+    let all = subst (λ (n : ℕ). IsGathered c.args.self.slicelet c.args.ticket.now n c.in_ok-table.gathered) c.asks.ensures.value gathered.gathered in
+    has_left c.args.self.slicelet c.args.ticket.now table c.args.job.workers c.args.job.asks c.args.self.table.lane c.dismiss.result c.in_ok-table.gathered all many
+    (rw same keeps.seat.own)
+    (ap (λ p. p.lane) same ∙ (keeps.seat.lane ∙ ap (λ p. p.lane) c.task_seat-seat.ensures.table))
+    left.draws left.records

@@ -1,0 +1,27 @@
+use Rattle.std.proofs.Common.{◌≡◌, ◌∙◌, ℕ, ◌+◌, ◌*◌, List, length, sym, ap, subst, arith, vec_len}
+use Rattle.std.specs.Vec.Iter.{into_iter_items, into_iter_len}
+use Rattle.history_lock.specs.Passes.{AreNewFrom}
+use Rattle.live_service.specs.declared.crew.Crew.{Crew}
+use Rattle.live_service.specs.Stages.{AreCrewsFrom}
+use Rattle.live_service.proofs.Staging.{crews_push}
+use Rattle.live_service.proofs.run.crews.Goals as goal
+
+pub loop-pass-preserved : goal.loop-pass-preserved
+loop-pass-preserved c =
+    let i = c.loop-pass.invariant in let step = c.in-Some.ensures.steps in
+    let table = c.args.table.now in let ticket = c.args.ticket.now in let workers = c.args.job.workers in
+    let made = c.in_ok-crew.ensures in
+    let crews = c.loop-pass.crews in
+    let new = subst (λ passes. AreNewFrom (vec_len crews + 2) table passes) step.0 i.passes in
+    let more : vec_len c.push.new.self ≡ vec_len crews + 1 = c.in_ok-push.ensures.len in
+    let at : c.in_ok-crew.crew.table.lane ≡ 2 + length crews.items = omega (arith, made.lane, ap (λ p. p.lane) new.0, crews.ok.0) in
+    let next : vec_len crews + 2 + 1 ≡ vec_len c.push.new.self + 2 = omega (arith, more) in
+    let left : vec_len c.loop-pass.draws ≡ (into_iter_len c.next.new.self + 1) * (workers + 1) = i.left ∙ ap (λ (n : ℕ). n * (workers + 1)) (sym step.1) in record {
+      count = more ∙ ap (λ (n : ℕ). n + 1) i.count;
+      rest = omega (arith, i.rest, step.1, more);
+      passes = subst (λ (n : ℕ). AreNewFrom n table (into_iter_items c.next.new.self)) next new.1;
+      draws = made.draws;
+      left = omega (arith, left, made.left);
+      before = omega (arith, i.before, more, c.requires.few.1);
+      crews = subst (λ (crews : List Crew). AreCrewsFrom table ticket workers 2 crews) (sym c.in_ok-push.ensures.items) (crews_push table ticket workers 2 crews.items c.in_ok-crew.crew i.crews made.crew at);
+    }

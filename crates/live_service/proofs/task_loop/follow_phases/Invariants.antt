@@ -1,0 +1,5 @@
+use Rattle.live_service.specs.Seats.{KeepsTaskSeat}
+use Rattle.live_service.proofs.task_loop.follow_phases.Given as goal
+
+abbrev pub invariant-loop : goal.invariant-loop
+invariant-loop g l = KeepsTaskSeat l.table l.slicelet l.ticket l.initial.seat l.seat

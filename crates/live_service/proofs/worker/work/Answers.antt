@@ -1,0 +1,23 @@
+use Rattle.std.proofs.Common.{◌≡◌, ◌∙◌, ℕ, ◌+◌, List, length, decimal, sym, ap, subst, arith}
+use Rattle.key_hash.specs.Hash.{slice_key}
+use Rattle.world.specs.declared.record.CallRecord.{CallRecord}
+use Rattle.world.specs.declared.record.RecordedCall.TheVariants.{Serve}
+use Rattle.live_service.specs.Reports.{AreServesFrom}
+use Rattle.live_service.proofs.Asked.{serves_push}
+use Rattle.live_service.proofs.worker.work.Goals as goal
+
+pub loop-ask-preserved : goal.loop-ask-preserved
+loop-ask-preserved g c =
+    let i = c.loop-ask.invariant in
+    let task = c.args.slicelet.now.opened.machine.task in
+    let asked = c.ask_for-record.result in
+    let many : 0 + length c.loop-ask.records.items ≡ c.loop-ask.ask = omega (arith, c.loop-ask.records.ok.0, i.many) in
+    let key : c.in_ok-key.key ≡ slice_key (decimal (0 + length c.loop-ask.records.items)) = c.in_ok-key.ensures ∙ ap (λ (n : ℕ). slice_key (decimal n)) (sym many) in
+    let step = c.ask_for-record.ensures.asked ∙ ap (λ (k : ℕ). Serve task k asked.ticket) key in record {
+      own = c.ask_for-record.ensures.own;
+      lane = c.ask_for-record.ensures.lane ∙ i.lane;
+      draws = c.ask_for-record.ensures.draws;
+      drawn = c.ask_for-record.ensures.drew ∙ ap (λ (n : ℕ). n + 1) i.drawn;
+      many = c.in_ok-push.ensures.len ∙ ap (λ (n : ℕ). n + 1) i.many;
+      asked = subst (λ (entries : List CallRecord). AreServesFrom task 0 entries) (sym c.in_ok-push.ensures.items) (serves_push task 0 c.loop-ask.records.items asked i.asked step);
+    }

@@ -1,0 +1,15 @@
+use Rattle.std.proofs.Common.{◌≡◌, length, vec_len}
+use Rattle.history_lock.specs.Passes.{IsPassOf}
+use Rattle.world.specs.Tickets.{DrawsFrom}
+use Rattle.live_service.specs.Reports.{AreServesFrom}
+use Rattle.live_service.proofs.worker.work.Given as goal
+
+abbrev pub invariant-loop-ask : goal.invariant-loop-ask
+invariant-loop-ask g l = record {
+  own : IsPassOf l.slicelet l.pass;
+  lane : l.pass.lane ≡ l.fn.member.pass.lane;
+  draws : DrawsFrom l.ticket l.draws;
+  drawn : length l.draws.drawn ≡ l.ask;
+  many : vec_len l.records ≡ l.ask;
+  asked : AreServesFrom l.slicelet.opened.machine.task 0 l.records.items;
+}

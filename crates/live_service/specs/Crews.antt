@@ -1,0 +1,65 @@
+-- What the threads of one task of a live run are given, and what they leave.
+use Rattle.std.specs.Prelude.{◌≡◌, ℕ, ◌+◌, ◌*◌, List, [], ◌∷◌, Result, IfOk, All, vec_len}
+use Rattle.std.specs.declared.alloc.AllocError.{AllocError}
+use Rattle.history_lock.specs.Passes.{Lock, PassView, IsPassOf, ArePassesOf}
+use Rattle.lease_table.specs.Tables.{Standing}
+use Rattle.slicelet.specs.Steps.{History}
+use Rattle.world.specs.Tickets.{TicketView, DrawsFrom, new_ticket_pass}
+use Rattle.live_service.specs.declared.worker.Member.{Member}
+use Rattle.live_service.specs.declared.worker.Worked.{Worked}
+use Rattle.live_service.specs.declared.crew.Crew.{Crew}
+use Rattle.live_service.specs.declared.crew.CrewLeft.{CrewLeft}
+use Rattle.live_service.specs.declared.crew.Gathered.{Gathered}
+use Rattle.live_service.specs.Reports.{serves, AreServesFrom}
+
+-- the passes are of the lanes from this one on
+abbrev pub AreOfLanesFrom : {M E : Type 0} → ℕ → List (PassView M E) → Type 0
+AreOfLanesFrom lane [] = Unit {0}
+AreOfLanesFrom lane (pass ∷ passes) = (pass.lane ≡ lane) × AreOfLanesFrom (lane + 1) passes
+
+module _ (slicelet : Lock History) (ticket : TicketView) where
+  -- the passes of a thread are of this lock and lane, and new of this ticket
+  pub record IsMember (lane : ℕ) (member : Member) : Type 0 where
+    pub own : IsPassOf slicelet member.pass
+    pub of_lane : member.pass.lane ≡ lane
+    pub draws : member.draws ≡ new_ticket_pass ticket
+
+  abbrev pub AreMembersFrom : ℕ → List Member → Type 0
+  AreMembersFrom lane [] = Unit {0}
+  AreMembersFrom lane (member ∷ members) = IsMember lane member × AreMembersFrom (lane + 1) members
+
+  -- the worker of this lane asked for so many keys of its task, and for nothing else
+  pub record HasWorked (asks lane : ℕ) (worked : Worked) : Type 0 where
+    pub own : IsPassOf slicelet worked.pass
+    pub of_lane : worked.pass.lane ≡ lane
+    pub draws : DrawsFrom ticket worked.draws
+    pub many : vec_len worked.records ≡ asks
+    pub asked : AreServesFrom slicelet.opened.machine.task 0 worked.records.items
+
+  abbrev pub HaveWorkedFrom : ℕ → ℕ → List (Result Worked AllocError) → Type 0
+  HaveWorkedFrom asks lane [] = Unit {0}
+  HaveWorkedFrom asks lane (result ∷ results) = IfOk result (λ worked. HasWorked asks lane worked) × HaveWorkedFrom asks (lane + 1) results
+
+  -- what the task's own thread and some of its workers leave: as many passes of each kind, and each worker's asks
+  pub record IsGathered (asks : ℕ) (gathered : Gathered) : Type 0 where
+    pub own : ArePassesOf slicelet gathered.passes.items
+    pub lanes : AreOfLanesFrom 0 gathered.passes.items
+    pub draws : All (λ pass. DrawsFrom ticket pass) gathered.draws.items
+    pub even : vec_len gathered.draws ≡ vec_len gathered.passes
+    pub served : serves gathered.records.items + asks ≡ vec_len gathered.passes * asks
+
+module _ (table : Lock Standing) (ticket : TicketView) where
+  -- a task's passes are of the table's lock, of its own lock and new of this ticket, with so many workers
+  pub record IsCrew (workers : ℕ) (crew : Crew) : Type 0 where
+    pub table_pass : IsPassOf table crew.table
+    pub members : AreMembersFrom crew.slicelet ticket 0 crew.members.items
+    pub many : vec_len crew.members ≡ workers + 1
+    pub lanes : crew.slicelet.opened.lanes ≡ workers + 1
+
+  -- what a task's threads leave: the passes of the table's lock, of this lane, and of the ticket, and so many asks of each worker
+  pub record HasLeft (workers asks lane : ℕ) (left : CrewLeft) : Type 0 where
+    pub table_pass : IsPassOf table left.table
+    pub of_lane : left.table.lane ≡ lane
+    pub draws : All (λ pass. DrawsFrom ticket pass) left.draws.items
+    pub many : vec_len left.draws ≡ workers + 1
+    pub served : serves left.records.items ≡ workers * asks

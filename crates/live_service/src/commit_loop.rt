@@ -1,0 +1,107 @@
+//! The thread that proposes and commits the generations of a live run.
+
+ghost use Rattle.std.specs.Prelude.{◌≤◌, IfOk};
+ghost use Rattle.live_service.specs.Seats.{IsSeatOf, KeepsSeat};
+
+use crate::job::LiveJob;
+use crate::seat::{Halt, TURNS, TableSeat};
+use crate::shared_table::SharedTable;
+use assignment::{Assignment, AssignmentError, Listed, Slice};
+use crossbeam_utils::Backoff;
+use std::alloc::{AllocError, Global};
+use std::sync::Wait;
+use world::Ticket;
+
+// The second half of the key space starts here.
+const HALF: u64 = 1 << 62;
+
+/// Takes the job, and proposes and commits one generation after another.
+#[tactic(auto, using(crate::proofs::Keeping::keeps_same, crate::proofs::Keeping::keeps_more))]
+pub(crate) fn assign<R: Wait>(
+    rt: &R,
+    alloc: Global,
+    table: &SharedTable,
+    ticket: &Ticket,
+    job: LiveJob,
+    mut seat: TableSeat,
+) -> Result<TableSeat, AllocError>
+    requires { IsSeatOf table.now ticket.now seat }
+    ensures { IfOk result (λ left. KeepsSeat table.now ticket.now seat left) }
+{
+    match commit_all(rt, alloc, table, ticket, job, &mut seat) {
+        Err(Halt::NoMemory) => Err(AllocError),
+        Ok(()) => Ok(seat),
+        Err(Halt::Stopped) => Ok(seat),
+    }
+}
+
+#[tactic(auto, using(crate::proofs::Keeping::keeps_same, crate::proofs::Keeping::keeps_more))]
+fn commit_all<R: Wait>(
+    rt: &R,
+    alloc: Global,
+    table: &SharedTable,
+    ticket: &Ticket,
+    job: LiveJob,
+    seat: &mut TableSeat,
+) -> Result<(), Halt>
+    requires { IsSeatOf table.now ticket.now seat.old }
+    ensures { KeepsSeat table.now ticket.now seat.old seat.new }
+{
+    let term = seat.take(rt, table, ticket)?.number;
+    for generation in 1..=job.rounds() {
+        let next = halves(alloc, generation, job.tasks())?;
+        seat.propose(rt, table, ticket, term, next)?;
+        await_rows(rt, table, ticket, generation, seat)?;
+        seat.commit(rt, table, ticket, term)?;
+    }
+    Ok(())
+}
+
+// Reads the table until no row of an earlier generation is open.
+#[tactic(auto, using(crate::proofs::Keeping::keeps_same, crate::proofs::Keeping::keeps_more))]
+fn await_rows<R: Wait>(
+    rt: &R,
+    table: &SharedTable,
+    ticket: &Ticket,
+    generation: u64,
+    seat: &mut TableSeat,
+) -> Result<(), Halt>
+    requires { IsSeatOf table.now ticket.now seat.old }
+    ensures { KeepsSeat table.now ticket.now seat.old seat.new }
+{
+    let backoff = Backoff::new();
+    for _ in 0..TURNS {
+        let rows = seat.rows(rt, table, ticket)?;
+        if rows
+            .as_slice()
+            .iter()
+            .all(|row| row.generation >= generation)
+        {
+            return Ok(());
+        }
+        backoff.snooze();
+    }
+    Err(Halt::Stopped)
+}
+
+// The assignment of a generation: two tasks that follow one another own a half of the keys each.
+fn halves(alloc: Global, generation: u64, tasks: u64) -> Result<Assignment, Halt>
+    requires few { generation ≤ 16 }
+    requires some { (1 ≤ tasks) × (tasks ≤ 6) }
+{
+    let mut slices = Vec::new(alloc);
+    for (start, owner) in [
+        (0, generation % tasks + 1),
+        (HALF, (generation + 1) % tasks + 1),
+    ] {
+        slices.push(Slice {
+            start,
+            owners: Listed::from_vec(Vec::from_slice(alloc, &[owner])?),
+        })?;
+    }
+    match Assignment::build(alloc, generation, &slices) {
+        Ok(assignment) => Ok(assignment),
+        Err(AssignmentError::NoMemory) => Err(Halt::NoMemory),
+        Err(_) => Err(Halt::Stopped),
+    }
+}

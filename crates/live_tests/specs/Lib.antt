@@ -1,0 +1,2 @@
+-- What the tests say of their objects.
+pub mod Objects

@@ -1,0 +1,193 @@
+//! Live runs, and what their gates see.
+
+use audit::Audit;
+use crossbeam_utils::Backoff;
+use crossbeam_utils::atomic::AtomicCell;
+use key_hash::slice_key;
+use live_service::{Gate, LiveJob, LiveReport, OpenGate, run_live};
+use std::alloc::Global;
+use std::sync::Wait;
+use std::test::Fail;
+use std::thread::Threads;
+use world::{CallRecord, RecordedCall};
+
+#[test]
+fn reports_what_two_tasks_with_two_workers_did(rt: HostRuntime) -> Result<(), Fail> {
+    let job = LiveJob::new(2, 2, 3, 100).ok_or("within the limits")?;
+    let report = run_live(&rt, rt.alloc(), &job, &OpenGate)?;
+    assert_eq!(rt; (report.asked, report.generation), (400, 3));
+    assert_eq!(rt; (report.tasks.len(), report.clerks.len()), (2, 1));
+    assert!(rt; matches!(report.audit, Audit::One { timely: true, .. }));
+    Ok(())
+}
+
+// A gate that holds worker 1 inside its first ask until worker 2 is inside its second, and keeps the tickets of
+// both, each with one added; 0 where there was none.
+#[derive(Drop)]
+struct HoldingGate {
+    held: AtomicCell<u64>,
+    next: AtomicCell<u64>,
+    gave_up: AtomicCell<bool>,
+}
+
+impl HoldingGate {
+    fn new() -> Self {
+        HoldingGate {
+            held: AtomicCell::new(0),
+            next: AtomicCell::new(0),
+            gave_up: AtomicCell::new(false),
+        }
+    }
+
+    fn hold(&self) {
+        let backoff = Backoff::new();
+        for _ in 0..100_000_000u32 {
+            if self.next.load() != 0 {
+                return;
+            }
+            backoff.snooze();
+        }
+        self.gave_up.store(true);
+    }
+}
+
+impl Gate for HoldingGate {
+    fn inside<R: Wait>(&self, _rt: &R, worker: u32, ask: u32, ticket: u64) {
+        match (worker, ask) {
+            (1, 0) => {
+                self.held.store(ticket.saturating_add(1));
+                self.hold();
+            }
+            (2, 1) => self.next.store(ticket.saturating_add(1)),
+            _ => {}
+        }
+    }
+}
+
+#[test]
+fn holds_a_worker_until_another_task_answers(rt: HostRuntime) -> Result<(), Fail> {
+    let gate = HoldingGate::new();
+    let job = LiveJob::new(2, 1, 1, 2).ok_or("within the limits")?;
+    let report = run_live(&rt, rt.alloc(), &job, &gate)?;
+    assert_eq!(rt; (gate.gave_up.load(), report.asked), (false, 4));
+    assert!(rt; gate.held.load() != 0 && gate.next.load() != 0);
+    Ok(())
+}
+
+// Whether some entry of a task has a ticket between two others.
+fn has_entry_between(report: &LiveReport, low: u64, high: u64) -> bool {
+    report.tasks.iter().any(|history| history.entries().iter().any(|entry| low < entry.event.ticket
+        && entry.event.ticket < high))
+}
+
+// What one task with two workers did.
+#[derive(Clone, Copy, Debug, PartialEq, Eq)]
+struct Held {
+    gave_up: bool,
+    asked: u64,
+    // Whether some entry of the task lies between the two asks.
+    parted: bool,
+    // Whether worker 1 was in its first ask before worker 2 was in its second.
+    first: bool,
+}
+
+fn run_two_workers<R: Threads + Wait + Sync>(rt: &R, alloc: Global) -> Result<Held, Fail> {
+    let gate = HoldingGate::new();
+    let job = LiveJob::new(1, 2, 1, 2).ok_or("within the limits")?;
+    let report = run_live(rt, alloc, &job, &gate)?;
+    let held = gate.held.load();
+    let next = gate.next.load();
+    let parted = has_entry_between(&report, held.saturating_sub(1), next.saturating_sub(1));
+    Ok(Held {
+        gave_up: gate.gave_up.load(),
+        asked: report.asked,
+        parted,
+        first: held < next,
+    })
+}
+
+// Worker 2 may be through before worker 1 begins: then nobody is held, and the job is run again.
+#[test]
+fn answers_a_worker_while_another_of_its_task_is_held(rt: HostRuntime) -> Result<(), Fail> {
+    let alloc = rt.alloc();
+    let mut first = false;
+    for _ in 0..100 {
+        let held = run_two_workers(&rt, alloc)?;
+        assert_eq!(rt; (held.gave_up, held.asked, held.parted), (false, 4, false));
+        first = held.first;
+        if first {
+            break;
+        }
+    }
+    assert!(rt; first);
+    Ok(())
+}
+
+// A gate that counts its calls, and notes the ticket of each ask of each worker, with one added.
+#[derive(Drop)]
+struct NotingGate {
+    asks: u32,
+    calls: AtomicCell<u64>,
+    tickets: Vec<AtomicCell<u64>>,
+}
+
+impl NotingGate {
+    fn new(alloc: Global, workers: u32, asks: u32) -> Result<Self, Fail> {
+        let mut tickets = Vec::new(alloc);
+        for _ in 0..workers {
+            for _ in 0..asks {
+                tickets.push(AtomicCell::new(0))?;
+            }
+        }
+        Ok(NotingGate {
+            asks,
+            calls: AtomicCell::new(0),
+            tickets,
+        })
+    }
+
+    // Whether a record tells of a noted ask, where each task has so many workers.
+    fn has_noted(&self, alloc: Global, workers: u64, record: &CallRecord) -> Result<bool, Fail> {
+        let RecordedCall::Serve { task, key, .. } = &record.step else {
+            return Ok(false);
+        };
+        let noted = self
+            .tickets
+            .iter()
+            .position(|cell| cell.load() == record.ticket.saturating_add(1));
+        let Some(place) = noted else {
+            return Ok(false);
+        };
+        let asks = u64::from(self.asks.max(1));
+        let worker = place as u64 / asks;
+        let ask = place as u64 % asks;
+        let text = format!(in alloc; "{ask}")?;
+        Ok(*task == worker / workers.max(1) + 1 && *key == slice_key(text.as_str().as_bytes()))
+    }
+}
+
+impl Gate for NotingGate {
+    fn inside<R: Wait>(&self, _rt: &R, worker: u32, ask: u32, ticket: u64) {
+        self.calls.fetch_add(1);
+        let first = worker.saturating_sub(1).saturating_mul(self.asks);
+        if let Some(cell) = self.tickets.get(first.saturating_add(ask) as usize) {
+            cell.store(ticket.saturating_add(1));
+        }
+    }
+}
+
+#[test]
+fn records_the_calls_that_its_gate_saw(rt: HostRuntime) -> Result<(), Fail> {
+    let alloc = rt.alloc();
+    let gate = NotingGate::new(alloc, 4, 100)?;
+    let job = LiveJob::new(2, 2, 3, 100).ok_or("within the limits")?;
+    let report = run_live(&rt, alloc, &job, &gate)?;
+    let mut noted = 0u64;
+    for record in report.records.as_slice() {
+        if gate.has_noted(alloc, 2, record)? {
+            noted = noted.saturating_add(1);
+        }
+    }
+    assert_eq!(rt; (gate.calls.load(), noted), (400, 400));
+    Ok(())
+}

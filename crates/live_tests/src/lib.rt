@@ -1,0 +1,9 @@
+//! Tests of objects that threads share.
+#![tactic(auto)]
+
+#[cfg(test)]
+mod calls;
+#[cfg(test)]
+mod crews;
+#[cfg(test)]
+mod objects;

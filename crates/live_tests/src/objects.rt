@@ -1,0 +1,159 @@
+//! The objects that the tests share, each of one lane, and the ticket of their calls.
+
+ghost use Rattle.std.specs.Prelude.{IfOk};
+ghost use Rattle.history_lock.specs.Passes.{IsPassOf};
+ghost use Rattle.world.specs.Tickets.{DrawsFrom};
+ghost use Rattle.live_tests.specs.Objects.{AreOf};
+
+use assignment::{Assignment, Listed, Slice, TaskId};
+use clerk::{Clerk, ClerkEvent};
+use history_lock::{History, Pass};
+use lease_table::{LeaseTable, Policy, TableEvent};
+use live_service::{SharedClerk, SharedSlicelet, SharedTable};
+use slicelet::{Slicelet, SliceletEvent};
+use std::alloc::Global;
+use std::test::Fail;
+use world::{Ticket, TicketPass};
+
+// The half of the key space: "hello" lies below it.
+const HALF: u64 = 1 << 62;
+
+// Generation 1, which gives the lower half to task 1 and the upper half to task 2.
+pub fn first_assignment(alloc: Global) -> Result<Assignment, Fail> {
+    let mut slices = Vec::new(alloc);
+    for (start, owner) in [(0, 1), (HALF, 2)] {
+        slices.push(Slice {
+            start,
+            owners: Listed::from_vec(Vec::from_slice(alloc, &[owner])?),
+        })?;
+    }
+    Ok(
+        Assignment::build(alloc, 1, &slices)
+            .ok()
+            .ok_or("two slices make an assignment")?,
+    )
+}
+
+pub fn first_task() -> Result<TaskId, Fail> {
+    Ok(TaskId::new(1).ok_or("1 is the number of a task")?)
+}
+
+pub fn policy() -> Result<Policy, Fail> {
+    Ok(Policy::new(1, 10, 100, 100, 1000, 1000).ok_or("within the limits")?)
+}
+
+/// A table, task 1 and a clerk, each of one lane, and a ticket of one pass.
+#[derive(Drop)]
+pub struct Objects {
+    pub table: SharedTable,
+    pub task: SharedSlicelet,
+    pub clerk: SharedClerk,
+    pub ticket: Ticket,
+}
+
+/// The one pass of each.
+#[derive(Drop)]
+pub struct Passes {
+    pub table: Pass<LeaseTable>,
+    pub task: Pass<Slicelet>,
+    pub clerk: Pass<Clerk>,
+    pub draws: TicketPass,
+}
+
+/// All of them, with 18 draws.
+pub fn open_all(alloc: Global) -> Result<(Objects, Passes), Fail>
+    ensures { IfOk result (λ made. AreOf made.0 made.1) }
+{
+    let (table, table_pass) = open_table(alloc)?;
+    let (task, task_pass) = open_task(alloc)?;
+    let (clerk, clerk_pass) = open_clerk(alloc)?;
+    let (ticket, draws) = open_ticket(alloc, 18)?;
+    let objects = Objects {
+        table,
+        task,
+        clerk,
+        ticket,
+    };
+    let passes = Passes {
+        table: table_pass,
+        task: task_pass,
+        clerk: clerk_pass,
+        draws,
+    };
+    Ok((objects, passes))
+}
+
+fn open_table(alloc: Global) -> Result<(SharedTable, Pass<LeaseTable>), Fail>
+    ensures { IfOk result (λ made. IsPassOf made.0 made.1) }
+{
+    let made = SharedTable::new(alloc, policy()?, 1, 10);
+    let (table, mut others) = made.ok().ok_or("one lane and ten entries")?;
+    let pass = others.pop().ok_or("the pass of lane 0")?;
+    Ok((table, pass))
+}
+
+fn open_task(alloc: Global) -> Result<(SharedSlicelet, Pass<Slicelet>), Fail>
+    ensures { IfOk result (λ made. IsPassOf made.0 made.1) }
+{
+    let made = SharedSlicelet::new(alloc, first_task()?, 1, 10);
+    let (task, mut others) = made.ok().ok_or("one lane and ten entries")?;
+    let pass = others.pop().ok_or("the pass of lane 0")?;
+    Ok((task, pass))
+}
+
+fn open_clerk(alloc: Global) -> Result<(SharedClerk, Pass<Clerk>), Fail>
+    ensures { IfOk result (λ made. IsPassOf made.0.lock made.1) }
+{
+    let made = SharedClerk::new(alloc, 1, 1, 10);
+    let (clerk, mut others) = made.ok().ok_or("one lane and ten entries")?;
+    let pass = others.pop().ok_or("the pass of lane 0")?;
+    Ok((clerk, pass))
+}
+
+fn open_ticket(alloc: Global, draws: u64) -> Result<(Ticket, TicketPass), Fail>
+    ensures { IfOk result (λ made. DrawsFrom made.0 made.1) }
+{
+    let made = Ticket::new(alloc, 1, draws);
+    let (ticket, mut others) = made.ok().ok_or("one pass")?;
+    let pass = others.pop().ok_or("the one pass")?;
+    Ok((ticket, pass))
+}
+
+pub fn close_table(
+    alloc: Global,
+    table: SharedTable,
+    pass: Pass<LeaseTable>,
+) -> Result<History<TableEvent>, Fail>
+    requires { IsPassOf table pass }
+{
+    let mut passes = Vec::new(alloc);
+    passes.push(pass)?;
+    let closed = table.close(passes).ok().ok_or("its one pass is there")?;
+    Ok(closed.history)
+}
+
+pub fn close_task(
+    alloc: Global,
+    task: SharedSlicelet,
+    pass: Pass<Slicelet>,
+) -> Result<History<SliceletEvent>, Fail>
+    requires { IsPassOf task pass }
+{
+    let mut passes = Vec::new(alloc);
+    passes.push(pass)?;
+    let closed = task.close(passes).ok().ok_or("its one pass is there")?;
+    Ok(closed.history)
+}
+
+pub fn close_clerk(
+    alloc: Global,
+    clerk: SharedClerk,
+    pass: Pass<Clerk>,
+) -> Result<History<ClerkEvent>, Fail>
+    requires { IsPassOf clerk.lock pass }
+{
+    let mut passes = Vec::new(alloc);
+    passes.push(pass)?;
+    let closed = clerk.close(passes).ok().ok_or("its one pass is there")?;
+    Ok(closed.history)
+}

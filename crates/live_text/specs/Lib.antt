@@ -1,0 +1,5 @@
+pub mod Faults
+pub mod Jobs
+pub mod Lines
+pub mod Inputs
+pub mod Status
