@@ -2,7 +2,6 @@
 
 ghost use Rattle.history_lock.specs.Passes.{IsPassOf};
 ghost use Rattle.world.specs.Tickets.{DrawsFrom};
-ghost use Rattle.live_tests.specs.Objects.{AreOf};
 
 use crate::objects::{
     Objects, Passes, close_clerk, close_table, close_task, first_assignment, first_task, open_all,
@@ -328,8 +327,10 @@ fn play<R: Wait>(
     passes: &mut Passes,
     records: &mut Vec<CallRecord>,
 ) -> Result<Seen, Fail>
-    requires { AreOf objects.now passes.old }
-    ensures { AreOf objects.now passes.new }
+    requires own { IsPassOf objects.now.table passes.old.table × IsPassOf objects.now.task passes.old.task × IsPassOf objects.now.clerk.lock passes.old.clerk }
+    requires draws { DrawsFrom objects.now.ticket passes.old.draws }
+    ensures own { IsPassOf objects.now.table passes.new.table × IsPassOf objects.now.task passes.new.task × IsPassOf objects.now.clerk.lock passes.new.clerk }
+    ensures draws { DrawsFrom objects.now.ticket passes.new.draws }
 {
     let Objects {
         table,
@@ -371,7 +372,7 @@ struct Histories {
 }
 
 fn close(alloc: Global, objects: Objects, passes: Passes) -> Result<Histories, Fail>
-    requires { AreOf objects passes }
+    requires { IsPassOf objects.table passes.table × IsPassOf objects.task passes.task × IsPassOf objects.clerk.lock passes.clerk }
 {
     let Objects {
         table,

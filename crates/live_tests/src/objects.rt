@@ -3,7 +3,6 @@
 ghost use Rattle.std.specs.Prelude.{IfOk};
 ghost use Rattle.history_lock.specs.Passes.{IsPassOf};
 ghost use Rattle.world.specs.Tickets.{DrawsFrom};
-ghost use Rattle.live_tests.specs.Objects.{AreOf};
 
 use assignment::{Assignment, Listed, Slice, TaskId};
 use clerk::{Clerk, ClerkEvent};
@@ -62,7 +61,8 @@ pub struct Passes {
 
 /// All of them, with 18 draws.
 pub fn open_all(alloc: Global) -> Result<(Objects, Passes), Fail>
-    ensures { IfOk result (λ made. AreOf made.0 made.1) }
+    ensures own { IfOk result (λ made. IsPassOf made.0.table made.1.table × IsPassOf made.0.task made.1.task × IsPassOf made.0.clerk.lock made.1.clerk) }
+    ensures draws { IfOk result (λ made. DrawsFrom made.0.ticket made.1.draws) }
 {
     let (table, table_pass) = open_table(alloc)?;
     let (task, task_pass) = open_task(alloc)?;

@@ -1,2 +1,0 @@
--- What the tests say of their objects.
-pub mod Objects
