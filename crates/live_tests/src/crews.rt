@@ -80,20 +80,94 @@ fn has_entry_between(report: &LiveReport, low: u64, high: u64) -> bool {
         && entry.event.ticket < high))
 }
 
+// A gate that holds worker 1 inside its first ask until worker 2 was answered and is inside its next. Worker 2
+// waits a while in each of its asks for worker 1 to come, and holds it up no longer once it is in its last.
+#[derive(Drop)]
+struct LaneGate {
+    last: u32,
+    held: AtomicCell<u64>,
+    answered: AtomicCell<bool>,
+    next: AtomicCell<u64>,
+    over: AtomicCell<bool>,
+    gave_up: AtomicCell<bool>,
+}
+
+impl LaneGate {
+    fn new(last: u32) -> Self {
+        LaneGate {
+            last,
+            held: AtomicCell::new(0),
+            answered: AtomicCell::new(false),
+            next: AtomicCell::new(0),
+            over: AtomicCell::new(false),
+            gave_up: AtomicCell::new(false),
+        }
+    }
+
+    fn hold(&self) {
+        let backoff = Backoff::new();
+        for _ in 0..100_000_000u32 {
+            if self.next.load() != 0 || self.over.load() {
+                return;
+            }
+            backoff.snooze();
+        }
+        self.gave_up.store(true);
+    }
+
+    // Whether worker 1 is in its first ask, or comes to it in a while.
+    fn is_held(&self) -> bool {
+        let backoff = Backoff::new();
+        for _ in 0..1_000u32 {
+            if self.held.load() != 0 {
+                return true;
+            }
+            backoff.snooze();
+        }
+        false
+    }
+
+    fn pass(&self, ask: u32, ticket: u64) {
+        if self.answered.load() {
+            if self.next.load() == 0 {
+                self.next.store(ticket.saturating_add(1));
+            }
+        } else if self.is_held() {
+            self.answered.store(true);
+        }
+        if ask == self.last {
+            self.over.store(true);
+        }
+    }
+}
+
+impl Gate for LaneGate {
+    fn inside<R: Wait>(&self, _rt: &R, worker: u32, ask: u32, ticket: u64) {
+        match (worker, ask) {
+            (1, 0) => {
+                self.held.store(ticket.saturating_add(1));
+                self.hold();
+            }
+            (2, _) => self.pass(ask, ticket),
+            _ => {}
+        }
+    }
+}
+
 // What one task with two workers did.
 #[derive(Clone, Copy, Debug, PartialEq, Eq)]
 struct Held {
     gave_up: bool,
     asked: u64,
-    // Whether some entry of the task lies between the two asks.
+    // Whether some entry of the task lies between the held ask and the one that let it go.
     parted: bool,
-    // Whether worker 1 was in its first ask before worker 2 was in its second.
-    first: bool,
+    // Whether worker 1 was held.
+    held: bool,
 }
 
 fn run_two_workers<R: Threads + Wait + Sync>(rt: &R, alloc: Global) -> Result<Held, Fail> {
-    let gate = HoldingGate::new();
-    let job = LiveJob::new(1, 2, 1, 2).ok_or("within the limits")?;
+    let gate = LaneGate::new(99);
+    let job = LiveJob::new(1, 2, 1, 100).ok_or("within the limits")?;
     let report = run_live(rt, alloc, &job, &gate)?;
     let held = gate.held.load();
     let next = gate.next.load();
@@ -102,7 +176,7 @@ fn run_two_workers<R: Threads + Wait + Sync>(rt: &R, alloc: Global) -> Result<He
         gave_up: gate.gave_up.load(),
         asked: report.asked,
         parted,
-        first: held < next,
+        held: held < next,
     })
 }
 
@@ -110,16 +184,19 @@ fn run_two_workers<R: Threads + Wait + Sync>(rt: &R, alloc: Global) -> Result<He
 #[test]
 fn answers_a_worker_while_another_of_its_task_is_held(rt: HostRuntime) -> Result<(), Fail> {
     let alloc = rt.alloc();
-    let mut first = false;
+    let mut was_held = false;
     for _ in 0..100 {
-        let held = run_two_workers(&rt, alloc)?;
-        assert_eq!(rt; (held.gave_up, held.asked, held.parted), (false, 4, false));
-        first = held.first;
-        if first {
+        let seen = run_two_workers(&rt, alloc)?;
+        assert_eq!(rt;
+            (seen.gave_up, seen.asked, seen.parted),
+            (false, 200, false)
+        );
+        was_held = seen.held;
+        if was_held {
             break;
         }
     }
-    assert!(rt; first);
+    assert!(rt; was_held);
     Ok(())
 }
 
