@@ -10,7 +10,7 @@ use Rattle.lease_table.specs.Tables.{Standing}
 use Rattle.world.specs.Tickets.{TicketView, TicketPassView, DrawsFrom}
 use Rattle.live_service.specs.declared.seat.TableSeat.{TableSeat}
 use Rattle.live_service.specs.declared.clerk_loop.ClerkSeat.{ClerkSeat}
-use Rattle.live_service.specs.declared.run.Remains.{Remains}
+use Rattle.live_service.specs.declared.remains.Remains.{Remains}
 use Rattle.live_service.specs.declared.crew.Crew.{Crew}
 use Rattle.live_service.specs.declared.crew.CrewLeft.{CrewLeft}
 use Rattle.live_service.specs.Crews.{AreOfLanesFrom, IsCrew, HasLeft}

@@ -9,8 +9,8 @@ use Rattle.live_service.specs.declared.seat.TableSeat.{TableSeat}
 use Rattle.live_service.specs.declared.clerk_loop.ClerkSeat.{ClerkSeat}
 use Rattle.live_service.specs.declared.crew.Crew.{Crew}
 use Rattle.live_service.specs.declared.crew.CrewLeft.{CrewLeft}
-use Rattle.live_service.specs.declared.run.Stage.{Stage}
-use Rattle.live_service.specs.declared.run.Remains.{Remains}
+use Rattle.live_service.specs.declared.stage.Stage.{Stage}
+use Rattle.live_service.specs.declared.remains.Remains.{Remains}
 use Rattle.live_service.specs.LiveJobs.{LiveSizes}
 use Rattle.live_service.specs.Reports.{serves}
 use Rattle.live_service.specs.Crews.{AreOfLanesFrom, IsCrew, HasLeft}

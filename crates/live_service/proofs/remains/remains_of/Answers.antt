@@ -4,7 +4,7 @@ use Rattle.std.specs.Vec.Iter.{into_iter_items}
 use Rattle.live_service.specs.Crews.{HasLeft}
 use Rattle.live_service.specs.Stages.{HaveLeftFrom}
 use Rattle.live_service.proofs.Staging.{remains_more}
-use Rattle.live_service.proofs.run.remains_of.Goals as goal
+use Rattle.live_service.proofs.remains.remains_of.Goals as goal
 
 pub loop-crew-preserved : goal.loop-crew-preserved
 loop-crew-preserved c =

@@ -4,7 +4,7 @@ use Rattle.history_lock.specs.Passes.{AreNewFrom}
 use Rattle.live_service.specs.declared.crew.Crew.{Crew}
 use Rattle.live_service.specs.Stages.{AreCrewsFrom}
 use Rattle.live_service.proofs.Staging.{crews_push}
-use Rattle.live_service.proofs.run.crews.Goals as goal
+use Rattle.live_service.proofs.stage.crews.Goals as goal
 
 pub loop-pass-preserved : goal.loop-pass-preserved
 loop-pass-preserved c =

@@ -4,7 +4,7 @@ use Rattle.history_lock.specs.Passes.{AreNewFrom}
 use Rattle.world.specs.Tickets.{TicketPassView, new_ticket_pass}
 use Rattle.live_service.specs.Reports.{serves}
 use Rattle.live_service.proofs.Staging.{new_last}
-use Rattle.live_service.proofs.run.seat.Goals as goal
+use Rattle.live_service.proofs.stage.seat.Goals as goal
 
 pub returns-clause-passes : goal.returns-clause-passes
 returns-clause-passes c =

@@ -1,5 +1,5 @@
 use Rattle.live_service.proofs.Crewing.{none_missing}
-use Rattle.live_service.proofs.run.close_table.Goals as goal
+use Rattle.live_service.proofs.remains.close_table.Goals as goal
 
 pub unreachable-requires : goal.unreachable-requires
 unreachable-requires c =

@@ -3,7 +3,7 @@ use Rattle.std.specs.Vec.Iter.{into_iter_items, into_iter_len}
 use Rattle.history_lock.specs.Passes.{AreNewFrom}
 use Rattle.world.specs.Tickets.{new_ticket_pass}
 use Rattle.live_service.specs.Stages.{AreCrewsFrom}
-use Rattle.live_service.proofs.run.crews.Given as goal
+use Rattle.live_service.proofs.stage.crews.Given as goal
 
 abbrev pub invariant-loop-pass : goal.invariant-loop-pass
 invariant-loop-pass l = record {

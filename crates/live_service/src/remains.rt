@@ -1,0 +1,213 @@
+//! What the threads of a live run leave, and the report that is made of it.
+
+ghost use Rattle.std.specs.Prelude.{◌≡◌, ◌+◌, ◌*◌, ◌∷◌, [], ◌++◌, All, IfOk, OnOk, vec_len};
+ghost use Rattle.history_lock.specs.Passes.{ArePassesOf};
+ghost use Rattle.world.specs.Tickets.{DrawsFrom};
+ghost use Rattle.live_service.specs.Crews.{AreOfLanesFrom};
+ghost use Rattle.live_service.specs.Reports.{IsReported, serves};
+ghost use Rattle.live_service.specs.Stages.{HaveLeftFrom, IsQuietClerkSeat, IsQuietSeat, IsRemains};
+
+use crate::clerk_loop::ClerkSeat;
+use crate::crew::CrewLeft;
+use crate::job::LiveJob;
+use crate::report::{LiveReport, count_commits, count_serves};
+use crate::seat::TableSeat;
+use crate::shared_clerk::SharedClerk;
+use crate::shared_table::SharedTable;
+use audit::audit;
+use clerk::{Clerk, ClerkEvent};
+use history_lock::{Closed, History, Pass};
+use lease_table::{LeaseTable, TableEvent};
+use slicelet::SliceletEvent;
+use std::alloc::{AllocError, Global};
+use world::{CallRecord, Ticket, TicketPass};
+
+/// What all threads leave: passes, the histories of the tasks, and the records of the calls that wrote no entry.
+#[derive(Drop)]
+pub(crate) struct Remains {
+    pub(crate) table: Vec<Pass<LeaseTable>>,
+    pub(crate) clerk: Vec<Pass<Clerk>>,
+    pub(crate) draws: Vec<TicketPass>,
+    pub(crate) tasks: Vec<History<SliceletEvent>>,
+    pub(crate) records: Vec<CallRecord>,
+}
+
+/// What all threads leave, put together.
+pub(crate) fn remains_of(
+    alloc: Global,
+    table: &SharedTable,
+    clerk: &SharedClerk,
+    ticket: &Ticket,
+    job: LiveJob,
+    assigner: TableSeat,
+    learner: ClerkSeat,
+    crews: Vec<Result<CrewLeft, AllocError>>,
+) -> Result<Remains, AllocError>
+    requires assigner { IsQuietSeat table.now ticket.now 0 assigner }
+    requires learner { IsQuietClerkSeat table.now clerk.now.lock ticket.now learner }
+    requires crews { HaveLeftFrom table.now ticket.now job.workers job.asks 2 crews.items }
+    ensures remains { IfOk result (λ remains. IsRemains table.now clerk.now.lock ticket.now job.workers job.asks remains) }
+    ensures many { IfOk result (λ remains. vec_len remains.table ≡ vec_len crews + 2) }
+{
+    let mut remains = Remains::of_seats(alloc, assigner, learner)?;
+    for crew in crews {
+        remains.take_crew(crew?)?;
+    }
+    Ok(remains)
+}
+
+impl Remains {
+    // What the assigner's thread and the clerk's leave.
+    fn of_seats(
+        alloc: Global,
+        assigner: TableSeat,
+        learner: ClerkSeat,
+    ) -> Result<Remains, AllocError>
+        ensures table { IfOk result (λ remains. remains.table.items ≡ assigner.pass ∷ learner.table.pass ∷ []) }
+        ensures clerk { IfOk result (λ remains. remains.clerk.items ≡ learner.own ∷ []) }
+        ensures draws { IfOk result (λ remains. remains.draws.items ≡ assigner.draws ∷ learner.table.draws ∷ []) }
+        ensures records { IfOk result (λ remains. remains.records.items ≡ assigner.records.items ++ learner.table.records.items) }
+    {
+        let TableSeat {
+            pass: first_pass,
+            draws: first_draws,
+            mut records,
+        } = assigner;
+        let ClerkSeat {
+            table: learner,
+            own,
+        } = learner;
+        let TableSeat {
+            pass: second_pass,
+            draws: second_draws,
+            records: mut others,
+        } = learner;
+        let mut table = Vec::new(alloc);
+        table.push(first_pass)?;
+        table.push(second_pass)?;
+        let mut clerk = Vec::new(alloc);
+        clerk.push(own)?;
+        let mut draws = Vec::new(alloc);
+        draws.push(first_draws)?;
+        draws.push(second_draws)?;
+        records.append(&mut others)?;
+        Ok(Remains {
+            table,
+            clerk,
+            draws,
+            tasks: Vec::new(alloc),
+            records,
+        })
+    }
+
+    // What a task leaves comes after what is there.
+    fn take_crew(&mut self, crew: CrewLeft) -> Result<(), AllocError>
+        ensures table { OnOk result (self.new.table.items ≡ self.old.table.items ++ crew.table ∷ []) }
+        ensures clerk { self.new.clerk ≡ self.old.clerk }
+        ensures draws { OnOk result (self.new.draws.items ≡ self.old.draws.items ++ crew.draws.items) }
+        ensures records { OnOk result (self.new.records.items ≡ self.old.records.items ++ crew.records.items) }
+    {
+        let CrewLeft {
+            table,
+            history,
+            mut draws,
+            mut records,
+        } = crew;
+        self.table.push(table)?;
+        self.tasks.push(history)?;
+        self.draws.append(&mut draws)?;
+        self.records.append(&mut records)?;
+        Ok(())
+    }
+}
+
+/// Closes what is not closed yet, and reports.
+pub(crate) fn close_all(
+    alloc: Global,
+    job: LiveJob,
+    ticket: Ticket,
+    table: SharedTable,
+    clerk: SharedClerk,
+    remains: Remains,
+) -> Result<LiveReport, AllocError>
+    requires remains { IsRemains table clerk.lock ticket job.workers job.asks remains }
+    requires lanes { (vec_len remains.table ≡ table.opened.lanes) × (clerk.lock.opened.lanes ≡ 1) }
+    requires draws { vec_len remains.draws ≡ ticket.terms.passes }
+    requires served { serves remains.records.items ≡ job.tasks * job.workers * job.asks }
+    ensures { IfOk result (IsReported job) }
+{
+    let Remains {
+        table: table_passes,
+        clerk: clerk_passes,
+        draws,
+        tasks,
+        records,
+    } = remains;
+    let mut clerks: Vec<History<ClerkEvent>> = Vec::with_capacity(alloc, 1)?;
+    close_ticket(ticket, draws);
+    let table = close_table(table, table_passes);
+    clerks.push(close_clerk(clerk, clerk_passes))?;
+    let audit = audit(
+        alloc,
+        &job.played(),
+        &table,
+        tasks.as_slice(),
+        clerks.as_slice(),
+        records.as_slice(),
+    )?;
+    Ok(LiveReport {
+        asked: count_serves(records.as_slice()),
+        generation: count_commits(table.entries()),
+        table,
+        tasks,
+        clerks,
+        records,
+        audit,
+    })
+}
+
+// Closes the ticket.
+fn close_ticket(ticket: Ticket, draws: Vec<TicketPass>)
+    requires own { All (λ pass. DrawsFrom ticket pass) draws.items }
+    requires many { vec_len draws ≡ ticket.terms.passes }
+{
+    let Ok(_) = ticket.close(draws) else {
+        unreachable!()
+    };
+}
+
+// Closes the table's lock.
+fn close_table(table: SharedTable, passes: Vec<Pass<LeaseTable>>) -> History<TableEvent>
+    requires own { ArePassesOf table passes.items }
+    requires lanes { AreOfLanesFrom 0 passes.items }
+    requires many { vec_len passes ≡ table.opened.lanes }
+{
+    let Ok(
+        Closed {
+            machine: _,
+            history,
+        },
+    ) = table.close(passes)
+    else {
+        unreachable!()
+    };
+    history
+}
+
+// Closes the clerk's lock.
+fn close_clerk(clerk: SharedClerk, passes: Vec<Pass<Clerk>>) -> History<ClerkEvent>
+    requires own { ArePassesOf clerk.lock passes.items }
+    requires lanes { AreOfLanesFrom 0 passes.items }
+    requires many { vec_len passes ≡ clerk.lock.opened.lanes }
+{
+    let Ok(
+        Closed {
+            machine: _,
+            history,
+        },
+    ) = clerk.close(passes)
+    else {
+        unreachable!()
+    };
+    history
+}
