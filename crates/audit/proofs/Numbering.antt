@@ -29,7 +29,8 @@ module _ {X : Type 0} where
   get_other (z ∷ zs) (suc i) zero y e = refl
   get_other (z ∷ zs) (suc i) (suc j) y e = get_other zs i j y (λ same. e (ap suc same))
 
-  numbered_at : (n : ℕ) (xs : List X) → numbered (suc n) xs ≡ slice_get xs n
+  -- the actor of a number is that at the place before it
+  pub numbered_at : (n : ℕ) (xs : List X) → numbered (suc n) xs ≡ slice_get xs n
   numbered_at n xs =
       let test : (suc n == 0) ≡ false = grind (arith, nat_tests) in
       let less : suc n - 1 ≡ n = omega arith in

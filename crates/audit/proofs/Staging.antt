@@ -25,6 +25,7 @@ use Rattle.world.specs.declared.reply.Refusal.TheVariants as refusal
 use Rattle.world.specs.declared.record.Told.TheVariants as told
 use Rattle.world.specs.Told.{numbered}
 use Rattle.audit.specs.Stages.{Stage, Turned, by, unless, refused, notes_with, task_refusal, task_took, task_turn, clerk_refusal, clerk_took, clerk_turn, same_handle, checked, IsCheckBy, IsCheckTurn}
+use Rattle.audit.proofs.Numbering.{numbered_at}
 
 -- one actor more
 pub one_more : {A : Type 0} (f : ℕ → A) (many : ℕ) (before new : List A) (a : A) → before ≡ map f (range_with_len 1 many) → a ≡ f (many + 1) → new ≡ before ++ a ∷ []
@@ -32,12 +33,6 @@ pub one_more : {A : Type 0} (f : ℕ → A) (many : ℕ) (before new : List A) (
 one_more {A} f many before new a so_far is pushed =
     let next : 1 + many ≡ many + 1 = omega arith in
     pushed ∙ ap (λ (xs : List A). xs ++ a ∷ []) so_far ∙ ap (λ (x : A). map f (range_with_len 1 many) ++ x ∷ []) is ∙ sym (map-range_with_len_more f 1 many (many + 1) next)
-
-numbered_at : {A : Type 0} (n : ℕ) (xs : List A) → numbered (suc n) xs ≡ slice_get xs n
-numbered_at n xs =
-    let here : (suc n == 0) ≡ false = grind (arith, nat_tests) in
-    let place : suc n - 1 ≡ n = omega arith in
-    rw (here, place) refl
 
 -- no actor is of this number
 pub none_at : {A : Type 0} (number : ℕ) (xs : List A) → is_within number (length xs) ≡ false → numbered number xs ≡ None
