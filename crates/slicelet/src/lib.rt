@@ -5,6 +5,7 @@ mod call;
 mod error;
 mod heard;
 mod laws;
+mod life_stamps;
 mod machine;
 mod slicelet;
 

@@ -16,6 +16,7 @@ ghost use Rattle.slicelet.specs.Steps.{opening, not_started, clock_back, history
 use crate::call::SliceletCall;
 use crate::error::{SliceletError, Stranger};
 use crate::heard::{HeardNumbers, holds, live_keys_with, no_leases, put_lease, renews};
+use crate::life_stamps::{copy_of, put_stamps, restamp, still};
 use assignment::TaskId;
 use key_handle::{KeyHandle, Stamped};
 use key_hash::SliceKey;
@@ -36,7 +37,8 @@ pub struct Slicelet {
     life: u32,
     holding: Holding,
     heard: HeardNumbers,
-    stamps: Stamped,
+    // None where no call of this life made stamps.
+    stamps: Option<Stamped>,
 }
 
 impl Model for Slicelet {
@@ -45,11 +47,11 @@ impl Model for Slicelet {
     ghost Value = { History };
 
     ghost use Rattle.std.specs.Prelude.{reverse};
-    ghost use Rattle.slicelet.specs.inside.State.{IsStateAfter};
+    ghost use Rattle.slicelet.specs.inside.State.{IsStateAfter, stamps_in};
 
     ghost view = { λ s. record { task = s.task; calls = reverse s.calls.items } };
 
-    ghost invariant = { λ s. IsStateAfter s.task (reverse s.calls.items) s.life s.holding s.heard s.stamps };
+    ghost invariant = { λ s. IsStateAfter s.task (reverse s.calls.items) s.life s.holding s.heard (stamps_in s.stamps) };
 }
 
 impl Slicelet {
@@ -63,7 +65,7 @@ impl Slicelet {
             life: 0,
             holding: no_leases(false, 0),
             heard: HeardNumbers::no_numbers(),
-            stamps: Stamped::empty(alloc),
+            stamps: None,
         }
     }
 
@@ -75,13 +77,12 @@ impl Slicelet {
         ensures { Takes (start_step self.old life at) self.old result self.new }
     {
         self.check_start(life, at).map_err(Trouble::Refused)?;
-        let alloc = *self.calls.allocator();
         self.calls.reserve(1)?;
         self.calls.push_reserved(SliceletCall::Start { life, at });
         self.life = life;
         self.holding = no_leases(true, at);
         self.heard = HeardNumbers::no_numbers();
-        self.stamps = Stamped::empty(alloc);
+        self.stamps = None;
         Ok(())
     }
 
@@ -109,7 +110,7 @@ impl Slicelet {
         put_lease(&mut self.holding, grant.lease.kind, lease);
         self.heard = self.heard.with(grant.lease.kind, grant.number);
         if let Some(stamps) = stamps {
-            self.stamps = stamps;
+            put_stamps(&mut self.stamps, stamps);
         }
         Ok(())
     }
@@ -128,7 +129,7 @@ impl Slicelet {
         self.calls.push_reserved(SliceletCall::Release { kind, at });
         self.holding.last = at;
         put_lease(&mut self.holding, kind, None);
-        self.stamps = stamps;
+        self.stamps = Some(stamps);
         Ok(ReleaseNote {
             task: self.task,
             life: self.life,
@@ -200,7 +201,7 @@ impl Slicelet {
             life: self.life,
             holding: self.holding.copy()?,
             heard: self.heard,
-            stamps: self.stamps.copy()?,
+            stamps: copy_of(&self.stamps)?,
         })
     }
 
@@ -217,7 +218,7 @@ impl Slicelet {
             (IsContinuous (covers_key handle.now.key) self.now.calls handle.now at)
             (IsContinuous (covers_key handle.now.key) self.now.calls handle.now at → ⊥) }
     {
-        let is_kept = handle.still(self.life, &self.stamps);
+        let is_kept = still(handle, self.life, &self.stamps);
         is_kept && self.permits(handle.key, at)
     }
 
@@ -231,7 +232,7 @@ impl Slicelet {
         let alloc = *self.calls.allocator();
         let before = permitted(alloc, &self.holding, at)?;
         let after = live_keys_with(alloc, &self.holding, kind, lease, at)?;
-        self.stamps.restamp(&before, &after, self.count() + 1)
+        restamp(alloc, &self.stamps, &before, &after, self.count() + 1)
     }
 
     // How many calls were accepted.

@@ -1,5 +1,5 @@
 -- What a slicelet keeps beside its accepted calls.
-use Rattle.std.specs.Prelude.{◌≡◌, ℕ, List, Option, Some, option_map}
+use Rattle.std.specs.Prelude.{◌≡◌, ℕ, List, [], Option, Some, None, option_map}
 use Rattle.policy_rules.specs.declared.lease.Kind.{Kind}
 use Rattle.policy_rules.specs.declared.lease.Kind.TheVariants.{Guard, Bridge}
 use Rattle.policy_rules.specs.declared.lease.Lease.{Lease}
@@ -38,6 +38,11 @@ holding_of h = record {
   guard = option_map (λ grant. grant.lease) (held Guard h);
   bridge = option_map (λ grant. grant.lease) (held Bridge h);
 }
+
+-- the stamps, where there are any
+abbrev pub stamps_in : Option Stamps → Stamps
+stamps_in None = []
+stamps_in (Some stamps) = stamps
 
 -- the state after accepted calls: the life, the holding, the greatest numbers and the stamps are those of the calls
 pub record IsStateAfter (task : ℕ) (h : List SliceletCall) (life : ℕ) (holding : Holding) (heard : HeardNumbers) (stamps : Stamps) : Type 0 where

@@ -1,0 +1,55 @@
+//! The stamps of a life, of which there may be none.
+
+ghost use Rattle.std.specs.Prelude.{◌≡◌, ℕ, Some, IfOk};
+ghost use Rattle.slice_ranges.specs.Sets.{has};
+ghost use Rattle.key_handle.specs.Handles.{is_still};
+ghost use Rattle.key_handle.specs.Stamps.{since, restamped};
+ghost use Rattle.slicelet.specs.inside.State.{stamps_in};
+
+use key_handle::{KeyHandle, Stamped};
+use slice_ranges::Ranges;
+use std::alloc::{AllocError, Global};
+
+/// The stamps with another one at the keys of `after` that keep none.
+pub fn restamp(
+    alloc: Global,
+    stamps: &Option<Stamped>,
+    before: &Ranges,
+    after: &Ranges,
+    stamp: u64,
+) -> Result<Stamped, AllocError>
+    ensures { IfOk result (λ s. (key : ℕ) → since s key
+        ≡ restamped (since (stamps_in stamps.now) key) (has before.now key) (has after.now key) stamp) }
+{
+    match stamps {
+        Some(stamps) => stamps.restamp(before, after, stamp),
+        None => Stamped::empty(alloc).restamp(before, after, stamp),
+    }
+}
+
+/// Whether a handle is of a life, and its key has a stamp that is not above its position.
+pub fn still(handle: &KeyHandle, life: u32, stamps: &Option<Stamped>) -> bool
+    ensures { result ≡ is_still handle.now life (stamps_in stamps.now) }
+{
+    match stamps {
+        Some(stamps) => handle.still(life, stamps),
+        None => false,
+    }
+}
+
+/// Puts stamps in the place of those of before.
+pub fn put_stamps(stamps: &mut Option<Stamped>, new: Stamped)
+    ensures { stamps.new ≡ Some new }
+{
+    *stamps = Some(new);
+}
+
+/// Stamps that equal these.
+pub fn copy_of(stamps: &Option<Stamped>) -> Result<Option<Stamped>, AllocError>
+    ensures { IfOk result (λ copied. copied ≡ stamps.now) }
+{
+    match stamps {
+        Some(stamps) => Ok(Some(stamps.copy()?)),
+        None => Ok(None),
+    }
+}
