@@ -4,7 +4,7 @@ use Rattle.std.specs.Prelude.{Result, decimal, false, true, cond}
 use Rattle.std.proofs.lemmas.List.Sums.{sum_by-append}
 use Rattle.key_hash.specs.Hash.{slice_key}
 use Rattle.history_lock.specs.Passes.{Lock, PassView}
-use Rattle.world.specs.Tickets.{TicketPassView}
+use Rattle.tickets.specs.Tickets.{TicketPassView}
 use Rattle.world.specs.declared.record.CallRecord.{CallRecord}
 use Rattle.world.specs.declared.record.RecordedCall.{RecordedCall}
 use Rattle.world.specs.declared.record.RecordedCall.TheVariants.{Serve}

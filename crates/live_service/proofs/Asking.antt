@@ -2,7 +2,7 @@
 use Rattle.std.proofs.Common.{ℕ}
 use Rattle.std.specs.Prelude.{Result}
 use Rattle.history_lock.specs.Passes.{Lock, PassView}
-use Rattle.world.specs.Tickets.{TicketPassView}
+use Rattle.tickets.specs.Tickets.{TicketPassView}
 use Rattle.live_service.specs.Calls.{Asks}
 
 module _ {M E R F S T : Type 0} (step : M → E → Result (M × R) F) (lock : Lock M) (old_draws new_draws : TicketPassView) where

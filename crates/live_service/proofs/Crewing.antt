@@ -8,7 +8,7 @@ use Rattle.lease_table.specs.Tables.{Standing}
 use Rattle.history_lock.specs.Passes.{Lock, PassView, IsPassOf, ArePassesOf, new_pass}
 use Rattle.history_lock.specs.Closing.{has_lane}
 use Rattle.slicelet.specs.Steps.{History}
-use Rattle.world.specs.Tickets.{TicketView, TicketPassView, DrawsFrom, new_ticket_pass}
+use Rattle.tickets.specs.Tickets.{TicketView, TicketPassView, DrawsFrom, new_ticket_pass}
 use Rattle.live_service.specs.declared.crew.CrewLeft.{CrewLeft}
 use Rattle.live_service.specs.declared.crew.Gathered.{Gathered}
 use Rattle.live_service.specs.Reports.{serves}

@@ -5,7 +5,7 @@ use Rattle.assignment.specs.Slices.{Slicing}
 use Rattle.history_lock.specs.Passes.{Lock, IsPassOf}
 use Rattle.lease_table.specs.Tables.{Standing}
 use Rattle.slicelet.specs.Steps.{History}
-use Rattle.world.specs.Tickets.{TicketView, DrawsFrom}
+use Rattle.tickets.specs.Tickets.{TicketView, DrawsFrom}
 use Rattle.live_service.specs.declared.seat.TableSeat.{TableSeat}
 use Rattle.live_service.specs.declared.task_loop.TaskSeat.{TaskSeat}
 use Rattle.live_service.specs.declared.clerk_loop.ClerkSeat.{ClerkSeat}

@@ -11,10 +11,10 @@ use Rattle.lease_table.specs.Calls.{event_step as table_step}
 use Rattle.lease_table.specs.Tables.{Standing}
 use Rattle.lease_table.specs.declared.call.TableCall.{TableCall}
 use Rattle.lease_table.specs.declared.values.Row.{Row}
-use Rattle.world.specs.Tickets.{TicketPassView}
+use Rattle.tickets.specs.Tickets.{TicketPassView}
 use Rattle.world.specs.declared.record.RecordedCall.{RecordedCall}
 use Rattle.world.specs.declared.record.Told.{Told}
-use Rattle.world.specs.declared.ticket.Spent.{Spent}
+use Rattle.tickets.specs.declared.ticket.Spent.{Spent}
 use Rattle.live_service.specs.declared.error.CallError.{CallError}
 use Rattle.live_service.specs.declared.error.CallError.TheVariants as call_error
 use Rattle.live_service.specs.declared.error.Recorded.{Recorded}

@@ -4,7 +4,7 @@ use Rattle.std.specs.Prelude.{Result, Ok, Err}
 use Rattle.machines.specs.Answers.{replied}
 use Rattle.machines.specs.declared.event.Event.{Event}
 use Rattle.history_lock.specs.Passes.{Lock, PassView}
-use Rattle.world.specs.Tickets.{TicketPassView}
+use Rattle.tickets.specs.Tickets.{TicketPassView}
 use Rattle.live_service.specs.Calls.{Writes}
 use Rattle.live_service.specs.Objects.{IsNamed}
 

@@ -7,7 +7,7 @@ use Rattle.std.proofs.lemmas.List.Elements.{All-cons, All-append}
 use Rattle.assignment.specs.Slices.{Slicing}
 use Rattle.history_lock.specs.Passes.{Lock, PassView, ArePassesOf, AreNewFrom, new_pass}
 use Rattle.lease_table.specs.Tables.{Standing}
-use Rattle.world.specs.Tickets.{TicketView, TicketPassView, DrawsFrom}
+use Rattle.tickets.specs.Tickets.{TicketView, TicketPassView, DrawsFrom}
 use Rattle.live_service.specs.declared.seat.TableSeat.{TableSeat}
 use Rattle.live_service.specs.declared.clerk_loop.ClerkSeat.{ClerkSeat}
 use Rattle.live_service.specs.declared.remains.Remains.{Remains}

@@ -6,7 +6,7 @@ use Rattle.history_lock.specs.Passes.{Lock, PassView}
 use Rattle.history_lock.specs.Answers.{HasWaited, Wrote}
 use Rattle.history_lock.specs.declared.error.WriteError.{WriteError}
 use Rattle.history_lock.specs.declared.error.WriteError.TheVariants.{HistoryFull, Refused, NoMemory}
-use Rattle.world.specs.Tickets.{TicketPassView, IsDrawn}
+use Rattle.tickets.specs.Tickets.{TicketPassView, IsDrawn}
 use Rattle.world.specs.declared.record.RecordedCall.{RecordedCall}
 use Rattle.world.specs.declared.record.Told.{Told}
 use Rattle.live_service.specs.declared.error.RefusedCall.{RefusedCall}

@@ -7,10 +7,10 @@ use Rattle.history_lock.specs.Answers.{HasWaited, IsTurnedAway, Wrote, Shared}
 use Rattle.history_lock.specs.declared.error.Busy.{Busy}
 use Rattle.history_lock.specs.declared.error.WriteError.{WriteError}
 use Rattle.history_lock.specs.declared.error.WriteError.TheVariants as write_error
-use Rattle.world.specs.Tickets.{TicketPassView, IsDrawn}
+use Rattle.tickets.specs.Tickets.{TicketPassView, IsDrawn}
 use Rattle.world.specs.declared.record.RecordedCall.{RecordedCall}
 use Rattle.world.specs.declared.record.Told.{Told}
-use Rattle.world.specs.declared.ticket.Spent.{Spent}
+use Rattle.tickets.specs.declared.ticket.Spent.{Spent}
 use Rattle.live_service.specs.declared.error.CallError.{CallError}
 use Rattle.live_service.specs.declared.error.CallError.TheVariants as call_error
 use Rattle.live_service.specs.declared.error.Recorded.{Recorded}

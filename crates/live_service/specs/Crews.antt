@@ -4,7 +4,7 @@ use Rattle.std.specs.declared.alloc.AllocError.{AllocError}
 use Rattle.history_lock.specs.Passes.{Lock, PassView, IsPassOf, ArePassesOf}
 use Rattle.lease_table.specs.Tables.{Standing}
 use Rattle.slicelet.specs.Steps.{History}
-use Rattle.world.specs.Tickets.{TicketView, DrawsFrom, new_ticket_pass}
+use Rattle.tickets.specs.Tickets.{TicketView, DrawsFrom, new_ticket_pass}
 use Rattle.live_service.specs.declared.worker.Member.{Member}
 use Rattle.live_service.specs.declared.worker.Worked.{Worked}
 use Rattle.live_service.specs.declared.crew.Crew.{Crew}

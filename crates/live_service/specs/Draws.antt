@@ -1,7 +1,7 @@
 -- What calls draw, and what their records hold.
 use Rattle.std.specs.Prelude.{◌≡◌, ℕ, ◌<◌, length}
 use Rattle.machines.specs.declared.event.Event.{Event}
-use Rattle.world.specs.Tickets.{TicketPassView, IsDrawn}
+use Rattle.tickets.specs.Tickets.{TicketPassView, IsDrawn}
 use Rattle.world.specs.declared.record.CallRecord.{CallRecord}
 use Rattle.world.specs.declared.record.RecordedCall.{RecordedCall}
 use Rattle.world.specs.declared.record.Told.{Told}

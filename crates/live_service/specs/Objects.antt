@@ -24,7 +24,7 @@ use Rattle.clerk.specs.declared.error.Unknown.{Unknown}
 use Rattle.machines.specs.declared.event.Event.{Event}
 use Rattle.history_lock.specs.Passes.{Lock, PassView}
 use Rattle.history_lock.specs.Answers.{HasWaited, Shared}
-use Rattle.world.specs.Tickets.{TicketPassView}
+use Rattle.tickets.specs.Tickets.{TicketPassView}
 use Rattle.world.specs.declared.record.RecordedCall.TheVariants as recorded_call
 use Rattle.world.specs.declared.reply.Refusal.TheVariants as refusal
 use Rattle.world.specs.declared.record.Told.{Told}

@@ -4,7 +4,7 @@ use Rattle.history_lock.specs.Passes.{Lock, IsPassOf}
 use Rattle.lease_table.specs.Tables.{Standing}
 use Rattle.slicelet.specs.Steps.{History}
 use Rattle.assignment.specs.Slices.{Slicing}
-use Rattle.world.specs.Tickets.{TicketView, DrawsFrom}
+use Rattle.tickets.specs.Tickets.{TicketView, DrawsFrom}
 use Rattle.live_service.specs.declared.error.CallError.{CallError}
 use Rattle.live_service.specs.declared.error.CallError.TheVariants.{Refused}
 use Rattle.live_service.specs.declared.seat.TableSeat.{TableSeat}

@@ -4,7 +4,7 @@ use Rattle.std.specs.declared.alloc.AllocError.{AllocError}
 use Rattle.assignment.specs.Slices.{Slicing}
 use Rattle.history_lock.specs.Passes.{Lock, IsPassOf, ArePassesOf}
 use Rattle.lease_table.specs.Tables.{Standing}
-use Rattle.world.specs.Tickets.{TicketView, DrawsFrom}
+use Rattle.tickets.specs.Tickets.{TicketView, DrawsFrom}
 use Rattle.live_service.specs.declared.seat.TableSeat.{TableSeat}
 use Rattle.live_service.specs.declared.clerk_loop.ClerkSeat.{ClerkSeat}
 use Rattle.live_service.specs.declared.crew.Crew.{Crew}

@@ -2,7 +2,7 @@
 
 ghost use Rattle.std.specs.Prelude.{◌≡◌, ℕ};
 ghost use Rattle.history_lock.specs.Passes.{IsPassOf};
-ghost use Rattle.world.specs.Tickets.{DrawsFrom, IsDrawn};
+ghost use Rattle.tickets.specs.Tickets.{DrawsFrom, IsDrawn};
 ghost use Rattle.live_service.specs.Draws.{CanDraw};
 ghost use Rattle.live_service.specs.Calls.{Asks, AsksAtOnce, CalledToAsk, TriedToAsk};
 
@@ -12,7 +12,7 @@ use crate::write::draw;
 use history_lock::{LaneLock, Pass};
 use machines::Machine;
 use std::sync::Wait;
-use world::{Spent, Ticket, TicketPass};
+use tickets::{Spent, Ticket, TicketPass};
 
 /// What a machine is asked.
 pub(crate) trait Ask<M> {

@@ -2,7 +2,7 @@
 
 ghost use Rattle.std.specs.Prelude.{◌≡◌, IfOk};
 ghost use Rattle.history_lock.specs.Passes.{IsPassOf};
-ghost use Rattle.world.specs.Tickets.{DrawsFrom};
+ghost use Rattle.tickets.specs.Tickets.{DrawsFrom};
 ghost use Rattle.live_service.specs.Reports.{serves};
 ghost use Rattle.live_service.specs.Seats.{IsClerkSeatOf, KeepsClerkSeat};
 
@@ -16,7 +16,7 @@ use crossbeam_utils::Backoff;
 use history_lock::Pass;
 use std::alloc::AllocError;
 use std::sync::Wait;
-use world::Ticket;
+use tickets::Ticket;
 
 /// The passes of the clerk's thread, and the records of its calls that wrote no entry.
 #[derive(Drop)]

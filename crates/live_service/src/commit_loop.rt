@@ -10,7 +10,7 @@ use assignment::{Assignment, AssignmentError, Listed, Slice};
 use crossbeam_utils::Backoff;
 use std::alloc::{AllocError, Global};
 use std::sync::Wait;
-use world::Ticket;
+use tickets::Ticket;
 
 // The second half of the key space starts here.
 const HALF: u64 = 1 << 62;

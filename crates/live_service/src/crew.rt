@@ -3,7 +3,7 @@
 ghost use Rattle.std.specs.Prelude.{◌≡◌, ℕ, ◌≤◌, ◌<◌, ◌+◌, [], All, IfOk, OnOk, vec_len, slice_index_or};
 ghost use Rattle.std.specs.Thread.{IsSync};
 ghost use Rattle.history_lock.specs.Passes.{AreNewFrom, IsPassOf};
-ghost use Rattle.world.specs.Tickets.{DrawsFrom, new_ticket_pass};
+ghost use Rattle.tickets.specs.Tickets.{DrawsFrom, new_ticket_pass};
 ghost use Rattle.live_service.specs.Crews.{AreMembersFrom, HasLeft, HasWorked, HaveWorkedFrom, IsCrew, IsGathered, IsMember};
 ghost use Rattle.live_service.specs.Reports.{serves};
 ghost use Rattle.live_service.specs.Seats.{IsTaskSeatOf, KeepsTaskSeat};
@@ -22,7 +22,8 @@ use slicelet::{Slicelet, SliceletEvent};
 use std::alloc::{AllocError, Global};
 use std::sync::Wait;
 use std::thread::{Threads, join, map_vec};
-use world::{CallRecord, Ticket, TicketPass};
+use tickets::{Ticket, TicketPass};
+use world::CallRecord;
 
 /// How many entries the history of each lock of a live run has at the most.
 pub(crate) const MOST_ENTRIES: usize = 65_536;

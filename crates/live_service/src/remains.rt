@@ -2,7 +2,7 @@
 
 ghost use Rattle.std.specs.Prelude.{◌≡◌, ◌+◌, ◌*◌, ◌∷◌, [], ◌++◌, All, IfOk, OnOk, vec_len};
 ghost use Rattle.history_lock.specs.Passes.{ArePassesOf};
-ghost use Rattle.world.specs.Tickets.{DrawsFrom};
+ghost use Rattle.tickets.specs.Tickets.{DrawsFrom};
 ghost use Rattle.live_service.specs.Crews.{AreOfLanesFrom};
 ghost use Rattle.live_service.specs.Reports.{IsReported, serves};
 ghost use Rattle.live_service.specs.Stages.{HaveLeftFrom, IsQuietClerkSeat, IsQuietSeat, IsRemains};
@@ -20,7 +20,8 @@ use history_lock::{Closed, History, Pass};
 use lease_table::{LeaseTable, TableEvent};
 use slicelet::SliceletEvent;
 use std::alloc::{AllocError, Global};
-use world::{CallRecord, Ticket, TicketPass};
+use tickets::{Ticket, TicketPass};
+use world::CallRecord;
 
 /// What all threads leave: passes, the histories of the tasks, and the records of the calls that wrote no entry.
 #[derive(Drop)]

@@ -20,7 +20,7 @@ use crate::stage::Stage;
 use std::alloc::{AllocError, Global};
 use std::sync::Wait;
 use std::thread::{Threads, join, map_vec};
-use world::Ticket;
+use tickets::Ticket;
 
 /// Runs the assigner, the clerk, the tasks and their workers of a job, each in a thread of its own, and reports
 /// what they did. The gate is called by each worker inside each of its calls.

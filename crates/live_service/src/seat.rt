@@ -12,7 +12,8 @@ use history_lock::Pass;
 use lease_table::{Grant, JobTerm, LeaseTable, Phase, ReleaseNote, Row};
 use std::alloc::{AllocError, AllocFailed};
 use std::sync::Wait;
-use world::{CallRecord, Spent, Ticket, TicketPass};
+use tickets::{Spent, Ticket, TicketPass};
+use world::CallRecord;
 
 /// How often a thread reads the table for one thing that it waits for.
 pub(crate) const TURNS: u64 = 1_000_000;

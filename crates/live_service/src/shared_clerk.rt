@@ -8,7 +8,7 @@ ghost use Rattle.clerk.specs.declared.call.ClerkReply.TheVariants as clerk_reply
 ghost use Rattle.history_lock.specs.Closing.{has_lane, IsWhole};
 ghost use Rattle.history_lock.specs.Passes.{AreNewFrom, ArePassesOf, IsPassOf, is_allowed};
 ghost use Rattle.history_lock.specs.declared.error.NewLockError.TheVariants as new_lock_error;
-ghost use Rattle.world.specs.Tickets.{DrawsFrom};
+ghost use Rattle.tickets.specs.Tickets.{DrawsFrom};
 ghost use Rattle.world.specs.declared.record.RecordedCall.TheVariants as recorded_call;
 ghost use Rattle.live_service.specs.Calls.{CalledToAsk, AsksFor};
 ghost use Rattle.live_service.specs.Objects.{CalledClerk, look_told};
@@ -24,7 +24,8 @@ use key_hash::SliceKey;
 use std::alloc::Global;
 use std::marker::Model;
 use std::sync::Wait;
-use world::{CallRecord, RecordedCall, Refusal, Spent, Ticket, TicketPass, Told};
+use tickets::{Spent, Ticket, TicketPass};
+use world::{CallRecord, RecordedCall, Refusal, Told};
 
 /// A clerk under a lock of its own. Contracts see the lock, and the number by which its calls are
 /// recorded.

@@ -9,7 +9,7 @@ ghost use Rattle.slicelet.specs.Rules.{rule_after, covers_key};
 ghost use Rattle.slicelet.specs.Steps.{event_step, opening};
 ghost use Rattle.slicelet.specs.declared.call.SliceletCall.TheVariants as slicelet_call;
 ghost use Rattle.slicelet.specs.declared.call.SliceletReply.TheVariants as slicelet_reply;
-ghost use Rattle.world.specs.Tickets.{DrawsFrom};
+ghost use Rattle.tickets.specs.Tickets.{DrawsFrom};
 ghost use Rattle.world.specs.declared.record.RecordedCall.TheVariants as recorded_call;
 ghost use Rattle.world.specs.declared.record.Told.TheVariants as told;
 ghost use Rattle.live_service.specs.Readings.{reading_at, slicelet_call_at};
@@ -33,7 +33,8 @@ use slicelet::{Slicelet, SliceletCall, SliceletError, SliceletReply, Stranger};
 use std::alloc::Global;
 use std::marker::Model;
 use std::sync::Wait;
-use world::{CallRecord, RecordedCall, Refusal, Spent, Ticket, TicketPass, Told};
+use tickets::{Spent, Ticket, TicketPass};
+use world::{CallRecord, RecordedCall, Refusal, Told};
 
 /// The slicelet of a task under a lock of its own. Contracts see the lock.
 #[derive(Drop)]

@@ -8,7 +8,7 @@ ghost use Rattle.lease_table.specs.Calls.{event_step};
 ghost use Rattle.lease_table.specs.Tables.{opening, phase_of};
 ghost use Rattle.lease_table.specs.declared.call.TableCall.TheVariants as table_call;
 ghost use Rattle.lease_table.specs.declared.call.TableReply.TheVariants as table_reply;
-ghost use Rattle.world.specs.Tickets.{DrawsFrom};
+ghost use Rattle.tickets.specs.Tickets.{DrawsFrom};
 ghost use Rattle.world.specs.declared.record.RecordedCall.TheVariants as recorded_call;
 ghost use Rattle.world.specs.declared.record.Told.TheVariants as told;
 ghost use Rattle.live_service.specs.Readings.{reading_at, table_call_at};
@@ -30,7 +30,8 @@ use machines::Duplicate;
 use std::alloc::{AllocError, Global};
 use std::marker::Model;
 use std::sync::Wait;
-use world::{CallRecord, RecordedCall, Spent, Ticket, TicketPass, Told};
+use tickets::{Spent, Ticket, TicketPass};
+use world::{CallRecord, RecordedCall, Told};
 
 /// A lease table under a lock of its own. Contracts see the lock.
 #[derive(Drop)]

@@ -2,7 +2,7 @@
 
 ghost use Rattle.std.specs.Prelude.{◌≡◌, ◌≤◌, ◌<◌, ◌+◌, ◌*◌, All, IfOk, OnOk, vec_len};
 ghost use Rattle.history_lock.specs.Passes.{AreNewFrom, IsPassOf};
-ghost use Rattle.world.specs.Tickets.{new_ticket_pass};
+ghost use Rattle.tickets.specs.Tickets.{new_ticket_pass};
 ghost use Rattle.live_service.specs.Crews.{IsCrew};
 ghost use Rattle.live_service.specs.Stages.{AreCrewsFrom, IsQuietClerkSeat, IsQuietSeat, IsStaged};
 
@@ -17,7 +17,7 @@ use clerk::Clerk;
 use history_lock::Pass;
 use lease_table::LeaseTable;
 use std::alloc::{AllocError, Global};
-use world::{MOST_DRAWS, Ticket, TicketPass};
+use tickets::{MOST_DRAWS, Ticket, TicketPass};
 
 /// The objects that the threads of a live run share, and what each thread is given.
 #[derive(Drop)]

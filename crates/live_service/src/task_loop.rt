@@ -2,7 +2,7 @@
 
 ghost use Rattle.std.specs.Prelude.{◌≡◌, IfOk};
 ghost use Rattle.history_lock.specs.Passes.{IsPassOf};
-ghost use Rattle.world.specs.Tickets.{DrawsFrom};
+ghost use Rattle.tickets.specs.Tickets.{DrawsFrom};
 ghost use Rattle.live_service.specs.Reports.{serves};
 ghost use Rattle.live_service.specs.Seats.{IsTaskSeatOf, KeepsTaskSeat};
 
@@ -19,7 +19,7 @@ use policy_rules::Kind;
 use slicelet::Slicelet;
 use std::alloc::AllocError;
 use std::sync::Wait;
-use world::Ticket;
+use tickets::Ticket;
 
 /// The passes of a task's thread, and the records of its calls that wrote no entry.
 #[derive(Drop)]

@@ -3,7 +3,7 @@
 ghost use Rattle.std.specs.Prelude.{◌≡◌, ◌≤◌, ◌+◌, IfOk, length, decimal};
 ghost use Rattle.history_lock.specs.Passes.{IsPassOf};
 ghost use Rattle.key_hash.specs.Hash.{slice_key};
-ghost use Rattle.world.specs.Tickets.{DrawsFrom, new_ticket_pass};
+ghost use Rattle.tickets.specs.Tickets.{DrawsFrom, new_ticket_pass};
 ghost use Rattle.world.specs.declared.record.RecordedCall.TheVariants as recorded_call;
 ghost use Rattle.live_service.specs.Draws.{CanDraw};
 ghost use Rattle.live_service.specs.Crews.{HasWorked};
@@ -16,7 +16,8 @@ use key_hash::{SliceKey, slice_key};
 use slicelet::Slicelet;
 use std::alloc::{AllocError, Global};
 use std::sync::Wait;
-use world::{CallRecord, Ticket, TicketPass};
+use tickets::{Ticket, TicketPass};
+use world::CallRecord;
 
 /// The passes of a thread of a task, and the number by which it calls the gate. The task's own thread calls none;
 /// it has lane 0 of the task's lock, and the workers the lanes from 1 on.

@@ -2,7 +2,7 @@
 
 ghost use Rattle.std.specs.Prelude.{◌≡◌, Some, IfSome};
 ghost use Rattle.history_lock.specs.Passes.{IsPassOf};
-ghost use Rattle.world.specs.Tickets.{DrawsFrom, IsDrawn};
+ghost use Rattle.tickets.specs.Tickets.{DrawsFrom, IsDrawn};
 ghost use Rattle.live_service.specs.Readings.{reading_at};
 ghost use Rattle.live_service.specs.Draws.{CanDraw, DrewFor};
 ghost use Rattle.live_service.specs.Calls.{CalledToWrite};
@@ -13,7 +13,8 @@ use crate::when::When;
 use history_lock::{LaneLock, Pass, WriteError};
 use machines::{Duplicate, Event, Machine};
 use std::sync::Wait;
-use world::{CallRecord, Ticket, TicketPass};
+use tickets::{Ticket, TicketPass};
+use world::CallRecord;
 
 // The next number of a ticket pass that is not spent.
 pub(crate) fn draw(ticket: &Ticket, draws: &mut TicketPass) -> u64

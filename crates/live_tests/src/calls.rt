@@ -1,7 +1,7 @@
 //! The calls of shared objects by one thread.
 
 ghost use Rattle.history_lock.specs.Passes.{IsPassOf};
-ghost use Rattle.world.specs.Tickets.{DrawsFrom};
+ghost use Rattle.tickets.specs.Tickets.{DrawsFrom};
 
 use crate::objects::{
     Objects, Passes, close_clerk, close_table, close_task, first_assignment, first_task, open_all,
@@ -20,7 +20,8 @@ use slicelet::{Slicelet, SliceletEvent};
 use std::alloc::Global;
 use std::sync::Wait;
 use std::test::Fail;
-use world::{CallRecord, Job, Ticket, TicketPass, Told};
+use tickets::{Ticket, TicketPass};
+use world::{CallRecord, Job, Told};
 
 // Assigner 1 takes the job, and proposes and commits generation 1: its term's end, and the generation.
 fn commit_first<R: Wait>(

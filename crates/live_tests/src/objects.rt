@@ -2,7 +2,7 @@
 
 ghost use Rattle.std.specs.Prelude.{IfOk};
 ghost use Rattle.history_lock.specs.Passes.{IsPassOf};
-ghost use Rattle.world.specs.Tickets.{DrawsFrom};
+ghost use Rattle.tickets.specs.Tickets.{DrawsFrom};
 
 use assignment::{Assignment, Listed, Slice, TaskId};
 use clerk::{Clerk, ClerkEvent};
@@ -12,7 +12,7 @@ use live_service::{SharedClerk, SharedSlicelet, SharedTable};
 use slicelet::{Slicelet, SliceletEvent};
 use std::alloc::Global;
 use std::test::Fail;
-use world::{Ticket, TicketPass};
+use tickets::{Ticket, TicketPass};
 
 // The half of the key space: "hello" lies below it.
 const HALF: u64 = 1 << 62;

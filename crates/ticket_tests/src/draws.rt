@@ -1,7 +1,7 @@
 //! Tickets drawn by one thread.
 
 use std::test::Fail;
-use world::{MOST_DRAWS, MOST_PASSES, Spent, Ticket, TicketError};
+use tickets::{MOST_DRAWS, MOST_PASSES, Spent, Ticket, TicketError};
 
 #[test]
 fn numbers_draws_in_the_order_in_which_they_come(rt: HostRuntime) -> Result<(), Fail> {

@@ -1,12 +1,12 @@
 //! One ticket drawn by two threads, each with a pass of its own.
 
 ghost use Rattle.std.specs.Prelude.{IfOk};
-ghost use Rattle.world.specs.Tickets.{DrawsFrom};
+ghost use Rattle.tickets.specs.Tickets.{DrawsFrom};
 
 use std::alloc::{AllocError, Global};
 use std::test::Fail;
 use std::thread::{Threads, join};
-use world::{Ticket, TicketPass};
+use tickets::{Ticket, TicketPass};
 
 // A pass that is spent, with the numbers that it drew.
 type Drawn = (TicketPass, Vec<u64>);

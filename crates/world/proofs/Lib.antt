@@ -22,5 +22,3 @@ pub mod LiveLeases
 pub mod Owning
 pub mod TaskShares
 pub mod Planning
-pub mod TicketTotals
-pub mod Drawing

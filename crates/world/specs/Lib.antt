@@ -10,6 +10,3 @@ pub mod Headline
 pub mod Proposals
 pub mod Worlds
 pub mod Latest
-pub mod Tickets
-pub mod TicketRule
-pub mod TicketSeats

@@ -15,8 +15,6 @@ mod reply;
 mod step;
 mod table;
 mod tasks;
-mod ticket;
-mod ticket_rule;
 mod values;
 mod world;
 
@@ -32,4 +30,3 @@ pub use readings::timely;
 pub use record::{CallRecord, RecordedCall, Told};
 pub use reply::{OwnerList, Refusal, Reply};
 pub use step::Step;
-pub use ticket::{MOST_DRAWS, MOST_PASSES, PassesMissing, Spent, Ticket, TicketError, TicketPass};

@@ -2,7 +2,7 @@ use Rattle.std.proofs.Common.{◌≡◌, ℕ, ◌+◌, List, length, Some, sym, 
 use Rattle.std.proofs.lemmas.List.Elements.{All-pop}
 use Rattle.std.specs.Vec.Iter.{into_iter_items}
 use Rattle.history_lock.specs.Passes.{AreNewFrom}
-use Rattle.world.specs.Tickets.{TicketPassView, new_ticket_pass}
+use Rattle.tickets.specs.Tickets.{TicketPassView, new_ticket_pass}
 use Rattle.live_service.specs.declared.worker.Member.{Member}
 use Rattle.live_service.specs.Crews.{AreMembersFrom}
 use Rattle.live_service.proofs.Crewing.{members_push, new_member}

@@ -1,7 +1,7 @@
 use Rattle.std.proofs.Common.{◌≡◌, ◌∙◌, Some, sym, ap, subst, refl}
 use Rattle.std.proofs.lemmas.List.Elements.{All-pop}
 use Rattle.history_lock.specs.Passes.{AreNewFrom}
-use Rattle.world.specs.Tickets.{TicketPassView, new_ticket_pass}
+use Rattle.tickets.specs.Tickets.{TicketPassView, new_ticket_pass}
 use Rattle.live_service.specs.Reports.{serves}
 use Rattle.live_service.proofs.Staging.{new_last}
 use Rattle.live_service.proofs.stage.seat.Goals as goal

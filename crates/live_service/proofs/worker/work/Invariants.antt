@@ -1,6 +1,6 @@
 use Rattle.std.proofs.Common.{◌≡◌, length, vec_len}
 use Rattle.history_lock.specs.Passes.{IsPassOf}
-use Rattle.world.specs.Tickets.{DrawsFrom}
+use Rattle.tickets.specs.Tickets.{DrawsFrom}
 use Rattle.live_service.specs.Reports.{AreServesFrom}
 use Rattle.live_service.proofs.worker.work.Given as goal
 

@@ -1,6 +1,6 @@
 use Rattle.std.proofs.Common.{arith, ◌≡◌, ap, sym, ◌∙◌}
-use Rattle.world.proofs.Drawing.{draws_kept, fits_a_word}
-use Rattle.world.proofs.ticket.Ticket.draw.Goals as goal
+use Rattle.tickets.proofs.Drawing.{draws_kept, fits_a_word}
+use Rattle.tickets.proofs.ticket.Ticket.draw.Goals as goal
 
 pub fetch_add-number-requires : goal.fetch_add-number-requires
 fetch_add-number-requires c =

@@ -2,8 +2,8 @@
 use Rattle.std.specs.Prelude.{◌≡◌, ℕ, ◌*◌, ◌<◌, ◌==◌, Bool, ◌&&◌, nat_le, nat_lt, cond, List, [], ◌∷◌, ◌++◌, All, sum_by}
 use Rattle.std.specs.List.{count_by}
 use Rattle.atomic_table.specs.Seated.{TableId}
-use Rattle.world.specs.declared.ticket_rule.TicketTerms.{TicketTerms}
-use Rattle.world.specs.declared.ticket.TheConstants.{MOST_PASSES, MOST_DRAWS}
+use Rattle.tickets.specs.declared.ticket_rule.TicketTerms.{TicketTerms}
+use Rattle.tickets.specs.declared.ticket.TheConstants.{MOST_PASSES, MOST_DRAWS}
 
 -- which ticket it is, and how many passes it has with how many draws each
 pub record TicketView : Type 0 where

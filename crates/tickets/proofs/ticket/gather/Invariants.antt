@@ -1,6 +1,6 @@
 use Rattle.std.proofs.Common.{◌≡◌, ◌+◌, ◌<◌, [], All, ℕ, sum_by, vec_len}
-use Rattle.world.specs.Tickets.{times}
-use Rattle.world.proofs.ticket.gather.Given as goal
+use Rattle.tickets.specs.Tickets.{times}
+use Rattle.tickets.proofs.ticket.gather.Given as goal
 
 abbrev pub invariant-loop-pass : goal.invariant-loop-pass
 invariant-loop-pass l = record {

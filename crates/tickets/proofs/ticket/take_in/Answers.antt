@@ -1,6 +1,6 @@
 use Rattle.std.proofs.Common.{arith, ap, ◌∙◌}
-use Rattle.world.proofs.Drawing.{joins_kept}
-use Rattle.world.proofs.ticket.take_in.Goals as goal
+use Rattle.tickets.proofs.Drawing.{joins_kept}
+use Rattle.tickets.proofs.ticket.take_in.Goals as goal
 
 pub join_seat-requires : goal.join_seat-requires
 join_seat-requires c = let p = c.pass.inside in let v = c.args.seat.now in (

@@ -1,7 +1,7 @@
 use Rattle.std.proofs.Common.{arith, ◌≡◌, ◌<◌, ◌≤◌, ◌-◌, ◌+◌, ◌*◌, ℕ, sym, subst, ◌∙◌, suc-mul}
-use Rattle.world.specs.declared.ticket_rule.TicketTerms.{TicketTerms}
-use Rattle.world.proofs.Drawing.{splits_kept}
-use Rattle.world.proofs.ticket.deal_one.Goals as goal
+use Rattle.tickets.specs.declared.ticket_rule.TicketTerms.{TicketTerms}
+use Rattle.tickets.proofs.Drawing.{splits_kept}
+use Rattle.tickets.proofs.ticket.deal_one.Goals as goal
 
 -- so many quotas, and one quota less
 one_fewer : (passes quota : ℕ) → 0 < passes → passes * quota ≡ (passes - 1) * quota + quota

@@ -2,9 +2,9 @@ use Rattle.std.proofs.Common.{arith, ◌≡◌, ℕ, List, [], ◌∷◌, sym, a
 use Rattle.std.specs.List.{slice_index}
 use mathlib.Core.Option.{some, some-injective, some-ne-none}
 use lib.ListN.{get_elem?}
-use Rattle.world.specs.Tickets.{once_below}
-use Rattle.world.proofs.Drawing.{knows_all}
-use Rattle.world.proofs.ticket.Ticket.close.Goals as goal
+use Rattle.tickets.specs.Tickets.{once_below}
+use Rattle.tickets.proofs.Drawing.{knows_all}
+use Rattle.tickets.proofs.ticket.Ticket.close.Goals as goal
 
 first_word : (words : List ℕ) (n : ℕ) → get_elem? words 0 ≡ some n → slice_index words 0 ≡ n
 first_word [] n e = absurd (some-ne-none n (sym e))

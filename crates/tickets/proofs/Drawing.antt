@@ -9,11 +9,11 @@ use lib.ListN.{get_elem?}
 use Rattle.atomic_table.specs.Table.{State, Allows, Splits, Joins}
 use Rattle.atomic_table.specs.Table.Act.{keeps}
 use Rattle.atomic_table.proofs.Lists.{at_set, at_snoc}
-use Rattle.world.specs.declared.ticket_rule.TicketTerms.{TicketTerms}
-use Rattle.world.specs.declared.ticket_rule.TicketShare.{TicketShare}
-use Rattle.world.specs.Tickets.{times, once_below}
-use Rattle.world.specs.TicketRule.{DrawsEachOnce, IsDrawnOn, share_after_draw, share_after_dealing, new_share, both_shares, no_share}
-use Rattle.world.proofs.TicketTotals.{sum_set, sum_get, sum_zero, times_here, once_step, once_is_below}
+use Rattle.tickets.specs.declared.ticket_rule.TicketTerms.{TicketTerms}
+use Rattle.tickets.specs.declared.ticket_rule.TicketShare.{TicketShare}
+use Rattle.tickets.specs.Tickets.{times, once_below}
+use Rattle.tickets.specs.TicketRule.{DrawsEachOnce, IsDrawnOn, share_after_draw, share_after_dealing, new_share, both_shares, no_share}
+use Rattle.tickets.proofs.TicketTotals.{sum_set, sum_get, sum_zero, times_here, once_step, once_is_below}
 
 -- the shares and what was drawn, after the share of one seat has changed
 module _ {S : Type 0} (terms : TicketTerms) (s : State S TicketShare) (kept : DrawsEachOnce terms s) (seat : ℕ) (v : TicketShare) (at : get_elem? s.views seat ≡ some v) where

@@ -3,10 +3,10 @@
 ghost use Rattle.std.specs.Prelude.{◌≡◌, ◌≢◌, ◌+◌, ◌<◌, [], ◌++◌, true, if◌then◌else◌, All, length, vec_len};
 ghost use Rattle.std.specs.Prelude.{IfOk, OnOk, IfErr, IsErr};
 ghost use mathlib.Core.Logic.{◌↔◌};
-ghost use Rattle.world.specs.declared.ticket.TicketError.TheVariants as ticket_error;
-ghost use Rattle.world.specs.TicketRule.{first_share};
-ghost use Rattle.world.specs.TicketSeats.{IsDealing, IsWhole, ticket_at};
-ghost use Rattle.world.specs.Tickets.{DrawsFrom, DrewEachBelow, IsDrawn, is_allowed, new_ticket_pass};
+ghost use Rattle.tickets.specs.declared.ticket.TicketError.TheVariants as ticket_error;
+ghost use Rattle.tickets.specs.TicketRule.{first_share};
+ghost use Rattle.tickets.specs.TicketSeats.{IsDealing, IsWhole, ticket_at};
+ghost use Rattle.tickets.specs.Tickets.{DrawsFrom, DrewEachBelow, IsDrawn, is_allowed, new_ticket_pass};
 
 use crate::ticket_rule::{
     DealPass, Draw, GatherPass, TicketSeat, TicketTable, TicketTerms, TicketWord,
@@ -30,8 +30,8 @@ pub struct Ticket {
 }
 
 impl Model for Ticket {
-    ghost use Rattle.world.specs.Tickets.{TicketView};
-    ghost use Rattle.world.specs.TicketSeats.{IsOfOneWord, ticket_at};
+    ghost use Rattle.tickets.specs.Tickets.{TicketView};
+    ghost use Rattle.tickets.specs.TicketSeats.{IsOfOneWord, ticket_at};
 
     ghost Value = { TicketView };
 
@@ -50,8 +50,8 @@ pub struct TicketPass {
 }
 
 impl Model for TicketPass {
-    ghost use Rattle.world.specs.Tickets.{TicketPassView};
-    ghost use Rattle.world.specs.TicketSeats.{IsResting, pass_at};
+    ghost use Rattle.tickets.specs.Tickets.{TicketPassView};
+    ghost use Rattle.tickets.specs.TicketSeats.{IsResting, pass_at};
 
     ghost Value = { TicketPassView };
 

@@ -32,7 +32,7 @@ pub type TicketSeat = Seat<(), TicketShare>;
 pub struct EachOnce;
 
 impl TableRule<(), TicketShare, TicketTerms> for EachOnce {
-    ghost use Rattle.world.specs.TicketRule.{DrawsEachOnce, first_share};
+    ghost use Rattle.tickets.specs.TicketRule.{DrawsEachOnce, first_share};
 
     ghost holds = { λ terms s. DrawsEachOnce terms s };
 
@@ -43,7 +43,7 @@ impl TableRule<(), TicketShare, TicketTerms> for EachOnce {
 pub struct Draw;
 
 impl Play<(), TicketShare> for Draw {
-    ghost use Rattle.world.specs.TicketRule.{IsDrawnOn};
+    ghost use Rattle.tickets.specs.TicketRule.{IsDrawnOn};
 
     ghost then = { λ _ before number after. IsDrawnOn before number after };
 }
@@ -52,7 +52,7 @@ impl Play<(), TicketShare> for Draw {
 pub struct DealPass;
 
 impl Split<TicketShare> for DealPass {
-    ghost use Rattle.world.specs.TicketRule.{share_after_dealing, new_share};
+    ghost use Rattle.tickets.specs.TicketRule.{share_after_dealing, new_share};
 
     ghost left = { share_after_dealing };
 
@@ -63,7 +63,7 @@ impl Split<TicketShare> for DealPass {
 pub struct GatherPass;
 
 impl Join<TicketShare> for GatherPass {
-    ghost use Rattle.world.specs.TicketRule.{both_shares, no_share};
+    ghost use Rattle.tickets.specs.TicketRule.{both_shares, no_share};
 
     ghost both = { both_shares };
 

@@ -4,9 +4,9 @@ use Rattle.std.specs.Prelude.{◌≡◌, ℕ, ◌+◌, ◌-◌, ◌*◌, ◌<◌
 use mathlib.Core.Option.{some}
 use lib.ListN.{get_elem?}
 use Rattle.atomic_table.specs.Table.{State, Me}
-use Rattle.world.specs.declared.ticket_rule.TicketTerms.{TicketTerms}
-use Rattle.world.specs.declared.ticket_rule.TicketShare.{TicketShare}
-use Rattle.world.specs.Tickets.{times, once_below}
+use Rattle.tickets.specs.declared.ticket_rule.TicketTerms.{TicketTerms}
+use Rattle.tickets.specs.declared.ticket_rule.TicketShare.{TicketShare}
+use Rattle.tickets.specs.Tickets.{times, once_below}
 
 abbrev pub share : TicketTerms → ℕ → ℕ → List ℕ → TicketShare
 share terms passes left drawn = record { terms = terms; passes = passes; left = left; drawn = drawn }

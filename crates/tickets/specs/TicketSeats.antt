@@ -2,10 +2,10 @@
 use Rattle.std.specs.Prelude.{◌≡◌, ℕ, ◌+◌, ◌*◌, ◌<◌, ◌≤◌, List, [], length, sum_by}
 use Rattle.atomic_table.specs.Seated.{TableId}
 use Rattle.atomic_table.specs.Table.{Me}
-use Rattle.world.specs.declared.ticket_rule.TicketTerms.{TicketTerms}
-use Rattle.world.specs.declared.ticket_rule.TicketShare.{TicketShare}
-use Rattle.world.specs.declared.ticket.TheConstants.{MOST_PASSES, MOST_DRAWS}
-use Rattle.world.specs.Tickets.{TicketView, TicketPassView, times}
+use Rattle.tickets.specs.declared.ticket_rule.TicketTerms.{TicketTerms}
+use Rattle.tickets.specs.declared.ticket_rule.TicketShare.{TicketShare}
+use Rattle.tickets.specs.declared.ticket.TheConstants.{MOST_PASSES, MOST_DRAWS}
+use Rattle.tickets.specs.Tickets.{TicketView, TicketPassView, times}
 
 abbrev pub ticket_at : TableId → TicketTerms → TicketView
 ticket_at table terms = record { table = table; terms = terms }

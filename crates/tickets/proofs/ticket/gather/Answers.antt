@@ -1,8 +1,8 @@
 use Rattle.std.proofs.Common.{arith, ◌≡◌, ap, sum_by, cond, ◌==◌, Some, ◌∙◌}
 use Rattle.std.proofs.lemmas.List.Sums.{sum_by_push, sum_by-append}
 use Rattle.std.proofs.lemmas.List.Elements.{All-pop}
-use Rattle.world.specs.Tickets.{TicketPassView, times}
-use Rattle.world.proofs.ticket.gather.Goals as goal
+use Rattle.tickets.specs.Tickets.{TicketPassView, times}
+use Rattle.tickets.proofs.ticket.gather.Goals as goal
 
 pub loop-pass-preserved : goal.loop-pass-preserved
 loop-pass-preserved c =

@@ -1,7 +1,7 @@
 use Rattle.std.proofs.Common.{◌≡◌, ◌+◌, All, vec_len}
-use Rattle.world.specs.Tickets.{new_ticket_pass}
-use Rattle.world.specs.TicketSeats.{IsDealing, ticket_at}
-use Rattle.world.proofs.ticket.deal.Given as goal
+use Rattle.tickets.specs.Tickets.{new_ticket_pass}
+use Rattle.tickets.specs.TicketSeats.{IsDealing, ticket_at}
+use Rattle.tickets.proofs.ticket.deal.Given as goal
 
 abbrev pub invariant-loop : goal.invariant-loop
 invariant-loop l = record {

@@ -1,0 +1,2 @@
+pub mod TicketTotals
+pub mod Drawing
