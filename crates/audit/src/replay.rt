@@ -2,12 +2,9 @@
 
 ghost use Rattle.std.specs.Prelude.{◌≡◌, ℕ, ◌+◌, ◌<◌, [], false, map, length, IfOk, None, Option, MatchOption};
 ghost use Rattle.std.specs.List.{list_any, range_with_len};
-ghost use Rattle.machines.specs.Answers.{Takes};
 ghost use Rattle.assignment.specs.Slices.{Slicing};
-ghost use Rattle.lease_table.specs.Calls.{table_step};
 ghost use Rattle.lease_table.specs.Policies.{is_within};
-ghost use Rattle.slicelet.specs.Steps.{History, slicelet_step};
-ghost use Rattle.clerk.specs.Calls.{clerk_step};
+ghost use Rattle.slicelet.specs.Steps.{History};
 ghost use Rattle.world.specs.declared.record.RecordedCall.TheVariants as call;
 ghost use Rattle.slicelet.specs.Rules.{rule_after, covers_key};
 ghost use Rattle.slicelet.specs.Continuity.{handle_on, held_by};
@@ -20,13 +17,13 @@ ghost use Rattle.audit.specs.Shown.{shown};
 
 use crate::points::Point;
 use assignment::{Assignment, Listed, TaskId};
-use clerk::{Clerk, ClerkCall, ClerkError, ClerkReply};
+use clerk::{Clerk, ClerkCall};
 use key_handle::KeyHandle;
 use key_hash::SliceKey;
-use lease_table::{Grant, LeaseTable, ReleaseNote, TableCall, TableError, TableReply, policy_law};
+use lease_table::{Grant, LeaseTable, ReleaseNote, TableCall, TableReply, policy_law};
 use machines::Trouble;
 use policy_rules::Verdict;
-use slicelet::{Slicelet, SliceletCall, SliceletError, SliceletReply};
+use slicelet::{Slicelet, SliceletCall, SliceletReply};
 use std::alloc::{AllocError, Global};
 use std::marker::Model;
 use world::{Job, RecordedCall, Refusal, Told, numbered};
@@ -57,76 +54,6 @@ impl Model for Replay {
       handles = r.handles.items;
       published = r.published.items;
     } };
-}
-
-fn call_table(table: &mut LeaseTable, call: &TableCall) -> Result<TableReply, Trouble<TableError>>
-    ensures { Takes (table_step table.old call.now) table.old result table.new }
-{
-    match call {
-        TableCall::JobTake { assigner, at } => {
-            let term = table.job_take(*assigner, *at).map_err(Trouble::Refused)?;
-            Ok(TableReply::Term(term))
-        }
-        TableCall::JobRenew { number, at } => {
-            let term = table.job_renew(*number, *at).map_err(Trouble::Refused)?;
-            Ok(TableReply::Term(term))
-        }
-        TableCall::Propose {
-            number,
-            assignment,
-            at,
-        } => {
-            table.propose(*number, assignment, *at)?;
-            Ok(TableReply::Proposed)
-        }
-        TableCall::Commit { number, at } => {
-            let generation = table.commit(*number, *at).map_err(Trouble::Refused)?;
-            Ok(TableReply::Committed(generation))
-        }
-        TableCall::Grant { task, life, at } => {
-            Ok(TableReply::Granted(table.grant(*task, *life, *at)?))
-        }
-        TableCall::Free { note, at } => {
-            let count = table.free(note, *at).map_err(Trouble::Refused)?;
-            Ok(TableReply::Freed(count))
-        }
-    }
-}
-
-fn call_task(
-    slicelet: &mut Slicelet,
-    call: &SliceletCall,
-) -> Result<SliceletReply, Trouble<SliceletError>>
-    ensures { Takes (slicelet_step slicelet.old call.now) slicelet.old result slicelet.new }
-{
-    match call {
-        SliceletCall::Start { life, at } => {
-            slicelet.start(*life, *at)?;
-            Ok(SliceletReply::Started)
-        }
-        SliceletCall::Hear { grant, at } => {
-            slicelet.hear(grant, *at)?;
-            Ok(SliceletReply::Heard)
-        }
-        SliceletCall::Release { kind, at } => {
-            Ok(SliceletReply::Released(slicelet.release(*kind, *at)?))
-        }
-    }
-}
-
-fn call_clerk(clerk: &mut Clerk, call: &ClerkCall) -> Result<ClerkReply, Trouble<ClerkError>>
-    ensures { Takes (clerk_step clerk.old call.now) clerk.old result clerk.new }
-{
-    match call {
-        ClerkCall::Learn(assignment) => {
-            clerk.learn(assignment)?;
-            Ok(ClerkReply::Learnt)
-        }
-        ClerkCall::Forget => {
-            clerk.forget();
-            Ok(ClerkReply::Forgotten)
-        }
-    }
 }
 
 fn is_within(number: u64, most: u64) -> bool
@@ -297,7 +224,7 @@ impl Replay {
         if let Some(why) = table_refusal(self, job, call) {
             return Ok(Told::Refused(why));
         }
-        match call_table(&mut self.table, call) {
+        match self.table.call(call) {
             Ok(reply) => {
                 self.keep(&reply)?;
                 Ok(Told::Table(reply))
@@ -327,7 +254,7 @@ impl Replay {
         if let Some(why) = task_refusal(self, call) {
             return Ok(Told::Refused(why));
         }
-        match call_task(&mut self.tasks[place], call) {
+        match self.tasks[place].call(call) {
             Ok(reply) => {
                 let made = reply;
                 self.keep_note(made)?;
@@ -348,7 +275,7 @@ impl Replay {
         if let Some(why) = clerk_refusal(self, call) {
             return Ok(Told::Refused(why));
         }
-        match call_clerk(&mut self.clerks[place], call) {
+        match self.clerks[place].call(call) {
             Ok(reply) => Ok(Told::Clerk(reply)),
             Err(Trouble::Refused(why)) => Ok(Told::Refused(Refusal::Clerk(why))),
             Err(Trouble::NoMemory) => Err(AllocError),

@@ -1,6 +1,7 @@
 //! A clerk as a machine.
 
-ghost use Rattle.clerk.specs.Calls.{event_step};
+ghost use Rattle.machines.specs.Answers.{Takes};
+ghost use Rattle.clerk.specs.Calls.{event_step, clerk_step};
 
 use crate::call::{ClerkCall, ClerkReply};
 use crate::clerk::Clerk;
@@ -10,6 +11,25 @@ use std::alloc::AllocError;
 
 /// A call of a clerk, and when it was made.
 pub type ClerkEvent = Event<ClerkCall>;
+
+impl Clerk {
+    /// Makes the call that a value stands for, and answers what it answers: its refusal; want of memory comes
+    /// last, and changes nothing.
+    pub fn call(&mut self, call: &ClerkCall) -> Result<ClerkReply, Trouble<ClerkError>>
+        ensures { Takes (clerk_step self.old call.now) self.old result self.new }
+    {
+        match call {
+            ClerkCall::Learn(assignment) => {
+                self.learn(assignment)?;
+                Ok(ClerkReply::Learnt)
+            }
+            ClerkCall::Forget => {
+                self.forget();
+                Ok(ClerkReply::Forgotten)
+            }
+        }
+    }
+}
 
 impl Machine for Clerk {
     type Event = ClerkEvent;
@@ -21,16 +41,7 @@ impl Machine for Clerk {
     ghost step = { event_step };
 
     fn apply(&mut self, event: &ClerkEvent) -> Result<ClerkReply, Trouble<ClerkError>> {
-        match &event.call {
-            ClerkCall::Learn(assignment) => {
-                self.learn(assignment)?;
-                Ok(ClerkReply::Learnt)
-            }
-            ClerkCall::Forget => {
-                self.forget();
-                Ok(ClerkReply::Forgotten)
-            }
-        }
+        self.call(&event.call)
     }
 
     fn copy(&self) -> Result<Self, AllocError> {

@@ -1,6 +1,7 @@
 //! The lease table as a machine.
 
-ghost use Rattle.lease_table.specs.Calls.{event_step};
+ghost use Rattle.machines.specs.Answers.{Takes};
+ghost use Rattle.lease_table.specs.Calls.{event_step, table_step};
 
 use crate::call::{TableCall, TableReply};
 use crate::error::TableError;
@@ -11,17 +12,13 @@ use std::alloc::AllocError;
 /// A call of the table, and when it was made.
 pub type TableEvent = Event<TableCall>;
 
-impl Machine for LeaseTable {
-    type Event = TableEvent;
-
-    type Reply = TableReply;
-
-    type Fault = TableError;
-
-    ghost step = { event_step };
-
-    fn apply(&mut self, event: &TableEvent) -> Result<TableReply, Trouble<TableError>> {
-        match &event.call {
+impl LeaseTable {
+    /// Makes the call that a value stands for, and answers what it answers: its refusals in their order; want of
+    /// memory comes last, and changes nothing.
+    pub fn call(&mut self, call: &TableCall) -> Result<TableReply, Trouble<TableError>>
+        ensures { Takes (table_step self.old call.now) self.old result self.new }
+    {
+        match call {
             TableCall::JobTake { assigner, at } => {
                 let term = self.job_take(*assigner, *at).map_err(Trouble::Refused)?;
                 Ok(TableReply::Term(term))
@@ -50,6 +47,20 @@ impl Machine for LeaseTable {
                 Ok(TableReply::Freed(count))
             }
         }
+    }
+}
+
+impl Machine for LeaseTable {
+    type Event = TableEvent;
+
+    type Reply = TableReply;
+
+    type Fault = TableError;
+
+    ghost step = { event_step };
+
+    fn apply(&mut self, event: &TableEvent) -> Result<TableReply, Trouble<TableError>> {
+        self.call(&event.call)
     }
 
     fn copy(&self) -> Result<Self, AllocError> {

@@ -1,6 +1,7 @@
 //! A slicelet as a machine.
 
-ghost use Rattle.slicelet.specs.Steps.{event_step};
+ghost use Rattle.machines.specs.Answers.{Takes};
+ghost use Rattle.slicelet.specs.Steps.{event_step, slicelet_step};
 
 use crate::call::{SliceletCall, SliceletReply};
 use crate::error::SliceletError;
@@ -11,17 +12,13 @@ use std::alloc::AllocError;
 /// A call of a slicelet, and when it was made.
 pub type SliceletEvent = Event<SliceletCall>;
 
-impl Machine for Slicelet {
-    type Event = SliceletEvent;
-
-    type Reply = SliceletReply;
-
-    type Fault = SliceletError;
-
-    ghost step = { event_step };
-
-    fn apply(&mut self, event: &SliceletEvent) -> Result<SliceletReply, Trouble<SliceletError>> {
-        match &event.call {
+impl Slicelet {
+    /// Makes the call that a value stands for, and answers what it answers: its refusals in their order; want of
+    /// memory comes last, and changes nothing.
+    pub fn call(&mut self, call: &SliceletCall) -> Result<SliceletReply, Trouble<SliceletError>>
+        ensures { Takes (slicelet_step self.old call.now) self.old result self.new }
+    {
+        match call {
             SliceletCall::Start { life, at } => {
                 self.start(*life, *at)?;
                 Ok(SliceletReply::Started)
@@ -34,6 +31,20 @@ impl Machine for Slicelet {
                 Ok(SliceletReply::Released(self.release(*kind, *at)?))
             }
         }
+    }
+}
+
+impl Machine for Slicelet {
+    type Event = SliceletEvent;
+
+    type Reply = SliceletReply;
+
+    type Fault = SliceletError;
+
+    ghost step = { event_step };
+
+    fn apply(&mut self, event: &SliceletEvent) -> Result<SliceletReply, Trouble<SliceletError>> {
+        self.call(&event.call)
     }
 
     fn copy(&self) -> Result<Self, AllocError> {

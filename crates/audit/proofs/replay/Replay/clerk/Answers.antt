@@ -30,16 +30,16 @@ returns c =
     let is : before ≡ c.args.self.now = c.self.view_is in
     let sent : clerk_refusal before c.args.call.now ≡ None = subst (λ (s : Stage). clerk_refusal s c.args.call.now ≡ None) (sym is) (sym c.in_default-clerk_refusal.ensures) in
     let inside : c.in-Some.place < length before.clerks = (let low = c.in-Some.ensures.1 in let many = c.len.ensures in let e = c.self.inside.clerks.ok.0 in omega arith) in
-    let left : Stage = record before { clerks = set before.clerks c.in-Some.place c.call_clerk.new.clerk } in
-    elim c.match-call_clerk.branch [
+    let left : Stage = record before { clerks = set before.clerks c.in-Some.place c.call.new.self } in
+    elim c.match-call.branch [
       | in-Ok w ↦
           rw w.result-is
           (subst (λ (s : Stage). let t : Turned = (left, told.Clerk w.in-Ok.reply) in t ≡ clerk_turn s c.args.clerk c.args.call.now) is
-          (clerk_done before c.args.clerk c.in-Some.place c.index_mut.result.now c.in-Some.ensures.0 inside c.index_mut.ensures.value c.args.call.now c.call_clerk.new.clerk w.in-Ok.reply sent w.in-Ok.ensures))
+          (clerk_done before c.args.clerk c.in-Some.place c.index_mut.result.now c.in-Some.ensures.0 inside c.index_mut.ensures.value c.args.call.now c.call.new.self w.in-Ok.reply sent w.in-Ok.ensures))
       | in-Err-Refused w ↦
           let x = rw w.in-Err-Refused.field-0-is at w.in-Err-Refused.ensures in
           rw w.result-is
           (subst (λ (s : Stage). let t : Turned = (left, told.Refused (refusal.Clerk w.in-Err-Refused.why)) in t ≡ clerk_turn s c.args.clerk c.args.call.now) is
-          (clerk_kept before c.args.clerk c.in-Some.place c.index_mut.result.now c.in-Some.ensures.0 inside c.index_mut.ensures.value c.args.call.now c.call_clerk.new.clerk w.in-Err-Refused.why sent x.0 x.1))
+          (clerk_kept before c.args.clerk c.in-Some.place c.index_mut.result.now c.in-Some.ensures.0 inside c.index_mut.ensures.value c.args.call.now c.call.new.self w.in-Err-Refused.why sent x.0 x.1))
       | in-Err-NoMemory w ↦ rw w.result-is tt
     ]

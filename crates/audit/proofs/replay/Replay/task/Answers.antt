@@ -15,8 +15,8 @@ returns-in-Err-Refused c =
     let sent : task_refusal before c.args.call.now ≡ None = subst (λ (s : Stage). task_refusal s c.args.call.now ≡ None) (sym is) (sym c.in_default-task_refusal.ensures) in
     let inside : c.in-Some.place < length before.tasks = (let low = c.in-Some.ensures.1 in let many = c.len.ensures in let e = c.self.inside.tasks.ok.0 in omega arith) in
     let x = rw c.in-Err-Refused.field-0-is at c.in-Err-Refused.ensures in
-    subst (λ (s : Stage). let t : Turned = (record before { tasks = set before.tasks c.in-Some.place c.call_task.new.slicelet }, told.Refused (refusal.Slicelet c.in-Err-Refused.why)) in t ≡ task_turn s c.args.task c.args.call.now) is
-    (task_kept before c.args.task c.in-Some.place c.index_mut.result.now c.in-Some.ensures.0 inside c.index_mut.ensures.value c.args.call.now c.call_task.new.slicelet c.in-Err-Refused.why sent x.0 x.1)
+    subst (λ (s : Stage). let t : Turned = (record before { tasks = set before.tasks c.in-Some.place c.call.new.self }, told.Refused (refusal.Slicelet c.in-Err-Refused.why)) in t ≡ task_turn s c.args.task c.args.call.now) is
+    (task_kept before c.args.task c.in-Some.place c.index_mut.result.now c.in-Some.ensures.0 inside c.index_mut.ensures.value c.args.call.now c.call.new.self c.in-Err-Refused.why sent x.0 x.1)
 
 pub returns-in_default : goal.returns-in_default
 returns-in_default c =
@@ -39,6 +39,6 @@ returns-in_ok-keep_note-in-Ok c =
     let is : before ≡ c.args.self.now = c.self.view_is in
     let sent : task_refusal before c.args.call.now ≡ None = subst (λ (s : Stage). task_refusal s c.args.call.now ≡ None) (sym is) (sym c.in_default-task_refusal.ensures) in
     let inside : c.in-Some.place < length before.tasks = (let low = c.in-Some.ensures.1 in let many = c.len.ensures in let e = c.self.inside.tasks.ok.0 in omega arith) in
-    let done = task_done before c.args.task c.in-Some.place c.index_mut.result.now c.in-Some.ensures.0 inside c.index_mut.ensures.value c.args.call.now c.call_task.new.slicelet c.in-Ok.reply sent c.in-Ok.ensures in
+    let done = task_done before c.args.task c.in-Some.place c.index_mut.result.now c.in-Some.ensures.0 inside c.index_mut.ensures.value c.args.call.now c.call.new.self c.in-Ok.reply sent c.in-Ok.ensures in
     ap (λ (s : Stage). let t : Turned = (s, told.Task c.in-Ok.reply) in t) c.in_ok-keep_note-in-Ok.ensures
-    ∙ subst (λ (s : Stage). let t : Turned = (record before { tasks = set before.tasks c.in-Some.place c.call_task.new.slicelet; notes = notes_with c.in-Ok.reply before.notes }, told.Task c.in-Ok.reply) in t ≡ task_turn s c.args.task c.args.call.now) is done
+    ∙ subst (λ (s : Stage). let t : Turned = (record before { tasks = set before.tasks c.in-Some.place c.call.new.self; notes = notes_with c.in-Ok.reply before.notes }, told.Task c.in-Ok.reply) in t ≡ task_turn s c.args.task c.args.call.now) is done
