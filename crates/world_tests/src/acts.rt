@@ -182,3 +182,11 @@ pub fn step_of(alloc: Global, act: Act) -> Result<Step, AllocError> {
         None => list_step(alloc, act),
     }
 }
+
+pub fn steps_of(alloc: Global, acts: &[Act]) -> Result<Vec<Step>, AllocError> {
+    let mut steps = Vec::new(alloc);
+    for act in acts {
+        steps.push(step_of(alloc, *act)?)?;
+    }
+    Ok(steps)
+}

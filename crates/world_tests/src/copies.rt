@@ -1,7 +1,7 @@
 //! Copies of steps and of what they are answered.
 
 use crate::acts::Act;
-use crate::stories::{AFTER, BASE, CHANGE, LOADS, Told, VALUES, job_of, steps_of, text_of};
+use crate::stories::{STORIES, Told, has_text, replies_of, steps_of, world_of};
 use machines::Duplicate;
 use std::alloc::{AllocError, Global};
 use std::test::Fail;
@@ -18,10 +18,10 @@ fn copies_of(alloc: Global, story: &[Told]) -> Result<Vec<Step>, AllocError> {
 
 // Plays copies of a story's steps, and answers its first act whose reply's copy has another text.
 fn other_copy(alloc: Global, world: &mut World, story: &[Told]) -> Result<Option<Act>, AllocError> {
-    let replies = world.run(copies_of(alloc, story)?.as_slice())?;
+    let replies = replies_of(world, copies_of(alloc, story)?.as_slice())?;
     for (place, (act, wanted)) in story.iter().enumerate() {
         match replies.as_slice().get(place) {
-            Some(reply) if text_of(alloc, &reply.copy()?)?.as_str() == *wanted => {}
+            Some(reply) if has_text(alloc, &reply.copy()?, wanted)? => {}
             _ => return Ok(Some(*act)),
         }
     }
@@ -30,9 +30,8 @@ fn other_copy(alloc: Global, world: &mut World, story: &[Told]) -> Result<Option
 
 // The same of all stories.
 fn first_other_copy(alloc: Global) -> Result<Option<Act>, Fail> {
-    let stories: [&[Told]; 5] = [&VALUES, &LOADS, &BASE, &CHANGE, &AFTER];
-    let mut world = World::new(alloc, job_of()?)?;
-    for story in stories {
+    let mut world = world_of(alloc)?;
+    for story in STORIES {
         let other = other_copy(alloc, &mut world, story)?;
         if other.is_some() {
             return Ok(other);

@@ -1,31 +1,55 @@
 //! A world where memory is refused.
 
 use crate::acts::{Act, step_of};
-use crate::stories::{AFTER, BASE, CHANGE, LOADS, Told, VALUES, job_of, text_of};
-use std::alloc::Global;
+use crate::stories::{STORIES, Told, job_of, new_world, replies_of, text_of};
+use std::alloc::{AllocError, Global};
 use std::test::Fail;
-use world::{Reply, Step, World};
+use world::{Job, Reply, Step, World};
 
 // What a step is answered, where there is memory for it and for its reply.
 fn answer(alloc: Global, world: &mut World, step: Step) -> Option<Reply> {
     let steps = Vec::from_array(alloc, [step]).ok()?;
-    match world.run(steps.as_slice()).ok()?.pop()? {
+    match replies_of(world, steps.as_slice()).ok()?.pop()? {
         Reply::NoMemory => None,
         reply => Some(reply),
     }
 }
 
-// Plays a story a step at a time, and a step once more where there was no memory for it: the first act
-// that is answered otherwise, if there is one.
+// The step of an act, the second time where there was no memory for it.
+fn step_at_last(alloc: Global, act: Act) -> Result<Step, AllocError> {
+    match step_of(alloc, act) {
+        Ok(step) => Ok(step),
+        Err(_) => step_of(alloc, act),
+    }
+}
+
+// What an act is answered, once more where there was no memory for it.
+fn answer_at_last(alloc: Global, world: &mut World, act: Act) -> Result<Reply, Fail> {
+    match answer(alloc, world, step_at_last(alloc, act)?) {
+        Some(reply) => Ok(reply),
+        None => Ok(answer(alloc, world, step_of(alloc, act)?).ok_or("a second time")?),
+    }
+}
+
+fn text_at_last(alloc: Global, reply: &Reply) -> Result<String, AllocError> {
+    match text_of(alloc, reply) {
+        Ok(text) => Ok(text),
+        Err(_) => text_of(alloc, reply),
+    }
+}
+
+fn world_at_last(alloc: Global, job: Job) -> Result<World, AllocError> {
+    match new_world(alloc, job) {
+        Ok(world) => Ok(world),
+        Err(_) => new_world(alloc, job),
+    }
+}
+
+// Plays a story a step at a time: the first act that is answered otherwise, if there is one.
 fn other_at_last(alloc: Global, world: &mut World, story: &[Told]) -> Result<Option<Act>, Fail> {
     for (act, wanted) in story {
-        let step = step_of(alloc, *act).or_else(|_| step_of(alloc, *act))?;
-        let reply = match answer(alloc, world, step) {
-            Some(reply) => reply,
-            None => answer(alloc, world, step_of(alloc, *act)?).ok_or("a second time")?,
-        };
-        let text = text_of(alloc, &reply).or_else(|_| text_of(alloc, &reply))?;
-        if text.as_str() != *wanted {
+        let reply = answer_at_last(alloc, world, *act)?;
+        if text_at_last(alloc, &reply)?.as_str() != *wanted {
             return Ok(Some(*act));
         }
     }
@@ -34,10 +58,8 @@ fn other_at_last(alloc: Global, world: &mut World, story: &[Told]) -> Result<Opt
 
 // The same of all stories.
 fn first_other_at_last(alloc: Global) -> Result<Option<Act>, Fail> {
-    let stories: [&[Told]; 5] = [&VALUES, &LOADS, &BASE, &CHANGE, &AFTER];
-    let job = job_of()?;
-    let mut world = World::new(alloc, job).or_else(|_| World::new(alloc, job))?;
-    for story in stories {
+    let mut world = world_at_last(alloc, job_of()?)?;
+    for story in STORIES {
         let other = other_at_last(alloc, &mut world, story)?;
         if other.is_some() {
             return Ok(other);

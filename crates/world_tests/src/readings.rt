@@ -1,15 +1,12 @@
 //! When clocks were timely.
 
-use crate::acts::{Act, step_of};
+use crate::acts::{Act, steps_of};
 use std::alloc::{AllocError, Global};
 use std::test::Fail;
 use world::timely;
 
 fn are_timely(alloc: Global, skew: u64, acts: &[Act]) -> Result<bool, AllocError> {
-    let mut steps = Vec::new(alloc);
-    for act in acts {
-        steps.push(step_of(alloc, *act)?)?;
-    }
+    let steps = steps_of(alloc, acts)?;
     Ok(timely(steps.as_slice(), skew))
 }
 

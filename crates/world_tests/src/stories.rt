@@ -39,7 +39,7 @@ pub const BASE: [Told; 6] = [
 ];
 
 // The steps on values alone.
-pub const VALUES: [Told; 5] = [
+const VALUES: [Told; 5] = [
     (
         Act::Hash("hello"),
         "Key(SliceKey { number: 1619368272448737671 })",
@@ -104,7 +104,7 @@ pub const CHANGE: [Told; 16] = [
 ];
 
 // After the change: a clerk learns and forgets, and an assigner is restarted.
-pub const AFTER: [Told; 10] = [
+const AFTER: [Told; 10] = [
     (Act::Learn(1, 2), "Learnt(2)"),
     (
         Act::Look(1, "hello"),
@@ -128,7 +128,7 @@ pub const AFTER: [Told; 10] = [
 
 // After the values: work is recorded and gathered, a plan is made, and an assigner without a term is
 // asked what it does.
-pub const LOADS: [Told; 9] = [
+const LOADS: [Told; 9] = [
     (Act::Load(1, "hello", 3), "Recorded(3)"),
     (Act::Load(2, "abc", 5), "Recorded(5)"),
     (Act::Load(1, "hello", 2), "Recorded(5)"),
@@ -151,10 +151,25 @@ pub const LOADS: [Told; 9] = [
     (Act::Next(1, 0, true), "Next(Take)"),
 ];
 
+// All of them, in the order in which one world plays them.
+pub const STORIES: &[&[Told]] = &[&VALUES, &LOADS, &BASE, &CHANGE, &AFTER];
+
+fn policy_of() -> Result<Policy, Fail> {
+    Ok(Policy::new(1, 10, 100, 100, 1000, 1000).ok_or("within the limits")?)
+}
+
 // A job of two assigners, two tasks and two clerks.
 pub fn job_of() -> Result<Job, Fail> {
-    let policy = Policy::new(1, 10, 100, 100, 1000, 1000).ok_or("within the limits")?;
-    Ok(Job::new(policy, 2, 2, 2).ok_or("within the limits")?)
+    Ok(Job::new(policy_of()?, 2, 2, 2).ok_or("within the limits")?)
+}
+
+pub fn new_world(alloc: Global, job: Job) -> Result<World, AllocError> {
+    World::new(alloc, job)
+}
+
+// A world of that job.
+pub fn world_of(alloc: Global) -> Result<World, Fail> {
+    Ok(new_world(alloc, job_of()?)?)
 }
 
 pub fn steps_of(alloc: Global, story: &[Told]) -> Result<Vec<Step>, AllocError> {
@@ -165,8 +180,16 @@ pub fn steps_of(alloc: Global, story: &[Told]) -> Result<Vec<Step>, AllocError> 
     Ok(steps)
 }
 
+pub fn replies_of(world: &mut World, steps: &[Step]) -> Result<Vec<Reply>, AllocError> {
+    world.run(steps)
+}
+
 pub fn text_of(alloc: Global, reply: &Reply) -> Result<String, AllocError> {
     format!(in alloc; "{reply:?}")
+}
+
+pub fn has_text(alloc: Global, reply: &Reply, wanted: &str) -> Result<bool, AllocError> {
+    Ok(text_of(alloc, reply)?.as_str() == wanted)
 }
 
 // Plays a story in one call, and answers its first act that is answered otherwise, if there is one.
@@ -176,24 +199,33 @@ pub fn other_answer(
     story: &[Told],
 ) -> Result<Option<Act>, AllocError> {
     let steps = steps_of(alloc, story)?;
-    let replies = world.run(steps.as_slice())?;
+    let replies = replies_of(world, steps.as_slice())?;
     for (place, (act, wanted)) in story.iter().enumerate() {
         match replies.as_slice().get(place) {
-            Some(reply) if text_of(alloc, reply)?.as_str() == *wanted => {}
+            Some(reply) if has_text(alloc, reply, wanted)? => {}
             _ => return Ok(Some(*act)),
         }
     }
     Ok(None)
 }
 
-// The same of stories, one after another, in a new world.
-pub fn first_other(alloc: Global, stories: &[&[Told]]) -> Result<Option<Act>, Fail> {
-    let mut world = World::new(alloc, job_of()?)?;
+// The same of stories, one after another, in one world.
+fn other_of(
+    alloc: Global,
+    world: &mut World,
+    stories: &[&[Told]],
+) -> Result<Option<Act>, AllocError> {
     for story in stories {
-        let other = other_answer(alloc, &mut world, story)?;
+        let other = other_answer(alloc, world, story)?;
         if other.is_some() {
             return Ok(other);
         }
     }
     Ok(None)
+}
+
+// The same in a new world.
+pub fn first_other(alloc: Global, stories: &[&[Told]]) -> Result<Option<Act>, Fail> {
+    let mut world = world_of(alloc)?;
+    Ok(other_of(alloc, &mut world, stories)?)
 }
