@@ -1,8 +1,8 @@
 //! What the tests speak of, and plans in words.
 
 use assignment::{Assignment, Listed, Slice, TaskId};
-use key_hash::slice_key;
-use load_ledger::LoadShare;
+use key_hash::{SliceKey, slice_key};
+use load_ledger::{LoadBook, LoadShare};
 use std::alloc::{AllocError, Global};
 use std::test::Fail;
 use weighted_move::{Move, Plan, PlanError, PlanPolicy, TaskSet, plan};
@@ -39,19 +39,28 @@ pub fn assignment_of(alloc: Global, listing: Listing<'_>) -> Result<Assignment, 
     Ok(built(alloc, listing).ok_or("the slices make an assignment")?)
 }
 
+fn set_with(set: TaskSet, number: u64) -> Result<TaskSet, Fail> {
+    Ok(set.with(task_of(number)?))
+}
+
 pub fn set_of(numbers: &[u64]) -> Result<TaskSet, Fail> {
     let mut set = TaskSet::empty();
     for number in numbers {
-        set = set.with(task_of(*number)?);
+        set = set_with(set, *number)?;
     }
     Ok(set)
+}
+
+// Adds a record of a key, if there is memory for it, and answers the total of the share.
+pub fn added(share: &mut LoadShare, key: SliceKey, weight: u64) -> Option<u64> {
+    share.add(key, weight).ok()
 }
 
 // A share of a task with one record for each key and weight, if there is memory for it.
 pub fn filled(alloc: Global, task: TaskId, records: &[(&[u8], u64)]) -> Option<LoadShare> {
     let mut share = LoadShare::new(alloc, task);
     for (key, weight) in records {
-        share.add(slice_key(key), *weight).ok()?;
+        added(&mut share, slice_key(key), *weight)?;
     }
     Some(share)
 }
@@ -103,6 +112,11 @@ fn move_words(alloc: Global, made: &Move) -> Result<String, AllocError> {
     format!(in alloc; "{start}:{giver}>{taker} gain {gain} churn {churn} ")
 }
 
+// How much work a task of this number has done.
+pub fn total_of(book: &LoadBook, number: u64) -> Result<u64, Fail> {
+    Ok(book.total(task_of(number)?))
+}
+
 // The words of a plan that there is.
 pub fn planned(
     alloc: Global,
@@ -111,7 +125,9 @@ pub fn planned(
     tasks: &[u64],
     policy: &PlanPolicy,
 ) -> Result<String, Fail> {
-    let made = plan_of(alloc, listing, loads, tasks, policy)?.map_err(|_| "there is a plan")?;
+    let made = plan_of(alloc, listing, loads, tasks, policy)?
+        .ok()
+        .ok_or("there is a plan")?;
     Ok(words_of(alloc, &made).ok_or("there is memory")?)
 }
 

@@ -2,25 +2,41 @@
 
 use crate::samples::{ALL, policy_of, set_of};
 use assignment::{Assignment, Listed, Slice};
-use std::alloc::Global;
+use std::alloc::{AllocError, Global};
 use std::test::Fail;
 use weighted_move::{Plan, plan};
 
-// Slices of 2^53 keys, but for the last one, each of load 1, owned by the tasks up to a number in turn.
-fn plan_of_many(alloc: Global, count: u64, givers: u64, tasks: &[u64]) -> Result<Plan, Fail> {
+// Slices of 2^53 keys, but for the last one, owned by the tasks up to a number in turn.
+fn many_slices(alloc: Global, count: u64, givers: u64) -> Result<Vec<Slice>, AllocError> {
     let mut slices = Vec::new(alloc);
-    let mut loads = Vec::new(alloc);
-    for index in 0..count.min(1024) {
+    for index in 0..count {
         let owner = index % givers.max(1) + 1;
         slices.push(Slice {
             start: index << 53,
             owners: Listed::from_vec(Vec::from_slice(alloc, &[owner])?),
         })?;
+    }
+    Ok(slices)
+}
+
+fn loads_of_one(alloc: Global, count: u64) -> Result<Vec<u64>, AllocError> {
+    let mut loads = Vec::new(alloc);
+    for _ in 0..count {
         loads.push(1)?;
     }
-    let built = Assignment::build(alloc, 1, &slices).map_err(|_| "the slices make an assignment")?;
+    Ok(loads)
+}
+
+// A plan for such slices, each of load 1.
+fn plan_of_many(alloc: Global, count: u64, givers: u64, tasks: &[u64]) -> Result<Plan, Fail> {
+    let slices = many_slices(alloc, count.min(1024), givers)?;
+    let loads = loads_of_one(alloc, count.min(1024))?;
+    let built = Assignment::build(alloc, 1, &slices)
+        .ok()
+        .ok_or("the slices make an assignment")?;
     let policy = policy_of(1, ALL, 0, 100)?;
-    plan(alloc, &built, &loads, &set_of(tasks)?, &policy).map_err(|_| "there is a plan".into())
+    let made = plan(alloc, &built, &loads, &set_of(tasks)?, &policy);
+    Ok(made.ok().ok_or("there is a plan")?)
 }
 
 #[test]
