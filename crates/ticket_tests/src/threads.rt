@@ -55,18 +55,42 @@ fn are_first_numbers(mut numbers: Vec<u64>) -> Result<bool, AllocError> {
     )
 }
 
-#[test]
-fn two_threads_draw_each_number_once(rt: HostRuntime) -> Result<(), Fail> {
-    let (ticket, mut passes) = Ticket::new(rt.alloc(), 2, 1000).map_err(|_| "two passes")?;
+// A ticket of two passes with this many draws each, and its passes.
+fn ticket_for_two(alloc: Global, quota: u64) -> Result<(Ticket, TicketPass, TicketPass), Fail>
+    ensures first { IfOk result (λ dealt. DrawsFrom dealt.0 dealt.1) }
+    ensures second { IfOk result (λ dealt. DrawsFrom dealt.0 dealt.2) }
+{
+    let (ticket, mut passes) = Ticket::new(alloc, 2, quota).ok().ok_or("two passes")?;
     let second = passes.pop().ok_or("the second pass")?;
     let first = passes.pop().ok_or("the first pass")?;
+    Ok((ticket, first, second))
+}
+
+// How many numbers were drawn, if the ticket takes both passes back.
+fn drawn_in_all(
+    alloc: Global,
+    ticket: Ticket,
+    first: TicketPass,
+    second: TicketPass,
+) -> Result<Option<u64>, AllocError>
+    requires first { DrawsFrom ticket first }
+    requires second { DrawsFrom ticket second }
+{
+    let passes = Vec::from_array(alloc, [first, second])?;
+    Ok(ticket.close(passes).ok())
+}
+
+#[test]
+fn two_threads_draw_each_number_once(rt: HostRuntime) -> Result<(), Fail> {
+    let (ticket, first, second) = ticket_for_two(rt.alloc(), 1000)?;
     let (first, second) = draw_in_two_threads(&rt, rt.alloc(), &ticket, first, second);
     let ((first, mut numbers), (second, others)) = (first?, second?);
     numbers.extend_from_slice(others.as_slice())?;
     assert_eq!(rt; numbers.len(), 2000);
     assert!(rt; are_first_numbers(numbers)?);
-    passes.push(first)?;
-    passes.push(second)?;
-    assert_eq!(rt; ticket.close(passes).ok(), Some(2000));
+    assert_eq!(rt;
+        drawn_in_all(rt.alloc(), ticket, first, second)?,
+        Some(2000)
+    );
     Ok(())
 }
