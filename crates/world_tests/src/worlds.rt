@@ -1,7 +1,9 @@
 //! What steps are answered.
 
-use crate::acts::Act;
-use crate::stories::{BASE, CHANGE, STORIES, first_other, other_answer, world_of};
+use crate::acts::{Act, step_of};
+use crate::stories::{
+    BASE, CHANGE, STORIES, first_other, has_text, other_answer, replies_of, world_of,
+};
 use std::alloc::{AllocError, Global};
 use std::test::Fail;
 use world::World;
@@ -30,13 +32,12 @@ fn answers_two_calls_as_the_joined_one(rt: HostRuntime) -> Result<(), Fail> {
     Ok(())
 }
 
-fn is_answered(
-    alloc: Global,
-    world: &mut World,
-    act: Act,
-    text: &'static str,
-) -> Result<bool, AllocError> {
-    Ok(other_answer(alloc, world, &[(act, text)])?.is_none())
+fn is_answered(alloc: Global, world: &mut World, act: Act, text: &str) -> Result<bool, AllocError> {
+    let steps = Vec::from_array(alloc, [step_of(alloc, act)?])?;
+    match replies_of(world, steps.as_slice())?.as_slice().get(0) {
+        Some(reply) => has_text(alloc, reply, text),
+        None => Ok(false),
+    }
 }
 
 // The first of these acts that is answered otherwise than by this text; all of them are played.
@@ -44,7 +45,7 @@ fn other_of_acts(
     alloc: Global,
     world: &mut World,
     acts: &[Act],
-    text: &'static str,
+    text: &str,
 ) -> Result<Option<Act>, AllocError> {
     let mut other = None;
     for act in acts {
@@ -60,7 +61,7 @@ fn other_of_acts(
 fn other_after_the_base(
     alloc: Global,
     acts: &[Act],
-    text: &'static str,
+    text: &str,
 ) -> Result<(Option<Act>, Option<Act>), Fail> {
     let mut world = world_of(alloc)?;
     let base = other_answer(alloc, &mut world, &BASE)?;
