@@ -112,7 +112,7 @@ fn move_words(alloc: Global, made: &Move) -> Result<String, AllocError> {
     format!(in alloc; "{start}:{giver}>{taker} gain {gain} churn {churn} ")
 }
 
-// How much work a task of this number has done.
+// The total load of the task of this number.
 pub fn total_of(book: &LoadBook, number: u64) -> Result<u64, Fail> {
     Ok(book.total(task_of(number)?))
 }
