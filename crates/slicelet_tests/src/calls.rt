@@ -1,6 +1,9 @@
 //! What a slicelet hears, releases and serves.
 
-use crate::samples::{abc, allow, base_of, grant_of, hello, refusal, task_of};
+use crate::samples::{
+    abc, allow, base_of, copy_of, grant_of, hear, hello, refusal, release, serve, slicelet_of,
+    start, task_of,
+};
 use key_hash::SliceKey;
 use lease_table::{Grant, ReleaseNote};
 use policy_rules::{Ground, Kind, Verdict};
@@ -8,24 +11,45 @@ use slicelet::{Slicelet, SliceletError};
 use std::alloc::Global;
 use std::test::Fail;
 
+// Task 1 and grant 1, without the table that gave it.
+fn granted(alloc: Global) -> Result<(Slicelet, Grant), Fail> {
+    let (_table, slicelet, grant) = base_of(alloc)?;
+    Ok((slicelet, grant))
+}
+
 // What a task may serve that heard grant 1 at 6.
 fn verdicts(slicelet: &Slicelet) -> [Verdict; 6] {
     [
-        slicelet.serve(hello(), 7),
-        slicelet.serve(abc(), 7),
-        slicelet.serve(hello(), 5),
-        slicelet.serve(hello(), 94),
-        slicelet.serve(hello(), 95),
-        slicelet.serve(abc(), 95),
+        serve(slicelet, hello(), 7),
+        serve(slicelet, abc(), 7),
+        serve(slicelet, hello(), 5),
+        serve(slicelet, hello(), 94),
+        serve(slicelet, hello(), 95),
+        serve(slicelet, abc(), 95),
     ]
+}
+
+fn verdicts_of_a_copy(slicelet: &Slicelet) -> Result<[Verdict; 6], Fail> {
+    let copied = copy_of(slicelet)?;
+    Ok(verdicts(&copied))
+}
+
+// A function that only borrows what it works on is proved sooner, since an early return drops nothing.
+fn hear_first(slicelet: &mut Slicelet, grant: &Grant) -> Result<(), Fail> {
+    hear(slicelet, grant, 6).ok().ok_or("grant 1 is new")?;
+    Ok(())
+}
+
+fn verdicts_once_heard(slicelet: &mut Slicelet, grant: &Grant) -> Result<[[Verdict; 6]; 2], Fail> {
+    hear_first(slicelet, grant)?;
+    let of_a_copy = verdicts_of_a_copy(slicelet)?;
+    Ok([verdicts(slicelet), of_a_copy])
 }
 
 // The same of that task and of a copy of it.
 fn verdicts_with_a_copy(alloc: Global) -> Result<[[Verdict; 6]; 2], Fail> {
-    let (_table, mut slicelet, grant) = base_of(alloc)?;
-    slicelet.hear(&grant, 6).map_err(|_| "grant 1 is new")?;
-    let copied = slicelet.copy()?;
-    Ok([verdicts(&slicelet), verdicts(&copied)])
+    let (mut slicelet, grant) = granted(alloc)?;
+    verdicts_once_heard(&mut slicelet, &grant)
 }
 
 #[test]
@@ -44,32 +68,36 @@ fn serves_its_keys_until_the_deadline(rt: HostRuntime) -> Result<(), Fail> {
 
 #[test]
 fn serves_nothing_before_its_start(rt: HostRuntime) -> Result<(), Fail> {
-    let slicelet = Slicelet::new(rt.alloc(), task_of(2)?);
-    assert_eq!(rt; slicelet.serve(abc(), 7), Verdict::Deny(Ground::Down));
+    let slicelet = slicelet_of(rt.alloc(), 2)?;
+    assert_eq!(rt; serve(&slicelet, abc(), 7), Verdict::Deny(Ground::Down));
     Ok(())
 }
 
 // How calls are refused after the release of grant 1.
 fn refusals_after_release(slicelet: &mut Slicelet, grant: &Grant) -> [Option<SliceletError>; 5] {
-    let again = refusal(slicelet.hear(grant, 43));
-    let next_life = refusal(slicelet.start(2, 44));
-    let grant_of_old_life = refusal(slicelet.hear(grant, 45));
-    let old_life = refusal(slicelet.start(1, 46));
-    let too_early = refusal(slicelet.start(3, 43));
+    let again = refusal(hear(slicelet, grant, 43));
+    let next_life = refusal(start(slicelet, 2, 44));
+    let grant_of_old_life = refusal(hear(slicelet, grant, 45));
+    let old_life = refusal(start(slicelet, 1, 46));
+    let too_early = refusal(start(slicelet, 3, 43));
     [again, next_life, grant_of_old_life, old_life, too_early]
 }
 
 // The note of a release of grant 1, what the task may serve then, and how calls are refused.
 type Released = (ReleaseNote, Verdict, [Option<SliceletError>; 5]);
 
+fn heard_and_released(slicelet: &mut Slicelet, grant: &Grant) -> Result<Released, Fail> {
+    hear_first(slicelet, grant)?;
+    let note = release(slicelet, Kind::Guard, 40)
+        .ok()
+        .ok_or("a guard is held")?;
+    let verdict = serve(slicelet, hello(), 43);
+    Ok((note, verdict, refusals_after_release(slicelet, grant)))
+}
+
 fn released_for_good(alloc: Global) -> Result<Released, Fail> {
-    let (_table, mut slicelet, grant) = base_of(alloc)?;
-    slicelet.hear(&grant, 6).map_err(|_| "grant 1 is new")?;
-    let note = slicelet
-        .release(Kind::Guard, 40)
-        .map_err(|_| "a guard is held")?;
-    let verdict = slicelet.serve(hello(), 43);
-    Ok((note, verdict, refusals_after_release(&mut slicelet, &grant)))
+    let (mut slicelet, grant) = granted(alloc)?;
+    heard_and_released(&mut slicelet, &grant)
 }
 
 #[test]
@@ -93,11 +121,11 @@ fn hears_no_released_grant_again(rt: HostRuntime) -> Result<(), Fail> {
 }
 
 // How calls of a task are refused that grant 1 is not for.
-fn refusals_of_another_task(slicelet: &mut Slicelet, grant: &Grant) -> [Option<SliceletError>; 4] {
-    let hear_before_start = refusal(slicelet.hear(grant, 6));
-    let release_before_start = refusal(slicelet.release(Kind::Guard, 6));
-    let start = refusal(slicelet.start(1, 7));
-    let grant_of_another = refusal(slicelet.hear(grant, 8));
+fn refusals_of_another(slicelet: &mut Slicelet, grant: &Grant) -> [Option<SliceletError>; 4] {
+    let hear_before_start = refusal(hear(slicelet, grant, 6));
+    let release_before_start = refusal(release(slicelet, Kind::Guard, 6));
+    let start = refusal(start(slicelet, 1, 7));
+    let grant_of_another = refusal(hear(slicelet, grant, 8));
     [
         hear_before_start,
         release_before_start,
@@ -106,11 +134,19 @@ fn refusals_of_another_task(slicelet: &mut Slicelet, grant: &Grant) -> [Option<S
     ]
 }
 
+fn refusals_of_another_task(
+    alloc: Global,
+    grant: &Grant,
+) -> Result<[Option<SliceletError>; 4], Fail> {
+    let mut second = slicelet_of(alloc, 2)?;
+    Ok(refusals_of_another(&mut second, grant))
+}
+
 // How calls at the end of grant 1 are refused.
 fn refusals_at_the_end(slicelet: &mut Slicelet, grant: &Grant) -> [Option<SliceletError>; 3] {
-    let too_late = refusal(slicelet.hear(grant, 95));
-    let no_bridge = refusal(slicelet.release(Kind::Bridge, 95));
-    let old_life = refusal(slicelet.start(0, 95));
+    let too_late = refusal(hear(slicelet, grant, 95));
+    let no_bridge = refusal(release(slicelet, Kind::Bridge, 95));
+    let old_life = refusal(start(slicelet, 0, 95));
     [too_late, no_bridge, old_life]
 }
 
@@ -118,9 +154,8 @@ fn refusals_at_the_end(slicelet: &mut Slicelet, grant: &Grant) -> [Option<Slicel
 type InOrder = ([Option<SliceletError>; 4], [Option<SliceletError>; 3]);
 
 fn refusals_in_order(alloc: Global) -> Result<InOrder, Fail> {
-    let (_table, mut first, grant) = base_of(alloc)?;
-    let mut second = Slicelet::new(alloc, task_of(2)?);
-    let another = refusals_of_another_task(&mut second, &grant);
+    let (mut first, grant) = granted(alloc)?;
+    let another = refusals_of_another_task(alloc, &grant)?;
     Ok((another, refusals_at_the_end(&mut first, &grant)))
 }
 
@@ -141,35 +176,45 @@ fn refuses_in_order(rt: HostRuntime) -> Result<(), Fail> {
     Ok(())
 }
 
+// How a task refuses a grant at 2.
+fn refusal_of(
+    alloc: Global,
+    slicelet: &mut Slicelet,
+    number: u64,
+    kind: Kind,
+) -> Result<Option<SliceletError>, Fail> {
+    let grant = grant_of(alloc, number, kind)?;
+    Ok(refusal(hear(slicelet, &grant, 2)))
+}
+
 // How a task refuses four grants in turn: guard 0, bridge 9, guard 0 again, guard 5.
 fn refusals_by_kind(
     alloc: Global,
     slicelet: &mut Slicelet,
 ) -> Result<[Option<SliceletError>; 4], Fail> {
-    let guard = grant_of(alloc, 0, Kind::Guard)?;
-    let bridge = grant_of(alloc, 9, Kind::Bridge)?;
-    let newer = grant_of(alloc, 5, Kind::Guard)?;
-    Ok([
-        refusal(slicelet.hear(&guard, 2)),
-        refusal(slicelet.hear(&bridge, 2)),
-        refusal(slicelet.hear(&guard, 2)),
-        refusal(slicelet.hear(&newer, 2)),
-    ])
+    let guard = refusal_of(alloc, slicelet, 0, Kind::Guard)?;
+    let bridge = refusal_of(alloc, slicelet, 9, Kind::Bridge)?;
+    let again = refusal_of(alloc, slicelet, 0, Kind::Guard)?;
+    let newer = refusal_of(alloc, slicelet, 5, Kind::Guard)?;
+    Ok([guard, bridge, again, newer])
 }
 
 // What it may serve then, after the release of its guard, and in its next life; and the note's
 // number and kind.
 fn verdicts_by_kind(slicelet: &mut Slicelet, key: SliceKey) -> ([Verdict; 3], Option<(u64, Kind)>) {
-    let first = slicelet.serve(key, 2);
-    let note = slicelet.release(Kind::Guard, 200).ok();
-    let released = slicelet.serve(key, 200);
-    let started = slicelet.start(2, 200).is_ok();
+    let first = serve(slicelet, key, 2);
+    let note = release(slicelet, Kind::Guard, 200).ok();
+    let released = serve(slicelet, key, 200);
+    let started = start(slicelet, 2, 200).is_ok();
     let next = if started {
-        slicelet.serve(key, 200)
+        serve(slicelet, key, 200)
     } else {
         first
     };
-    let note = note.map(|note| (note.number, note.kind));
+    let note = match note {
+        Some(note) => Some((note.number, note.kind)),
+        None => None,
+    };
     ([first, released, next], note)
 }
 
@@ -178,12 +223,16 @@ type ByKind = (
     ([Verdict; 3], Option<(u64, Kind)>),
 );
 
-fn kinds_apart(alloc: Global) -> Result<ByKind, Fail> {
+fn by_kind(alloc: Global, slicelet: &mut Slicelet) -> Result<ByKind, Fail> {
     let key = SliceKey::new(7).ok_or("a number of 63 bits is a key")?;
-    let mut slicelet = Slicelet::new(alloc, task_of(1)?);
-    slicelet.start(1, 0).map_err(|_| "no life was started")?;
-    let refusals = refusals_by_kind(alloc, &mut slicelet)?;
-    Ok((refusals, verdicts_by_kind(&mut slicelet, key)))
+    start(slicelet, 1, 0).ok().ok_or("no life was started")?;
+    let refusals = refusals_by_kind(alloc, slicelet)?;
+    Ok((refusals, verdicts_by_kind(slicelet, key)))
+}
+
+fn kinds_apart(alloc: Global) -> Result<ByKind, Fail> {
+    let mut slicelet = slicelet_of(alloc, 1)?;
+    by_kind(alloc, &mut slicelet)
 }
 
 #[test]
@@ -200,14 +249,13 @@ fn keeps_the_kinds_apart(rt: HostRuntime) -> Result<(), Fail> {
 }
 
 // How a task refuses a new life and the life that it is in, after 65,536 calls.
-fn refusals_where_full(alloc: Global) -> Result<[Option<SliceletError>; 2], Fail> {
-    let mut slicelet = Slicelet::new(alloc, task_of(1)?);
+fn refusals_where_full(slicelet: &mut Slicelet) -> Result<[Option<SliceletError>; 2], Fail> {
     for life in 1..=65_536 {
-        slicelet.start(life, 0).map_err(|_| "each life is new")?;
+        start(slicelet, life, 0).ok().ok_or("each life is new")?;
     }
     Ok([
-        refusal(slicelet.start(65_537, 0)),
-        refusal(slicelet.start(65_536, 0)),
+        refusal(start(slicelet, 65_537, 0)),
+        refusal(start(slicelet, 65_536, 0)),
     ])
 }
 
@@ -217,6 +265,7 @@ fn keeps_65_536_calls(rt: HostRuntime) -> Result<(), Fail> {
         Some(SliceletError::HistoryFull),
         Some(SliceletError::OldLife),
     ];
-    assert_eq!(rt; refusals_where_full(rt.alloc())?, wanted);
+    let mut slicelet = slicelet_of(rt.alloc(), 1)?;
+    assert_eq!(rt; refusals_where_full(&mut slicelet)?, wanted);
     Ok(())
 }

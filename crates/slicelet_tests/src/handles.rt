@@ -1,10 +1,13 @@
 //! Handles, and whether a key was held without a break.
 
-use crate::samples::{HALF, abc, allow, assignment_of, base_of, hello, task_of};
+use crate::samples::{
+    abc, allow, base_of, commit, free, grant, halves_of, hear, hello, propose, release, serve,
+    start, task_of, whole_of,
+};
 use assignment::{Assignment, TaskId};
 use key_handle::KeyHandle;
 use key_hash::SliceKey;
-use lease_table::LeaseTable;
+use lease_table::{Grant, LeaseTable};
 use policy_rules::{Ground, Kind, Verdict};
 use slicelet::{Slicelet, Stranger};
 use std::alloc::Global;
@@ -36,8 +39,7 @@ struct Held {
 impl Held {
     fn new(alloc: Global) -> Result<Self, Fail> {
         let (table, mut slicelet, grant) = base_of(alloc)?;
-        slicelet.hear(&grant, 6).map_err(|_| "grant 1 is new")?;
-        let handle = slicelet.hold(hello(), 7).map_err(|_| "its key is served")?;
+        let handle = first_handle(&mut slicelet, &grant)?;
         Ok(Held {
             table,
             slicelet,
@@ -47,37 +49,29 @@ impl Held {
 
     // The table grants task 1 a lease, and the task hears it.
     fn renew(&mut self, granted: u64, heard: u64) -> Result<(), Fail> {
-        let grant = self
-            .table
-            .grant(task_of(1)?, 1, granted)
-            .map_err(|_| "numbers are left")?;
-        self.slicelet
-            .hear(&grant, heard)
-            .map_err(|_| "a number that is new")?;
+        let grant = grant(&mut self.table, granted)?;
+        hear(&mut self.slicelet, &grant, heard)
+            .ok()
+            .ok_or("a number that is new")?;
         Ok(())
     }
 
     // Task 1 releases its guard, and the table frees the row.
     fn release(&mut self, released: u64, freed: u64) -> Result<(), Fail> {
-        let note = self
-            .slicelet
-            .release(Kind::Guard, released)
-            .map_err(|_| "a guard is held")?;
-        self.table
-            .free(&note, freed)
-            .map_err(|_| "the row is open")?;
-        Ok(())
+        let note = release(&mut self.slicelet, Kind::Guard, released)
+            .ok()
+            .ok_or("a guard is held")?;
+        free(&mut self.table, &note, freed)
     }
 
     fn propose(&mut self, next: &Assignment, at: u64) -> Result<(), Fail> {
-        self.table
-            .propose(1, next, at)
-            .map_err(|_| "nothing is proposed")?;
-        Ok(())
+        propose(&mut self.table, next, at)
     }
 
     fn commit(&mut self, at: u64) -> Result<(), Fail> {
-        self.table.commit(1, at).map_err(|_| "no row holds it up")?;
+        commit(&mut self.table, at)
+            .ok()
+            .ok_or("no row holds it up")?;
         Ok(())
     }
 
@@ -90,8 +84,26 @@ impl Held {
         self.renew(at + 4, at + 5)
     }
 
+    // The same change, to an assignment of this generation that gives the whole key space to one task.
+    fn give_all(
+        &mut self,
+        alloc: Global,
+        generation: u64,
+        owner: u64,
+        at: u32,
+    ) -> Result<(), Fail> {
+        let next = whole_of(alloc, generation, owner)?;
+        self.change(&next, at)
+    }
+
+    // The table takes an assignment that gives both halves to task 1.
+    fn propose_both_halves(&mut self, alloc: Global, at: u64) -> Result<(), Fail> {
+        let next = halves_of(alloc, 2, 1, 1)?;
+        self.propose(&next, at)
+    }
+
     fn serve(&self, at: u64) -> Verdict {
-        self.slicelet.serve(self.handle.key, at)
+        serve(&self.slicelet, self.handle.key, at)
     }
 
     fn continuous(&self, at: u64) -> Result<bool, Stranger> {
@@ -99,11 +111,20 @@ impl Held {
     }
 }
 
+// A handle on a key at 7, or why there is none.
+fn hold(slicelet: &Slicelet, key: SliceKey) -> Result<KeyHandle, Ground> {
+    slicelet.hold(key, 7)
+}
+
+fn first_handle(slicelet: &mut Slicelet, grant: &Grant) -> Result<KeyHandle, Fail> {
+    hear(slicelet, grant, 6).ok().ok_or("grant 1 is new")?;
+    Ok(hold(slicelet, hello()).ok().ok_or("its key is served")?)
+}
+
 type Kept = ((u32, u64), [Result<bool, Stranger>; 3]);
 
 // The life and the position of a handle, and whether it lives after the guard is renewed.
-fn kept_over_a_renewal(alloc: Global) -> Result<Kept, Fail> {
-    let mut held = Held::new(alloc)?;
+fn kept_over_a_renewal(held: &mut Held) -> Result<Kept, Fail> {
     let given = (held.handle.life, held.handle.position);
     held.renew(49, 50)?;
     let lives = [
@@ -117,15 +138,15 @@ fn kept_over_a_renewal(alloc: Global) -> Result<Kept, Fail> {
 #[test]
 fn keeps_a_handle_over_a_renewed_guard(rt: HostRuntime) -> Result<(), Fail> {
     let wanted = ((1, 2), [Ok(true), Ok(false), Ok(false)]);
-    assert_eq!(rt; kept_over_a_renewal(rt.alloc())?, wanted);
+    let mut held = Held::new(rt.alloc())?;
+    assert_eq!(rt; kept_over_a_renewal(&mut held)?, wanted);
     Ok(())
 }
 
 type Answer = (Result<bool, Stranger>, Verdict);
 
 // Whether a handle lives at 97, and whether its key is served, after a renewal that came late.
-fn answers_after_a_gap(alloc: Global) -> Result<Answer, Fail> {
-    let mut held = Held::new(alloc)?;
+fn answers_after_a_gap(held: &mut Held) -> Result<Answer, Fail> {
     held.renew(49, 96)?;
     Ok((held.continuous(97), held.serve(97)))
 }
@@ -133,16 +154,16 @@ fn answers_after_a_gap(alloc: Global) -> Result<Answer, Fail> {
 #[test]
 fn breaks_a_handle_where_the_guard_ended_before_the_next(rt: HostRuntime) -> Result<(), Fail> {
     let wanted = (Ok(false), allow(Kind::Guard, 1));
-    assert_eq!(rt; answers_after_a_gap(rt.alloc())?, wanted);
+    let mut held = Held::new(rt.alloc())?;
+    assert_eq!(rt; answers_after_a_gap(&mut held)?, wanted);
     Ok(())
 }
 
 // What is served while the key is away, and the answers once it has come back.
-fn answers_after_a_loss(alloc: Global) -> Result<(Verdict, Answer), Fail> {
-    let mut held = Held::new(alloc)?;
-    held.change(&assignment_of(alloc, 2, &[(0, &[2])])?, 20)?;
+fn answers_after_a_loss(alloc: Global, held: &mut Held) -> Result<(Verdict, Answer), Fail> {
+    held.give_all(alloc, 2, 2, 20)?;
     let away = held.serve(26);
-    held.change(&assignment_of(alloc, 3, &[(0, &[1])])?, 27)?;
+    held.give_all(alloc, 3, 1, 27)?;
     Ok((away, (held.continuous(33), held.serve(33))))
 }
 
@@ -150,7 +171,8 @@ fn answers_after_a_loss(alloc: Global) -> Result<(Verdict, Answer), Fail> {
 fn breaks_a_handle_whose_key_left_and_came_back(rt: HostRuntime) -> Result<(), Fail> {
     let not_owned = Verdict::Deny(Ground::NotOwned { generation: 2 });
     let wanted = (not_owned, (Ok(false), allow(Kind::Guard, 3)));
-    assert_eq!(rt; answers_after_a_loss(rt.alloc())?, wanted);
+    let mut held = Held::new(rt.alloc())?;
+    assert_eq!(rt; answers_after_a_loss(rt.alloc(), &mut held)?, wanted);
     Ok(())
 }
 
@@ -158,16 +180,14 @@ type OverABridge = (Option<u64>, [Verdict; 3], Result<bool, Stranger>);
 
 // The generation that is committed, what is served under the bridge and after it, and whether the
 // handle lives.
-fn answers_over_a_bridge(alloc: Global) -> Result<OverABridge, Fail> {
-    let mut held = Held::new(alloc)?;
-    let next = assignment_of(alloc, 2, &[(0, &[1]), (HALF, &[1])])?;
-    held.propose(&next, 20)?;
+fn answers_over_a_bridge(alloc: Global, held: &mut Held) -> Result<OverABridge, Fail> {
+    held.propose_both_halves(alloc, 20)?;
     held.renew(24, 25)?;
     held.release(26, 28)?;
     let bridged = held.serve(27);
-    let committed = held.table.commit(1, 29).ok();
+    let committed = commit(&mut held.table, 29).ok();
     held.renew(30, 31)?;
-    let verdicts = [bridged, held.serve(32), held.slicelet.serve(abc(), 32)];
+    let verdicts = [bridged, held.serve(32), serve(&held.slicelet, abc(), 32)];
     Ok((committed, verdicts, held.continuous(32)))
 }
 
@@ -178,8 +198,9 @@ fn carries_a_handle_over_a_change_by_a_bridge(rt: HostRuntime) -> Result<(), Fai
         allow(Kind::Guard, 2),
         allow(Kind::Guard, 2),
     ];
+    let mut held = Held::new(rt.alloc())?;
     assert_eq!(rt;
-        answers_over_a_bridge(rt.alloc())?,
+        answers_over_a_bridge(rt.alloc(), &mut held)?,
         (Some(2), verdicts, Ok(true))
     );
     Ok(())
@@ -209,11 +230,10 @@ type Known = (Ground, [Result<bool, Stranger>; 6], Result<bool, Stranger>);
 
 // Why there is no handle on "abc", whether the handles live, and whether the first does in the next
 // life.
-fn known_handles(alloc: Global) -> Result<Known, Fail> {
-    let mut held = Held::new(alloc)?;
-    let ground = held.slicelet.hold(abc(), 7).err().ok_or("not owned")?;
-    let lives = lives(&held)?;
-    held.slicelet.start(2, 9).map_err(|_| "life 2 is new")?;
+fn known_handles(held: &mut Held) -> Result<Known, Fail> {
+    let ground = hold(&held.slicelet, abc()).err().ok_or("not owned")?;
+    let lives = lives(held)?;
+    start(&mut held.slicelet, 2, 9).ok().ok_or("life 2 is new")?;
     Ok((ground, lives, held.continuous(10)))
 }
 
@@ -228,6 +248,7 @@ fn knows_strangers_and_older_lives(rt: HostRuntime) -> Result<(), Fail> {
         Err(Stranger),
     ];
     let wanted = (Ground::NotOwned { generation: 1 }, lives, Ok(false));
-    assert_eq!(rt; known_handles(rt.alloc())?, wanted);
+    let mut held = Held::new(rt.alloc())?;
+    assert_eq!(rt; known_handles(&mut held)?, wanted);
     Ok(())
 }

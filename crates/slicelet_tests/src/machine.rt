@@ -1,22 +1,40 @@
 //! A slicelet as a machine, with ample memory.
 
 use crate::samples::{
-    CallOf, call_of, grant_of, hear_event, note_of_guard, release_event, start_event, task_of,
+    CallOf, call_of, grant_of, hear_event, note_of_guard, release_event, slicelet_of, start_event,
 };
+use lease_table::Grant;
 use machines::Machine;
 use policy_rules::Kind;
 use slicelet::{Slicelet, SliceletEvent, SliceletReply};
 use std::alloc::AllocError;
 use std::test::Fail;
 
+// The reply to an event, and what tells the ticket and the call.
+type Applied = (Option<SliceletReply>, u64, CallOf);
+
 // The reply to a copy of an event, and what tells the copy's ticket and call.
-fn apply_copy(
-    slicelet: &mut Slicelet,
-    event: &SliceletEvent,
-) -> Result<(Option<SliceletReply>, u64, CallOf), AllocError> {
+fn apply_copy(slicelet: &mut Slicelet, event: &SliceletEvent) -> Result<Applied, AllocError> {
     let copied = Slicelet::copy_event(event)?;
     let reply = slicelet.apply(&copied).ok();
     Ok((reply, copied.ticket, call_of(&copied.call)))
+}
+
+fn copy_machine(slicelet: &Slicelet) -> Result<Slicelet, AllocError> {
+    Machine::copy(slicelet)
+}
+
+// Copies of a start and of a grant in turn, and of a release that a copy of the machine takes.
+fn apply_copies(slicelet: &mut Slicelet, grant: Grant) -> Result<[Applied; 3], AllocError> {
+    let started = apply_copy(slicelet, &start_event(4))?;
+    let heard = apply_copy(slicelet, &hear_event(5, grant))?;
+    let mut copied = copy_machine(slicelet)?;
+    let released = apply_copy(&mut copied, &release_event(9))?;
+    Ok([started, heard, released])
+}
+
+fn takes(slicelet: &mut Slicelet, event: &SliceletEvent) -> bool {
+    slicelet.apply(event).is_ok()
 }
 
 #[test]
@@ -30,15 +48,10 @@ fn applies_copies_of_its_calls(rt: HostRuntime) -> Result<(), Fail> {
             CallOf::Release(Kind::Guard, 40),
         ),
     ];
-    let start = start_event(4);
-    let hear = hear_event(5, grant_of(rt.alloc(), 7, Kind::Guard)?);
+    let grant = grant_of(rt.alloc(), 7, Kind::Guard)?;
+    let mut slicelet = slicelet_of(rt.alloc(), 1)?;
+    assert_eq!(rt; apply_copies(&mut slicelet, grant)?, wanted);
     let release = release_event(9);
-    let mut slicelet = Slicelet::new(rt.alloc(), task_of(1)?);
-    let started = apply_copy(&mut slicelet, &start)?;
-    let heard = apply_copy(&mut slicelet, &hear)?;
-    let mut copied = Machine::copy(&slicelet)?;
-    let released = apply_copy(&mut copied, &release)?;
-    assert_eq!(rt; [started, heard, released], wanted);
-    assert!(rt; slicelet.apply(&release).is_ok() && slicelet.apply(&release).is_err());
+    assert!(rt; takes(&mut slicelet, &release) && !takes(&mut slicelet, &release));
     Ok(())
 }

@@ -1,56 +1,97 @@
 //! A slicelet where memory is refused.
 
-use crate::samples::{allow, grant_of, sample_grant, task_of};
+use crate::samples::{
+    allow, copy_of, grant_of, hear, release, sample_grant, serve, slicelet_of, start, task_of,
+};
 use key_hash::SliceKey;
 use lease_table::Grant;
 use machines::Trouble;
 use policy_rules::{Ground, Kind, Verdict};
 use slicelet::Slicelet;
+use std::alloc::{AllocError, Global};
 use std::test::Fail;
 
-// Hears a grant, the second time where there was no memory for it, which changed nothing.
-fn heard_at_last(slicelet: &mut Slicelet, grant: &Grant, key: SliceKey) -> Result<(), Fail> {
-    match slicelet.hear(grant, 6) {
-        Err(Trouble::NoMemory) if slicelet.serve(key, 3) == Verdict::Deny(Ground::NoLease) => {
-            slicelet.hear(grant, 6).map_err(|_| "a second time")?;
+// Starts life 1, the second time where there was no memory for it, which changed nothing.
+fn started_at_last(slicelet: &mut Slicelet, key: SliceKey) -> Result<(), Fail> {
+    match start(slicelet, 1, 3) {
+        Err(Trouble::NoMemory) if serve(slicelet, key, 3) == Verdict::Deny(Ground::Down) => {
+            start(slicelet, 1, 3).ok().ok_or("a second time")?;
         }
-        first => first.map_err(|_| "want of memory changes nothing")?,
+        first => first.ok().ok_or("want of memory changes nothing")?,
     }
     Ok(())
 }
 
+fn grant_at_last(alloc: Global) -> Result<Grant, Fail> {
+    match sample_grant(alloc, task_of(1)?, 1, Kind::Guard) {
+        Some(grant) => Ok(grant),
+        None => grant_of(alloc, 1, Kind::Guard),
+    }
+}
+
+// Hears a grant, the second time where there was no memory for it, which changed nothing.
+fn heard_at_last(slicelet: &mut Slicelet, grant: &Grant, key: SliceKey) -> Result<(), Fail> {
+    match hear(slicelet, grant, 6) {
+        Err(Trouble::NoMemory) if serve(slicelet, key, 3) == Verdict::Deny(Ground::NoLease) => {
+            hear(slicelet, grant, 6).ok().ok_or("a second time")?;
+        }
+        first => first.ok().ok_or("want of memory changes nothing")?,
+    }
+    Ok(())
+}
+
+fn copied_at_last(slicelet: &Slicelet) -> Result<Slicelet, AllocError> {
+    match copy_of(slicelet) {
+        Ok(copied) => Ok(copied),
+        Err(_) => copy_of(slicelet),
+    }
+}
+
+fn verdict_of_a_copy(slicelet: &Slicelet, key: SliceKey) -> Result<Verdict, AllocError> {
+    let copied = copied_at_last(slicelet)?;
+    Ok(serve(&copied, key, 7))
+}
+
 // Releases the guard in the same way, and answers the note's number.
 fn released_at_last(slicelet: &mut Slicelet, key: SliceKey) -> Result<u64, Fail> {
-    let note = match slicelet.release(Kind::Guard, 40) {
-        Err(Trouble::NoMemory) if slicelet.serve(key, 7) == allow(Kind::Guard, 1) => {
-            slicelet.release(Kind::Guard, 40)
+    let note = match release(slicelet, Kind::Guard, 40) {
+        Err(Trouble::NoMemory) if serve(slicelet, key, 7) == allow(Kind::Guard, 1) => {
+            release(slicelet, Kind::Guard, 40)
         }
         first => first,
     };
-    Ok(note.map_err(|_| "want of memory changes nothing")?.number)
+    Ok(note.ok().ok_or("want of memory changes nothing")?.number)
+}
+
+fn hear_at_last(alloc: Global, slicelet: &mut Slicelet, key: SliceKey) -> Result<(), Fail> {
+    let grant = grant_at_last(alloc)?;
+    heard_at_last(slicelet, &grant, key)
+}
+
+// What the slicelet and a copy of it may serve under a grant, the number of the note of its release,
+// and what may be served then.
+type Answers = ([Verdict; 2], u64, Verdict);
+
+fn answers_at_last(alloc: Global, slicelet: &mut Slicelet) -> Result<Answers, Fail> {
+    let key = SliceKey::new(7).ok_or("a number of 63 bits is a key")?;
+    started_at_last(slicelet, key)?;
+    hear_at_last(alloc, slicelet, key)?;
+    let heard = serve(slicelet, key, 7);
+    let copied = verdict_of_a_copy(slicelet, key)?;
+    let number = released_at_last(slicelet, key)?;
+    Ok(([heard, copied], number, serve(slicelet, key, 41)))
 }
 
 // Where one allocation is refused (`rt try --test --fail-alloc N`), the call that wanted it leaves
 // the slicelet as it was, and answers the next time as with ample memory.
 #[test]
 fn stays_as_it_was_without_memory(rt: HostRuntime) -> Result<(), Fail> {
-    let alloc = rt.alloc();
-    let key = SliceKey::new(7).ok_or("a number of 63 bits is a key")?;
-    let mut slicelet = Slicelet::new(alloc, task_of(1)?);
-    if let Err(trouble) = slicelet.start(1, 3) {
-        assert!(rt; matches!(trouble, Trouble::NoMemory));
-        assert_eq!(rt; slicelet.serve(key, 3), Verdict::Deny(Ground::Down));
-        slicelet.start(1, 3).map_err(|_| "a second time")?;
-    }
-    let grant = match sample_grant(alloc, task_of(1)?, 1, Kind::Guard) {
-        Some(grant) => grant,
-        None => grant_of(alloc, 1, Kind::Guard)?,
-    };
-    heard_at_last(&mut slicelet, &grant, key)?;
-    assert_eq!(rt; slicelet.serve(key, 7), allow(Kind::Guard, 1));
-    let copied = slicelet.copy().or_else(|_| slicelet.copy())?;
-    assert_eq!(rt; copied.serve(key, 7), allow(Kind::Guard, 1));
-    assert_eq!(rt; released_at_last(&mut slicelet, key)?, 1);
-    assert_eq!(rt; slicelet.serve(key, 41), Verdict::Deny(Ground::NoLease));
+    let wanted = (
+        [allow(Kind::Guard, 1), allow(Kind::Guard, 1)],
+        1,
+        Verdict::Deny(Ground::NoLease),
+    );
+    let mut slicelet = slicelet_of(rt.alloc(), 1)?;
+    assert_eq!(rt; answers_at_last(rt.alloc(), &mut slicelet)?, wanted);
     Ok(())
 }

@@ -2,12 +2,12 @@
 
 use assignment::{Assignment, Listed, Slice, TaskId};
 use key_hash::{SliceKey, slice_key};
-use lease_table::{Grant, LeaseTable, Policy, ReleaseNote};
+use lease_table::{Grant, LeaseTable, Policy, ReleaseNote, TableError};
 use machines::Trouble;
 use policy_rules::{Kind, Lease, Verdict};
 use slice_ranges::Ranges;
 use slicelet::{Slicelet, SliceletCall, SliceletError, SliceletEvent};
-use std::alloc::Global;
+use std::alloc::{AllocError, Global};
 use std::test::Fail;
 
 // The half of the key space: "hello" lies below it, "abc" above.
@@ -25,7 +25,26 @@ pub fn assignment_of(
             owners: Listed::from_vec(Vec::from_slice(alloc, owners)?),
         })?;
     }
-    Ok(Assignment::build(alloc, generation, &slices).map_err(|_| "slices make an assignment")?)
+    Ok(
+        Assignment::build(alloc, generation, &slices)
+            .ok()
+            .ok_or("slices make an assignment")?,
+    )
+}
+
+// One task has the whole key space.
+pub fn whole_of(alloc: Global, generation: u64, owner: u64) -> Result<Assignment, Fail> {
+    assignment_of(alloc, generation, &[(0, &[owner])])
+}
+
+// One task has the lower half, another, or the same, the upper half.
+pub fn halves_of(
+    alloc: Global,
+    generation: u64,
+    lower: u64,
+    upper: u64,
+) -> Result<Assignment, Fail> {
+    assignment_of(alloc, generation, &[(0, &[lower]), (HALF, &[upper])])
 }
 
 pub fn task_of(number: u64) -> Result<TaskId, Fail> {
@@ -51,27 +70,109 @@ pub fn refusal<T: Drop>(answer: Result<T, Trouble<SliceletError>>) -> Option<Sli
     }
 }
 
+// The calls of a slicelet and of a table stand here without the contracts of theirs: a test that makes
+// several of them is proved sooner where it knows nothing of what each leaves.
+
+pub fn slicelet_of(alloc: Global, task: u64) -> Result<Slicelet, Fail> {
+    Ok(Slicelet::new(alloc, task_of(task)?))
+}
+
+pub fn start(slicelet: &mut Slicelet, life: u32, at: u64) -> Result<(), Trouble<SliceletError>> {
+    slicelet.start(life, at)
+}
+
+pub fn hear(slicelet: &mut Slicelet, grant: &Grant, at: u64) -> Result<(), Trouble<SliceletError>> {
+    slicelet.hear(grant, at)
+}
+
+pub fn release(
+    slicelet: &mut Slicelet,
+    kind: Kind,
+    at: u64,
+) -> Result<ReleaseNote, Trouble<SliceletError>> {
+    slicelet.release(kind, at)
+}
+
+pub fn serve(slicelet: &Slicelet, key: SliceKey, at: u64) -> Verdict {
+    slicelet.serve(key, at)
+}
+
+pub fn copy_of(slicelet: &Slicelet) -> Result<Slicelet, AllocError> {
+    slicelet.copy()
+}
+
+fn take_job(table: &mut LeaseTable) -> Result<(), Fail> {
+    table.job_take(1, 0).ok().ok_or("nobody holds the job")?;
+    Ok(())
+}
+
+pub fn propose(table: &mut LeaseTable, next: &Assignment, at: u64) -> Result<(), Fail> {
+    table
+        .propose(1, next, at)
+        .ok()
+        .ok_or("nothing is proposed")?;
+    Ok(())
+}
+
+pub fn commit(table: &mut LeaseTable, at: u64) -> Result<u64, TableError> {
+    table.commit(1, at)
+}
+
+// A grant for task 1.
+pub fn grant(table: &mut LeaseTable, at: u64) -> Result<Grant, Fail> {
+    Ok(
+        table
+            .grant(task_of(1)?, 1, at)
+            .ok()
+            .ok_or("numbers are left")?,
+    )
+}
+
+pub fn free(table: &mut LeaseTable, note: &ReleaseNote, at: u64) -> Result<(), Fail> {
+    table.free(note, at).ok().ok_or("the row is open")?;
+    Ok(())
+}
+
+fn empty_table(alloc: Global) -> Result<LeaseTable, Fail> {
+    let policy = Policy::new(1, 10, 100, 100, 1000, 1000).ok_or("within the limits")?;
+    Ok(LeaseTable::new(alloc, policy))
+}
+
+fn propose_first(alloc: Global, table: &mut LeaseTable) -> Result<(), Fail> {
+    let first = halves_of(alloc, 1, 1, 2)?;
+    propose(table, &first, 1)
+}
+
+fn open(alloc: Global, table: &mut LeaseTable) -> Result<(), Fail> {
+    take_job(table)?;
+    propose_first(alloc, table)?;
+    commit(table, 2).ok().ok_or("no row holds it up")?;
+    Ok(())
+}
+
 // Generation 1 gives the lower half to task 1 and the upper half to task 2; nobody has a grant.
 pub fn table_of(alloc: Global) -> Result<LeaseTable, Fail> {
-    let policy = Policy::new(1, 10, 100, 100, 1000, 1000).ok_or("within the limits")?;
-    let mut table = LeaseTable::new(alloc, policy);
-    let first = assignment_of(alloc, 1, &[(0, &[1]), (HALF, &[2])])?;
-    table.job_take(1, 0).map_err(|_| "nobody holds the job")?;
-    table
-        .propose(1, &first, 1)
-        .map_err(|_| "nothing is proposed")?;
-    table.commit(1, 2).map_err(|_| "no row holds it up")?;
+    let mut table = empty_table(alloc)?;
+    open(alloc, &mut table)?;
     Ok(table)
+}
+
+fn start_first(slicelet: &mut Slicelet) -> Result<(), Fail> {
+    start(slicelet, 1, 3).ok().ok_or("no life was started")?;
+    Ok(())
+}
+
+fn started_of(alloc: Global) -> Result<Slicelet, Fail> {
+    let mut slicelet = slicelet_of(alloc, 1)?;
+    start_first(&mut slicelet)?;
+    Ok(slicelet)
 }
 
 // Task 1, which started life 1 at 3, and grant 1, a guard until 95 that was given at 5.
 pub fn base_of(alloc: Global) -> Result<(LeaseTable, Slicelet, Grant), Fail> {
     let mut table = table_of(alloc)?;
-    let mut slicelet = Slicelet::new(alloc, task_of(1)?);
-    slicelet.start(1, 3).map_err(|_| "no life was started")?;
-    let grant = table
-        .grant(task_of(1)?, 1, 5)
-        .map_err(|_| "numbers are left")?;
+    let slicelet = started_of(alloc)?;
+    let grant = grant(&mut table, 5)?;
     Ok((table, slicelet, grant))
 }
 

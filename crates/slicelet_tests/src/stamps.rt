@@ -19,10 +19,23 @@ fn set_of(alloc: Global, pairs: &[(u64, u64)]) -> Result<Ranges, Fail> {
     )
 }
 
+// The stamps after the keys of some pairs gave way to those of others at this position.
+fn restamped(
+    alloc: Global,
+    stamped: &Stamped,
+    before: &[(u64, u64)],
+    after: &[(u64, u64)],
+    position: u64,
+) -> Result<Stamped, Fail> {
+    let before = set_of(alloc, before)?;
+    let after = set_of(alloc, after)?;
+    Ok(stamped.restamp(&before, &after, position)?)
+}
+
 // The keys 0 to 7 are stamped 1, and then those from 2 on are stamped 2 where they are not below 4.
 fn stamped_twice(alloc: Global) -> Result<Stamped, Fail> {
-    let first = Stamped::empty(alloc).restamp(&set_of(alloc, &[])?, &set_of(alloc, &[(0, 8)])?, 1)?;
-    Ok(first.restamp(&set_of(alloc, &[(0, 4)])?, &set_of(alloc, &[(2, 8)])?, 2)?)
+    let first = restamped(alloc, &Stamped::empty(alloc), &[], &[(0, 8)], 1)?;
+    restamped(alloc, &first, &[(0, 4)], &[(2, 8)], 2)
 }
 
 // The stamps of the keys 3, 5 and 0.
