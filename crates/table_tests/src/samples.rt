@@ -1,10 +1,10 @@
 //! What the tests share: assignments, and tables with and without a first grant.
 
 use assignment::{Assignment, Listed, Slice, TaskId};
-use lease_table::{LeaseTable, Policy, ReleaseNote, TableError};
+use lease_table::{Grant, JobTerm, LeaseTable, Policy, ReleaseNote, Row, TableError};
 use machines::Trouble;
 use policy_rules::Kind;
-use std::alloc::Global;
+use std::alloc::{AllocError, Global};
 use std::test::Fail;
 
 // The half of the key space.
@@ -37,6 +37,54 @@ pub fn task_of(number: u64) -> Result<TaskId, Fail> {
     Ok(TaskId::new(number).ok_or("a number from 1 to 64")?)
 }
 
+// The calls of a table stand here without the contracts of theirs: a test that makes several of them is
+// proved sooner where it knows nothing of what each leaves.
+
+pub fn take_job(table: &mut LeaseTable, assigner: u64, at: u64) -> Result<JobTerm, TableError> {
+    table.job_take(assigner, at)
+}
+
+pub fn renew_job(table: &mut LeaseTable, number: u64, at: u64) -> Result<JobTerm, TableError> {
+    table.job_renew(number, at)
+}
+
+pub fn propose(
+    table: &mut LeaseTable,
+    number: u64,
+    next: &Assignment,
+    at: u64,
+) -> Result<(), Trouble<TableError>> {
+    table.propose(number, next, at)
+}
+
+pub fn commit(table: &mut LeaseTable, number: u64, at: u64) -> Result<u64, TableError> {
+    table.commit(number, at)
+}
+
+// A grant for life 1 of a task.
+pub fn grant(table: &mut LeaseTable, task: TaskId, at: u64) -> Result<Grant, Trouble<TableError>> {
+    table.grant(task, 1, at)
+}
+
+pub fn free(table: &mut LeaseTable, note: &ReleaseNote, at: u64) -> Result<u64, TableError> {
+    table.free(note, at)
+}
+
+pub fn rows_of(table: &LeaseTable) -> Result<Vec<Row>, AllocError> {
+    table.rows()
+}
+
+pub fn copy_of(table: &LeaseTable) -> Result<LeaseTable, AllocError> {
+    table.copy()
+}
+
+pub fn has_no_row(table: &LeaseTable) -> bool {
+    match rows_of(table) {
+        Ok(rows) => rows.is_empty(),
+        Err(_) => false,
+    }
+}
+
 // A table with terms of 1000, 100 and 100 ticks, a skew of 10, and so many numbers of grants.
 pub fn table_of(alloc: Global, numbers: u64) -> Result<LeaseTable, Fail> {
     let policy = Policy::new(1, 10, 100, 100, 1000, numbers).ok_or("within the limits")?;
@@ -45,19 +93,23 @@ pub fn table_of(alloc: Global, numbers: u64) -> Result<LeaseTable, Fail> {
 
 // Whether assigner 1 takes the job lease, and proposes and commits the first assignment.
 fn opens(table: &mut LeaseTable, first: &Assignment) -> bool {
-    table.job_take(1, 0).is_ok() && table.propose(1, first, 1).is_ok() && table.commit(1, 2).is_ok()
+    take_job(table, 1, 0).is_ok()
+        && propose(table, 1, first, 1).is_ok()
+        && commit(table, 1, 2).is_ok()
 }
 
 // Whether grant 1 is a guard for life 1 of the task, until 105 for the table and 95 for the task.
 fn has_first_grant(table: &mut LeaseTable, task: TaskId) -> bool {
-    table.grant(task, 1, 5).is_ok_and(|grant| {
-        (
-            grant.number,
-            grant.lease.kind,
-            grant.table_ends,
-            grant.lease.ends,
-        ) == (1, Kind::Guard, 105, 95)
-    })
+    let Ok(grant) = grant(table, task, 5) else {
+        return false;
+    };
+    let shown = (
+        grant.number,
+        grant.lease.kind,
+        grant.table_ends,
+        grant.lease.ends,
+    );
+    shown == (1, Kind::Guard, 105, 95)
 }
 
 // Generation 1 gives the lower half to task 1 and the upper half to task 2; task 1 has grant 1.
@@ -97,7 +149,7 @@ fn proposal(
     listed: &[(u64, &[u64])],
 ) -> Result<Option<TableError>, Fail> {
     let next = assignment_of(alloc, generation, listed)?;
-    Ok(refusal(table.propose(number, &next, at)))
+    Ok(refusal(propose(table, number, &next, at)))
 }
 
 // How proposals under a term at a reading are refused: of a generation that is committed, with too
