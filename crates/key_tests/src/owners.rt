@@ -3,7 +3,8 @@
 use crate::samples::key_of;
 use assignment::{Assignment, Listed, OwnedSlice, Slice, TaskId};
 use machines::Duplicate;
-use std::alloc::Global;
+use slice_ranges::Ranges;
+use std::alloc::{AllocError, Global};
 use std::test::Fail;
 
 // The half of the key space.
@@ -12,13 +13,15 @@ const HALF: u64 = 1 << 62;
 // The end of the key space.
 const END: u64 = 1 << 63;
 
-fn slices_of(alloc: Global, listed: &[(u64, &[u64])]) -> Result<Vec<Slice>, Fail> {
+fn slice_of(alloc: Global, start: u64, owners: &[u64]) -> Result<Slice, AllocError> {
+    let owners = Listed::from_slice(alloc, owners)?;
+    Ok(Slice { start, owners })
+}
+
+fn slices_of(alloc: Global, listed: &[(u64, &[u64])]) -> Result<Vec<Slice>, AllocError> {
     let mut slices = Vec::new(alloc);
     for (start, owners) in listed {
-        slices.push(Slice {
-            start: *start,
-            owners: Listed::from_vec(Vec::from_slice(alloc, owners)?),
-        })?;
+        slices.push(slice_of(alloc, *start, owners)?)?;
     }
     Ok(slices)
 }
@@ -48,20 +51,25 @@ fn takes_numbers_of_tasks(rt: HostRuntime) {
 }
 
 // Whether these are the tasks of these numbers, in this order.
-fn are_tasks(alloc: Global, tasks: &[TaskId], numbers: &[u64]) -> Result<bool, Fail> {
-    let found: Vec<u64> = tasks.iter().map(|task| task.number()).collect(alloc)?;
-    Ok(found.as_slice() == numbers)
+fn are_tasks(tasks: &[TaskId], numbers: &[u64]) -> bool {
+    for (task, number) in tasks.iter().zip(numbers) {
+        if task.number() != *number {
+            return false;
+        }
+    }
+    tasks.len() == numbers.len()
+}
+
+// Whether the owners of a key are these tasks.
+fn has_owners(assignment: &Assignment, number: u64, owners: &[u64]) -> Result<bool, Fail> {
+    let found = assignment.owners(key_of(number)?);
+    Ok(are_tasks(&found, owners))
 }
 
 // The first key that other tasks own.
-fn first_at_fault(
-    alloc: Global,
-    assignment: &Assignment,
-    cases: &[(u64, &[u64])],
-) -> Result<Option<u64>, Fail> {
+fn first_at_fault(assignment: &Assignment, cases: &[(u64, &[u64])]) -> Result<Option<u64>, Fail> {
     for (number, owners) in cases {
-        let found = assignment.owners(key_of(*number)?);
-        if !are_tasks(alloc, &found, owners)? {
+        if !has_owners(assignment, *number, owners)? {
             return Ok(Some(*number));
         }
     }
@@ -71,8 +79,8 @@ fn first_at_fault(
 #[test]
 fn names_the_owner_of_every_key(rt: HostRuntime) -> Result<(), Fail> {
     let whole = assignment_of(rt.alloc(), 1, &[(0, &[1])])?;
-    let fault = first_at_fault(rt.alloc(), &whole, &[(0, &[1]), (END - 1, &[1])])?;
-    assert_eq!(rt; fault, None);
+    let cases: [(u64, &[u64]); 2] = [(0, &[1]), (END - 1, &[1])];
+    assert_eq!(rt; first_at_fault(&whole, &cases)?, None);
     Ok(())
 }
 
@@ -85,7 +93,7 @@ fn names_owners(rt: HostRuntime) -> Result<(), Fail> {
         (END - 1, &[2]),
     ];
     let shared = assignment_of(rt.alloc(), 7, &[(0, &[64, 9, 10]), (HALF, &[2])])?;
-    assert_eq!(rt; first_at_fault(rt.alloc(), &shared, &cases)?, None);
+    assert_eq!(rt; first_at_fault(&shared, &cases)?, None);
     Ok(())
 }
 
@@ -93,54 +101,51 @@ fn names_owners(rt: HostRuntime) -> Result<(), Fail> {
 fn many_slices(alloc: Global) -> Result<Assignment, Fail> {
     let mut slices = Vec::new(alloc);
     for place in 0..1024u64 {
-        slices.push(Slice {
-            start: place << 53,
-            owners: Listed::from_slice(alloc, &[place % 2 + 1])?,
-        })?;
+        slices.push(slice_of(alloc, place << 53, &[place % 2 + 1])?)?;
     }
     let built = Assignment::build(alloc, 1, &slices);
     Ok(built.ok().ok_or("slices make an assignment")?)
 }
 
+// The first key of three that other tasks own, and how many keys task 1 owns.
+fn fault_and_width(many: &Assignment) -> Result<(Option<u64>, u64), Fail> {
+    let cases: [(u64, &[u64]); 3] = [((5 << 53) + 7, &[2]), (END - 1, &[2]), (0, &[1])];
+    let fault = first_at_fault(many, &cases)?;
+    Ok((fault, width_of(many, task_of(1)?)?))
+}
+
 #[test]
 fn finds_a_slice_among_1024(rt: HostRuntime) -> Result<(), Fail> {
-    let cases: [(u64, &[u64]); 3] = [((5 << 53) + 7, &[2]), (END - 1, &[2]), (0, &[1])];
     let many = many_slices(rt.alloc())?;
-    let fault = first_at_fault(rt.alloc(), &many, &cases)?;
-    let width = width_of(&many, task_of(1)?)?;
-    assert_eq!(rt; (fault, width), (None, HALF));
+    assert_eq!(rt; fault_and_width(&many)?, (None, HALF));
     Ok(())
 }
 
-fn is_slice(alloc: Global, slice: &OwnedSlice, start: u64, owners: &[u64]) -> Result<bool, Fail> {
-    Ok(slice.start().value() == start && are_tasks(alloc, slice.owners(), owners)?)
+fn is_slice(slice: &OwnedSlice, start: u64, owners: &[u64]) -> bool {
+    slice.start().value() == start && are_tasks(slice.owners(), owners)
 }
 
 // Whether it is of generation 9, with two slices.
-fn is_kept(alloc: Global, assignment: &Assignment) -> Result<bool, Fail> {
+fn is_kept(assignment: &Assignment) -> bool {
     match assignment.slices() {
-        [first, second] => Ok(
-            assignment.generation() == 9
-                && is_slice(alloc, first, 0, &[3, 1])?
-                && is_slice(alloc, second, 5, &[2])?,
-        ),
-        _ => Ok(false),
+        [first, second] => {
+            assignment.generation() == 9 && is_slice(first, 0, &[3, 1]) && is_slice(second, 5, &[2])
+        }
+        _ => false,
     }
 }
 
 // Whether a copy equals the assignment and keeps the same.
-fn is_kept_by_a_copy(alloc: Global, assignment: &Assignment) -> Result<bool, Fail> {
+fn is_kept_by_a_copy(assignment: &Assignment) -> Result<bool, Fail> {
     let copied = assignment.copy()?;
-    Ok(copied == *assignment && is_kept(alloc, &copied)?)
+    Ok(copied == *assignment && is_kept(&copied))
 }
 
 #[test]
 fn keeps_what_it_is_given(rt: HostRuntime) -> Result<(), Fail> {
     let built = assignment_of(rt.alloc(), 9, &[(0, &[3, 1]), (5, &[2])])?;
-    let is_kept = is_kept(rt.alloc(), &built)?;
-    let is_copied = is_kept_by_a_copy(rt.alloc(), &built)?;
-    assert!(rt; is_kept);
-    assert!(rt; is_copied);
+    assert!(rt; is_kept(&built));
+    assert!(rt; is_kept_by_a_copy(&built)?);
     Ok(())
 }
 
@@ -158,20 +163,35 @@ fn widths(old: &Assignment, new: &Assignment) -> Result<[u64; 3], Fail> {
     ])
 }
 
+fn bridge_of(old: &Assignment, new: &Assignment, task: u64) -> Result<Ranges, Fail> {
+    Ok(old.bridge(new, task_of(task)?)?)
+}
+
+// Whether a set has the first key, the last of the lower half, and the first of the upper half.
+fn which_of_three(set: &Ranges) -> Result<[bool; 3], Fail> {
+    let (low, mid, high) = (key_of(0)?, key_of(HALF - 1)?, key_of(HALF)?);
+    Ok([set.contains(low), set.contains(mid), set.contains(high)])
+}
+
 // How many keys bridges of tasks 1 and 2 have, and whether that of task 1 has three keys.
 fn bridges(old: &Assignment, new: &Assignment) -> Result<([u64; 2], [bool; 3]), Fail> {
-    let (low, mid, high) = (key_of(0)?, key_of(HALF - 1)?, key_of(HALF)?);
-    let none = old.bridge(new, task_of(2)?)?.width();
-    let bridge = old.bridge(new, task_of(1)?)?;
-    let has = [low, mid, high].map(|key| bridge.contains(key));
-    Ok(([bridge.width(), none], has))
+    let none = bridge_of(old, new, 2)?.width();
+    let bridge = bridge_of(old, new, 1)?;
+    Ok(([bridge.width(), none], which_of_three(&bridge)?))
+}
+
+// The widths and the bridges of two assignments.
+type Between = ([u64; 3], ([u64; 2], [bool; 3]));
+
+fn between(old: &Assignment, new: &Assignment) -> Result<Between, Fail> {
+    Ok((widths(old, new)?, bridges(old, new)?))
 }
 
 #[test]
 fn bridges_two_generations(rt: HostRuntime) -> Result<(), Fail> {
     let new = assignment_of(rt.alloc(), 2, &[(0, &[1])])?;
     let old = assignment_of(rt.alloc(), 1, &[(0, &[1]), (HALF, &[2])])?;
-    let found = (widths(&old, &new)?, bridges(&old, &new)?);
+    let found = between(&old, &new)?;
     assert_eq!(rt; found, ([0, END, HALF], ([HALF, 0], [true, true, false])));
     Ok(())
 }
@@ -188,16 +208,21 @@ fn is_copied<T: Duplicate + PartialEq + Drop>(listed: &T) -> Result<bool, Fail> 
     Ok(listed.copy()? == *listed)
 }
 
+fn bytes_are_copied(alloc: Global) -> Result<bool, Fail> {
+    let bytes = Listed::from_slice(alloc, b"key")?;
+    is_copied(&bytes)
+}
+
+fn pairs_are_copied(alloc: Global) -> Result<bool, Fail> {
+    let pairs = Listed::from_vec(Vec::from_array(alloc, [(1u64, 2u64), (3, 4)])?);
+    is_copied(&pairs)
+}
+
 #[test]
 fn copies_what_is_written(rt: HostRuntime) -> Result<(), Fail> {
-    let alloc = rt.alloc();
-    let slice = Slice {
-        start: 5,
-        owners: Listed::from_slice(alloc, &[3, 1])?,
-    };
+    let slice = slice_of(rt.alloc(), 5, &[3, 1])?;
     assert!(rt; slice_is_copied(&slice)?);
-    assert!(rt; is_copied(&Listed::from_slice(alloc, b"key")?)?);
-    let pairs = Vec::from_array(alloc, [(1u64, 2u64), (3, 4)])?;
-    assert!(rt; is_copied(&Listed::from_vec(pairs))?);
+    assert!(rt; bytes_are_copied(rt.alloc())?);
+    assert!(rt; pairs_are_copied(rt.alloc())?);
     Ok(())
 }

@@ -23,6 +23,13 @@ fn first_at_fault(set: &Ranges, cases: &[(u64, bool)]) -> Result<Option<u64>, Fa
     Ok(None)
 }
 
+// The same of the set and of a copy of it.
+fn faults_with_a_copy(set: &Ranges, cases: &[(u64, bool)]) -> Result<[Option<u64>; 2], Fail> {
+    let fault = first_at_fault(set, cases)?;
+    let copied = set.copy()?;
+    Ok([fault, first_at_fault(&copied, cases)?])
+}
+
 fn last() -> u64 {
     (1 << 63) - 1
 }
@@ -39,9 +46,7 @@ fn joins_pairs_that_touch(rt: HostRuntime) -> Result<(), Fail> {
         (last(), false),
     ];
     let joined = set_of(rt.alloc(), &[(0, 5), (5, 9)])?;
-    let fault = first_at_fault(&joined, &cases)?;
-    let fault_of_copy = first_at_fault(&joined.copy()?, &cases)?;
-    assert_eq!(rt; [fault, fault_of_copy], [None, None]);
+    assert_eq!(rt; faults_with_a_copy(&joined, &cases)?, [None, None]);
     Ok(())
 }
 
@@ -63,7 +68,15 @@ fn leaves_pairs_apart(rt: HostRuntime) -> Result<(), Fail> {
 
 #[test]
 fn has_no_key_without_a_pair(rt: HostRuntime) -> Result<(), Fail> {
-    let cases = [0, 4, 5, 6, 8, 9, last()].map(|number| (number, false));
+    let cases = [
+        (0, false),
+        (4, false),
+        (5, false),
+        (6, false),
+        (8, false),
+        (9, false),
+        (last(), false),
+    ];
     let none = set_of(rt.alloc(), &[])?;
     assert_eq!(rt; first_at_fault(&none, &cases)?, None);
     Ok(())
@@ -104,15 +117,28 @@ fn shown(set: &Ranges, keys: &[u64]) -> Result<(bool, u64), Fail> {
     Ok((has_only(set, keys)?, set.width()))
 }
 
+fn shown_of_both(first: &Ranges, second: &Ranges) -> Result<(bool, u64), Fail> {
+    let both = first.intersect(second)?;
+    shown(&both, &[3, 8])
+}
+
+fn shown_of_either(first: &Ranges, second: &Ranges) -> Result<(bool, u64), Fail> {
+    let either = first.union(second)?;
+    shown(&either, &[0, 1, 2, 3, 4, 5, 6, 7, 8, 9, 10, 11])
+}
+
+fn shown_of_first_alone(first: &Ranges, second: &Ranges) -> Result<(bool, u64), Fail> {
+    let first_alone = first.without(second)?;
+    shown(&first_alone, &[0, 1, 2, 4, 5, 6, 7])
+}
+
 // Intersection, union and difference of two sets.
 fn combined(first: &Ranges, second: &Ranges) -> Result<[(bool, u64); 3], Fail> {
-    let both = shown(&first.intersect(second)?, &[3, 8])?;
-    let either = shown(
-        &first.union(second)?,
-        &[0, 1, 2, 3, 4, 5, 6, 7, 8, 9, 10, 11],
-    )?;
-    let first_alone = shown(&first.without(second)?, &[0, 1, 2, 4, 5, 6, 7])?;
-    Ok([both, either, first_alone])
+    Ok([
+        shown_of_both(first, second)?,
+        shown_of_either(first, second)?,
+        shown_of_first_alone(first, second)?,
+    ])
 }
 
 #[test]
@@ -124,13 +150,29 @@ fn combines_two_sets(rt: HostRuntime) -> Result<(), Fail> {
     Ok(())
 }
 
+// How many keys the set has that is full from the first key on.
+fn width_of_whole(alloc: Global) -> Result<u64, Fail> {
+    let whole = Ranges::from_levels(alloc, &[(0, true)])?;
+    Ok(whole.width())
+}
+
+fn width_of_none(alloc: Global) -> Result<u64, Fail> {
+    let none = Ranges::from_levels(alloc, &[])?;
+    Ok(none.width())
+}
+
+// Whether a set of levels has some keys alone below 14, and how many keys it has.
+fn shown_of_levels(alloc: Global) -> Result<(bool, u64), Fail> {
+    let levels = [(2, true), (3, true), (5, false), (7, false), (9, true)];
+    let set = Ranges::from_levels(alloc, &levels)?;
+    shown(&set, &[2, 3, 4, 9, 10, 11, 12, 13])
+}
+
 #[test]
 fn takes_the_keys_of_levels(rt: HostRuntime) -> Result<(), Fail> {
-    let levels = [(2, true), (3, true), (5, false), (7, false), (9, true)];
-    let whole = Ranges::from_levels(rt.alloc(), &[(0, true)])?.width();
-    let none = Ranges::from_levels(rt.alloc(), &[])?.width();
-    let set = Ranges::from_levels(rt.alloc(), &levels)?;
-    let found = (shown(&set, &[2, 3, 4, 9, 10, 11, 12, 13])?, whole, none);
+    let whole = width_of_whole(rt.alloc())?;
+    let none = width_of_none(rt.alloc())?;
+    let found = (shown_of_levels(rt.alloc())?, whole, none);
     assert_eq!(rt; found, ((true, (1 << 63) - 6), 1 << 63, 0));
     Ok(())
 }
@@ -145,13 +187,20 @@ fn equals_copy_and_empty(alloc: Global, set: &Ranges) -> Result<(bool, bool), Fa
     Ok((set.copy()? == *set, Ranges::empty(alloc) == *set))
 }
 
+// Whether it equals a set of two pairs that touch, one of two that do not, a copy, and the empty set.
+fn comparisons(alloc: Global, set: &Ranges) -> Result<(bool, bool, (bool, bool)), Fail> {
+    let touching = equals(alloc, set, &[(0, 5), (5, 9)])?;
+    let apart = equals(alloc, set, &[(0, 5), (6, 9)])?;
+    let others = equals_copy_and_empty(alloc, set)?;
+    Ok((touching, apart, others))
+}
+
 #[test]
 fn compares_sets_by_their_keys(rt: HostRuntime) -> Result<(), Fail> {
-    let alloc = rt.alloc();
-    let whole = set_of(alloc, &[(0, 9)])?;
-    let touching = equals(alloc, &whole, &[(0, 5), (5, 9)])?;
-    let apart = equals(alloc, &whole, &[(0, 5), (6, 9)])?;
-    let others = equals_copy_and_empty(alloc, &whole)?;
-    assert_eq!(rt; (touching, apart, others), (true, false, (true, false)));
+    let whole = set_of(rt.alloc(), &[(0, 9)])?;
+    assert_eq!(rt;
+        comparisons(rt.alloc(), &whole)?,
+        (true, false, (true, false))
+    );
     Ok(())
 }

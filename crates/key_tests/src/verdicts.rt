@@ -120,9 +120,10 @@ fn of_a_copy_that_is_down(holding: &Holding) -> Result<(Verdict, bool), Fail> {
 #[test]
 fn copies_holdings(rt: HostRuntime) -> Result<(), Fail> {
     let holding = holding_of(rt.alloc())?;
-    let copied = of_a_copy(&holding)?;
-    let down = of_a_copy_that_is_down(&holding)?;
-    assert_eq!(rt; copied, (None, true));
-    assert_eq!(rt; down, (Verdict::Deny(Ground::Down), false));
+    assert_eq!(rt; of_a_copy(&holding)?, (None, true));
+    assert_eq!(rt;
+        of_a_copy_that_is_down(&holding)?,
+        (Verdict::Deny(Ground::Down), false)
+    );
     Ok(())
 }
