@@ -2,10 +2,29 @@
 
 use crate::histories::{asked, policy, refused, table_history, task_history};
 use audit::{Audit, Why, audit};
+use history_lock::History;
+use lease_table::TableEvent;
 use policy_rules::{Ground, Kind, Verdict};
+use slicelet::SliceletEvent;
 use std::alloc::Global;
 use std::test::Fail;
 use world::{CallRecord, Job, Told};
+
+fn task_histories(alloc: Global, ends: u64) -> Option<Vec<History<SliceletEvent>>> {
+    let mut tasks = Vec::new(alloc);
+    tasks.push(task_history(alloc, ends)?).ok()?;
+    Some(tasks)
+}
+
+fn audit_of(
+    alloc: Global,
+    table: &History<TableEvent>,
+    tasks: &[History<SliceletEvent>],
+    records: &[CallRecord],
+) -> Option<Audit> {
+    let job = Job::new(policy(1)?, 2, 2, 2)?;
+    audit(alloc, &job, table, tasks, &[], records).ok()
+}
 
 // What an audit of the job finds; `None` where the histories cannot be made.
 fn found(
@@ -16,11 +35,10 @@ fn found(
     ends: u64,
     records: &[CallRecord],
 ) -> Option<Audit> {
-    let table = table_history(alloc, policy(redundancy)?, owners, tickets)?;
-    let mut tasks = Vec::new(alloc);
-    tasks.push(task_history(alloc, ends)?).ok()?;
-    let job = Job::new(policy(1)?, 2, 2, 2)?;
-    audit(alloc, &job, &table, &tasks, &[], records).ok()
+    let policy = policy(redundancy)?;
+    let table = table_history(alloc, policy, owners, tickets)?;
+    let tasks = task_histories(alloc, ends)?;
+    audit_of(alloc, &table, &tasks, records)
 }
 
 fn found_with(alloc: Global, record: CallRecord) -> Option<Audit> {
