@@ -34,7 +34,6 @@ fn verdicts_of_a_copy(slicelet: &Slicelet) -> Result<[Verdict; 6], Fail> {
     Ok(verdicts(&copied))
 }
 
-// A function that only borrows what it works on is proved sooner, since an early return drops nothing.
 fn hear_first(slicelet: &mut Slicelet, grant: &Grant) -> Result<(), Fail> {
     hear(slicelet, grant, 6).ok().ok_or("grant 1 is new")?;
     Ok(())

@@ -124,7 +124,7 @@ fn first_handle(slicelet: &mut Slicelet, grant: &Grant) -> Result<KeyHandle, Fai
 type Kept = ((u32, u64), [Result<bool, Stranger>; 3]);
 
 // The life and the position of a handle, and whether it lives after the guard is renewed.
-fn kept_over_a_renewal(held: &mut Held) -> Result<Kept, Fail> {
+fn kept_by(held: &mut Held) -> Result<Kept, Fail> {
     let given = (held.handle.life, held.handle.position);
     held.renew(49, 50)?;
     let lives = [
@@ -135,44 +135,56 @@ fn kept_over_a_renewal(held: &mut Held) -> Result<Kept, Fail> {
     Ok((given, lives))
 }
 
+fn kept_over_a_renewal(alloc: Global) -> Result<Kept, Fail> {
+    let mut held = Held::new(alloc)?;
+    kept_by(&mut held)
+}
+
 #[test]
 fn keeps_a_handle_over_a_renewed_guard(rt: HostRuntime) -> Result<(), Fail> {
     let wanted = ((1, 2), [Ok(true), Ok(false), Ok(false)]);
-    let mut held = Held::new(rt.alloc())?;
-    assert_eq!(rt; kept_over_a_renewal(&mut held)?, wanted);
+    assert_eq!(rt; kept_over_a_renewal(rt.alloc())?, wanted);
     Ok(())
 }
 
 type Answer = (Result<bool, Stranger>, Verdict);
 
 // Whether a handle lives at 97, and whether its key is served, after a renewal that came late.
-fn answers_after_a_gap(held: &mut Held) -> Result<Answer, Fail> {
+fn answers_of_a_late_renewal(held: &mut Held) -> Result<Answer, Fail> {
     held.renew(49, 96)?;
     Ok((held.continuous(97), held.serve(97)))
+}
+
+fn answers_after_a_gap(alloc: Global) -> Result<Answer, Fail> {
+    let mut held = Held::new(alloc)?;
+    answers_of_a_late_renewal(&mut held)
 }
 
 #[test]
 fn breaks_a_handle_where_the_guard_ended_before_the_next(rt: HostRuntime) -> Result<(), Fail> {
     let wanted = (Ok(false), allow(Kind::Guard, 1));
-    let mut held = Held::new(rt.alloc())?;
-    assert_eq!(rt; answers_after_a_gap(&mut held)?, wanted);
+    assert_eq!(rt; answers_after_a_gap(rt.alloc())?, wanted);
     Ok(())
 }
 
 // What is served while the key is away, and the answers once it has come back.
-fn answers_after_a_loss(alloc: Global, held: &mut Held) -> Result<(Verdict, Answer), Fail> {
+fn answers_of_a_loss(alloc: Global, held: &mut Held) -> Result<(Verdict, Answer), Fail> {
     held.give_all(alloc, 2, 2, 20)?;
     let away = held.serve(26);
     held.give_all(alloc, 3, 1, 27)?;
     Ok((away, (held.continuous(33), held.serve(33))))
 }
 
+fn answers_after_a_loss(alloc: Global) -> Result<(Verdict, Answer), Fail> {
+    let mut held = Held::new(alloc)?;
+    answers_of_a_loss(alloc, &mut held)
+}
+
 #[test]
 fn breaks_a_handle_whose_key_left_and_came_back(rt: HostRuntime) -> Result<(), Fail> {
     let not_owned = Verdict::Deny(Ground::NotOwned { generation: 2 });
     let wanted = (not_owned, (Ok(false), allow(Kind::Guard, 3)));
-    let mut held = Held::new(rt.alloc())?;
-    assert_eq!(rt; answers_after_a_loss(rt.alloc(), &mut held)?, wanted);
+    assert_eq!(rt; answers_after_a_loss(rt.alloc())?, wanted);
     Ok(())
 }
 
@@ -180,7 +192,7 @@ type OverABridge = (Option<u64>, [Verdict; 3], Result<bool, Stranger>);
 
 // The generation that is committed, what is served under the bridge and after it, and whether the
 // handle lives.
-fn answers_over_a_bridge(alloc: Global, held: &mut Held) -> Result<OverABridge, Fail> {
+fn answers_of_a_bridge(alloc: Global, held: &mut Held) -> Result<OverABridge, Fail> {
     held.propose_both_halves(alloc, 20)?;
     held.renew(24, 25)?;
     held.release(26, 28)?;
@@ -191,6 +203,11 @@ fn answers_over_a_bridge(alloc: Global, held: &mut Held) -> Result<OverABridge, 
     Ok((committed, verdicts, held.continuous(32)))
 }
 
+fn answers_over_a_bridge(alloc: Global) -> Result<OverABridge, Fail> {
+    let mut held = Held::new(alloc)?;
+    answers_of_a_bridge(alloc, &mut held)
+}
+
 #[test]
 fn carries_a_handle_over_a_change_by_a_bridge(rt: HostRuntime) -> Result<(), Fail> {
     let verdicts = [
@@ -198,9 +215,8 @@ fn carries_a_handle_over_a_change_by_a_bridge(rt: HostRuntime) -> Result<(), Fai
         allow(Kind::Guard, 2),
         allow(Kind::Guard, 2),
     ];
-    let mut held = Held::new(rt.alloc())?;
     assert_eq!(rt;
-        answers_over_a_bridge(rt.alloc(), &mut held)?,
+        answers_over_a_bridge(rt.alloc())?,
         (Some(2), verdicts, Ok(true))
     );
     Ok(())
@@ -230,11 +246,16 @@ type Known = (Ground, [Result<bool, Stranger>; 6], Result<bool, Stranger>);
 
 // Why there is no handle on "abc", whether the handles live, and whether the first does in the next
 // life.
-fn known_handles(held: &mut Held) -> Result<Known, Fail> {
+fn known_by(held: &mut Held) -> Result<Known, Fail> {
     let ground = hold(&held.slicelet, abc()).err().ok_or("not owned")?;
     let lives = lives(held)?;
     start(&mut held.slicelet, 2, 9).ok().ok_or("life 2 is new")?;
     Ok((ground, lives, held.continuous(10)))
+}
+
+fn known_handles(alloc: Global) -> Result<Known, Fail> {
+    let mut held = Held::new(alloc)?;
+    known_by(&mut held)
 }
 
 #[test]
@@ -248,7 +269,6 @@ fn knows_strangers_and_older_lives(rt: HostRuntime) -> Result<(), Fail> {
         Err(Stranger),
     ];
     let wanted = (Ground::NotOwned { generation: 1 }, lives, Ok(false));
-    let mut held = Held::new(rt.alloc())?;
-    assert_eq!(rt; known_handles(&mut held)?, wanted);
+    assert_eq!(rt; known_handles(rt.alloc())?, wanted);
     Ok(())
 }

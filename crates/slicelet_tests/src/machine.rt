@@ -13,10 +13,18 @@ use std::test::Fail;
 // The reply to an event, and what tells the ticket and the call.
 type Applied = (Option<SliceletReply>, u64, CallOf);
 
+fn copy_event(event: &SliceletEvent) -> Result<SliceletEvent, AllocError> {
+    Slicelet::copy_event(event)
+}
+
+fn reply_to(slicelet: &mut Slicelet, event: &SliceletEvent) -> Option<SliceletReply> {
+    slicelet.apply(event).ok()
+}
+
 // The reply to a copy of an event, and what tells the copy's ticket and call.
 fn apply_copy(slicelet: &mut Slicelet, event: &SliceletEvent) -> Result<Applied, AllocError> {
-    let copied = Slicelet::copy_event(event)?;
-    let reply = slicelet.apply(&copied).ok();
+    let copied = copy_event(event)?;
+    let reply = reply_to(slicelet, &copied);
     Ok((reply, copied.ticket, call_of(&copied.call)))
 }
 
@@ -34,7 +42,7 @@ fn apply_copies(slicelet: &mut Slicelet, grant: Grant) -> Result<[Applied; 3], A
 }
 
 fn takes(slicelet: &mut Slicelet, event: &SliceletEvent) -> bool {
-    slicelet.apply(event).is_ok()
+    reply_to(slicelet, event).is_some()
 }
 
 #[test]

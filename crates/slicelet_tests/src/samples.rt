@@ -71,7 +71,8 @@ pub fn refusal<T: Drop>(answer: Result<T, Trouble<SliceletError>>) -> Option<Sli
 }
 
 // The calls of a slicelet and of a table stand here without the contracts of theirs: a test that makes
-// several of them is proved sooner where it knows nothing of what each leaves.
+// several of them is proved sooner where it knows nothing of what each leaves. It is proved sooner too
+// where it borrows what it calls, since an early return then drops nothing.
 
 pub fn slicelet_of(alloc: Global, task: u64) -> Result<Slicelet, Fail> {
     Ok(Slicelet::new(alloc, task_of(task)?))
