@@ -38,7 +38,10 @@ fn assignment_of(
         Err(AssignmentError::NoMemory) => try_assignment(alloc, generation, listed),
         first => first,
     };
-    Ok(built.map_err(|_| "slices make an assignment")?)
+    match built {
+        Ok(assignment) => Ok(assignment),
+        Err(_) => Err("slices make an assignment".into()),
+    }
 }
 
 fn key_of(number: u64) -> Result<SliceKey, Fail> {
@@ -57,32 +60,60 @@ fn answer(clerk: &Clerk, key: SliceKey) -> Result<Option<(u64, u64)>, Fail> {
     }
 }
 
+// The same for the key of "hello", and for those on either side of the half.
+fn answers(clerk: &Clerk) -> Result<[Option<(u64, u64)>; 3], Fail> {
+    Ok([
+        answer(clerk, slice_key(b"hello"))?,
+        answer(clerk, key_of(HALF - 1)?)?,
+        answer(clerk, key_of(HALF)?)?,
+    ])
+}
+
+// Learns an assignment that is new.
+fn learn(clerk: &mut Clerk, assignment: &Assignment) -> Result<(), Fail> {
+    let learnt = clerk.learn(assignment);
+    Ok(learnt.ok().ok_or("the assignment is new")?)
+}
+
+fn refusal<T: Drop>(answer: Result<T, Trouble<ClerkError>>) -> Option<ClerkError> {
+    match answer {
+        Err(Trouble::Refused(error)) => Some(error),
+        _ => None,
+    }
+}
+
+// Why the clerk does not learn an assignment, and what it answers afterwards.
+fn refuse(
+    clerk: &mut Clerk,
+    assignment: &Assignment,
+    key: SliceKey,
+) -> Result<(Option<ClerkError>, Option<(u64, u64)>), Fail> {
+    let refused = refusal(clerk.learn(assignment));
+    Ok((refused, answer(clerk, key)?))
+}
+
 #[test]
 fn answers_with_the_newest_it_learnt(rt: HostRuntime) -> Result<(), Fail> {
-    let alloc = rt.alloc();
-    let first = assignment_of(alloc, 1, &[(0, 1), (HALF, 2)])?;
-    let second = assignment_of(alloc, 2, &[(0, 2)])?;
+    let first = assignment_of(rt.alloc(), 1, &[(0, 1), (HALF, 2)])?;
+    let second = assignment_of(rt.alloc(), 2, &[(0, 2)])?;
     let hello = slice_key(b"hello");
     assert_eq!(rt; hello.value(), HELLO);
     let mut clerk = Clerk::new();
     assert_eq!(rt; answer(&clerk, hello)?, None);
-    assert!(rt; clerk.learn(&second).is_ok());
+    learn(&mut clerk, &second)?;
     for old in [&first, &second] {
-        assert!(rt;
-            matches!(
-                clerk.learn(old),
-                Err(Trouble::Refused(ClerkError::Old { generation: 2 }))
-            )
-        );
-        assert_eq!(rt; answer(&clerk, hello)?, Some((2, 2)));
+        let refused = refuse(&mut clerk, old, hello)?;
+        let wanted = Some(ClerkError::Old { generation: 2 });
+        assert_eq!(rt; refused, (wanted, Some((2, 2))));
     }
     clerk.forget();
     assert_eq!(rt; answer(&clerk, hello)?, None);
-    assert!(rt; clerk.learn(&first).is_ok());
-    assert_eq!(rt; answer(&clerk, hello)?, Some((1, 1)));
-    assert_eq!(rt; answer(&clerk, key_of(HALF - 1)?)?, Some((1, 1)));
-    assert_eq!(rt; answer(&clerk, key_of(HALF)?)?, Some((1, 2)));
-    assert!(rt; clerk.learn(&second).is_ok());
+    learn(&mut clerk, &first)?;
+    assert_eq!(rt;
+        answers(&clerk)?,
+        [Some((1, 1)), Some((1, 1)), Some((1, 2))]
+    );
+    learn(&mut clerk, &second)?;
     assert_eq!(rt; answer(&clerk, key_of(HALF)?)?, Some((2, 2)));
     Ok(())
 }
@@ -95,39 +126,73 @@ fn tried<M: Machine>(machine: &M, event: &M::Event) -> Result<(M, M::Reply), Tro
     Ok((machine, reply))
 }
 
+// What a clerk would reply, and what it would answer then.
+fn tried_reply(
+    clerk: &Clerk,
+    event: &ClerkEvent,
+    key: SliceKey,
+) -> Result<(ClerkReply, Option<(u64, u64)>), Fail> {
+    let (after, reply) = tried(clerk, event)
+        .ok()
+        .ok_or("the clerk would take the event")?;
+    Ok((reply, answer(&after, key)?))
+}
+
+// The event of learning an assignment.
+fn learning(
+    alloc: Global,
+    ticket: u64,
+    generation: u64,
+    listed: &[(u64, u64)],
+) -> Result<ClerkEvent, Fail> {
+    let call = ClerkCall::Learn(assignment_of(alloc, generation, listed)?);
+    Ok(ClerkEvent { ticket, call })
+}
+
+fn reply(clerk: &mut Clerk, event: &ClerkEvent) -> Option<ClerkReply> {
+    clerk.apply(event).ok()
+}
+
+// Why the clerk does not take an event, and what it answers afterwards.
+fn refuse_event(
+    clerk: &mut Clerk,
+    event: &ClerkEvent,
+    key: SliceKey,
+) -> Result<(Option<ClerkError>, Option<(u64, u64)>), Fail> {
+    let refused = refusal(clerk.apply(event));
+    Ok((refused, answer(clerk, key)?))
+}
+
+// The ticket of a copy of the event, and the reply to it.
+fn reply_to_copy(clerk: &mut Clerk, event: &ClerkEvent) -> Result<(u64, Option<ClerkReply>), Fail> {
+    let again = Clerk::copy_event(event)?;
+    Ok((again.ticket, reply(clerk, &again)))
+}
+
 #[test]
 fn takes_its_calls_as_events(rt: HostRuntime) -> Result<(), Fail> {
-    let alloc = rt.alloc();
     let hello = key_of(HELLO)?;
-    let learn = |ticket: u64, assignment: Assignment| ClerkEvent {
-        ticket,
-        call: ClerkCall::Learn(assignment),
-    };
-    let first = learn(5, assignment_of(alloc, 1, &[(0, 1), (HALF, 2)])?);
-    let second = learn(3, assignment_of(alloc, 2, &[(0, 2)])?);
+    let first = learning(rt.alloc(), 5, 1, &[(0, 1), (HALF, 2)])?;
+    let second = learning(rt.alloc(), 3, 2, &[(0, 2)])?;
     let forget = ClerkEvent {
         ticket: 4,
         call: ClerkCall::Forget,
     };
     let mut clerk = Clerk::new();
-    assert!(rt; matches!(clerk.apply(&second), Ok(ClerkReply::Learnt)));
-    assert!(rt;
-        matches!(
-            clerk.apply(&first),
-            Err(Trouble::Refused(ClerkError::Old { generation: 2 }))
-        )
-    );
-    assert_eq!(rt; answer(&clerk, hello)?, Some((2, 2)));
+    assert_eq!(rt; reply(&mut clerk, &second), Some(ClerkReply::Learnt));
+    let refused = refuse_event(&mut clerk, &first, hello)?;
+    let wanted = Some(ClerkError::Old { generation: 2 });
+    assert_eq!(rt; refused, (wanted, Some((2, 2))));
     let before = clerk.copy()?;
-    let (after, reply) = tried(&clerk, &forget).map_err(|_| "a clerk forgets")?;
-    assert_eq!(rt; reply, ClerkReply::Forgotten);
-    assert_eq!(rt; answer(&after, hello)?, None);
+    assert_eq!(rt;
+        tried_reply(&clerk, &forget, hello)?,
+        (ClerkReply::Forgotten, None)
+    );
     assert!(rt; tried(&clerk, &first).is_err());
-    assert!(rt; matches!(clerk.apply(&forget), Ok(ClerkReply::Forgotten)));
+    assert_eq!(rt; reply(&mut clerk, &forget), Some(ClerkReply::Forgotten));
     assert_eq!(rt; answer(&clerk, hello)?, None);
-    let again = Clerk::copy_event(&first)?;
-    assert_eq!(rt; again.ticket, 5);
-    assert!(rt; matches!(clerk.apply(&again), Ok(ClerkReply::Learnt)));
+    let again = reply_to_copy(&mut clerk, &first)?;
+    assert_eq!(rt; again, (5, Some(ClerkReply::Learnt)));
     assert_eq!(rt; answer(&clerk, hello)?, Some((1, 1)));
     assert_eq!(rt; answer(&before, hello)?, Some((2, 2)));
     Ok(())
@@ -141,41 +206,66 @@ fn learn_at_last(clerk: &mut Clerk, assignment: &Assignment, key: SliceKey) -> R
         Err(Trouble::NoMemory) if answer(clerk, key)? == before => clerk.learn(assignment),
         first => first,
     };
-    Ok(learnt.map_err(|_| "the assignment is learnt, at the second time at the latest")?)
+    Ok(learnt.ok().ok_or("the assignment is learnt, at the second time at the latest")?)
+}
+
+fn copy_at_last(clerk: &Clerk) -> Result<Clerk, Fail> {
+    match clerk.copy() {
+        Ok(copied) => Ok(copied),
+        Err(_) => Ok(clerk.copy()?),
+    }
+}
+
+fn copy_event_at_last(event: &ClerkEvent) -> Result<ClerkEvent, Fail> {
+    match Clerk::copy_event(event) {
+        Ok(copied) => Ok(copied),
+        Err(_) => Ok(Clerk::copy_event(event)?),
+    }
+}
+
+// The reply of a clerk that knows nothing; again where memory is refused once, which has to leave it so.
+fn reply_at_last(clerk: &mut Clerk, event: &ClerkEvent, key: SliceKey) -> Result<ClerkReply, Fail> {
+    let learnt = match clerk.apply(event) {
+        Err(Trouble::NoMemory) if answer(clerk, key)? == None => clerk.apply(event),
+        first => first,
+    };
+    Ok(
+        learnt
+            .ok()
+            .ok_or("the event is taken, at the second time at the latest")?,
+    )
+}
+
+// Forgets, and learns the assignment by a copy of an event.
+fn learn_by_event(
+    clerk: &mut Clerk,
+    assignment: Assignment,
+    key: SliceKey,
+) -> Result<ClerkReply, Fail> {
+    clerk.forget();
+    let event = ClerkEvent {
+        ticket: 9,
+        call: ClerkCall::Learn(assignment),
+    };
+    let copied = copy_event_at_last(&event)?;
+    reply_at_last(clerk, &copied, key)
 }
 
 #[test]
 fn stays_as_it_was_where_memory_is_refused(rt: HostRuntime) -> Result<(), Fail> {
-    let alloc = rt.alloc();
     let hello = key_of(HELLO)?;
-    let first = assignment_of(alloc, 1, &[(0, 1), (HALF, 2)])?;
-    let second = assignment_of(alloc, 2, &[(0, 2)])?;
+    let first = assignment_of(rt.alloc(), 1, &[(0, 1), (HALF, 2)])?;
+    let second = assignment_of(rt.alloc(), 2, &[(0, 2)])?;
     let mut clerk = Clerk::new();
     learn_at_last(&mut clerk, &first, hello)?;
     assert_eq!(rt; answer(&clerk, hello)?, Some((1, 1)));
     learn_at_last(&mut clerk, &second, hello)?;
     assert_eq!(rt; answer(&clerk, hello)?, Some((2, 2)));
-    let copied = match clerk.copy() {
-        Ok(copied) => copied,
-        Err(_) => clerk.copy()?,
-    };
-    for clerk in [&clerk, &copied] {
-        assert_eq!(rt; answer(clerk, hello)?, Some((2, 2)));
-    }
-    clerk.forget();
-    let event = ClerkEvent {
-        ticket: 9,
-        call: ClerkCall::Learn(first),
-    };
-    let copied = match Clerk::copy_event(&event) {
-        Ok(copied) => copied,
-        Err(_) => Clerk::copy_event(&event)?,
-    };
-    let learnt = match clerk.apply(&copied) {
-        Err(Trouble::NoMemory) if answer(&clerk, hello)? == None => clerk.apply(&copied),
-        first => first,
-    };
-    assert!(rt; matches!(learnt, Ok(ClerkReply::Learnt)));
+    let copied = copy_at_last(&clerk)?;
+    let both = [answer(&clerk, hello)?, answer(&copied, hello)?];
+    assert_eq!(rt; both, [Some((2, 2)), Some((2, 2))]);
+    let relearnt = learn_by_event(&mut clerk, first, hello)?;
+    assert_eq!(rt; relearnt, ClerkReply::Learnt);
     assert_eq!(rt; answer(&clerk, hello)?, Some((1, 1)));
     Ok(())
 }

@@ -1,11 +1,12 @@
 //! A clerk that two threads share.
 
-ghost use Rattle.std.specs.Prelude.{◌≡◌, ◌+◌, ◌≤◌, length};
+ghost use Rattle.std.specs.Prelude.{◌≡◌, ◌+◌, ◌≤◌, length, IfOk};
 ghost use Rattle.history_lock.specs.Passes.{IsPassOf};
 
+use crate::locks::{TwoLanes, close_with_both, entries_of, two_lanes};
 use assignment::{Assignment, Listed, Slice};
 use clerk::{Clerk, ClerkCall, ClerkEvent};
-use history_lock::{LaneLock, Pass};
+use history_lock::{Closed, LaneLock, Pass};
 use std::alloc::Global;
 use std::sync::Wait;
 use std::test::Fail;
@@ -17,7 +18,10 @@ pub fn assignment_of(alloc: Global) -> Result<Assignment, Fail> {
         start: 0,
         owners: Listed::from_vec(Vec::from_slice(alloc, &[1])?),
     })?;
-    Ok(Assignment::build(alloc, 1, &slices).map_err(|_| "one slice makes an assignment")?)
+    match Assignment::build(alloc, 1, &slices) {
+        Ok(built) => Ok(built),
+        Err(_) => Err("one slice makes an assignment".into()),
+    }
 }
 
 // Learns the assignment and forgets it, so many times in all, and counts the replies: the pass has as
@@ -77,21 +81,34 @@ fn learn_and_forget_in_two_threads<R: Threads + Wait + Sync>(
     )
 }
 
+// The replies to each of two threads, and what the lock leaves.
+fn answered_in_two_threads<R: Threads + Wait + Sync>(
+    rt: &R,
+    alloc: Global,
+) -> Result<((u64, u64), Closed<Clerk>), Fail>
+    ensures { IfOk result (λ all. (all.0.0 ≤ 100) × (all.0.1 ≤ 100)) }
+{
+    let TwoLanes {
+        lock,
+        others,
+        p0,
+        p1,
+    } = two_lanes(alloc, Clerk::new(), 200)?;
+    let first = assignment_of(alloc)?;
+    let ((p0, zero), (p1, one)) = learn_and_forget_in_two_threads(rt, &lock, p0, p1, &first, 100);
+    let closed = close_with_both(lock, others, p0, p1)?;
+    Ok(((zero, one), closed))
+}
+
 #[test]
 fn has_an_entry_for_each_reply_to_two_threads(rt: HostRuntime) -> Result<(), Fail> {
-    let made = LaneLock::new(rt.alloc(), Clerk::new(), 2, 200);
-    let (lock, mut passes) = made.map_err(|_| "two lanes and 200 entries")?;
-    let p1 = passes.pop().expect(&rt, "the pass of lane 1");
-    let p0 = passes.pop().expect(&rt, "the pass of lane 0");
-    let first = assignment_of(rt.alloc())?;
-    let ((p0, zero), (p1, one)) = learn_and_forget_in_two_threads(&rt, &lock, p0, p1, &first, 100);
-    passes.push(p0)?;
-    passes.push(p1)?;
-    let closed = lock.close(passes).ok().expect(&rt, "both passes are there");
-    let entries = closed.history.entries();
-    assert_eq!(rt; entries.len() as u64, zero + one);
-    let of_lane = |lane: u64| entries.iter().filter(|entry| entry.lane == lane).count() as u64;
-    assert_eq!(rt; (of_lane(0), of_lane(1)), (zero, one));
+    let ((zero, one), closed) = answered_in_two_threads(&rt, rt.alloc())?;
+    assert_eq!(rt; closed.history.len() as u64, zero + one);
+    let of_lanes = (
+        entries_of(&closed.history, 0),
+        entries_of(&closed.history, 1),
+    );
+    assert_eq!(rt; of_lanes, (zero, one));
     // Each of the 100 calls to forget is answered, and the call to learn that comes first.
     assert!(rt; zero >= 50 && one >= 50 && zero + one > 100);
     Ok(())

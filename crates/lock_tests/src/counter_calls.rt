@@ -3,8 +3,11 @@
 ghost use Rattle.history_lock.specs.Passes.{IsPassOf};
 
 use crate::counter::{Counter, Reluctant, TooLarge};
-use crate::two_lanes::{TwoLanes, two_lanes};
-use history_lock::{Busy, Holder, LaneLock, LockError, NewLockError, Pass, WriteError};
+use crate::locks::{
+    TwoLanes, close_with, close_with_both, is_out_of_range, last_pass, new_lock, two_lanes,
+};
+use history_lock::{Busy, Closed, Holder, LaneLock, LockError, Pass, WriteError};
+use std::alloc::Global;
 use std::sync::Wait;
 use std::sync::atomic::AtomicU64;
 use std::test::Fail;
@@ -42,8 +45,25 @@ fn tried(answer: &Result<u64, LockError<TooLarge>>) -> Outcome {
     }
 }
 
-fn count(counter: &Counter) -> u64 {
-    counter.count
+fn write<R: Wait>(rt: &R, lock: &LaneLock<Counter>, pass: &mut Pass<Counter>, more: u16) -> Outcome
+    requires { IsPassOf lock.now pass.old }
+    ensures { IsPassOf lock.now pass.new }
+{
+    written(&lock.write(rt, pass, &mut || more))
+}
+
+fn try_write(lock: &LaneLock<Counter>, pass: &mut Pass<Counter>, more: u16) -> Outcome
+    requires { IsPassOf lock.now pass.old }
+    ensures { IsPassOf lock.now pass.new }
+{
+    tried(&lock.try_write(pass, &mut || more))
+}
+
+fn try_shared(lock: &LaneLock<Counter>, pass: &mut Pass<Counter>) -> Result<u64, Busy>
+    requires { IsPassOf lock.now pass.old }
+    ensures { IsPassOf lock.now pass.new }
+{
+    lock.try_shared(pass, &mut |counter: &Counter| counter.count)
 }
 
 // What the writes of two passes come to.
@@ -58,23 +78,29 @@ fn writes<R: Wait>(
     ensures first { IsPassOf lock.now p0.new }
     ensures second { IsPassOf lock.now p1.new }
 {
-    let first = written(&lock.write(rt, p0, &mut || 5));
-    let refused = written(&lock.write(rt, p1, &mut || 60_000));
-    let second = tried(&lock.try_write(p1, &mut || 7));
-    let full = written(&lock.write(rt, p0, &mut || 7));
-    let still = tried(&lock.try_write(p1, &mut || 7));
+    let first = write(rt, lock, p0, 5);
+    let refused = write(rt, lock, p1, 60_000);
+    let second = try_write(lock, p1, 7);
+    let full = write(rt, lock, p0, 7);
+    let still = try_write(lock, p1, 7);
     [first, refused, second, full, still]
+}
+
+// What the writes of two passes to a lock of two entries come to, and what the lock leaves.
+fn writes_and_end<R: Wait>(rt: &R, alloc: Global) -> Result<([Outcome; 5], Closed<Counter>), Fail> {
+    let TwoLanes {
+        lock,
+        others,
+        mut p0,
+        mut p1,
+    } = two_lanes(alloc, Counter { count: 0 }, 2)?;
+    let outcomes = writes(rt, &lock, &mut p0, &mut p1);
+    Ok((outcomes, close_with_both(lock, others, p0, p1)?))
 }
 
 #[test]
 fn answers_in_the_order_of_the_calls(rt: HostRuntime) -> Result<(), Fail> {
-    let TwoLanes {
-        lock,
-        others: mut passes,
-        mut p0,
-        mut p1,
-    } = two_lanes(rt.alloc(), Counter { count: 0 }, 2)?;
-    let outcomes = writes(&rt, &lock, &mut p0, &mut p1);
+    let (outcomes, closed) = writes_and_end(&rt, rt.alloc())?;
     let wanted = [
         Outcome::Reply(5),
         Outcome::Refused,
@@ -83,9 +109,6 @@ fn answers_in_the_order_of_the_calls(rt: HostRuntime) -> Result<(), Fail> {
         Outcome::Full,
     ];
     assert_eq!(rt; outcomes, wanted);
-    passes.push(p0)?;
-    passes.push(p1)?;
-    let closed = lock.close(passes).ok().expect(&rt, "all passes are there");
     assert_eq!(rt; closed.machine.count, 12);
     let lanes_and_events = closed
         .history
@@ -115,9 +138,9 @@ fn inside_shared<R: Wait>(
             requires { IsPassOf lock.now other }
             ensures { IsPassOf lock.entry.now other.exit }
         {
-            let shares = lock.try_shared(&mut other, &mut count);
-            let writes = lock.try_write(&mut other, &mut || 1);
-            (shares, tried(&writes))
+            let shares = try_shared(lock, &mut other);
+            let writes = try_write(lock, &mut other, 1);
+            (shares, writes)
         },
     );
     (other, shares, writes)
@@ -143,9 +166,9 @@ fn inside_write<R: Wait>(
             requires { IsPassOf lock.now other }
             ensures { IsPassOf lock.entry.now other.exit }
         {
-            let shares = lock.try_shared(&mut other, &mut count);
-            let writes = lock.try_write(&mut other, &mut || 1);
-            inside = Some((shares, tried(&writes)));
+            let shares = try_shared(lock, &mut other);
+            let writes = try_write(lock, &mut other, 1);
+            inside = Some((shares, writes));
             1
         },
     );
@@ -175,8 +198,8 @@ fn readers_turn_writers_away_and_no_readers(rt: HostRuntime) -> Result<(), Fail>
     p1 = back;
     assert_eq!(rt; (shares, writes), (Ok(0), read_by(0)));
     // Each lane was given back.
-    let writes = tried(&lock.try_write(&mut p0, &mut || 1));
-    let shares = lock.try_shared(&mut p1, &mut count);
+    let writes = try_write(&lock, &mut p0, 1);
+    let shares = try_shared(&lock, &mut p1);
     assert_eq!(rt; (shares, writes), (Ok(1), Outcome::Reply(1)));
     Ok(())
 }
@@ -197,26 +220,43 @@ fn a_writer_turns_all_away(rt: HostRuntime) -> Result<(), Fail> {
     assert_eq!(rt; inside, Some((Err(busy), Outcome::Busy(busy))));
     let (mut p1, inside) = inside_write(&rt, &lock, &mut p0, p1);
     assert!(rt; inside.is_none());
-    assert_eq!(rt; lock.try_shared(&mut p1, &mut count), Ok(1));
+    assert_eq!(rt; try_shared(&lock, &mut p1), Ok(1));
     Ok(())
+}
+
+// How many passes there are of a lock of so many lanes and entries.
+fn pass_count(alloc: Global, lanes: u64, limit: usize) -> Option<u64> {
+    let made = LaneLock::new(alloc, Counter { count: 0 }, lanes, limit);
+    made.ok().map(|(_, passes)| passes.len() as u64)
 }
 
 #[test]
 fn refuses_lanes_and_limits_out_of_range(rt: HostRuntime) {
     for (lanes, limit) in [(0, 1), (9, 1), (1, 0), (1, 65_537)] {
-        let made = LaneLock::new(rt.alloc(), Counter { count: 0 }, lanes, limit);
         assert!(rt;
-            matches!(made, Err(NewLockError::Lanes)),
+            is_out_of_range(rt.alloc(), Counter { count: 0 }, lanes, limit),
             "{lanes} lanes, {limit} entries"
         );
     }
     for (lanes, limit) in [(1, 1), (8, 65_536)] {
-        let made = LaneLock::new(rt.alloc(), Counter { count: 0 }, lanes, limit);
-        assert!(rt;
-            made.is_ok_and(|(_, passes)| passes.len() as u64 == lanes),
+        assert_eq!(rt;
+            pass_count(rt.alloc(), lanes, limit),
+            Some(lanes),
             "{lanes} lanes"
         );
     }
+}
+
+fn write_once<'a, R: Wait>(
+    rt: &R,
+    lock: &LaneLock<Reluctant<'a>>,
+    pass: &mut Pass<Reluctant<'a>>,
+    event: u16,
+) -> Option<u16>
+    requires { IsPassOf lock.now pass.old }
+    ensures { IsPassOf lock.now pass.new }
+{
+    lock.write(rt, pass, &mut || event).ok()
 }
 
 // The replies to three writes: each is the event before, or none where there was no memory.
@@ -228,10 +268,23 @@ fn replies<'a, R: Wait>(
     requires { IsPassOf lock.now pass.old }
     ensures { IsPassOf lock.now pass.new }
 {
-    let first = lock.write(rt, pass, &mut || 10).ok();
-    let second = lock.write(rt, pass, &mut || 11).ok();
-    let third = lock.write(rt, pass, &mut || 12).ok();
+    let first = write_once(rt, lock, pass, 10);
+    let second = write_once(rt, lock, pass, 11);
+    let third = write_once(rt, lock, pass, 12);
     [first, second, third]
+}
+
+// The replies to the pass of the last lane, and what the lock leaves.
+fn replies_and_end<'a, R: Wait>(
+    rt: &R,
+    alloc: Global,
+    machine: Reluctant<'a>,
+    lanes: u64,
+) -> Result<([Option<u16>; 3], Closed<Reluctant<'a>>), Fail> {
+    let (lock, mut passes) = new_lock(alloc, machine, lanes, 3)?;
+    let mut pass = last_pass(&lock, &mut passes)?;
+    let replies = replies(rt, &lock, &mut pass);
+    Ok((replies, close_with(lock, passes, pass)?))
 }
 
 #[test]
@@ -253,12 +306,7 @@ fn a_refused_copy_adds_nothing(rt: HostRuntime) -> Result<(), Fail> {
             copies: &copies,
             refused,
         };
-        let made = LaneLock::new(rt.alloc(), machine, lanes, 3);
-        let (lock, mut passes) = made.map_err(|_| "three entries")?;
-        let mut pass = passes.pop().expect(&rt, "the pass of the last lane");
-        let replies = replies(&rt, &lock, &mut pass);
-        passes.push(pass)?;
-        let closed = lock.close(passes).ok().expect(&rt, "all passes are there");
+        let (replies, closed) = replies_and_end(&rt, rt.alloc(), machine, lanes)?;
         let written = closed.history.entries().iter().map(|entry| entry.event);
         let as_wanted = replies == answers && written.eq(events);
         assert!(rt; as_wanted, "{lanes} lanes, copy {refused}");

@@ -19,7 +19,7 @@ fn tried<M: Machine>(machine: &M, event: &M::Event) -> Result<(M, M::Reply), Tro
 #[test]
 fn takes_events_of_a_machine(rt: HostRuntime) -> Result<(), Fail> {
     let counter = Counter { count: 49_990 };
-    let (mut later, reply) = tried(&counter, &7).map_err(|_| "49,997 is below 50,000")?;
+    let (mut later, reply) = tried(&counter, &7).ok().ok_or("49,997 is below 50,000")?;
     assert_eq!(rt; reply, 49_997);
     assert!(rt; matches!(later.apply(&3), Err(Trouble::Refused(TooLarge))));
     assert!(rt; matches!(later.apply(&2), Ok(49_999)));

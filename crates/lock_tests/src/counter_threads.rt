@@ -4,7 +4,8 @@ ghost use Rattle.std.specs.Prelude.{◌≡◌, ◌+◌, ◌≤◌, length, IfOk,
 ghost use Rattle.history_lock.specs.Passes.{IsPassOf, ArePassesOf};
 
 use crate::counter::Counter;
-use history_lock::{LaneLock, Pass};
+use crate::locks::{TwoLanes, close_all, close_with_both, entries_of, new_lock, two_lanes};
+use history_lock::{Closed, LaneLock, Pass};
 use std::alloc::{AllocError, Global};
 use std::sync::Wait;
 use std::test::Fail;
@@ -51,20 +52,30 @@ fn add_in_two_threads<R: Threads + Wait + Sync>(
     )
 }
 
+// How many replies two threads got, and what the lock of this limit leaves.
+fn added_in_two_threads<R: Threads + Wait + Sync>(
+    rt: &R,
+    alloc: Global,
+    limit: usize,
+) -> Result<(u64, Closed<Counter>), Fail> {
+    let TwoLanes {
+        lock,
+        others,
+        p0,
+        p1,
+    } = two_lanes(alloc, Counter { count: 0 }, limit)?;
+    let ((p0, first), (p1, second)) = add_in_two_threads(rt, &lock, p0, p1, 100);
+    let closed = close_with_both(lock, others, p0, p1)?;
+    Ok((first + second, closed))
+}
+
 #[test]
 fn has_as_many_entries_as_replies(rt: HostRuntime) -> Result<(), Fail> {
     for limit in [150, 300] {
-        let made = LaneLock::new(rt.alloc(), Counter { count: 0 }, 2, limit);
-        let (lock, mut passes) = made.map_err(|_| "two lanes")?;
-        let p1 = passes.pop().expect(&rt, "the pass of lane 1");
-        let p0 = passes.pop().expect(&rt, "the pass of lane 0");
-        let ((p0, first), (p1, second)) = add_in_two_threads(&rt, &lock, p0, p1, 100);
-        assert_eq!(rt; first + second, limit.min(200) as u64);
-        passes.push(p0)?;
-        passes.push(p1)?;
-        let closed = lock.close(passes).ok().expect(&rt, "both passes are there");
-        assert_eq!(rt; closed.history.len() as u64, first + second);
-        assert_eq!(rt; closed.machine.count, first + second);
+        let (replies, closed) = added_in_two_threads(&rt, rt.alloc(), limit)?;
+        assert_eq!(rt; replies, limit.min(200) as u64);
+        assert_eq!(rt; closed.history.len() as u64, replies);
+        assert_eq!(rt; closed.machine.count, replies);
     }
     Ok(())
 }
@@ -129,21 +140,29 @@ fn all_answered(
     Ok((passes, answered))
 }
 
+// How many writes of so many threads were answered so, and what the lock leaves.
+fn written_in_threads<R: Threads + Wait + Sync>(
+    rt: &R,
+    alloc: Global,
+    threads: u64,
+    times: u64,
+) -> Result<(u64, Closed<Counter>), Fail> {
+    let (lock, passes) = new_lock(alloc, Counter { count: 0 }, threads, 10_000)?;
+    let done = read_and_write_in_threads(rt, &lock, passes, times)?;
+    let (passes, answered) = all_answered(alloc, &lock, done)?;
+    let closed = close_all(lock, passes)?;
+    Ok((answered, closed))
+}
+
 #[test]
 fn has_just_the_writes_of_many_threads(rt: HostRuntime) -> Result<(), Fail> {
     for threads in [2, 4, 8] {
         let times = 10_000 / threads;
-        let made = LaneLock::new(rt.alloc(), Counter { count: 0 }, threads, 10_000);
-        let (lock, passes) = made.map_err(|_| "a lane for each thread")?;
-        let done = read_and_write_in_threads(&rt, &lock, passes, times)?;
-        let (passes, answered) = all_answered(rt.alloc(), &lock, done)?;
+        let (answered, closed) = written_in_threads(&rt, rt.alloc(), threads, times)?;
         assert_eq!(rt; answered, 10_000);
-        let closed = lock.close(passes).ok().expect(&rt, "all passes are there");
-        let entries = closed.history.entries();
-        assert_eq!(rt; entries.len(), 10_000);
+        assert_eq!(rt; closed.history.entries().len(), 10_000);
         for lane in 0..threads {
-            let of_lane = entries.iter().filter(|entry| entry.lane == lane).count() as u64;
-            assert_eq!(rt; of_lane, times);
+            assert_eq!(rt; entries_of(&closed.history, lane), times);
         }
         assert_eq!(rt; closed.machine.count, 10_000);
     }

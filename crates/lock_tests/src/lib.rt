@@ -16,8 +16,8 @@ mod counter_laws;
 #[cfg(test)]
 mod counter_threads;
 #[cfg(test)]
+mod locks;
+#[cfg(test)]
 mod table_answers;
 #[cfg(test)]
 mod table_calls;
-#[cfg(test)]
-mod two_lanes;

@@ -10,7 +10,7 @@ use policy_rules::Kind;
 use std::alloc::Global;
 use std::test::Fail;
 
-fn table_of(alloc: Global) -> Result<LeaseTable, Fail> {
+pub fn table_of(alloc: Global) -> Result<LeaseTable, Fail> {
     let policy = Policy::new(1, 10, 100, 100, 1000, 1000).ok_or("within the limits")?;
     Ok(LeaseTable::new(alloc, policy))
 }
@@ -25,11 +25,8 @@ fn reply(table: &mut LeaseTable, ticket: u64, call: TableCall) -> Result<TableRe
     if event.ticket != ticket {
         return Err("a copy has the ticket".into());
     }
-    Ok(
-        table
-            .apply(&event)
-            .map_err(|_| "the table takes the event")?,
-    )
+    let answer = table.apply(&event);
+    Ok(answer.ok().ok_or("the table takes the event")?)
 }
 
 fn term(table: &mut LeaseTable, ticket: u64, call: TableCall) -> Result<JobTerm, Fail> {
@@ -99,31 +96,56 @@ fn are_alike(first: &LeaseTable, second: &LeaseTable) -> Result<bool, Fail> {
     )
 }
 
+// A table whose term was taken and renewed.
+fn table_of_terms(alloc: Global) -> Result<(LeaseTable, [JobTerm; 2]), Fail> {
+    let mut table = table_of(alloc)?;
+    let terms = terms(&mut table)?;
+    Ok((table, terms))
+}
+
+fn committed_and_granted(alloc: Global, table: &mut LeaseTable) -> Result<(u64, (u64, u64)), Fail> {
+    let generation = committed(alloc, table)?;
+    Ok((generation, granted(table)?))
+}
+
+// How many rows `Free` answers, and the phase of the table then.
+fn freed_and_phase(table: &mut LeaseTable) -> Result<(u64, Phase), Fail> {
+    let count = freed(table)?;
+    Ok((count, table.phase()))
+}
+
 #[test]
 fn answers_each_call(rt: HostRuntime) -> Result<(), Fail> {
-    let mut table = table_of(rt.alloc())?;
-    let [taken, renewed] = terms(&mut table)?;
+    let (mut table, [taken, renewed]) = table_of_terms(rt.alloc())?;
     assert_eq!(rt; (taken.number, taken.assigner, taken.until), (1, 5, 1000));
     assert_eq!(rt;
         (renewed.number, renewed.assigner, renewed.until),
         (1, 5, 1010)
     );
-    assert_eq!(rt; committed(rt.alloc(), &mut table)?, 1);
-    assert_eq!(rt; granted(&mut table)?, (1, 120));
-    assert_eq!(rt; freed(&mut table)?, 1);
-    assert_eq!(rt; table.phase(), Phase::Steady(1));
+    assert_eq!(rt;
+        committed_and_granted(rt.alloc(), &mut table)?,
+        (1, (1, 120))
+    );
+    assert_eq!(rt; freed_and_phase(&mut table)?, (1, Phase::Steady(1)));
     Ok(())
+}
+
+// Whether a copy of the table shows the same, how many rows of the table are freed then, and whether the copy
+// still shows the same.
+fn copied_and_freed(table: &mut LeaseTable) -> Result<(bool, u64, bool), Fail> {
+    let copied = Machine::copy(table)?;
+    let before = are_alike(&copied, table)?;
+    let count = freed(table)?;
+    Ok((before, count, are_alike(&copied, table)?))
 }
 
 #[test]
 fn copies_a_table(rt: HostRuntime) -> Result<(), Fail> {
-    let mut table = table_of(rt.alloc())?;
-    drop(terms(&mut table)?);
-    assert_eq!(rt; committed(rt.alloc(), &mut table)?, 1);
-    assert_eq!(rt; granted(&mut table)?, (1, 120));
-    let copied = Machine::copy(&table)?;
-    assert!(rt; are_alike(&copied, &table)?);
-    assert_eq!(rt; freed(&mut table)?, 1);
-    assert!(rt; !are_alike(&copied, &table)?);
+    let (mut table, _) = table_of_terms(rt.alloc())?;
+    assert_eq!(rt;
+        committed_and_granted(rt.alloc(), &mut table)?,
+        (1, (1, 120))
+    );
+    assert_eq!(rt; copied_and_freed(&mut table)?, (true, 1, false));
     Ok(())
 }

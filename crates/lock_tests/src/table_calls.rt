@@ -1,18 +1,14 @@
 //! A table under a lock.
 
-ghost use Rattle.history_lock.specs.Passes.{IsPassOf};
+ghost use Rattle.history_lock.specs.Passes.{IsPassOf, ArePassesOf};
 
-use crate::two_lanes::{TwoLanes, two_lanes};
-use history_lock::{Busy, Holder, LaneLock, LockError, NewLockError, Pass, WriteError};
-use lease_table::{LeaseTable, Policy, TableCall, TableError, TableEvent, TableReply};
+use crate::locks::{TwoLanes, close_too_early, close_with, is_out_of_range, two_lanes};
+use crate::table_answers::table_of;
+use history_lock::{Busy, Closed, Holder, LaneLock, LockError, Pass, WriteError};
+use lease_table::{LeaseTable, TableCall, TableError, TableEvent, TableReply};
 use std::alloc::Global;
 use std::sync::Wait;
 use std::test::Fail;
-
-fn table_of(alloc: Global) -> Result<LeaseTable, Fail> {
-    let policy = Policy::new(1, 10, 100, 100, 1000, 1000).ok_or("within the limits")?;
-    Ok(LeaseTable::new(alloc, policy))
-}
 
 fn event(ticket: u64, call: TableCall) -> TableEvent {
     TableEvent { ticket, call }
@@ -70,6 +66,61 @@ struct Answers {
     full: bool,
 }
 
+fn write_take<R: Wait>(
+    rt: &R,
+    lock: &LaneLock<LeaseTable>,
+    pass: &mut Pass<LeaseTable>,
+    assigner: u64,
+    at: u64,
+) -> Written
+    requires { IsPassOf lock.now pass.old }
+    ensures { IsPassOf lock.now pass.new }
+{
+    lock.write(rt, pass, &mut || take(assigner, at))
+}
+
+fn write_renew<R: Wait>(
+    rt: &R,
+    lock: &LaneLock<LeaseTable>,
+    pass: &mut Pass<LeaseTable>,
+    at: u64,
+) -> Written
+    requires { IsPassOf lock.now pass.old }
+    ensures { IsPassOf lock.now pass.new }
+{
+    lock.write(rt, pass, &mut || renew(at))
+}
+
+// By whom a write that does not wait finds the lock held.
+fn busy_at_take(lock: &LaneLock<LeaseTable>, pass: &mut Pass<LeaseTable>) -> Option<Busy>
+    requires { IsPassOf lock.now pass.old }
+    ensures { IsPassOf lock.now pass.new }
+{
+    busy_in(&lock.try_write(pass, &mut || take(1, 0)))
+}
+
+// The number of the term, where no writer holds the lane of the pass.
+fn shared_term(lock: &LaneLock<LeaseTable>, pass: &mut Pass<LeaseTable>) -> Option<u64>
+    requires { IsPassOf lock.now pass.old }
+    ensures { IsPassOf lock.now pass.new }
+{
+    lock.try_shared(pass, &mut term_in).ok().flatten()
+}
+
+// Whether the first pass meets the second.
+fn meets(
+    lock: &LaneLock<LeaseTable>,
+    first: &mut Pass<LeaseTable>,
+    second: &mut Pass<LeaseTable>,
+) -> bool
+    requires first { IsPassOf lock.now first.old }
+    requires second { IsPassOf lock.now second.old }
+    ensures first { IsPassOf lock.now first.new }
+    ensures second { IsPassOf lock.now second.new }
+{
+    lock.try_meet(first, second).is_ok()
+}
+
 // One pass takes the term, and the other learns of it.
 fn begin<R: Wait>(
     rt: &R,
@@ -82,9 +133,9 @@ fn begin<R: Wait>(
     ensures first { IsPassOf lock.now p0.new }
     ensures second { IsPassOf lock.now p1.new }
 {
-    let taken = until(&lock.write(rt, p0, &mut || take(1, 0)));
-    let met = lock.try_meet(p1, p0).is_ok();
-    let term = lock.try_shared(p1, &mut term_in).ok().flatten();
+    let taken = until(&write_take(rt, lock, p0, 1, 0));
+    let met = meets(lock, p1, p0);
+    let term = shared_term(lock, p1);
     (taken, met, term)
 }
 
@@ -107,9 +158,9 @@ fn read_at_once<R: Wait>(
             requires { IsPassOf lock.now other }
             ensures { IsPassOf lock.entry.now other.exit }
         {
-            let shares = lock.try_shared(&mut other, &mut term_in).ok().flatten();
-            let writes = lock.try_write(&mut other, &mut || take(1, 0));
-            (shares, busy_in(&writes))
+            let shares = shared_term(lock, &mut other);
+            let busy = busy_at_take(lock, &mut other);
+            (shares, busy)
         },
     );
     (other, shares, busy)
@@ -127,9 +178,9 @@ fn finish<R: Wait>(
     ensures first { IsPassOf lock.now p0.new }
     ensures second { IsPassOf lock.now p1.new }
 {
-    let refused = refusal(&lock.write(rt, p1, &mut || take(2, 5)));
-    let renewed = until(&lock.write(rt, p1, &mut || renew(6)));
-    let full = is_full(&lock.write(rt, p0, &mut || renew(7)));
+    let refused = refusal(&write_take(rt, lock, p1, 2, 5));
+    let renewed = until(&write_renew(rt, lock, p1, 6));
+    let full = is_full(&write_renew(rt, lock, p0, 7));
     (refused, renewed, full)
 }
 
@@ -160,15 +211,37 @@ fn play<R: Wait>(
     (p1, answers)
 }
 
-#[test]
-fn takes_calls_of_two_passes_under_a_lock(rt: HostRuntime) -> Result<(), Fail> {
+// What the lock leaves, after it was to close without the pass of lane 1.
+fn close_at_last(
+    lock: LaneLock<LeaseTable>,
+    mut others: Vec<Pass<LeaseTable>>,
+    p0: Pass<LeaseTable>,
+    p1: Pass<LeaseTable>,
+) -> Result<Closed<LeaseTable>, Fail>
+    requires others { ArePassesOf lock others.items }
+    requires first { IsPassOf lock p0 }
+    requires second { IsPassOf lock p1 }
+{
+    others.push(p0)?;
+    let (lock, passes) = close_too_early(lock, others)?;
+    close_with(lock, passes, p1)
+}
+
+// The answers of a lock of two entries, and what it leaves.
+fn answers_and_end<R: Wait>(rt: &R, alloc: Global) -> Result<(Answers, Closed<LeaseTable>), Fail> {
     let TwoLanes {
         lock,
-        others: mut passes,
+        others,
         mut p0,
         p1,
-    } = two_lanes(rt.alloc(), table_of(rt.alloc())?, 2)?;
-    let (p1, answers) = play(&rt, &lock, &mut p0, p1);
+    } = two_lanes(alloc, table_of(alloc)?, 2)?;
+    let (p1, answers) = play(rt, &lock, &mut p0, p1);
+    Ok((answers, close_at_last(lock, others, p0, p1)?))
+}
+
+#[test]
+fn takes_calls_of_two_passes_under_a_lock(rt: HostRuntime) -> Result<(), Fail> {
+    let (answers, closed) = answers_and_end(&rt, rt.alloc())?;
     let wanted = Answers {
         taken: Some(1000),
         met: true,
@@ -183,14 +256,6 @@ fn takes_calls_of_two_passes_under_a_lock(rt: HostRuntime) -> Result<(), Fail> {
         full: true,
     };
     assert_eq!(rt; answers, wanted);
-    passes.push(p0)?;
-    let missing = lock
-        .close(passes)
-        .err()
-        .expect(&rt, "the pass of lane 1 is missing");
-    let (lock, mut passes) = missing.into_parts();
-    passes.push(p1)?;
-    let closed = lock.close(passes).ok().expect(&rt, "all passes are there");
     let lanes = closed.history.entries().iter().map(|entry| entry.lane);
     assert!(rt; lanes.eq([0, 1]));
     assert_eq!(rt; closed.machine.job().map(|term| term.until), Some(1006));
@@ -200,8 +265,11 @@ fn takes_calls_of_two_passes_under_a_lock(rt: HostRuntime) -> Result<(), Fail> {
 #[test]
 fn refuses_no_lanes_and_nine(rt: HostRuntime) -> Result<(), Fail> {
     for lanes in [0, 9] {
-        let made = LaneLock::new(rt.alloc(), table_of(rt.alloc())?, lanes, 2);
-        assert!(rt; matches!(made, Err(NewLockError::Lanes)), "{lanes} lanes");
+        let table = table_of(rt.alloc())?;
+        assert!(rt;
+            is_out_of_range(rt.alloc(), table, lanes, 2),
+            "{lanes} lanes"
+        );
     }
     Ok(())
 }
