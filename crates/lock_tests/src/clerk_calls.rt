@@ -49,7 +49,9 @@ fn key_of(number: u64) -> Result<SliceKey, Fail> {
 }
 
 // The generation and the one owner of a key, or `None` where the clerk knows no assignment.
-fn answer(clerk: &Clerk, key: SliceKey) -> Result<Option<(u64, u64)>, Fail> {
+type Answer = Option<(u64, u64)>;
+
+fn answer(clerk: &Clerk, key: SliceKey) -> Result<Answer, Fail> {
     match clerk.look(key) {
         Ok(found) if found.owners.len() == 1 => {
             let found = found.copy();
@@ -61,7 +63,7 @@ fn answer(clerk: &Clerk, key: SliceKey) -> Result<Option<(u64, u64)>, Fail> {
 }
 
 // The same for the key of "hello", and for those on either side of the half.
-fn answers(clerk: &Clerk) -> Result<[Option<(u64, u64)>; 3], Fail> {
+fn answers(clerk: &Clerk) -> Result<[Answer; 3], Fail> {
     Ok([
         answer(clerk, slice_key(b"hello"))?,
         answer(clerk, key_of(HALF - 1)?)?,
@@ -87,9 +89,21 @@ fn refuse(
     clerk: &mut Clerk,
     assignment: &Assignment,
     key: SliceKey,
-) -> Result<(Option<ClerkError>, Option<(u64, u64)>), Fail> {
+) -> Result<(Option<ClerkError>, Answer), Fail> {
     let refused = refusal(clerk.learn(assignment));
     Ok((refused, answer(clerk, key)?))
+}
+
+// Forgets, and learns the assignment: what the clerk answers after each.
+fn forget_and_learn(
+    clerk: &mut Clerk,
+    assignment: &Assignment,
+    key: SliceKey,
+) -> Result<(Answer, [Answer; 3]), Fail> {
+    clerk.forget();
+    let forgotten = answer(clerk, key)?;
+    learn(clerk, assignment)?;
+    Ok((forgotten, answers(clerk)?))
 }
 
 #[test]
@@ -101,18 +115,12 @@ fn answers_with_the_newest_it_learnt(rt: HostRuntime) -> Result<(), Fail> {
     let mut clerk = Clerk::new();
     assert_eq!(rt; answer(&clerk, hello)?, None);
     learn(&mut clerk, &second)?;
-    for old in [&first, &second] {
-        let refused = refuse(&mut clerk, old, hello)?;
-        let wanted = Some(ClerkError::Old { generation: 2 });
-        assert_eq!(rt; refused, (wanted, Some((2, 2))));
-    }
-    clerk.forget();
-    assert_eq!(rt; answer(&clerk, hello)?, None);
-    learn(&mut clerk, &first)?;
-    assert_eq!(rt;
-        answers(&clerk)?,
-        [Some((1, 1)), Some((1, 1)), Some((1, 2))]
-    );
+    let wanted = (Some(ClerkError::Old { generation: 2 }), Some((2, 2)));
+    assert_eq!(rt; refuse(&mut clerk, &first, hello)?, wanted);
+    assert_eq!(rt; refuse(&mut clerk, &second, hello)?, wanted);
+    let forgotten_and_learnt = forget_and_learn(&mut clerk, &first, hello)?;
+    let wanted = [Some((1, 1)), Some((1, 1)), Some((1, 2))];
+    assert_eq!(rt; forgotten_and_learnt, (None, wanted));
     learn(&mut clerk, &second)?;
     assert_eq!(rt; answer(&clerk, key_of(HALF)?)?, Some((2, 2)));
     Ok(())
@@ -131,7 +139,7 @@ fn tried_reply(
     clerk: &Clerk,
     event: &ClerkEvent,
     key: SliceKey,
-) -> Result<(ClerkReply, Option<(u64, u64)>), Fail> {
+) -> Result<(ClerkReply, Answer), Fail> {
     let (after, reply) = tried(clerk, event)
         .ok()
         .ok_or("the clerk would take the event")?;
@@ -158,7 +166,7 @@ fn refuse_event(
     clerk: &mut Clerk,
     event: &ClerkEvent,
     key: SliceKey,
-) -> Result<(Option<ClerkError>, Option<(u64, u64)>), Fail> {
+) -> Result<(Option<ClerkError>, Answer), Fail> {
     let refused = refusal(clerk.apply(event));
     Ok((refused, answer(clerk, key)?))
 }
@@ -167,6 +175,34 @@ fn refuse_event(
 fn reply_to_copy(clerk: &mut Clerk, event: &ClerkEvent) -> Result<(u64, Option<ClerkReply>), Fail> {
     let again = Clerk::copy_event(event)?;
     Ok((again.ticket, reply(clerk, &again)))
+}
+
+// What a clerk would reply to one event, and answer then, and whether it would refuse another.
+fn try_both(
+    clerk: &Clerk,
+    taken: &ClerkEvent,
+    refused: &ClerkEvent,
+    key: SliceKey,
+) -> Result<((ClerkReply, Answer), bool), Fail> {
+    let reply = tried_reply(clerk, taken, key)?;
+    Ok((reply, tried(clerk, refused).is_err()))
+}
+
+type Reply = (Option<ClerkReply>, Answer);
+
+type ReplyToCopy = ((u64, Option<ClerkReply>), Answer);
+
+// What a clerk replies to one event and to a copy of another, and what it answers after each.
+fn forget_and_take_copy(
+    clerk: &mut Clerk,
+    forget: &ClerkEvent,
+    copied: &ClerkEvent,
+    key: SliceKey,
+) -> Result<(Reply, ReplyToCopy), Fail> {
+    let forgotten = reply(clerk, forget);
+    let unknown = answer(clerk, key)?;
+    let again = reply_to_copy(clerk, copied)?;
+    Ok(((forgotten, unknown), (again, answer(clerk, key)?)))
 }
 
 #[test]
@@ -184,16 +220,13 @@ fn takes_its_calls_as_events(rt: HostRuntime) -> Result<(), Fail> {
     let wanted = Some(ClerkError::Old { generation: 2 });
     assert_eq!(rt; refused, (wanted, Some((2, 2))));
     let before = clerk.copy()?;
-    assert_eq!(rt;
-        tried_reply(&clerk, &forget, hello)?,
-        (ClerkReply::Forgotten, None)
-    );
-    assert!(rt; tried(&clerk, &first).is_err());
-    assert_eq!(rt; reply(&mut clerk, &forget), Some(ClerkReply::Forgotten));
-    assert_eq!(rt; answer(&clerk, hello)?, None);
-    let again = reply_to_copy(&mut clerk, &first)?;
-    assert_eq!(rt; again, (5, Some(ClerkReply::Learnt)));
-    assert_eq!(rt; answer(&clerk, hello)?, Some((1, 1)));
+    let (forgets, refuses) = try_both(&clerk, &forget, &first, hello)?;
+    assert_eq!(rt; forgets, (ClerkReply::Forgotten, None));
+    assert!(rt; refuses);
+    let (forgotten, relearnt) = forget_and_take_copy(&mut clerk, &forget, &first, hello)?;
+    assert_eq!(rt; forgotten, (Some(ClerkReply::Forgotten), None));
+    let wanted = (5, Some(ClerkReply::Learnt));
+    assert_eq!(rt; relearnt, (wanted, Some((1, 1))));
     assert_eq!(rt; answer(&before, hello)?, Some((2, 2)));
     Ok(())
 }
@@ -236,6 +269,22 @@ fn reply_at_last(clerk: &mut Clerk, event: &ClerkEvent, key: SliceKey) -> Result
     )
 }
 
+// The answer once the assignment is learnt.
+fn learnt_at_last(
+    clerk: &mut Clerk,
+    assignment: &Assignment,
+    key: SliceKey,
+) -> Result<Answer, Fail> {
+    learn_at_last(clerk, assignment, key)?;
+    answer(clerk, key)
+}
+
+// What a clerk and a copy of it answer.
+fn answers_of_copy(clerk: &Clerk, key: SliceKey) -> Result<[Answer; 2], Fail> {
+    let copied = copy_at_last(clerk)?;
+    Ok([answer(clerk, key)?, answer(&copied, key)?])
+}
+
 // Forgets, and learns the assignment by a copy of an event.
 fn learn_by_event(
     clerk: &mut Clerk,
@@ -257,12 +306,9 @@ fn stays_as_it_was_where_memory_is_refused(rt: HostRuntime) -> Result<(), Fail> 
     let first = assignment_of(rt.alloc(), 1, &[(0, 1), (HALF, 2)])?;
     let second = assignment_of(rt.alloc(), 2, &[(0, 2)])?;
     let mut clerk = Clerk::new();
-    learn_at_last(&mut clerk, &first, hello)?;
-    assert_eq!(rt; answer(&clerk, hello)?, Some((1, 1)));
-    learn_at_last(&mut clerk, &second, hello)?;
-    assert_eq!(rt; answer(&clerk, hello)?, Some((2, 2)));
-    let copied = copy_at_last(&clerk)?;
-    let both = [answer(&clerk, hello)?, answer(&copied, hello)?];
+    assert_eq!(rt; learnt_at_last(&mut clerk, &first, hello)?, Some((1, 1)));
+    assert_eq!(rt; learnt_at_last(&mut clerk, &second, hello)?, Some((2, 2)));
+    let both = answers_of_copy(&clerk, hello)?;
     assert_eq!(rt; both, [Some((2, 2)), Some((2, 2))]);
     let relearnt = learn_by_event(&mut clerk, first, hello)?;
     assert_eq!(rt; relearnt, ClerkReply::Learnt);
