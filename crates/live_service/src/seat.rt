@@ -1,6 +1,7 @@
 //! What the threads of a live run that call the table are given.
 
 ghost use Rattle.std.specs.Prelude.{◌≡◌};
+ghost use Rattle.live_service.specs.declared.seat.Halt.TheVariants as halt;
 ghost use Rattle.live_service.specs.Reports.{serves};
 ghost use Rattle.live_service.specs.Seats.{IsSeatOf, KeepsSeat, RefusesNoServe};
 
@@ -34,18 +35,24 @@ pub(crate) enum Halt {
 }
 
 impl From<AllocError> for Halt {
+    ghost from_gives = { λ _ h. h ≡ halt.NoMemory };
+
     fn from(_error: AllocError) -> Self {
         Halt::NoMemory
     }
 }
 
 impl<T: Drop> From<AllocFailed<T>> for Halt {
+    ghost from_gives = { λ _ h. h ≡ halt.NoMemory };
+
     fn from(_error: AllocFailed<T>) -> Self {
         Halt::NoMemory
     }
 }
 
 impl From<Spent> for Halt {
+    ghost from_gives = { λ _ h. h ≡ halt.Stopped };
+
     fn from(_error: Spent) -> Self {
         Halt::Stopped
     }
