@@ -26,7 +26,7 @@ pub(crate) const ASSIGNER: u64 = 1;
 pub(crate) const LIFE: u32 = 1;
 
 /// Why a thread ends early.
-#[derive(Clone, Copy, Debug, PartialEq, Eq)]
+#[derive(Clone, Copy)]
 pub(crate) enum Halt {
     /// A call was refused, or what was waited for did not come.
     Stopped,

@@ -29,7 +29,7 @@ pub(crate) struct TaskSeat {
 }
 
 /// The generations of the leases that a task holds.
-#[derive(Clone, Copy, Debug, PartialEq, Eq)]
+#[derive(Clone, Copy)]
 struct HeldGenerations {
     guard: Option<u64>,
     bridge: Option<u64>,

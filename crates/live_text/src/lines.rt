@@ -9,7 +9,7 @@ use std::alloc::{AllocError, Global};
 use std::fmt;
 
 /// The word for a fault that an audit found.
-#[derive(Clone, Copy, Debug, PartialEq, Eq)]
+#[derive(Clone, Copy)]
 struct WhyWord(Why);
 
 impl fmt::Display for WhyWord {
@@ -26,7 +26,7 @@ impl fmt::Display for WhyWord {
 }
 
 /// What an audit found, in one line or two, each with its line feed.
-#[derive(Clone, Copy, Debug, PartialEq, Eq)]
+#[derive(Clone, Copy)]
 struct AuditLines(Audit);
 
 impl fmt::Display for AuditLines {

@@ -255,14 +255,38 @@ next_step job d = do
   wanted ← flag_at (codes "wanted") d
   Ok (Next assigner at wanted)
 
--- the step of this name
-abbrev step_named : Job → List ℕ → Data → Result Step WrongForm
-step_named job name d =
-    if bytes_eq name (codes "hash") then hash_step d else
-    (if bytes_eq name (codes "assign") then assign_step d else
-    (if bytes_eq name (codes "owners") then owners_step d else
-    (if bytes_eq name (codes "judge") then judge_step d else
-    (if bytes_eq name (codes "take") then take_step job d else
+-- the step of this name: of loads and plans, or what an assigner does next
+unfoldable pub step_of_loads : Job → List ℕ → Data → Result Step WrongForm
+step_of_loads job name d =
+    if bytes_eq name (codes "load") then load_step job d else
+    (if bytes_eq name (codes "gather") then gather_step d else
+    (if bytes_eq name (codes "plan") then plan_step d else
+    (if bytes_eq name (codes "next") then next_step job d else
+    Err wrong)))
+
+-- the step of this name: of a clerk, or of one of the above
+unfoldable pub step_of_clerk : Job → List ℕ → Data → Result Step WrongForm
+step_of_clerk job name d =
+    if bytes_eq name (codes "learn") then learn_step job d else
+    (if bytes_eq name (codes "look") then look_step job d else
+    (if bytes_eq name (codes "forget") then forget_step job d else
+    step_of_loads job name d))
+
+-- the step of this name: of a task, or of one of the above
+unfoldable pub step_of_task : Job → List ℕ → Data → Result Step WrongForm
+step_of_task job name d =
+    if bytes_eq name (codes "start") then start_step job d else
+    (if bytes_eq name (codes "hear") then hear_step job d else
+    (if bytes_eq name (codes "release") then release_step job d else
+    (if bytes_eq name (codes "serve") then serve_step job d else
+    (if bytes_eq name (codes "hold") then hold_step job d else
+    (if bytes_eq name (codes "check") then check_step job d else
+    step_of_clerk job name d)))))
+
+-- the step of this name: of the table and its assigners, or of one of the above
+unfoldable pub step_of_table : Job → List ℕ → Data → Result Step WrongForm
+step_of_table job name d =
+    if bytes_eq name (codes "take") then take_step job d else
     (if bytes_eq name (codes "renew") then renew_step job d else
     (if bytes_eq name (codes "propose") then propose_step job d else
     (if bytes_eq name (codes "commit") then commit_step job d else
@@ -270,21 +294,17 @@ step_named job name d =
     (if bytes_eq name (codes "rows") then rows_step d else
     (if bytes_eq name (codes "grant") then grant_step job d else
     (if bytes_eq name (codes "free") then free_step d else
-    (if bytes_eq name (codes "start") then start_step job d else
-    (if bytes_eq name (codes "hear") then hear_step job d else
-    (if bytes_eq name (codes "release") then release_step job d else
-    (if bytes_eq name (codes "serve") then serve_step job d else
-    (if bytes_eq name (codes "hold") then hold_step job d else
-    (if bytes_eq name (codes "check") then check_step job d else
-    (if bytes_eq name (codes "learn") then learn_step job d else
-    (if bytes_eq name (codes "look") then look_step job d else
-    (if bytes_eq name (codes "forget") then forget_step job d else
-    (if bytes_eq name (codes "load") then load_step job d else
-    (if bytes_eq name (codes "gather") then gather_step d else
-    (if bytes_eq name (codes "plan") then plan_step d else
-    (if bytes_eq name (codes "next") then next_step job d else
     (if bytes_eq name (codes "restart") then restart_step job d else
-    Err wrong)))))))))))))))))))))))))
+    step_of_task job name d))))))))
+
+-- the step of this name: of no actor, or of one of the above
+abbrev step_named : Job → List ℕ → Data → Result Step WrongForm
+step_named job name d =
+    if bytes_eq name (codes "hash") then hash_step d else
+    (if bytes_eq name (codes "assign") then assign_step d else
+    (if bytes_eq name (codes "owners") then owners_step d else
+    (if bytes_eq name (codes "judge") then judge_step d else
+    step_of_table job name d)))
 
 -- a step, named by its member `do`
 unfoldable pub step_of : Job → Data → Result Step WrongForm

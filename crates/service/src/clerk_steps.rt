@@ -3,16 +3,17 @@
 ghost use Rattle.std.specs.Prelude.{◌≡◌};
 ghost use Rattle.serde_json.specs.View.{view};
 ghost use Rattle.service.specs.Reading.{Gives};
-ghost use Rattle.service.specs.Steps.{learn_step, look_step, forget_step};
+ghost use Rattle.service.specs.Steps.{learn_step, look_step, forget_step, step_of_clerk};
 
 use crate::fault::{Unread, WrongForm};
+use crate::load_steps::step_of_loads;
 use crate::members::{exactly, key_at, number_at, number_in};
 use serde_json::Value;
 use std::alloc::Global;
 use world::{Job, Step};
 
 #[tactic(auto, unfolding(crate::specs::Steps::learn_step))]
-pub fn learn_step(job: Job, step: &Value) -> Result<Step, WrongForm>
+fn learn_step(job: Job, step: &Value) -> Result<Step, WrongForm>
     ensures { result ≡ learn_step job (view step.now) }
 {
     exactly(&["do", "clerk", "generation"], step)?;
@@ -23,7 +24,7 @@ pub fn learn_step(job: Job, step: &Value) -> Result<Step, WrongForm>
 }
 
 #[tactic(auto, unfolding(crate::specs::Steps::look_step))]
-pub fn look_step(alloc: Global, job: Job, step: &Value) -> Result<Step, Unread>
+fn look_step(alloc: Global, job: Job, step: &Value) -> Result<Step, Unread>
     ensures { Gives result (look_step job (view step.now)) }
 {
     exactly(&["do", "clerk", "key"], step)?;
@@ -34,11 +35,24 @@ pub fn look_step(alloc: Global, job: Job, step: &Value) -> Result<Step, Unread>
 }
 
 #[tactic(auto, unfolding(crate::specs::Steps::forget_step))]
-pub fn forget_step(job: Job, step: &Value) -> Result<Step, WrongForm>
+fn forget_step(job: Job, step: &Value) -> Result<Step, WrongForm>
     ensures { result ≡ forget_step job (view step.now) }
 {
     exactly(&["do", "clerk"], step)?;
     Ok(Step::Forget {
         clerk: number_in(1, job.clerks(), "clerk", step)?,
     })
+}
+
+/// The step of this name: of a clerk, or of loads.
+#[tactic(auto, unfolding(crate::specs::Steps::step_of_clerk))]
+pub fn step_of_clerk(alloc: Global, job: Job, name: &str, step: &Value) -> Result<Step, Unread>
+    ensures { Gives result (step_of_clerk job name.now (view step.now)) }
+{
+    match name {
+        "learn" => Ok(learn_step(job, step)?),
+        "look" => look_step(alloc, job, step),
+        "forget" => Ok(forget_step(job, step)?),
+        _ => step_of_loads(alloc, job, name, step),
+    }
 }

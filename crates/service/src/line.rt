@@ -13,7 +13,7 @@ use std::fmt;
 use world::Reply;
 
 /// A number in 16 hexadecimal digits.
-#[derive(Clone, Copy, Debug, PartialEq, Eq)]
+#[derive(Clone, Copy)]
 struct Hex(u64);
 
 impl fmt::Display for Hex {
@@ -27,7 +27,7 @@ impl fmt::Display for Hex {
 }
 
 /// Tasks, joined by commas.
-#[derive(Clone, Copy, Debug)]
+#[derive(Clone, Copy)]
 struct OwnersText<'a>(&'a [TaskId]);
 
 impl fmt::Display for OwnersText<'_> {
@@ -46,7 +46,7 @@ impl fmt::Display for OwnersText<'_> {
 }
 
 /// A row of the table, its parts joined by colons.
-#[derive(Clone, Copy, Debug, PartialEq, Eq)]
+#[derive(Clone, Copy)]
 struct RowText(Row);
 
 impl fmt::Display for RowText {
@@ -68,7 +68,7 @@ impl fmt::Display for RowText {
 }
 
 /// Rows of the table, joined by spaces.
-#[derive(Clone, Copy, Debug)]
+#[derive(Clone, Copy)]
 struct RowsText<'a>(&'a [Row]);
 
 impl fmt::Display for RowsText<'_> {
@@ -88,7 +88,7 @@ impl fmt::Display for RowsText<'_> {
 }
 
 /// The words of a verdict.
-#[derive(Clone, Copy, Debug, PartialEq, Eq)]
+#[derive(Clone, Copy)]
 struct VerdictWords(Verdict);
 
 impl fmt::Display for VerdictWords {
@@ -111,7 +111,7 @@ impl fmt::Display for VerdictWords {
 }
 
 /// The words of the table's phase.
-#[derive(Clone, Copy, Debug, PartialEq, Eq)]
+#[derive(Clone, Copy)]
 struct PhaseWords(Phase);
 
 impl fmt::Display for PhaseWords {
@@ -126,7 +126,7 @@ impl fmt::Display for PhaseWords {
 }
 
 /// Numbers, each after a space.
-#[derive(Clone, Copy, Debug)]
+#[derive(Clone, Copy)]
 struct Spaced<'a>(&'a [u64]);
 
 impl fmt::Display for Spaced<'_> {
@@ -141,7 +141,7 @@ impl fmt::Display for Spaced<'_> {
 }
 
 /// The line of a reply, without its end. No line is written for want of memory.
-#[derive(Clone, Copy, Debug)]
+#[derive(Clone, Copy)]
 pub struct Line<'a>(pub &'a Reply);
 
 impl fmt::Display for Line<'_> {

@@ -3,16 +3,17 @@
 ghost use Rattle.std.specs.Prelude.{◌≡◌};
 ghost use Rattle.serde_json.specs.View.{view};
 ghost use Rattle.service.specs.Reading.{Gives};
-ghost use Rattle.service.specs.Steps.{load_step, gather_step, next_step};
+ghost use Rattle.service.specs.Steps.{load_step, gather_step, next_step, step_of_loads};
 
 use crate::fault::{Unread, WrongForm};
 use crate::members::{exactly, flag_at, key_at, number_at, number_in};
+use crate::plan_step::plan_step;
 use serde_json::Value;
 use std::alloc::Global;
 use world::{Job, Step};
 
 #[tactic(auto, unfolding(crate::specs::Steps::load_step))]
-pub fn load_step(alloc: Global, job: Job, step: &Value) -> Result<Step, Unread>
+fn load_step(alloc: Global, job: Job, step: &Value) -> Result<Step, Unread>
     ensures { Gives result (load_step job (view step.now)) }
 {
     exactly(&["do", "task", "key", "weight"], step)?;
@@ -24,7 +25,7 @@ pub fn load_step(alloc: Global, job: Job, step: &Value) -> Result<Step, Unread>
 }
 
 #[tactic(auto, unfolding(crate::specs::Steps::gather_step))]
-pub fn gather_step(step: &Value) -> Result<Step, WrongForm>
+fn gather_step(step: &Value) -> Result<Step, WrongForm>
     ensures { result ≡ gather_step (view step.now) }
 {
     exactly(&["do"], step)?;
@@ -32,7 +33,7 @@ pub fn gather_step(step: &Value) -> Result<Step, WrongForm>
 }
 
 #[tactic(auto, unfolding(crate::specs::Steps::next_step))]
-pub fn next_step(job: Job, step: &Value) -> Result<Step, WrongForm>
+fn next_step(job: Job, step: &Value) -> Result<Step, WrongForm>
     ensures { result ≡ next_step job (view step.now) }
 {
     exactly(&["do", "assigner", "at", "wanted"], step)?;
@@ -41,4 +42,18 @@ pub fn next_step(job: Job, step: &Value) -> Result<Step, WrongForm>
         at: number_at("at", step)?,
         wanted: flag_at("wanted", step)?,
     })
+}
+
+/// The step of this name: of loads and plans, or what an assigner does next.
+#[tactic(auto, unfolding(crate::specs::Steps::step_of_loads))]
+pub fn step_of_loads(alloc: Global, job: Job, name: &str, step: &Value) -> Result<Step, Unread>
+    ensures { Gives result (step_of_loads job name.now (view step.now)) }
+{
+    match name {
+        "load" => load_step(alloc, job, step),
+        "gather" => Ok(gather_step(step)?),
+        "plan" => plan_step(alloc, step),
+        "next" => Ok(next_step(job, step)?),
+        _ => Err(Unread::WrongForm),
+    }
 }

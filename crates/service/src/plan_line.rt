@@ -8,7 +8,7 @@ use std::fmt;
 use weighted_move::Move;
 
 /// The numbers of tasks, joined by commas.
-#[derive(Clone, Copy, Debug)]
+#[derive(Clone, Copy)]
 struct NumbersText<'a>(&'a [u64]);
 
 impl fmt::Display for NumbersText<'_> {
@@ -27,7 +27,7 @@ impl fmt::Display for NumbersText<'_> {
 }
 
 /// A slice: its start and its owners.
-#[derive(Clone, Copy, Debug)]
+#[derive(Clone, Copy)]
 struct SliceText<'a>(&'a Slice);
 
 impl fmt::Display for SliceText<'_> {
@@ -40,7 +40,7 @@ impl fmt::Display for SliceText<'_> {
 }
 
 /// Slices, joined by spaces.
-#[derive(Clone, Copy, Debug)]
+#[derive(Clone, Copy)]
 pub struct SlicesText<'a>(pub &'a [Slice]);
 
 impl fmt::Display for SlicesText<'_> {
@@ -60,7 +60,7 @@ impl fmt::Display for SlicesText<'_> {
 }
 
 /// A move: its slice, whom it leaves and where it goes to, its gain and its churn.
-#[derive(Clone, Copy, Debug, PartialEq, Eq)]
+#[derive(Clone, Copy)]
 struct MoveText(Move);
 
 impl fmt::Display for MoveText {
@@ -81,7 +81,7 @@ impl fmt::Display for MoveText {
 }
 
 /// Moves, joined by commas and spaces.
-#[derive(Clone, Copy, Debug)]
+#[derive(Clone, Copy)]
 pub struct MovesText<'a>(pub &'a [Move]);
 
 impl fmt::Display for MovesText<'_> {

@@ -17,7 +17,7 @@ use world::{Job, Step};
 const MOST_STEPS: usize = 4096;
 
 /// A job, and the steps of it.
-#[derive(Debug, Drop)]
+#[derive(Drop)]
 pub struct Script {
     pub job: Job,
     pub steps: Listed<Step>,

@@ -5,19 +5,12 @@ ghost use Rattle.serde_json.specs.View.{view};
 ghost use Rattle.service.specs.Reading.{Gives};
 ghost use Rattle.service.specs.Steps.{slice_of, hash_step, assign_step, owners_step, step_of};
 
-use crate::clerk_steps::{forget_step, learn_step, look_step};
 use crate::fault::Unread;
-use crate::load_steps::{gather_step, load_step, next_step};
 use crate::members::{
     Form, exactly, key_at, list_at, list_of, number_at, number_of, pair_of, text_at,
 };
-use crate::plan_step::plan_step;
 use crate::question::question_of;
-use crate::table_steps::{
-    commit_step, free_step, grant_step, phase_step, propose_step, renew_step, restart_step,
-    rows_step, take_step,
-};
-use crate::task_steps::{check_step, hear_step, hold_step, release_step, serve_step, start_step};
+use crate::table_steps::step_of_table;
 use assignment::Slice;
 use serde_json::Value;
 use std::alloc::Global;
@@ -79,28 +72,6 @@ pub fn step_of(alloc: Global, job: Job, step: &Value) -> Result<Step, Unread>
         "judge" => Ok(Step::Judge {
             question: question_of(alloc, step)?,
         }),
-        "take" => Ok(take_step(job, step)?),
-        "renew" => Ok(renew_step(job, step)?),
-        "propose" => propose_step(alloc, job, step),
-        "commit" => Ok(commit_step(job, step)?),
-        "phase" => Ok(phase_step(step)?),
-        "rows" => Ok(rows_step(step)?),
-        "grant" => Ok(grant_step(job, step)?),
-        "free" => Ok(free_step(step)?),
-        "start" => Ok(start_step(job, step)?),
-        "hear" => Ok(hear_step(job, step)?),
-        "release" => Ok(release_step(job, step)?),
-        "serve" => serve_step(alloc, job, step),
-        "hold" => hold_step(alloc, job, step),
-        "check" => Ok(check_step(job, step)?),
-        "learn" => Ok(learn_step(job, step)?),
-        "look" => look_step(alloc, job, step),
-        "forget" => Ok(forget_step(job, step)?),
-        "load" => load_step(alloc, job, step),
-        "gather" => Ok(gather_step(step)?),
-        "plan" => plan_step(alloc, step),
-        "next" => Ok(next_step(job, step)?),
-        "restart" => Ok(restart_step(job, step)?),
-        _ => Err(Unread::WrongForm),
+        name => step_of_table(alloc, job, name, step),
     }
 }

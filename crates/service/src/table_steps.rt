@@ -3,16 +3,17 @@
 ghost use Rattle.std.specs.Prelude.{◌≡◌};
 ghost use Rattle.serde_json.specs.View.{view};
 ghost use Rattle.service.specs.Reading.{Gives};
-ghost use Rattle.service.specs.Steps.{take_step, renew_step, propose_step, commit_step, phase_step, rows_step, grant_step, free_step, restart_step};
+ghost use Rattle.service.specs.Steps.{take_step, renew_step, propose_step, commit_step, phase_step, rows_step, grant_step, free_step, restart_step, step_of_table};
 
 use crate::fault::{Unread, WrongForm};
 use crate::members::{exactly, life_at, list_at, number_at, number_in};
+use crate::task_steps::step_of_task;
 use serde_json::Value;
 use std::alloc::Global;
 use world::{Job, Step};
 
 #[tactic(auto, unfolding(crate::specs::Steps::take_step))]
-pub fn take_step(job: Job, step: &Value) -> Result<Step, WrongForm>
+fn take_step(job: Job, step: &Value) -> Result<Step, WrongForm>
     ensures { result ≡ take_step job (view step.now) }
 {
     exactly(&["do", "assigner", "at"], step)?;
@@ -23,7 +24,7 @@ pub fn take_step(job: Job, step: &Value) -> Result<Step, WrongForm>
 }
 
 #[tactic(auto, unfolding(crate::specs::Steps::renew_step))]
-pub fn renew_step(job: Job, step: &Value) -> Result<Step, WrongForm>
+fn renew_step(job: Job, step: &Value) -> Result<Step, WrongForm>
     ensures { result ≡ renew_step job (view step.now) }
 {
     exactly(&["do", "assigner", "at"], step)?;
@@ -34,7 +35,7 @@ pub fn renew_step(job: Job, step: &Value) -> Result<Step, WrongForm>
 }
 
 #[tactic(auto, unfolding(crate::specs::Steps::propose_step))]
-pub fn propose_step(alloc: Global, job: Job, step: &Value) -> Result<Step, Unread>
+fn propose_step(alloc: Global, job: Job, step: &Value) -> Result<Step, Unread>
     ensures { Gives result (propose_step job (view step.now)) }
 {
     exactly(&["do", "assigner", "generation", "slices", "at"], step)?;
@@ -47,7 +48,7 @@ pub fn propose_step(alloc: Global, job: Job, step: &Value) -> Result<Step, Unrea
 }
 
 #[tactic(auto, unfolding(crate::specs::Steps::commit_step))]
-pub fn commit_step(job: Job, step: &Value) -> Result<Step, WrongForm>
+fn commit_step(job: Job, step: &Value) -> Result<Step, WrongForm>
     ensures { result ≡ commit_step job (view step.now) }
 {
     exactly(&["do", "assigner", "at"], step)?;
@@ -58,7 +59,7 @@ pub fn commit_step(job: Job, step: &Value) -> Result<Step, WrongForm>
 }
 
 #[tactic(auto, unfolding(crate::specs::Steps::phase_step))]
-pub fn phase_step(step: &Value) -> Result<Step, WrongForm>
+fn phase_step(step: &Value) -> Result<Step, WrongForm>
     ensures { result ≡ phase_step (view step.now) }
 {
     exactly(&["do"], step)?;
@@ -66,7 +67,7 @@ pub fn phase_step(step: &Value) -> Result<Step, WrongForm>
 }
 
 #[tactic(auto, unfolding(crate::specs::Steps::rows_step))]
-pub fn rows_step(step: &Value) -> Result<Step, WrongForm>
+fn rows_step(step: &Value) -> Result<Step, WrongForm>
     ensures { result ≡ rows_step (view step.now) }
 {
     exactly(&["do"], step)?;
@@ -74,7 +75,7 @@ pub fn rows_step(step: &Value) -> Result<Step, WrongForm>
 }
 
 #[tactic(auto, unfolding(crate::specs::Steps::grant_step))]
-pub fn grant_step(job: Job, step: &Value) -> Result<Step, WrongForm>
+fn grant_step(job: Job, step: &Value) -> Result<Step, WrongForm>
     ensures { result ≡ grant_step job (view step.now) }
 {
     exactly(&["do", "task", "life", "at"], step)?;
@@ -86,7 +87,7 @@ pub fn grant_step(job: Job, step: &Value) -> Result<Step, WrongForm>
 }
 
 #[tactic(auto, unfolding(crate::specs::Steps::free_step))]
-pub fn free_step(step: &Value) -> Result<Step, WrongForm>
+fn free_step(step: &Value) -> Result<Step, WrongForm>
     ensures { result ≡ free_step (view step.now) }
 {
     exactly(&["do", "note", "at"], step)?;
@@ -97,11 +98,30 @@ pub fn free_step(step: &Value) -> Result<Step, WrongForm>
 }
 
 #[tactic(auto, unfolding(crate::specs::Steps::restart_step))]
-pub fn restart_step(job: Job, step: &Value) -> Result<Step, WrongForm>
+fn restart_step(job: Job, step: &Value) -> Result<Step, WrongForm>
     ensures { result ≡ restart_step job (view step.now) }
 {
     exactly(&["do", "assigner"], step)?;
     Ok(Step::Restart {
         assigner: number_in(1, job.assigners(), "assigner", step)?,
     })
+}
+
+/// The step of this name: of the table and its assigners, or of a task, a clerk or loads.
+#[tactic(auto, unfolding(crate::specs::Steps::step_of_table))]
+pub fn step_of_table(alloc: Global, job: Job, name: &str, step: &Value) -> Result<Step, Unread>
+    ensures { Gives result (step_of_table job name.now (view step.now)) }
+{
+    match name {
+        "take" => Ok(take_step(job, step)?),
+        "renew" => Ok(renew_step(job, step)?),
+        "propose" => propose_step(alloc, job, step),
+        "commit" => Ok(commit_step(job, step)?),
+        "phase" => Ok(phase_step(step)?),
+        "rows" => Ok(rows_step(step)?),
+        "grant" => Ok(grant_step(job, step)?),
+        "free" => Ok(free_step(step)?),
+        "restart" => Ok(restart_step(job, step)?),
+        _ => step_of_task(alloc, job, name, step),
+    }
 }

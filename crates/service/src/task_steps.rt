@@ -3,8 +3,9 @@
 ghost use Rattle.std.specs.Prelude.{◌≡◌};
 ghost use Rattle.serde_json.specs.View.{view};
 ghost use Rattle.service.specs.Reading.{Gives};
-ghost use Rattle.service.specs.Steps.{start_step, hear_step, release_step, serve_step, hold_step, check_step};
+ghost use Rattle.service.specs.Steps.{start_step, hear_step, release_step, serve_step, hold_step, check_step, step_of_task};
 
+use crate::clerk_steps::step_of_clerk;
 use crate::fault::{Unread, WrongForm};
 use crate::members::{exactly, key_at, kind_at, life_at, number_at, number_in};
 use serde_json::Value;
@@ -12,7 +13,7 @@ use std::alloc::Global;
 use world::{Job, Step};
 
 #[tactic(auto, unfolding(crate::specs::Steps::start_step))]
-pub fn start_step(job: Job, step: &Value) -> Result<Step, WrongForm>
+fn start_step(job: Job, step: &Value) -> Result<Step, WrongForm>
     ensures { result ≡ start_step job (view step.now) }
 {
     exactly(&["do", "task", "life", "at"], step)?;
@@ -24,7 +25,7 @@ pub fn start_step(job: Job, step: &Value) -> Result<Step, WrongForm>
 }
 
 #[tactic(auto, unfolding(crate::specs::Steps::hear_step))]
-pub fn hear_step(job: Job, step: &Value) -> Result<Step, WrongForm>
+fn hear_step(job: Job, step: &Value) -> Result<Step, WrongForm>
     ensures { result ≡ hear_step job (view step.now) }
 {
     exactly(&["do", "task", "number", "at"], step)?;
@@ -36,7 +37,7 @@ pub fn hear_step(job: Job, step: &Value) -> Result<Step, WrongForm>
 }
 
 #[tactic(auto, unfolding(crate::specs::Steps::release_step))]
-pub fn release_step(job: Job, step: &Value) -> Result<Step, WrongForm>
+fn release_step(job: Job, step: &Value) -> Result<Step, WrongForm>
     ensures { result ≡ release_step job (view step.now) }
 {
     exactly(&["do", "task", "kind", "at"], step)?;
@@ -48,7 +49,7 @@ pub fn release_step(job: Job, step: &Value) -> Result<Step, WrongForm>
 }
 
 #[tactic(auto, unfolding(crate::specs::Steps::serve_step))]
-pub fn serve_step(alloc: Global, job: Job, step: &Value) -> Result<Step, Unread>
+fn serve_step(alloc: Global, job: Job, step: &Value) -> Result<Step, Unread>
     ensures { Gives result (serve_step job (view step.now)) }
 {
     exactly(&["do", "task", "key", "at"], step)?;
@@ -60,7 +61,7 @@ pub fn serve_step(alloc: Global, job: Job, step: &Value) -> Result<Step, Unread>
 }
 
 #[tactic(auto, unfolding(crate::specs::Steps::hold_step))]
-pub fn hold_step(alloc: Global, job: Job, step: &Value) -> Result<Step, Unread>
+fn hold_step(alloc: Global, job: Job, step: &Value) -> Result<Step, Unread>
     ensures { Gives result (hold_step job (view step.now)) }
 {
     exactly(&["do", "task", "key", "at"], step)?;
@@ -72,7 +73,7 @@ pub fn hold_step(alloc: Global, job: Job, step: &Value) -> Result<Step, Unread>
 }
 
 #[tactic(auto, unfolding(crate::specs::Steps::check_step))]
-pub fn check_step(job: Job, step: &Value) -> Result<Step, WrongForm>
+fn check_step(job: Job, step: &Value) -> Result<Step, WrongForm>
     ensures { result ≡ check_step job (view step.now) }
 {
     exactly(&["do", "task", "handle", "at"], step)?;
@@ -81,4 +82,20 @@ pub fn check_step(job: Job, step: &Value) -> Result<Step, WrongForm>
         handle: number_at("handle", step)?,
         at: number_at("at", step)?,
     })
+}
+
+/// The step of this name: of a task, or of a clerk or loads.
+#[tactic(auto, unfolding(crate::specs::Steps::step_of_task))]
+pub fn step_of_task(alloc: Global, job: Job, name: &str, step: &Value) -> Result<Step, Unread>
+    ensures { Gives result (step_of_task job name.now (view step.now)) }
+{
+    match name {
+        "start" => Ok(start_step(job, step)?),
+        "hear" => Ok(hear_step(job, step)?),
+        "release" => Ok(release_step(job, step)?),
+        "serve" => serve_step(alloc, job, step),
+        "hold" => hold_step(alloc, job, step),
+        "check" => Ok(check_step(job, step)?),
+        _ => step_of_clerk(alloc, job, name, step),
+    }
 }

@@ -91,7 +91,7 @@ fn plan_words(error: PlanError) -> &'static str
 }
 
 /// The words for why the table refuses.
-#[derive(Clone, Copy, Debug, PartialEq, Eq)]
+#[derive(Clone, Copy)]
 struct TableWords(TableError);
 
 impl fmt::Display for TableWords {
@@ -118,7 +118,7 @@ impl fmt::Display for TableWords {
 }
 
 /// The words for why a slicelet refuses.
-#[derive(Clone, Copy, Debug, PartialEq, Eq)]
+#[derive(Clone, Copy)]
 struct SliceletWords(SliceletError);
 
 impl fmt::Display for SliceletWords {
@@ -140,7 +140,7 @@ impl fmt::Display for SliceletWords {
 }
 
 /// The words for why a step is refused. No step of a script has an actor that is not of the job.
-#[derive(Clone, Copy, Debug, PartialEq, Eq)]
+#[derive(Clone, Copy)]
 pub struct RefusalWords(pub Refusal);
 
 impl fmt::Display for RefusalWords {
