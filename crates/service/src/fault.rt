@@ -13,7 +13,7 @@ use thiserror::Error;
 pub struct WrongForm;
 
 /// Why a part of a script was not read.
-#[derive(Debug, Drop)]
+#[derive(Drop)]
 pub enum Unread {
     /// It has not the form that is wanted of it.
     WrongForm,

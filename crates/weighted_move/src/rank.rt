@@ -12,7 +12,7 @@ use std::alloc::{AllocError, Global};
 use std::cmp::Ordering;
 
 /// Where a slice stands among those with a load, by what it could gain at the most for its churn.
-#[derive(Clone, Copy, Debug)]
+#[derive(Clone, Copy)]
 pub struct Rank {
     /// The place of the slice in its list.
     pub place: usize,
