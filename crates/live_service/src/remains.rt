@@ -69,36 +69,39 @@ impl Remains {
         ensures draws { IfOk result (λ remains. remains.draws.items ≡ assigner.draws ∷ learner.table.draws ∷ []) }
         ensures records { IfOk result (λ remains. remains.records.items ≡ assigner.records.items ++ learner.table.records.items) }
     {
-        let TableSeat {
-            pass: first_pass,
-            draws: first_draws,
-            mut records,
-        } = assigner;
         let ClerkSeat {
             table: learner,
             own,
         } = learner;
-        let TableSeat {
-            pass: second_pass,
-            draws: second_draws,
-            records: mut others,
-        } = learner;
-        let mut table = Vec::new(alloc);
-        table.push(first_pass)?;
-        table.push(second_pass)?;
-        let mut clerk = Vec::new(alloc);
-        clerk.push(own)?;
-        let mut draws = Vec::new(alloc);
-        draws.push(first_draws)?;
-        draws.push(second_draws)?;
-        records.append(&mut others)?;
-        Ok(Remains {
-            table,
-            clerk,
-            draws,
+        let mut remains = Remains {
+            table: Vec::new(alloc),
+            clerk: Vec::new(alloc),
+            draws: Vec::new(alloc),
             tasks: Vec::new(alloc),
-            records,
-        })
+            records: Vec::new(alloc),
+        };
+        remains.clerk.push(own)?;
+        remains.take_seat(assigner)?;
+        remains.take_seat(learner)?;
+        Ok(remains)
+    }
+
+    // What a thread that calls the table leaves comes after what is there.
+    fn take_seat(&mut self, seat: TableSeat) -> Result<(), AllocError>
+        ensures table { OnOk result (self.new.table.items ≡ self.old.table.items ++ seat.pass ∷ []) }
+        ensures clerk { self.new.clerk ≡ self.old.clerk }
+        ensures draws { OnOk result (self.new.draws.items ≡ self.old.draws.items ++ seat.draws ∷ []) }
+        ensures records { OnOk result (self.new.records.items ≡ self.old.records.items ++ seat.records.items) }
+    {
+        let TableSeat {
+            pass,
+            draws,
+            mut records,
+        } = seat;
+        self.table.push(pass)?;
+        self.draws.push(draws)?;
+        self.records.append(&mut records)?;
+        Ok(())
     }
 
     // What a task leaves comes after what is there.

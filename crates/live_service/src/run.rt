@@ -1,6 +1,6 @@
 //! Live runs: the assigner, the clerk, the tasks and their workers as threads.
 
-ghost use Rattle.std.specs.Prelude.{ℕ, ◌≡◌, ◌≤◌, ◌<◌, All, IfOk, vec_len, slice_index_or};
+ghost use Rattle.std.specs.Prelude.{ℕ, Ok, ◌≡◌, ◌≤◌, ◌<◌, All, IfOk, vec_len, slice_index_or};
 ghost use Rattle.std.specs.Thread.{IsSync};
 ghost use Rattle.live_service.specs.Crews.{HasLeft, IsCrew};
 ghost use Rattle.live_service.specs.Reports.{IsReported};
@@ -87,6 +87,17 @@ fn run_threads<R: Threads + Wait + Sync, G: Gate + Sync>(
             ensures many { IfOk result (λ results. vec_len results ≡ vec_len crews) }
         { run_crews(rt, alloc, ticket, table, gate, job, crews) },
     );
+    all_of(assigner, learner, crews)
+}
+
+// What all threads left, or that one of them found no memory.
+fn all_of(
+    assigner: Result<TableSeat, AllocError>,
+    learner: Result<ClerkSeat, AllocError>,
+    crews: Result<Vec<Result<CrewLeft, AllocError>>, AllocError>,
+) -> Result<(TableSeat, ClerkSeat, Vec<Result<CrewLeft, AllocError>>), AllocError>
+    ensures { IfOk result (λ left. (assigner ≡ Ok left.0) × (learner ≡ Ok left.1) × (crews ≡ Ok left.2)) }
+{
     Ok((assigner?, learner?, crews?))
 }
 
