@@ -255,7 +255,7 @@ next_step job d = do
   wanted ← flag_at (codes "wanted") d
   Ok (Next assigner at wanted)
 
--- the step of this name: of loads and plans, or what an assigner does next
+-- the step of this name among those of loads and plans, and what an assigner does next; there are no others
 unfoldable pub step_of_loads : Job → List ℕ → Data → Result Step WrongForm
 step_of_loads job name d =
     if bytes_eq name (codes "load") then load_step job d else
@@ -264,7 +264,7 @@ step_of_loads job name d =
     (if bytes_eq name (codes "next") then next_step job d else
     Err wrong)))
 
--- the step of this name: of a clerk, or of one of the above
+-- the step of this name among those of a clerk, or else of loads and plans
 unfoldable pub step_of_clerk : Job → List ℕ → Data → Result Step WrongForm
 step_of_clerk job name d =
     if bytes_eq name (codes "learn") then learn_step job d else
@@ -272,7 +272,7 @@ step_of_clerk job name d =
     (if bytes_eq name (codes "forget") then forget_step job d else
     step_of_loads job name d))
 
--- the step of this name: of a task, or of one of the above
+-- the step of this name among those of a task, or else of a clerk, loads and plans
 unfoldable pub step_of_task : Job → List ℕ → Data → Result Step WrongForm
 step_of_task job name d =
     if bytes_eq name (codes "start") then start_step job d else
@@ -283,7 +283,7 @@ step_of_task job name d =
     (if bytes_eq name (codes "check") then check_step job d else
     step_of_clerk job name d)))))
 
--- the step of this name: of the table and its assigners, or of one of the above
+-- the step of this name among those of the table and its assigners, or else of a task, a clerk, loads and plans
 unfoldable pub step_of_table : Job → List ℕ → Data → Result Step WrongForm
 step_of_table job name d =
     if bytes_eq name (codes "take") then take_step job d else
@@ -297,7 +297,7 @@ step_of_table job name d =
     (if bytes_eq name (codes "restart") then restart_step job d else
     step_of_task job name d))))))))
 
--- the step of this name: of no actor, or of one of the above
+-- the step of this name among those of no actor, or else of an actor
 abbrev step_named : Job → List ℕ → Data → Result Step WrongForm
 step_named job name d =
     if bytes_eq name (codes "hash") then hash_step d else

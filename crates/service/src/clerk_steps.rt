@@ -44,7 +44,7 @@ fn forget_step(job: Job, step: &Value) -> Result<Step, WrongForm>
     })
 }
 
-/// The step of this name: of a clerk, or of loads.
+/// The step of this name among those of a clerk, or else of loads and plans.
 #[tactic(auto, unfolding(crate::specs::Steps::step_of_clerk))]
 pub fn step_of_clerk(alloc: Global, job: Job, name: &str, step: &Value) -> Result<Step, Unread>
     ensures { Gives result (step_of_clerk job name.now (view step.now)) }

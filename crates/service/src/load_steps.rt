@@ -44,7 +44,7 @@ fn next_step(job: Job, step: &Value) -> Result<Step, WrongForm>
     })
 }
 
-/// The step of this name: of loads and plans, or what an assigner does next.
+/// The step of this name among those of loads and plans, and what an assigner does next. There are no others.
 #[tactic(auto, unfolding(crate::specs::Steps::step_of_loads))]
 pub fn step_of_loads(alloc: Global, job: Job, name: &str, step: &Value) -> Result<Step, Unread>
     ensures { Gives result (step_of_loads job name.now (view step.now)) }

@@ -107,7 +107,7 @@ fn restart_step(job: Job, step: &Value) -> Result<Step, WrongForm>
     })
 }
 
-/// The step of this name: of the table and its assigners, or of a task, a clerk or loads.
+/// The step of this name among those of the table and its assigners, or else of a task, a clerk, loads and plans.
 #[tactic(auto, unfolding(crate::specs::Steps::step_of_table))]
 pub fn step_of_table(alloc: Global, job: Job, name: &str, step: &Value) -> Result<Step, Unread>
     ensures { Gives result (step_of_table job name.now (view step.now)) }

@@ -84,7 +84,7 @@ fn check_step(job: Job, step: &Value) -> Result<Step, WrongForm>
     })
 }
 
-/// The step of this name: of a task, or of a clerk or loads.
+/// The step of this name among those of a task, or else of a clerk, loads and plans.
 #[tactic(auto, unfolding(crate::specs::Steps::step_of_task))]
 pub fn step_of_task(alloc: Global, job: Job, name: &str, step: &Value) -> Result<Step, Unread>
     ensures { Gives result (step_of_task job name.now (view step.now)) }
