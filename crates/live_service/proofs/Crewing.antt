@@ -7,7 +7,8 @@ use Rattle.std.proofs.lemmas.List.Elements.{All-cons, All-push}
 use Rattle.lease_table.specs.Tables.{Standing}
 use Rattle.history_lock.specs.Passes.{Lock, PassView, IsPassOf, ArePassesOf, new_pass}
 use Rattle.history_lock.specs.Closing.{has_lane}
-use Rattle.slicelet.specs.Steps.{History}
+use Rattle.history_lock.specs.Histories.{IsLegal}
+use Rattle.slicelet.specs.Steps.{History, event_step, opening}
 use Rattle.tickets.specs.Tickets.{TicketView, TicketPassView, DrawsFrom, new_ticket_pass}
 use Rattle.live_service.specs.declared.crew.CrewLeft.{CrewLeft}
 use Rattle.live_service.specs.declared.crew.Gathered.{Gathered}
@@ -115,11 +116,13 @@ module _ (slicelet : Lock History) (ticket : TicketView) where
       }
 
   -- what all threads of a task leave
-  pub has_left : (table : Lock Standing) (workers asks lane : ℕ) (left : CrewLeft) (gathered : Gathered) → IsGathered slicelet ticket asks gathered → vec_len gathered.passes ≡ workers + 1
-      → IsPassOf table left.table → left.table.lane ≡ lane → left.draws ≡ gathered.draws → left.records ≡ gathered.records → HasLeft table ticket workers asks lane left
-  has_left table workers asks lane left gathered g many own at draws records =
+  pub has_left : (table : Lock Standing) (workers asks task : ℕ) (left : CrewLeft) (gathered : Gathered) → IsGathered slicelet ticket asks gathered → vec_len gathered.passes ≡ workers + 1
+      → IsLegal event_step (opening task) left.history → IsPassOf table left.table → left.table.lane ≡ task + 1 → left.draws ≡ gathered.draws → left.records ≡ gathered.records
+      → HasLeft table ticket workers asks task left
+  has_left table workers asks task left gathered g many played own at draws records =
       let Draws : TicketPassView → Type 0 = λ pass. DrawsFrom ticket pass in
       let served : serves gathered.records.items + asks ≡ workers * asks + asks = g.served ∙ (ap (λ (n : ℕ). n * asks) many ∙ one_more workers asks) in record {
+        played = played;
         table_pass = own;
         of_lane = at;
         draws = subst (λ ds. All Draws ds) (sym (ap (λ d. d.items) draws)) g.draws;

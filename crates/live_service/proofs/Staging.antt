@@ -5,6 +5,11 @@ use Rattle.std.specs.declared.alloc.AllocError.{AllocError}
 use Rattle.std.proofs.lemmas.List.{take-append-drop}
 use Rattle.std.proofs.lemmas.List.Elements.{All-cons, All-append}
 use Rattle.assignment.specs.Slices.{Slicing}
+use Rattle.history_lock.specs.Histories.{IsLegal}
+use Rattle.history_lock.specs.declared.entry.Entry.{Entry}
+use Rattle.machines.specs.declared.event.Event.{Event}
+use Rattle.slicelet.specs.Steps.{event_step, opening}
+use Rattle.slicelet.specs.declared.call.SliceletCall.{SliceletCall}
 use Rattle.history_lock.specs.Passes.{Lock, PassView, ArePassesOf, AreNewFrom, new_pass}
 use Rattle.lease_table.specs.Tables.{Standing}
 use Rattle.tickets.specs.Tickets.{TicketView, TicketPassView, DrawsFrom}
@@ -14,7 +19,7 @@ use Rattle.live_service.specs.declared.remains.Remains.{Remains}
 use Rattle.live_service.specs.declared.crew.Crew.{Crew}
 use Rattle.live_service.specs.declared.crew.CrewLeft.{CrewLeft}
 use Rattle.live_service.specs.Crews.{AreOfLanesFrom, IsCrew, HasLeft}
-use Rattle.live_service.specs.Reports.{serves}
+use Rattle.live_service.specs.Reports.{serves, AreOfTasksFrom}
 use Rattle.live_service.specs.Stages.{AreCrewsFrom, HaveLeftFrom, IsQuietClerkSeat, IsQuietSeat, IsRemains}
 use Rattle.live_service.proofs.Asked.{serves-append}
 use Rattle.live_service.proofs.Crewing.{lanes_push, passes_push}
@@ -64,6 +69,13 @@ three a b c = omega arith
 pub all_asks : (served tasks workers asks lanes : ℕ) → lanes ≡ tasks + 2 → served + 2 * (workers * asks) ≡ lanes * (workers * asks) → served ≡ tasks * workers * asks
 all_asks served tasks workers asks lanes e f = asks_sum served tasks (workers * asks) (f ∙ ap (λ (n : ℕ). n * (workers * asks)) e) ∙ three tasks workers asks
 
+-- the history of one task more
+tasks_push : (task : ℕ) (histories : List (List (Entry (Event SliceletCall)))) (history : List (Entry (Event SliceletCall))) → AreOfTasksFrom task histories
+    → IsLegal event_step (opening (task + length histories)) history → AreOfTasksFrom task (histories ++ history ∷ [])
+tasks_push task [] history are is = (subst (λ n. IsLegal event_step (opening n) history) (let e : task + 0 ≡ task = omega arith in e) is, tt)
+tasks_push task (other ∷ histories) history are is =
+    (are.0, tasks_push (task + 1) histories history are.1 (subst (λ n. IsLegal event_step (opening n) history) (let e : task + length (other ∷ histories) ≡ task + 1 + length histories = omega arith in e) is))
+
 -- the first passes, and the others
 pub new_parts : {M E : Type 0} (lock : Lock M) (n : ℕ) (all front back : List (PassView M E)) → AreNewFrom 0 lock all → front ≡ take n all → back ≡ drop n all → length front ≡ n
     → AreNewFrom 0 lock front × AreNewFrom n lock back
@@ -76,39 +88,41 @@ new_parts {M} {E} lock n all front back are t r len =
     )
 
 module _ (table : Lock Standing) (ticket : TicketView) where
-  pub crews_all : (workers lane : ℕ) (crews : List Crew) → AreCrewsFrom table ticket workers lane crews → All (λ (crew : Crew). IsCrew table ticket workers crew) crews
-  crews_all workers lane [] are = λ k d below. let b : k < 0 = below in absurd (omega (arith, b))
-  crews_all workers lane (crew ∷ crews) are = All-cons (λ (c : Crew). IsCrew table ticket workers c) crew crews are.0.0 (crews_all workers (lane + 1) crews are.1)
+  pub crews_all : (workers task : ℕ) (crews : List Crew) → AreCrewsFrom table ticket workers task crews → All (λ (crew : Crew). IsCrew table ticket workers crew) crews
+  crews_all workers task [] are = λ k d below. let b : k < 0 = below in absurd (omega (arith, b))
+  crews_all workers task (crew ∷ crews) are = All-cons (λ (c : Crew). IsCrew table ticket workers c) crew crews are.0.0 (crews_all workers (task + 1) crews are.1)
 
-  pub crews_push : (workers lane : ℕ) (crews : List Crew) (crew : Crew) → AreCrewsFrom table ticket workers lane crews → IsCrew table ticket workers crew → crew.table.lane ≡ lane + length crews
-      → AreCrewsFrom table ticket workers lane (crews ++ crew ∷ [])
-  crews_push workers lane [] crew are is at = ((is, let e : crew.table.lane ≡ lane + 0 = at in omega (arith, e)), tt)
-  crews_push workers lane (other ∷ crews) crew are is at =
-      (are.0, crews_push workers (lane + 1) crews crew are.1 is (let e : crew.table.lane ≡ lane + length (other ∷ crews) = at in omega (arith, e)))
+  pub crews_push : (workers task : ℕ) (crews : List Crew) (crew : Crew) → AreCrewsFrom table ticket workers task crews → IsCrew table ticket workers crew → crew.task ≡ task + length crews
+      → AreCrewsFrom table ticket workers task (crews ++ crew ∷ [])
+  crews_push workers task [] crew are is at = ((is, let e : crew.task ≡ task + 0 = at in omega (arith, e)), tt)
+  crews_push workers task (other ∷ crews) crew are is at =
+      (are.0, crews_push workers (task + 1) crews crew are.1 is (let e : crew.task ≡ task + length (other ∷ crews) = at in omega (arith, e)))
 
-  -- what tasks of lanes that follow one another leave
-  pub left_from : (workers asks lane : ℕ) (crews : List Crew) (results : List (Result CrewLeft AllocError)) → length results ≡ length crews → AreCrewsFrom table ticket workers lane crews
-      → ((i : ℕ) (c : Crew) (r : Result CrewLeft AllocError) → i < length crews → IfOk (slice_index_or results i r) (λ left. HasLeft table ticket workers asks (slice_index_or crews i c).table.lane left))
-      → HaveLeftFrom table ticket workers asks lane results
-  left_from workers asks lane [] [] len are each = tt
-  left_from workers asks lane [] (r ∷ rs) len are each = let l : length (r ∷ rs) ≡ 0 = len in absurd (omega (arith, l))
-  left_from workers asks lane (m ∷ ms) [] len are each = let l : 0 ≡ length (m ∷ ms) = len in absurd (omega (arith, l))
-  left_from workers asks lane (m ∷ ms) (r ∷ rs) len are each = (
+  -- what tasks whose numbers follow one another leave
+  pub left_from : (workers asks task : ℕ) (crews : List Crew) (results : List (Result CrewLeft AllocError)) → length results ≡ length crews → AreCrewsFrom table ticket workers task crews
+      → ((i : ℕ) (c : Crew) (r : Result CrewLeft AllocError) → i < length crews → IfOk (slice_index_or results i r) (λ left. HasLeft table ticket workers asks (slice_index_or crews i c).task left))
+      → HaveLeftFrom table ticket workers asks task results
+  left_from workers asks task [] [] len are each = tt
+  left_from workers asks task [] (r ∷ rs) len are each = let l : length (r ∷ rs) ≡ 0 = len in absurd (omega (arith, l))
+  left_from workers asks task (m ∷ ms) [] len are each = let l : 0 ≡ length (m ∷ ms) = len in absurd (omega (arith, l))
+  left_from workers asks task (m ∷ ms) (r ∷ rs) len are each = (
     subst (λ n. IfOk r (λ left. HasLeft table ticket workers asks n left)) are.0.1 (each 0 m r (omega arith)),
-    left_from workers asks (lane + 1) ms rs (let l : length (r ∷ rs) ≡ length (m ∷ ms) = len in omega (arith, l)) are.1 (λ i d e below. each (suc i) d e (let b : i < length ms = below in omega (arith, b))),
+    left_from workers asks (task + 1) ms rs (let l : length (r ∷ rs) ≡ length (m ∷ ms) = len in omega (arith, l)) are.1 (λ i d e below. each (suc i) d e (let b : i < length ms = below in omega (arith, b))),
   )
 
 module _ (table : Lock Standing) (clerk : Lock (Option Slicing)) (ticket : TicketView) where
   -- what the threads of the assigner and the clerk leave
   pub remains_two : (workers asks : ℕ) (seat : TableSeat) (learner : ClerkSeat) (remains : Remains) → IsQuietSeat table ticket 0 seat → IsQuietClerkSeat table clerk ticket learner
       → remains.table.items ≡ seat.pass ∷ learner.table.pass ∷ [] → remains.clerk.items ≡ learner.own ∷ [] → remains.draws.items ≡ seat.draws ∷ learner.table.draws ∷ []
-      → remains.records.items ≡ seat.records.items ++ learner.table.records.items → IsRemains table clerk ticket workers asks remains
-  remains_two workers asks seat learner remains a l passes own draws records =
+      → remains.tasks.items ≡ [] → remains.records.items ≡ seat.records.items ++ learner.table.records.items → IsRemains table clerk ticket workers asks remains
+  remains_two workers asks seat learner remains a l passes own draws tasks records =
       let two : vec_len remains.table ≡ 2 = remains.table.ok.0 ∙ ap length passes in
       let drew : vec_len remains.draws ≡ 2 = remains.draws.ok.0 ∙ ap length draws in
       let both : serves remains.records.items ≡ serves seat.records.items + serves learner.table.records.items = ap serves records ∙ serves-append seat.records.items learner.table.records.items in
       let none : serves remains.records.items ≡ 0 = omega (arith, both, a.quiet, l.table_seat.quiet) in
       let Draws : TicketPassView → Type 0 = λ pass. DrawsFrom ticket pass in record {
+        tasks = subst (λ hs. AreOfTasksFrom 1 hs) (sym tasks) tt;
+        one_each = omega (arith, remains.tasks.ok.0, ap length tasks, two);
         own = subst (λ ps. ArePassesOf table ps) (sym passes) (a.own, (l.table_seat.own, tt));
         lanes = subst (λ ps. AreOfLanesFrom 0 ps) (sym passes) (a.of_lane, (l.table_seat.of_lane, tt));
         clerk_own = subst (λ ps. ArePassesOf clerk ps) (sym own) (l.own, tt);
@@ -121,15 +135,19 @@ module _ (table : Lock Standing) (clerk : Lock (Option Slicing)) (ticket : Ticke
       }
 
   -- one task more
-  pub remains_more : (workers asks : ℕ) (before after : Remains) (left : CrewLeft) → IsRemains table clerk ticket workers asks before → HasLeft table ticket workers asks (vec_len before.table) left
+  pub remains_more : (workers asks : ℕ) (before after : Remains) (left : CrewLeft) → IsRemains table clerk ticket workers asks before → HasLeft table ticket workers asks (vec_len before.tasks + 1) left
       → after.table.items ≡ before.table.items ++ left.table ∷ [] → after.clerk ≡ before.clerk → after.draws.items ≡ before.draws.items ++ left.draws.items
-      → after.records.items ≡ before.records.items ++ left.records.items → IsRemains table clerk ticket workers asks after
-  remains_more workers asks before after left r h passes own draws records =
+      → after.tasks.items ≡ before.tasks.items ++ left.history ∷ [] → after.records.items ≡ before.records.items ++ left.records.items → IsRemains table clerk ticket workers asks after
+  remains_more workers asks before after left r h passes own draws tasks records =
       let more : vec_len after.table ≡ vec_len before.table + 1 = omega (arith, after.table.ok.0, before.table.ok.0, ap length passes, length-append before.table.items (left.table ∷ [])) in
       let drew : vec_len after.draws ≡ vec_len before.draws + vec_len left.draws = omega (arith, after.draws.ok.0, before.draws.ok.0, left.draws.ok.0, ap length draws, length-append before.draws.items left.draws.items) in
-      let at : left.table.lane ≡ 0 + length before.table.items = omega (arith, h.of_lane, before.table.ok.0) in
+      let at : left.table.lane ≡ 0 + length before.table.items = omega (arith, h.of_lane, r.one_each, before.table.ok.0) in
+      let grown : vec_len after.tasks ≡ vec_len before.tasks + 1 = omega (arith, after.tasks.ok.0, before.tasks.ok.0, ap length tasks, length-append before.tasks.items (left.history ∷ [])) in
+      let next : vec_len before.tasks + 1 ≡ 1 + length before.tasks.items = omega (arith, before.tasks.ok.0) in
       let both : serves after.records.items ≡ serves before.records.items + serves left.records.items = ap serves records ∙ serves-append before.records.items left.records.items in
       let Draws : TicketPassView → Type 0 = λ pass. DrawsFrom ticket pass in record {
+        tasks = subst (λ hs. AreOfTasksFrom 1 hs) (sym tasks) (tasks_push 1 before.tasks.items left.history r.tasks (subst (λ n. IsLegal event_step (opening n) left.history) next h.played));
+        one_each = omega (arith, grown, r.one_each, more);
         own = subst (λ ps. ArePassesOf table ps) (sym passes) (passes_push table before.table.items left.table r.own h.table_pass);
         lanes = subst (λ ps. AreOfLanesFrom 0 ps) (sym passes) (lanes_push 0 before.table.items left.table r.lanes at);
         clerk_own = subst (λ ps. ArePassesOf clerk ps) (sym (ap (λ v. v.items) own)) r.clerk_own;

@@ -1,9 +1,10 @@
 -- What the threads of one task of a live run are given, and what they leave.
 use Rattle.std.specs.Prelude.{◌≡◌, ℕ, ◌+◌, ◌*◌, List, [], ◌∷◌, Result, IfOk, All, vec_len}
 use Rattle.std.specs.declared.alloc.AllocError.{AllocError}
+use Rattle.history_lock.specs.Histories.{IsLegal}
 use Rattle.history_lock.specs.Passes.{Lock, PassView, IsPassOf, ArePassesOf}
 use Rattle.lease_table.specs.Tables.{Standing}
-use Rattle.slicelet.specs.Steps.{History}
+use Rattle.slicelet.specs.Steps.{History, event_step, opening}
 use Rattle.tickets.specs.Tickets.{TicketView, DrawsFrom, new_ticket_pass}
 use Rattle.live_service.specs.declared.worker.Member.{Member}
 use Rattle.live_service.specs.declared.worker.Worked.{Worked}
@@ -49,17 +50,20 @@ module _ (slicelet : Lock History) (ticket : TicketView) where
     pub served : serves gathered.records.items + asks ≡ vec_len gathered.passes * asks
 
 module _ (table : Lock Standing) (ticket : TicketView) where
-  -- a task's passes are of the table's lock, of its own lock and new of this ticket, with so many workers
+  -- a task has its new slicelet under a lock; its passes are of the table's lock, of its own lock and new of this ticket, with so many workers. Task 1 has lane 2 of the table's lock
   pub record IsCrew (workers : ℕ) (crew : Crew) : Type 0 where
+    pub new : crew.slicelet.opened.machine ≡ opening crew.task
     pub table_pass : IsPassOf table crew.table
+    pub of_lane : crew.table.lane ≡ crew.task + 1
     pub members : AreMembersFrom crew.slicelet ticket 0 crew.members.items
     pub many : vec_len crew.members ≡ workers + 1
     pub lanes : crew.slicelet.opened.lanes ≡ workers + 1
 
-  -- what a task's threads leave: the passes of the table's lock, of this lane, and of the ticket, and so many asks of each worker
-  pub record HasLeft (workers asks lane : ℕ) (left : CrewLeft) : Type 0 where
+  -- what the threads of the task of this number leave: the history of its slicelet, the passes of the table's lock and of the ticket, and so many asks of each worker
+  pub record HasLeft (workers asks task : ℕ) (left : CrewLeft) : Type 0 where
+    pub played : IsLegal event_step (opening task) left.history
     pub table_pass : IsPassOf table left.table
-    pub of_lane : left.table.lane ≡ lane
+    pub of_lane : left.table.lane ≡ task + 1
     pub draws : All (λ pass. DrawsFrom ticket pass) left.draws.items
     pub many : vec_len left.draws ≡ workers + 1
     pub served : serves left.records.items ≡ workers * asks

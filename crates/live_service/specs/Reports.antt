@@ -1,15 +1,21 @@
 -- What live runs report.
-use Rattle.std.specs.Prelude.{◌≡◌, ℕ, ◌+◌, ◌*◌, Bool, true, false, List, [], ◌∷◌, decimal}
-use Rattle.std.specs.List.{count_by}
+use Rattle.std.specs.Prelude.{◌≡◌, ℕ, ◌+◌, ◌*◌, Bool, true, false, List, [], ◌∷◌, None, decimal, vec_len}
+use Rattle.std.specs.List.{AllByRecursion, count_by}
 use Rattle.key_hash.specs.Hash.{slice_key}
 use Rattle.lease_table.specs.declared.call.TableCall.{TableCall}
 use Rattle.lease_table.specs.declared.call.TableCall.TheVariants.{Commit}
+use Rattle.lease_table.specs.Calls.{event_step as table_step}
+use Rattle.lease_table.specs.Tables.{opening as new_table}
+use Rattle.slicelet.specs.Steps.{event_step as slicelet_step, opening as new_slicelet}
+use Rattle.slicelet.specs.declared.call.SliceletCall.{SliceletCall}
+use Rattle.clerk.specs.Calls.{event_step as clerk_step}
 use Rattle.machines.specs.declared.event.Event.{Event}
 use Rattle.history_lock.specs.declared.entry.Entry.{Entry}
+use Rattle.history_lock.specs.Histories.{IsLegal}
 use Rattle.world.specs.declared.record.CallRecord.{CallRecord}
 use Rattle.audit.specs.Shown.{evidence}
 use Rattle.audit.specs.OneRun.{IsAudit}
-use Rattle.live_service.specs.LiveJobs.{LiveSizes, played_job}
+use Rattle.live_service.specs.LiveJobs.{LiveSizes, live_policy, played_job}
 use Rattle.live_service.specs.declared.report.LiveReport.{LiveReport}
 use Rattle.world.specs.declared.record.RecordedCall.{RecordedCall}
 use Rattle.world.specs.declared.record.RecordedCall.TheVariants.{Serve}
@@ -37,8 +43,18 @@ abbrev pub AreServesFrom : ℕ → ℕ → List CallRecord → Type 0
 AreServesFrom task number [] = Unit {0}
 AreServesFrom task number (entry ∷ entries) = (entry.step ≡ Serve task (slice_key (decimal number)) entry.ticket) × AreServesFrom task (number + 1) entries
 
--- the report of a run: each worker asked for its keys, the generation is how many were committed, and what was audited are the histories and the records of the report
+-- the histories are those of the tasks from this number on: each is legal for the new slicelet of its task
+abbrev pub AreOfTasksFrom : ℕ → List (List (Entry (Event SliceletCall))) → Type 0
+AreOfTasksFrom task [] = Unit {0}
+AreOfTasksFrom task (history ∷ histories) = IsLegal slicelet_step (new_slicelet task) history × AreOfTasksFrom (task + 1) histories
+
+-- the report of a run: the new table, the slicelet of each task and the clerk take all entries of their histories; each worker asked for its keys, the generation is how many were committed, and what was audited are the histories and the records of the report
 pub record IsReported (job : LiveSizes) (report : LiveReport) : Type 0 where
+  pub table : IsLegal table_step (new_table live_policy) report.table
+  pub tasks : AreOfTasksFrom 1 report.tasks.items
+  pub all_tasks : vec_len report.tasks ≡ job.tasks
+  pub clerk : AllByRecursion (IsLegal clerk_step None) report.clerks.items
+  pub one_clerk : vec_len report.clerks ≡ 1
   pub asked : report.asked ≡ serves report.records.items
   pub all_asked : report.asked ≡ job.tasks * job.workers * job.asks
   pub generation : report.generation ≡ commits report.table

@@ -2,7 +2,9 @@
 
 ghost use Rattle.std.specs.Prelude.{◌≡◌, ℕ, ◌≤◌, ◌<◌, ◌+◌, [], All, IfOk, OnOk, vec_len, slice_index_or};
 ghost use Rattle.std.specs.Thread.{IsSync};
+ghost use Rattle.history_lock.specs.Histories.{IsLegal};
 ghost use Rattle.history_lock.specs.Passes.{AreNewFrom, IsPassOf};
+ghost use Rattle.slicelet.specs.Steps.{event_step};
 ghost use Rattle.tickets.specs.Tickets.{DrawsFrom, new_ticket_pass};
 ghost use Rattle.live_service.specs.Crews.{AreMembersFrom, HasLeft, HasWorked, HaveWorkedFrom, IsCrew, IsGathered, IsMember};
 ghost use Rattle.live_service.specs.Reports.{serves};
@@ -70,10 +72,11 @@ impl Crew {
     ) -> Result<Crew, AllocError>
         requires before { before ≤ 35 }
         requires table { IsPassOf shared.now table }
+        requires lane { table.lane ≡ task + 1 }
         requires draws { All (λ pass. pass ≡ new_ticket_pass ticket.now) draws.items }
         requires many { vec_len draws ≡ workers + 1 }
         ensures crew { IfOk result (λ crew. IsCrew shared.now ticket.now workers crew) }
-        ensures lane { IfOk result (λ crew. crew.table.lane ≡ table.lane) }
+        ensures task { IfOk result (λ crew. crew.task ≡ task) }
     {
         let lanes = u64::from(workers) + 1;
         let Ok((slicelet, passes)) = SharedSlicelet::new(alloc, task, lanes, MOST_ENTRIES) else {
@@ -100,7 +103,7 @@ impl Crew {
     ) -> Result<CrewLeft, AllocError>
         requires crew { IsCrew table.now ticket.now job.workers self }
         requires enough { job.asks ≤ ticket.now.terms.quota }
-        ensures { IfOk result (λ left. HasLeft table.now ticket.now job.workers job.asks self.table.lane left) }
+        ensures { IfOk result (λ left. HasLeft table.now ticket.now job.workers job.asks self.task left) }
     {
         let Crew {
             task,
@@ -131,6 +134,7 @@ fn dismiss(
 ) -> CrewLeft
     requires gathered { IsGathered slicelet ticket.now asks gathered }
     requires many { vec_len gathered.passes ≡ slicelet.opened.lanes }
+    ensures played { IsLegal event_step slicelet.opened.machine result.history }
     ensures table { result.table ≡ table }
     ensures draws { result.draws ≡ gathered.draws }
     ensures records { result.records ≡ gathered.records }

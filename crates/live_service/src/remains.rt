@@ -1,9 +1,14 @@
 //! What the threads of a live run leave, and the report that is made of it.
 
-ghost use Rattle.std.specs.Prelude.{◌≡◌, ◌+◌, ◌*◌, ◌∷◌, [], ◌++◌, All, IfOk, OnOk, vec_len};
+ghost use Rattle.std.specs.Prelude.{◌≡◌, ◌+◌, ◌*◌, ◌∷◌, [], ◌++◌, All, None, IfOk, OnOk, vec_len};
+ghost use Rattle.clerk.specs.Calls.{event_step as clerk_step};
+ghost use Rattle.history_lock.specs.Histories.{IsLegal};
 ghost use Rattle.history_lock.specs.Passes.{ArePassesOf};
+ghost use Rattle.lease_table.specs.Calls.{event_step as table_step};
+ghost use Rattle.lease_table.specs.Tables.{opening};
 ghost use Rattle.tickets.specs.Tickets.{DrawsFrom};
 ghost use Rattle.live_service.specs.Crews.{AreOfLanesFrom};
+ghost use Rattle.live_service.specs.LiveJobs.{live_policy};
 ghost use Rattle.live_service.specs.Reports.{IsReported, serves};
 ghost use Rattle.live_service.specs.Stages.{HaveLeftFrom, IsQuietClerkSeat, IsQuietSeat, IsRemains};
 
@@ -46,7 +51,7 @@ pub(crate) fn remains_of(
 ) -> Result<Remains, AllocError>
     requires assigner { IsQuietSeat table.now ticket.now 0 assigner }
     requires learner { IsQuietClerkSeat table.now clerk.now.lock ticket.now learner }
-    requires crews { HaveLeftFrom table.now ticket.now job.workers job.asks 2 crews.items }
+    requires crews { HaveLeftFrom table.now ticket.now job.workers job.asks 1 crews.items }
     ensures remains { IfOk result (λ remains. IsRemains table.now clerk.now.lock ticket.now job.workers job.asks remains) }
     ensures many { IfOk result (λ remains. vec_len remains.table ≡ vec_len crews + 2) }
 {
@@ -67,6 +72,7 @@ impl Remains {
         ensures table { IfOk result (λ remains. remains.table.items ≡ assigner.pass ∷ learner.table.pass ∷ []) }
         ensures clerk { IfOk result (λ remains. remains.clerk.items ≡ learner.own ∷ []) }
         ensures draws { IfOk result (λ remains. remains.draws.items ≡ assigner.draws ∷ learner.table.draws ∷ []) }
+        ensures tasks { IfOk result (λ remains. remains.tasks.items ≡ []) }
         ensures records { IfOk result (λ remains. remains.records.items ≡ assigner.records.items ++ learner.table.records.items) }
     {
         let ClerkSeat {
@@ -91,6 +97,7 @@ impl Remains {
         ensures table { OnOk result (self.new.table.items ≡ self.old.table.items ++ seat.pass ∷ []) }
         ensures clerk { self.new.clerk ≡ self.old.clerk }
         ensures draws { OnOk result (self.new.draws.items ≡ self.old.draws.items ++ seat.draws ∷ []) }
+        ensures tasks { self.new.tasks ≡ self.old.tasks }
         ensures records { OnOk result (self.new.records.items ≡ self.old.records.items ++ seat.records.items) }
     {
         let TableSeat {
@@ -109,6 +116,7 @@ impl Remains {
         ensures table { OnOk result (self.new.table.items ≡ self.old.table.items ++ crew.table ∷ []) }
         ensures clerk { self.new.clerk ≡ self.old.clerk }
         ensures draws { OnOk result (self.new.draws.items ≡ self.old.draws.items ++ crew.draws.items) }
+        ensures tasks { OnOk result (self.new.tasks.items ≡ self.old.tasks.items ++ crew.history ∷ []) }
         ensures records { OnOk result (self.new.records.items ≡ self.old.records.items ++ crew.records.items) }
     {
         let CrewLeft {
@@ -134,7 +142,9 @@ pub(crate) fn close_all(
     clerk: SharedClerk,
     remains: Remains,
 ) -> Result<LiveReport, AllocError>
+    requires machines { (table.opened.machine ≡ opening live_policy) × (clerk.lock.opened.machine ≡ None) }
     requires remains { IsRemains table clerk.lock ticket job.workers job.asks remains }
+    requires tasks { vec_len remains.tasks ≡ job.tasks }
     requires lanes { (vec_len remains.table ≡ table.opened.lanes) × (clerk.lock.opened.lanes ≡ 1) }
     requires draws { vec_len remains.draws ≡ ticket.terms.passes }
     requires served { serves remains.records.items ≡ job.tasks * job.workers * job.asks }
@@ -185,6 +195,7 @@ fn close_table(table: SharedTable, passes: Vec<Pass<LeaseTable>>) -> History<Tab
     requires own { ArePassesOf table passes.items }
     requires lanes { AreOfLanesFrom 0 passes.items }
     requires many { vec_len passes ≡ table.opened.lanes }
+    ensures { IsLegal table_step table.opened.machine result }
 {
     let Ok(
         Closed {
@@ -203,6 +214,7 @@ fn close_clerk(clerk: SharedClerk, passes: Vec<Pass<Clerk>>) -> History<ClerkEve
     requires own { ArePassesOf clerk.lock passes.items }
     requires lanes { AreOfLanesFrom 0 passes.items }
     requires many { vec_len passes ≡ clerk.lock.opened.lanes }
+    ensures { IsLegal clerk_step clerk.lock.opened.machine result }
 {
     let Ok(
         Closed {

@@ -67,11 +67,11 @@ fn run_threads<R: Threads + Wait + Sync, G: Gate + Sync>(
 ) -> Result<(TableSeat, ClerkSeat, Vec<Result<CrewLeft, AllocError>>), AllocError>
     requires assigner { IsQuietSeat table.now ticket.now 0 assigner }
     requires learner { IsQuietClerkSeat table.now clerk.now.lock ticket.now learner }
-    requires crews { AreCrewsFrom table.now ticket.now job.workers 2 crews.items }
+    requires crews { AreCrewsFrom table.now ticket.now job.workers 1 crews.items }
     requires enough { job.asks ≤ ticket.now.terms.quota }
     ensures assigner { IfOk result (λ left. IsQuietSeat table.now ticket.now 0 left.0) }
     ensures learner { IfOk result (λ left. IsQuietClerkSeat table.now clerk.now.lock ticket.now left.1) }
-    ensures crews { IfOk result (λ left. HaveLeftFrom table.now ticket.now job.workers job.asks 2 left.2.items) }
+    ensures crews { IfOk result (λ left. HaveLeftFrom table.now ticket.now job.workers job.asks 1 left.2.items) }
     ensures many { IfOk result (λ left. vec_len left.2 ≡ vec_len crews) }
 {
     let ((assigner, learner), crews) = join(
@@ -82,8 +82,8 @@ fn run_threads<R: Threads + Wait + Sync, G: Gate + Sync>(
             ensures learner { IfOk result.1 (λ left. IsQuietClerkSeat table.entry.now clerk.entry.now.lock ticket.entry.now left) }
         { run_pair(rt, alloc, ticket, table, clerk, job, assigner, learner) },
         || -> Result<Vec<Result<CrewLeft, AllocError>>, AllocError>
-            requires { IsSync R.row × IsSync G.row × AreCrewsFrom table.now ticket.now job.workers 2 crews.items × (job.asks ≤ ticket.now.terms.quota) }
-            ensures left { IfOk result (λ results. HaveLeftFrom table.entry.now ticket.entry.now job.workers job.asks 2 results.items) }
+            requires { IsSync R.row × IsSync G.row × AreCrewsFrom table.now ticket.now job.workers 1 crews.items × (job.asks ≤ ticket.now.terms.quota) }
+            ensures left { IfOk result (λ results. HaveLeftFrom table.entry.now ticket.entry.now job.workers job.asks 1 results.items) }
             ensures many { IfOk result (λ results. vec_len results ≡ vec_len crews) }
         { run_crews(rt, alloc, ticket, table, gate, job, crews) },
     );
@@ -124,7 +124,7 @@ fn run_pair<R: Threads + Wait + Sync>(
     )
 }
 
-// Each task in a thread of its own: the tasks of the lanes from 2 on.
+// Each task in a thread of its own: the tasks from 1 on.
 #[tactic(auto, using(crate::proofs::Staging::left_from))]
 fn run_crews<R: Threads + Wait + Sync, G: Gate + Sync>(
     rt: &R,
@@ -135,9 +135,9 @@ fn run_crews<R: Threads + Wait + Sync, G: Gate + Sync>(
     job: LiveJob,
     crews: Vec<Crew>,
 ) -> Result<Vec<Result<CrewLeft, AllocError>>, AllocError>
-    requires crews { AreCrewsFrom table.now ticket.now job.workers 2 crews.items }
+    requires crews { AreCrewsFrom table.now ticket.now job.workers 1 crews.items }
     requires enough { job.asks ≤ ticket.now.terms.quota }
-    ensures left { IfOk result (λ results. HaveLeftFrom table.now ticket.now job.workers job.asks 2 results.items) }
+    ensures left { IfOk result (λ results. HaveLeftFrom table.now ticket.now job.workers job.asks 1 results.items) }
     ensures many { IfOk result (λ results. vec_len results ≡ vec_len crews) }
 {
     run_each(rt, alloc, ticket, table, gate, job, crews)
@@ -157,14 +157,14 @@ fn run_each<R: Threads + Wait + Sync, G: Gate + Sync>(
     requires enough { job.asks ≤ ticket.now.terms.quota }
     ensures many { IfOk result (λ results. vec_len results ≡ vec_len crews) }
     ensures each { IfOk result (λ results. (i : ℕ) (c : _) (r : _) → i < vec_len crews
-        → IfOk (slice_index_or results.items i r) (λ left. HasLeft table.now ticket.now job.workers job.asks (slice_index_or crews.items i c).table.lane left)) }
+        → IfOk (slice_index_or results.items i r) (λ left. HasLeft table.now ticket.now job.workers job.asks (slice_index_or crews.items i c).task left)) }
 {
     map_vec(
         rt,
         crews,
         &|crew: Crew| -> Result<CrewLeft, AllocError>
             requires { IsSync R.row × IsSync G.row × IsCrew table.now ticket.now job.workers crew × (job.asks ≤ ticket.now.terms.quota) }
-            ensures { IfOk result (λ left. HasLeft table.entry.now ticket.entry.now job.workers job.asks crew.table.lane left) }
+            ensures { IfOk result (λ left. HasLeft table.entry.now ticket.entry.now job.workers job.asks crew.task left) }
         { crew.run(rt, alloc, table, ticket, gate, job) },
     )
 }

@@ -79,7 +79,7 @@ fn deal(
     requires many { vec_len draws ≡ job.tasks * (job.workers + 1) + 2 }
     ensures assigner { IfOk result (λ dealt. IsQuietSeat table.now ticket.now 0 dealt.0) }
     ensures learner { IfOk result (λ dealt. IsQuietClerkSeat table.now clerk.now.lock ticket.now dealt.1) }
-    ensures crews { IfOk result (λ dealt. AreCrewsFrom table.now ticket.now job.workers 2 dealt.2.items) }
+    ensures crews { IfOk result (λ dealt. AreCrewsFrom table.now ticket.now job.workers 1 dealt.2.items) }
     ensures many { IfOk result (λ dealt. vec_len dealt.2 ≡ job.tasks) }
 {
     let others = passes.split_off(2)?;
@@ -151,7 +151,7 @@ fn crews(
     requires few { (job.tasks ≤ 6) × (job.workers ≤ 7) }
     requires draws { All (λ pass. pass ≡ new_ticket_pass ticket.now) draws.items }
     requires many { vec_len draws ≡ job.tasks * (job.workers + 1) }
-    ensures crews { IfOk result (λ crews. AreCrewsFrom table.now ticket.now job.workers 2 crews.items) }
+    ensures crews { IfOk result (λ crews. AreCrewsFrom table.now ticket.now job.workers 1 crews.items) }
     ensures many { IfOk result (λ crews. vec_len crews ≡ job.tasks) }
 {
     let mut crews = Vec::with_capacity(alloc, passes.len())?;
@@ -183,10 +183,11 @@ fn next_crew(
 ) -> Result<Crew, AllocError>
     requires before { before ≤ 35 }
     requires pass { IsPassOf table.now pass }
+    requires lane { pass.lane ≡ task + 1 }
     requires draws { All (λ pass. pass ≡ new_ticket_pass ticket.now) draws.old.items }
     requires enough { job.workers + 1 ≤ vec_len draws.old }
     ensures crew { IfOk result (λ crew. IsCrew table.now ticket.now job.workers crew) }
-    ensures lane { IfOk result (λ crew. crew.table.lane ≡ pass.lane) }
+    ensures task { IfOk result (λ crew. crew.task ≡ task) }
     ensures draws { All (λ pass. pass ≡ new_ticket_pass ticket.now) draws.new.items }
     ensures left { OnOk result (vec_len draws.new + (job.workers + 1) ≡ vec_len draws.old) }
 {

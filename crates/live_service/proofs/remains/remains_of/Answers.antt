@@ -12,11 +12,11 @@ loop-crew-preserved c =
     let table = c.args.table.now in let clerk = c.args.clerk.now.lock in let ticket = c.args.ticket.now in
     let workers = c.args.job.workers in let asks = c.args.job.asks in
     let before = c.loop-crew.remains in let after = c.take_crew.new.self in let left = c.in_ok-crew.field-0 in
-    let rest = subst (λ results. HaveLeftFrom table ticket workers asks (vec_len before.table) results) step.0 i.rest in
-    let has = subst (λ result. IfOk result (λ left. HasLeft table ticket workers asks (vec_len before.table) left)) c.in_ok-crew.was rest.0 in
+    let rest = subst (λ results. HaveLeftFrom table ticket workers asks (vec_len before.tasks + 1) results) step.0 i.rest in
+    let has = subst (λ result. IfOk result (λ left. HasLeft table ticket workers asks (vec_len before.tasks + 1) left)) c.in_ok-crew.was rest.0 in
     let more : vec_len after.table ≡ vec_len before.table + 1 = omega (arith, after.table.ok.0, before.table.ok.0, ap length took.table, length-append before.table.items (left.table ∷ [])) in
-    let next : vec_len before.table + 1 ≡ vec_len after.table = omega (arith, more) in record {
-      remains = remains_more table clerk ticket workers asks before after left i.remains has took.table took.clerk took.draws took.records;
+    let next : vec_len before.tasks + 1 + 1 ≡ vec_len after.tasks + 1 = omega (arith, after.tasks.ok.0, before.tasks.ok.0, ap length took.tasks, length-append before.tasks.items (left.history ∷ [])) in record {
+      remains = remains_more table clerk ticket workers asks before after left i.remains has took.table took.clerk took.draws took.tasks took.records;
       rest = subst (λ n. HaveLeftFrom table ticket workers asks n (into_iter_items c.next.new.self)) next rest.1;
       count = omega (arith, i.count, step.1, more);
     }

@@ -6,6 +6,6 @@ use Rattle.live_service.proofs.remains.remains_of.Given as goal
 abbrev pub invariant-loop-crew : goal.invariant-loop-crew
 invariant-loop-crew l = record {
   remains : IsRemains l.table l.clerk.lock l.ticket l.fn.job.workers l.fn.job.asks l.remains;
-  rest : HaveLeftFrom l.table l.ticket l.fn.job.workers l.fn.job.asks (vec_len l.remains.table) (into_iter_items l.crew-iterator);
+  rest : HaveLeftFrom l.table l.ticket l.fn.job.workers l.fn.job.asks (vec_len l.remains.tasks + 1) (into_iter_items l.crew-iterator);
   count : vec_len l.remains.table + into_iter_len l.crew-iterator ≡ vec_len l.fn.crews + 2;
 }

@@ -14,7 +14,7 @@ loop-pass-preserved c =
     let crews = c.loop-pass.crews in
     let new = subst (λ passes. AreNewFrom (vec_len crews + 2) table passes) step.0 i.passes in
     let more : vec_len c.push.new.self ≡ vec_len crews + 1 = c.in_ok-push.ensures.len in
-    let at : c.in_ok-crew.crew.table.lane ≡ 2 + length crews.items = omega (arith, made.lane, ap (λ p. p.lane) new.0, crews.ok.0) in
+    let at : c.in_ok-crew.crew.task ≡ 1 + length crews.items = omega (arith, made.task, c.in-Some-new.ensures.value, i.count, crews.ok.0) in
     let next : vec_len crews + 2 + 1 ≡ vec_len c.push.new.self + 2 = omega (arith, more) in
     let left : vec_len c.loop-pass.draws ≡ (into_iter_len c.next.new.self + 1) * (workers + 1) = i.left ∙ ap (λ (n : ℕ). n * (workers + 1)) (sym step.1) in record {
       count = more ∙ ap (λ (n : ℕ). n + 1) i.count;
@@ -23,5 +23,5 @@ loop-pass-preserved c =
       draws = made.draws;
       left = omega (arith, left, made.left);
       before = omega (arith, i.before, more, c.requires.few.1);
-      crews = subst (λ (crews : List Crew). AreCrewsFrom table ticket workers 2 crews) (sym c.in_ok-push.ensures.items) (crews_push table ticket workers 2 crews.items c.in_ok-crew.crew i.crews made.crew at);
+      crews = subst (λ (crews : List Crew). AreCrewsFrom table ticket workers 1 crews) (sym c.in_ok-push.ensures.items) (crews_push table ticket workers 1 crews.items c.in_ok-crew.crew i.crews made.crew at);
     }

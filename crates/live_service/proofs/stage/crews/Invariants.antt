@@ -13,5 +13,5 @@ invariant-loop-pass l = record {
   draws : All (λ pass. pass ≡ new_ticket_pass l.ticket) l.draws.items;
   left : vec_len l.draws ≡ into_iter_len l.pass-iterator * (l.job.workers + 1);
   before : l.before ≤ vec_len l.crews * 7;
-  crews : AreCrewsFrom l.table l.ticket l.job.workers 2 l.crews.items;
+  crews : AreCrewsFrom l.table l.ticket l.job.workers 1 l.crews.items;
 }
