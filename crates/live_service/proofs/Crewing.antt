@@ -1,5 +1,5 @@
 -- The passes of a task's threads, lane by lane.
-use Rattle.std.proofs.Common.{◌≡◌, ◌∙◌, ℕ, suc, ◌+◌, ◌*◌, ◌<◌, ◌≤◌, ◌==◌, Bool, List, [], ◌∷◌, ◌++◌, length, true, false, refl, sym, ap, arith, subst, length-append}
+use Rattle.std.proofs.Common.{◌≡◌, ◌∙◌, ℕ, suc, ◌+◌, ◌<◌, ◌≤◌, ◌==◌, Bool, List, [], ◌∷◌, ◌++◌, length, true, false, refl, sym, ap, arith, subst, length-append}
 use Rattle.std.proofs.lemmas.Bool.Decides.{nat_tests}
 use Rattle.std.specs.Prelude.{All, vec_len, Result, IfOk, slice_index_or, ◌||◌}
 use Rattle.std.specs.declared.alloc.AllocError.{AllocError}
@@ -12,8 +12,10 @@ use Rattle.slicelet.specs.Steps.{History, event_step, opening}
 use Rattle.tickets.specs.Tickets.{TicketView, TicketPassView, DrawsFrom, new_ticket_pass}
 use Rattle.live_service.specs.declared.crew.CrewLeft.{CrewLeft}
 use Rattle.live_service.specs.declared.crew.Gathered.{Gathered}
-use Rattle.live_service.specs.Reports.{serves}
-use Rattle.live_service.proofs.Asked.{serves_all, serves-append}
+use Rattle.machines.specs.declared.event.Event.{Event}
+use Rattle.slicelet.specs.declared.call.SliceletCall.{SliceletCall}
+use Rattle.live_service.specs.Reports.{asked_keys, serves, task_keys, worker_keys}
+use Rattle.live_service.proofs.Asked.{asked-append, asked_by_worker, asked_nothing, workers_push}
 use Rattle.live_service.specs.declared.worker.Member.{Member}
 use Rattle.live_service.specs.declared.worker.Worked.{Worked}
 use Rattle.live_service.specs.Crews.{AreOfLanesFrom, AreMembersFrom, IsMember, IsGathered, HasLeft, HasWorked, HaveWorkedFrom}
@@ -26,12 +28,6 @@ module _ {M E : Type 0} where
   pub passes_push : (lock : Lock M) (passes : List (PassView M E)) (pass : PassView M E) → ArePassesOf lock passes → IsPassOf lock pass → ArePassesOf lock (passes ++ pass ∷ [])
   passes_push lock [] pass are is = (is, tt)
   passes_push lock (other ∷ passes) pass are is = (are.0, passes_push lock passes pass are.1 is)
-
-one_more : (n asks : ℕ) → (n + 1) * asks ≡ n * asks + asks
-one_more n asks = omega arith
-
-less : (a s p : ℕ) → s + a ≡ p + a → s ≡ p
-less a s p e = let f : s + a ≡ p + a = e in omega (arith, f)
 
 either_true : (b c : Bool) → (b ≡ false → c ≡ true) → (b || c) ≡ true
 either_true true c f = refl
@@ -95,6 +91,19 @@ module _ (slicelet : Lock History) (ticket : TicketView) where
     draws = draws;
   }
 
+  -- the task's own thread, which asks for no key
+  pub gathered_first : (asks : ℕ) (gathered : Gathered) (pass : PassView History (Event SliceletCall)) (draw : TicketPassView) → IsPassOf slicelet pass → pass.lane ≡ 0 → DrawsFrom ticket draw
+      → serves gathered.records.items ≡ 0 → gathered.passes.items ≡ pass ∷ [] → gathered.draws.items ≡ draw ∷ [] → IsGathered slicelet ticket asks gathered
+  gathered_first asks gathered pass draw own lane drawn quiet passes draws =
+      let one : vec_len gathered.passes ≡ 1 = gathered.passes.ok.0 ∙ ap length passes in
+      let Draws : TicketPassView → Type 0 = λ pass. DrawsFrom ticket pass in record {
+        own = subst (λ ps. ArePassesOf slicelet ps) (sym passes) (own, tt);
+        lanes = subst (λ ps. AreOfLanesFrom 0 ps) (sym passes) (lane, tt);
+        draws = subst (λ ps. All Draws ps) (sym draws) (All-cons Draws draw [] drawn (λ k d below. let b : k < 0 = below in absurd (omega (arith, b))));
+        even = gathered.draws.ok.0 ∙ (ap length draws ∙ sym one);
+        asked = (0, omega (arith, one), asked_nothing gathered.records.items quiet);
+      }
+
   -- one worker more
   pub gathered_more : (asks : ℕ) (before after : Gathered) (worked : Worked) → IsGathered slicelet ticket asks before → HasWorked slicelet ticket asks (vec_len before.passes) worked
       → after.passes.items ≡ before.passes.items ++ worked.pass ∷ [] → after.draws.items ≡ before.draws.items ++ worked.draws ∷ [] → after.records.items ≡ before.records.items ++ worked.records.items
@@ -103,29 +112,28 @@ module _ (slicelet : Lock History) (ticket : TicketView) where
       let more : vec_len after.passes ≡ vec_len before.passes + 1 = omega (arith, after.passes.ok.0, before.passes.ok.0, ap length passes, length-append before.passes.items (worked.pass ∷ [])) in
       let drew : vec_len after.draws ≡ vec_len before.draws + 1 = omega (arith, after.draws.ok.0, before.draws.ok.0, ap length draws, length-append before.draws.items (worked.draws ∷ [])) in
       let at : worked.pass.lane ≡ 0 + length before.passes.items = omega (arith, w.of_lane, before.passes.ok.0) in
-      let own : serves worked.records.items ≡ asks = serves_all slicelet.opened.machine.task 0 worked.records.items w.asked ∙ (sym worked.records.ok.0 ∙ w.many) in
-      let both : serves after.records.items ≡ serves before.records.items + serves worked.records.items = ap serves records ∙ serves-append before.records.items worked.records.items in
-      let product : (vec_len before.passes + 1) * asks ≡ vec_len before.passes * asks + asks = one_more (vec_len before.passes) asks in
-      let served : serves before.records.items + asks ≡ vec_len before.passes * asks = g.served in
+      let task = slicelet.opened.machine.task in let workers = g.asked.0 in
+      let own = asked_by_worker task 0 worked.records.items w.asked ∙ ap (λ n. worker_keys task 0 n) (sym worked.records.ok.0 ∙ w.many) in
+      let both = ap asked_keys records ∙ (asked-append before.records.items worked.records.items ∙ (ap (λ ks. ks ++ asked_keys worked.records.items) g.asked.2 ∙ ap (λ ks. task_keys task asks workers ++ ks) own)) in
       let Draws : TicketPassView → Type 0 = λ pass. DrawsFrom ticket pass in record {
         own = subst (λ ps. ArePassesOf slicelet ps) (sym passes) (passes_push slicelet before.passes.items worked.pass g.own w.own);
         lanes = subst (λ ps. AreOfLanesFrom 0 ps) (sym passes) (lanes_push 0 before.passes.items worked.pass g.lanes at);
         draws = subst (λ ps. All Draws ps) (sym draws) (All-push Draws before.draws.items worked.draws g.draws w.draws);
         even = omega (arith, more, drew, g.even);
-        served = omega (arith, both, own, served) ∙ (sym product ∙ ap (λ (n : ℕ). n * asks) (sym more));
+        asked = (suc workers, omega (arith, more, g.asked.1), both ∙ sym (workers_push task asks workers));
       }
 
   -- what all threads of a task leave
   pub has_left : (table : Lock Standing) (workers asks task : ℕ) (left : CrewLeft) (gathered : Gathered) → IsGathered slicelet ticket asks gathered → vec_len gathered.passes ≡ workers + 1
-      → IsLegal event_step (opening task) left.history → IsPassOf table left.table → left.table.lane ≡ task + 1 → left.draws ≡ gathered.draws → left.records ≡ gathered.records
+      → slicelet.opened.machine.task ≡ task → IsLegal event_step (opening task) left.history → IsPassOf table left.table → left.table.lane ≡ task + 1 → left.draws ≡ gathered.draws → left.records ≡ gathered.records
       → HasLeft table ticket workers asks task left
-  has_left table workers asks task left gathered g many played own at draws records =
+  has_left table workers asks task left gathered g many of_task played own at draws records =
       let Draws : TicketPassView → Type 0 = λ pass. DrawsFrom ticket pass in
-      let served : serves gathered.records.items + asks ≡ workers * asks + asks = g.served ∙ (ap (λ (n : ℕ). n * asks) many ∙ one_more workers asks) in record {
+      let same : g.asked.0 ≡ workers = omega (arith, g.asked.1, many) in record {
         played = played;
         table_pass = own;
         of_lane = at;
         draws = subst (λ ds. All Draws ds) (sym (ap (λ d. d.items) draws)) g.draws;
         many = ap (λ d. vec_len d) draws ∙ (g.even ∙ many);
-        served = ap (λ r. serves r.items) records ∙ less asks (serves gathered.records.items) (workers * asks) served;
+        asked = ap (λ r. asked_keys r.items) records ∙ (g.asked.2 ∙ (ap (λ n. task_keys slicelet.opened.machine.task asks n) same ∙ ap (λ n. task_keys n asks workers) of_task));
       }

@@ -19,9 +19,9 @@ use Rattle.live_service.specs.declared.remains.Remains.{Remains}
 use Rattle.live_service.specs.declared.crew.Crew.{Crew}
 use Rattle.live_service.specs.declared.crew.CrewLeft.{CrewLeft}
 use Rattle.live_service.specs.Crews.{AreOfLanesFrom, IsCrew, HasLeft}
-use Rattle.live_service.specs.Reports.{serves, AreOfTasksFrom}
+use Rattle.live_service.specs.Reports.{asked_keys, job_keys, serves, task_keys, AreOfTasksFrom}
 use Rattle.live_service.specs.Stages.{AreCrewsFrom, HaveLeftFrom, IsQuietClerkSeat, IsQuietSeat, IsRemains}
-use Rattle.live_service.proofs.Asked.{serves-append}
+use Rattle.live_service.proofs.Asked.{asked-append, asked_nothing, serves-append, tasks_push}
 use Rattle.live_service.proofs.Crewing.{lanes_push, passes_push}
 
 -- new passes of lanes that follow one another are such in each of two parts
@@ -41,9 +41,6 @@ new_last lock xs x are =
 two_of : (n t p k : ℕ) → n + k ≡ 2 * p → t ≡ 2 → n + k ≡ t * p
 two_of n t p k e f = e ∙ sym (ap (λ (m : ℕ). m * p) f)
 
-none_of : (n p : ℕ) → n ≡ 0 → n + 2 * p ≡ 2 * p
-none_of n p e = let f : n ≡ 0 = e in omega (arith, f)
-
 one_more : (n p : ℕ) → (n + 1) * p ≡ n * p + p
 one_more n p = omega arith
 
@@ -53,28 +50,19 @@ sum_more before after own q p k a b c = let a : after ≡ before + own = a in le
 some_more : (before after own t u p k : ℕ) → after ≡ before + own → own ≡ p → before + k ≡ t * p → u ≡ t + 1 → after + k ≡ u * p
 some_more before after own t u p k a b c f = sum_more before after own (t * p) p k a b c ∙ (sym (one_more t p) ∙ sym (ap (λ (m : ℕ). m * p) f))
 
--- all passes of the ticket, and all keys asked for
+-- all passes of the ticket
 passes_sum : (draws workers tasks : ℕ) → draws + 2 * workers ≡ (tasks + 2) * (workers + 1) → draws ≡ tasks * (workers + 1) + 2
 passes_sum draws workers tasks e = let f : draws + 2 * workers ≡ (tasks + 2) * (workers + 1) = e in omega (arith, f)
 
 pub all_passes : (draws workers tasks lanes : ℕ) → lanes ≡ tasks + 2 → draws + 2 * workers ≡ lanes * (workers + 1) → draws ≡ tasks * (workers + 1) + 2
 all_passes draws workers tasks lanes e f = passes_sum draws workers tasks (f ∙ ap (λ (n : ℕ). n * (workers + 1)) e)
 
-asks_sum : (served tasks p : ℕ) → served + 2 * p ≡ (tasks + 2) * p → served ≡ tasks * p
-asks_sum served tasks p e = let f : served + 2 * p ≡ (tasks + 2) * p = e in omega (arith, f)
-
-three : (a b c : ℕ) → a * (b * c) ≡ a * b * c
-three a b c = omega arith
-
-pub all_asks : (served tasks workers asks lanes : ℕ) → lanes ≡ tasks + 2 → served + 2 * (workers * asks) ≡ lanes * (workers * asks) → served ≡ tasks * workers * asks
-all_asks served tasks workers asks lanes e f = asks_sum served tasks (workers * asks) (f ∙ ap (λ (n : ℕ). n * (workers * asks)) e) ∙ three tasks workers asks
-
 -- the history of one task more
-tasks_push : (task : ℕ) (histories : List (List (Entry (Event SliceletCall)))) (history : List (Entry (Event SliceletCall))) → AreOfTasksFrom task histories
+histories_push : (task : ℕ) (histories : List (List (Entry (Event SliceletCall)))) (history : List (Entry (Event SliceletCall))) → AreOfTasksFrom task histories
     → IsLegal event_step (opening (task + length histories)) history → AreOfTasksFrom task (histories ++ history ∷ [])
-tasks_push task [] history are is = (subst (λ n. IsLegal event_step (opening n) history) (let e : task + 0 ≡ task = omega arith in e) is, tt)
-tasks_push task (other ∷ histories) history are is =
-    (are.0, tasks_push (task + 1) histories history are.1 (subst (λ n. IsLegal event_step (opening n) history) (let e : task + length (other ∷ histories) ≡ task + 1 + length histories = omega arith in e) is))
+histories_push task [] history are is = (subst (λ n. IsLegal event_step (opening n) history) (let e : task + 0 ≡ task = omega arith in e) is, tt)
+histories_push task (other ∷ histories) history are is =
+    (are.0, histories_push (task + 1) histories history are.1 (subst (λ n. IsLegal event_step (opening n) history) (let e : task + length (other ∷ histories) ≡ task + 1 + length histories = omega arith in e) is))
 
 -- the first passes, and the others
 pub new_parts : {M E : Type 0} (lock : Lock M) (n : ℕ) (all front back : List (PassView M E)) → AreNewFrom 0 lock all → front ≡ take n all → back ≡ drop n all → length front ≡ n
@@ -120,6 +108,7 @@ module _ (table : Lock Standing) (clerk : Lock (Option Slicing)) (ticket : Ticke
       let drew : vec_len remains.draws ≡ 2 = remains.draws.ok.0 ∙ ap length draws in
       let both : serves remains.records.items ≡ serves seat.records.items + serves learner.table.records.items = ap serves records ∙ serves-append seat.records.items learner.table.records.items in
       let none : serves remains.records.items ≡ 0 = omega (arith, both, a.quiet, l.table_seat.quiet) in
+      let no_task : vec_len remains.tasks ≡ 0 = remains.tasks.ok.0 ∙ ap length tasks in
       let Draws : TicketPassView → Type 0 = λ pass. DrawsFrom ticket pass in record {
         tasks = subst (λ hs. AreOfTasksFrom 1 hs) (sym tasks) tt;
         one_each = omega (arith, remains.tasks.ok.0, ap length tasks, two);
@@ -131,7 +120,7 @@ module _ (table : Lock Standing) (clerk : Lock (Option Slicing)) (ticket : Ticke
         draws = subst (λ ps. All Draws ps) (sym draws)
             (All-cons Draws seat.draws (learner.table.draws ∷ []) a.draws (All-cons Draws learner.table.draws [] l.table_seat.draws (λ k d below. let b : k < 0 = below in absurd (omega (arith, b)))));
         many = two_of (vec_len remains.draws) (vec_len remains.table) (workers + 1) (2 * workers) (omega (arith, drew)) two;
-        served = two_of (serves remains.records.items) (vec_len remains.table) (workers * asks) (2 * (workers * asks)) (none_of (serves remains.records.items) (workers * asks) none) two;
+        asked = asked_nothing remains.records.items none ∙ sym (ap (λ n. job_keys workers asks 1 n) no_task);
       }
 
   -- one task more
@@ -144,9 +133,11 @@ module _ (table : Lock Standing) (clerk : Lock (Option Slicing)) (ticket : Ticke
       let at : left.table.lane ≡ 0 + length before.table.items = omega (arith, h.of_lane, r.one_each, before.table.ok.0) in
       let grown : vec_len after.tasks ≡ vec_len before.tasks + 1 = omega (arith, after.tasks.ok.0, before.tasks.ok.0, ap length tasks, length-append before.tasks.items (left.history ∷ [])) in
       let next : vec_len before.tasks + 1 ≡ 1 + length before.tasks.items = omega (arith, before.tasks.ok.0) in
-      let both : serves after.records.items ≡ serves before.records.items + serves left.records.items = ap serves records ∙ serves-append before.records.items left.records.items in
+      let both = ap asked_keys records ∙ (asked-append before.records.items left.records.items ∙ (ap (λ ks. ks ++ asked_keys left.records.items) r.asked ∙ ap (λ ks. job_keys workers asks 1 (vec_len before.tasks) ++ ks) h.asked)) in
+      let here : vec_len before.tasks + 1 ≡ 1 + vec_len before.tasks = omega arith in
+      let one : vec_len after.tasks ≡ suc (vec_len before.tasks) = omega (arith, grown) in
       let Draws : TicketPassView → Type 0 = λ pass. DrawsFrom ticket pass in record {
-        tasks = subst (λ hs. AreOfTasksFrom 1 hs) (sym tasks) (tasks_push 1 before.tasks.items left.history r.tasks (subst (λ n. IsLegal event_step (opening n) left.history) next h.played));
+        tasks = subst (λ hs. AreOfTasksFrom 1 hs) (sym tasks) (histories_push 1 before.tasks.items left.history r.tasks (subst (λ n. IsLegal event_step (opening n) left.history) next h.played));
         one_each = omega (arith, grown, r.one_each, more);
         own = subst (λ ps. ArePassesOf table ps) (sym passes) (passes_push table before.table.items left.table r.own h.table_pass);
         lanes = subst (λ ps. AreOfLanesFrom 0 ps) (sym passes) (lanes_push 0 before.table.items left.table r.lanes at);
@@ -155,5 +146,5 @@ module _ (table : Lock Standing) (clerk : Lock (Option Slicing)) (ticket : Ticke
         one_clerk = ap (λ v. vec_len v) own ∙ r.one_clerk;
         draws = subst (λ ps. All Draws ps) (sym draws) (All-append Draws before.draws.items left.draws.items r.draws h.draws);
         many = some_more (vec_len before.draws) (vec_len after.draws) (vec_len left.draws) (vec_len before.table) (vec_len after.table) (workers + 1) (2 * workers) drew h.many r.many more;
-        served = some_more (serves before.records.items) (serves after.records.items) (serves left.records.items) (vec_len before.table) (vec_len after.table) (workers * asks) (2 * (workers * asks)) both h.served r.served more;
+        asked = both ∙ (ap (λ n. job_keys workers asks 1 (vec_len before.tasks) ++ task_keys n asks workers) here ∙ (sym (tasks_push workers asks 1 (vec_len before.tasks)) ∙ ap (λ n. job_keys workers asks 1 n) (sym one)));
       }

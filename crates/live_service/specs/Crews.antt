@@ -1,5 +1,5 @@
 -- What the threads of one task of a live run are given, and what they leave.
-use Rattle.std.specs.Prelude.{◌≡◌, ℕ, ◌+◌, ◌*◌, List, [], ◌∷◌, Result, IfOk, All, vec_len}
+use Rattle.std.specs.Prelude.{◌≡◌, ℕ, ◌+◌, List, [], ◌∷◌, Result, IfOk, All, vec_len}
 use Rattle.std.specs.declared.alloc.AllocError.{AllocError}
 use Rattle.history_lock.specs.Histories.{IsLegal}
 use Rattle.history_lock.specs.Passes.{Lock, PassView, IsPassOf, ArePassesOf}
@@ -11,7 +11,7 @@ use Rattle.live_service.specs.declared.worker.Worked.{Worked}
 use Rattle.live_service.specs.declared.crew.Crew.{Crew}
 use Rattle.live_service.specs.declared.crew.CrewLeft.{CrewLeft}
 use Rattle.live_service.specs.declared.crew.Gathered.{Gathered}
-use Rattle.live_service.specs.Reports.{serves, AreServesFrom}
+use Rattle.live_service.specs.Reports.{AreServesFrom, asked_keys, task_keys}
 
 -- the passes are of the lanes from this one on
 abbrev pub AreOfLanesFrom : {M E : Type 0} → ℕ → List (PassView M E) → Type 0
@@ -41,13 +41,13 @@ module _ (slicelet : Lock History) (ticket : TicketView) where
   HaveWorkedFrom asks lane [] = Unit {0}
   HaveWorkedFrom asks lane (result ∷ results) = IfOk result (λ worked. HasWorked asks lane worked) × HaveWorkedFrom asks (lane + 1) results
 
-  -- what the task's own thread and some of its workers leave: as many passes of each kind, and each worker's asks
+  -- what the task's own thread and some of its workers leave: as many passes of each kind, and the keys that each of these workers asked for
   pub record IsGathered (asks : ℕ) (gathered : Gathered) : Type 0 where
     pub own : ArePassesOf slicelet gathered.passes.items
     pub lanes : AreOfLanesFrom 0 gathered.passes.items
     pub draws : All (λ pass. DrawsFrom ticket pass) gathered.draws.items
     pub even : vec_len gathered.draws ≡ vec_len gathered.passes
-    pub served : serves gathered.records.items + asks ≡ vec_len gathered.passes * asks
+    pub asked : (workers : ℕ) × (vec_len gathered.passes ≡ workers + 1) × (asked_keys gathered.records.items ≡ task_keys slicelet.opened.machine.task asks workers)
 
 module _ (table : Lock Standing) (ticket : TicketView) where
   -- a task has its new slicelet under a lock; its passes are of the table's lock, of its own lock and new of this ticket, with so many workers. Task 1 has lane 2 of the table's lock
@@ -59,11 +59,11 @@ module _ (table : Lock Standing) (ticket : TicketView) where
     pub many : vec_len crew.members ≡ workers + 1
     pub lanes : crew.slicelet.opened.lanes ≡ workers + 1
 
-  -- what the threads of the task of this number leave: the history of its slicelet, the passes of the table's lock and of the ticket, and so many asks of each worker
+  -- what the threads of the task of this number leave: the history of its slicelet, the passes of the table's lock and of the ticket, and the keys that each worker asked for
   pub record HasLeft (workers asks task : ℕ) (left : CrewLeft) : Type 0 where
     pub played : IsLegal event_step (opening task) left.history
     pub table_pass : IsPassOf table left.table
     pub of_lane : left.table.lane ≡ task + 1
     pub draws : All (λ pass. DrawsFrom ticket pass) left.draws.items
     pub many : vec_len left.draws ≡ workers + 1
-    pub served : serves left.records.items ≡ workers * asks
+    pub asked : asked_keys left.records.items ≡ task_keys task asks workers

@@ -1,5 +1,5 @@
 -- What live runs report.
-use Rattle.std.specs.Prelude.{◌≡◌, ℕ, ◌+◌, ◌*◌, Bool, true, false, List, [], ◌∷◌, None, decimal, vec_len}
+use Rattle.std.specs.Prelude.{◌≡◌, ℕ, zero, suc, ◌+◌, ◌*◌, Bool, true, false, List, [], ◌∷◌, ◌++◌, None, decimal, vec_len}
 use Rattle.std.specs.List.{AllByRecursion, count_by}
 use Rattle.key_hash.specs.Hash.{slice_key}
 use Rattle.lease_table.specs.declared.call.TableCall.{TableCall}
@@ -43,12 +43,37 @@ abbrev pub AreServesFrom : ℕ → ℕ → List CallRecord → Type 0
 AreServesFrom task number [] = Unit {0}
 AreServesFrom task number (entry ∷ entries) = (entry.step ≡ Serve task (slice_key (decimal number)) entry.ticket) × AreServesFrom task (number + 1) entries
 
+-- the key that a task was asked for, with the number of the task
+abbrev pub asked_key : RecordedCall → List (ℕ × ℕ)
+asked_key (Serve task key at) = (task, key) ∷ []
+asked_key call = []
+
+-- the keys that tasks were asked for, in the order of the records
+abbrev pub asked_keys : List CallRecord → List (ℕ × ℕ)
+asked_keys [] = []
+asked_keys (entry ∷ entries) = asked_key entry.step ++ asked_keys entries
+
+-- the keys that one worker of a task asks for: the decimal texts of so many numbers from this one on
+abbrev pub worker_keys : ℕ → ℕ → ℕ → List (ℕ × ℕ)
+worker_keys task number zero = []
+worker_keys task number (suc asks) = (task, slice_key (decimal number)) ∷ worker_keys task (number + 1) asks
+
+-- the keys that so many workers of a task ask for, each from 0 on
+abbrev pub task_keys : ℕ → ℕ → ℕ → List (ℕ × ℕ)
+task_keys task asks zero = []
+task_keys task asks (suc workers) = worker_keys task 0 asks ++ task_keys task asks workers
+
+-- the keys that the workers of so many tasks from this one on ask for
+abbrev pub job_keys : ℕ → ℕ → ℕ → ℕ → List (ℕ × ℕ)
+job_keys workers asks task zero = []
+job_keys workers asks task (suc tasks) = task_keys task asks workers ++ job_keys workers asks (task + 1) tasks
+
 -- the histories are those of the tasks from this number on: each is legal for the new slicelet of its task
 abbrev pub AreOfTasksFrom : ℕ → List (List (Entry (Event SliceletCall))) → Type 0
 AreOfTasksFrom task [] = Unit {0}
 AreOfTasksFrom task (history ∷ histories) = IsLegal slicelet_step (new_slicelet task) history × AreOfTasksFrom (task + 1) histories
 
--- the report of a run: the new table, the slicelet of each task and the clerk take all entries of their histories; each worker asked for its keys, the generation is how many were committed, and what was audited are the histories and the records of the report
+-- the report of a run: the new table, the slicelet of each task and the clerk take all entries of their histories; each worker of each task asked for its keys, and nobody else for any; the generation is how many were committed, and what was audited are the histories and the records of the report
 pub record IsReported (job : LiveSizes) (report : LiveReport) : Type 0 where
   pub table : IsLegal table_step (new_table live_policy) report.table
   pub tasks : AreOfTasksFrom 1 report.tasks.items
@@ -57,5 +82,6 @@ pub record IsReported (job : LiveSizes) (report : LiveReport) : Type 0 where
   pub one_clerk : vec_len report.clerks ≡ 1
   pub asked : report.asked ≡ serves report.records.items
   pub all_asked : report.asked ≡ job.tasks * job.workers * job.asks
+  pub keys : asked_keys report.records.items ≡ job_keys job.workers job.asks 1 job.tasks
   pub generation : report.generation ≡ commits report.table
   pub audited : IsAudit (played_job job) (evidence report.table report.tasks.items report.clerks.items report.records.items) report.audit

@@ -12,7 +12,7 @@ use Rattle.live_service.specs.declared.crew.CrewLeft.{CrewLeft}
 use Rattle.live_service.specs.declared.stage.Stage.{Stage}
 use Rattle.live_service.specs.declared.remains.Remains.{Remains}
 use Rattle.live_service.specs.LiveJobs.{LiveSizes, live_policy}
-use Rattle.live_service.specs.Reports.{serves, AreOfTasksFrom}
+use Rattle.live_service.specs.Reports.{serves, asked_keys, job_keys, AreOfTasksFrom}
 use Rattle.live_service.specs.Crews.{AreOfLanesFrom, IsCrew, HasLeft}
 
 module _ (table : Lock Standing) (ticket : TicketView) where
@@ -40,7 +40,7 @@ module _ (table : Lock Standing) (clerk : Lock (Option Slicing)) (ticket : Ticke
     pub own : IsPassOf clerk seat.own
     pub of_lane : seat.own.lane ≡ 0
 
-  -- what the assigner's thread, the clerk's and those of the first tasks leave: a history of each task, all passes of these lanes, and the asks of each worker. The first two threads have no history of their own and no workers
+  -- what the assigner's thread, the clerk's and those of the first tasks leave: a history of each task, all passes of these lanes, and the keys that each worker asked for. The first two threads have no history of their own and no workers
   pub record IsRemains (workers asks : ℕ) (remains : Remains) : Type 0 where
     pub tasks : AreOfTasksFrom 1 remains.tasks.items
     pub one_each : vec_len remains.tasks + 2 ≡ vec_len remains.table
@@ -51,7 +51,7 @@ module _ (table : Lock Standing) (clerk : Lock (Option Slicing)) (ticket : Ticke
     pub one_clerk : vec_len remains.clerk ≡ 1
     pub draws : All (λ pass. DrawsFrom ticket pass) remains.draws.items
     pub many : vec_len remains.draws + 2 * workers ≡ vec_len remains.table * (workers + 1)
-    pub served : serves remains.records.items + 2 * (workers * asks) ≡ vec_len remains.table * (workers * asks)
+    pub asked : asked_keys remains.records.items ≡ job_keys workers asks 1 (vec_len remains.tasks)
 
 -- the table and the clerk of a job are new; their locks and the ticket have a pass for each thread: the assigner's has lane 0 of the table's lock, the clerk's lane 1, and the tasks the lanes from 2 on
 pub record IsStaged (job : LiveSizes) (stage : Stage) : Type 0 where

@@ -9,7 +9,7 @@ ghost use Rattle.lease_table.specs.Tables.{opening};
 ghost use Rattle.tickets.specs.Tickets.{DrawsFrom};
 ghost use Rattle.live_service.specs.Crews.{AreOfLanesFrom};
 ghost use Rattle.live_service.specs.LiveJobs.{live_policy};
-ghost use Rattle.live_service.specs.Reports.{IsReported, serves};
+ghost use Rattle.live_service.specs.Reports.{IsReported, asked_keys, job_keys, serves};
 ghost use Rattle.live_service.specs.Stages.{HaveLeftFrom, IsQuietClerkSeat, IsQuietSeat, IsRemains};
 
 use crate::clerk_loop::ClerkSeat;
@@ -148,6 +148,7 @@ pub(crate) fn close_all(
     requires lanes { (vec_len remains.table ≡ table.opened.lanes) × (clerk.lock.opened.lanes ≡ 1) }
     requires draws { vec_len remains.draws ≡ ticket.terms.passes }
     requires served { serves remains.records.items ≡ job.tasks * job.workers * job.asks }
+    requires keys { asked_keys remains.records.items ≡ job_keys job.workers job.asks 1 job.tasks }
     ensures { IfOk result (IsReported job) }
 {
     let Remains {

@@ -24,7 +24,8 @@ pub struct LiveReport {
     pub tasks: Vec<History<SliceletEvent>>,
     /// The histories of the clerks, in the order of their numbers.
     pub clerks: Vec<History<ClerkEvent>>,
-    /// The records, in no order.
+    /// The records. Those of keys that tasks were asked for stand task by task, of each worker by worker, in the
+    /// order in which it asked.
     pub records: Vec<CallRecord>,
     /// What an audit of these histories and records finds.
     pub audit: Audit,

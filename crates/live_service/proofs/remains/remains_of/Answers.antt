@@ -1,9 +1,9 @@
-use Rattle.std.proofs.Common.{◌≡◌, ◌+◌, ◌∷◌, [], length, ap, subst, arith, vec_len, IfOk}
+use Rattle.std.proofs.Common.{rules, ◌≡◌, ◌+◌, ◌∷◌, [], length, ap, subst, arith, vec_len, IfOk}
 use Rattle.std.proofs.lemmas.List.{length-append}
 use Rattle.std.specs.Vec.Iter.{into_iter_items}
 use Rattle.live_service.specs.Crews.{HasLeft}
 use Rattle.live_service.specs.Stages.{HaveLeftFrom}
-use Rattle.live_service.proofs.Staging.{remains_more}
+use Rattle.live_service.proofs.Staging.{remains_more, remains_two}
 use Rattle.live_service.proofs.remains.remains_of.Goals as goal
 
 pub loop-crew-preserved : goal.loop-crew-preserved
@@ -19,4 +19,13 @@ loop-crew-preserved c =
       remains = remains_more table clerk ticket workers asks before after left i.remains has took.table took.clerk took.draws took.tasks took.records;
       rest = subst (λ n. HaveLeftFrom table ticket workers asks n (into_iter_items c.next.new.self)) next rest.1;
       count = omega (arith, i.count, step.1, more);
+    }
+
+pub loop-crew-init : goal.loop-crew-init
+loop-crew-init c =
+    let made = c.in_ok-remains.ensures in record {
+      remains = remains_two c.args.table.now c.args.clerk.now.lock c.args.ticket.now c.args.job.workers c.args.job.asks c.args.assigner c.args.learner c.in_ok-remains.remains
+          c.requires.assigner c.requires.learner made.table made.clerk made.draws made.tasks made.records;
+      rest = search rules;
+      count = search rules;
     }
