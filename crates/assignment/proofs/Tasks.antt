@@ -11,6 +11,7 @@ use Rattle.std.proofs.lemmas.Bool.Decides.{nat_tests}
 use Rattle.std.proofs.lemmas.Bool.{cases_lt}
 use Rattle.std.proofs.lemmas.List.Elements.{recursion_from_All}
 use Rattle.std.proofs.lemmas.List.Sorted.{IsNonDecreasingBy-from_sort, list_any-IsPermutation, All-permutation, Contains-permutation, IsPermutation-sym}
+use Rattle.std.proofs.lemmas.List.Sorted.{length_permutation}
 use Rattle.std.proofs.lemmas.Map.Keys.{IsDistinct-IsPermutation, IsStrictlyIncreasing-from_distinct, sorted_from_strictly_increasing}
 use Rattle.machines.proofs.Every.{all_weaker}
 use Rattle.assignment.specs.declared.slice.Slice.{Slice}
@@ -128,6 +129,12 @@ module _ (slices : List Slice) (key : ℕ) (found : Slice) (sorted : List ℕ) (
 
   proper : IsProper found
   proper = of_slice_at IsProper key slices (recursion_from_All IsProper slices facts.proper) found at
+
+  owned : 0 < length found.owners
+  owned = of_slice_at (λ s. 0 < length s.owners) key slices (recursion_from_All (λ s. 0 < length s.owners) slices facts.owned) found at
+
+  pub owners_exist : 0 < length sorted
+  owners_exist = let as_many = length_permutation found.owners sorted same in omega (arith, owned, as_many)
 
   pub owners_are : sorted ≡ owners_of slices key
   owners_are = sym (owners_rise found.owners sorted (owns slices key) same order differ proper.tasks (λ t. rw at refl))

@@ -10,3 +10,4 @@ pub mod Numbers
 pub mod OpenRows
 pub mod HoldingUp
 pub mod Covering
+pub mod JobTerms

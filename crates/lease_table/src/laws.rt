@@ -1,23 +1,29 @@
 //! What holds after every list of calls that a table answered.
 
-ghost use Rattle.std.specs.Prelude.{◌≡◌, ℕ, ◌+◌, ◌≤◌, ◌<◌, ◌&&◌, ◌⊎◌, ◌↔◌, List, [], ◌∷◌, ◌++◌, Some, None, true, is_some, slice_get, Contains, AllPairs};
+ghost use Rattle.std.specs.Prelude.{◌≡◌, ℕ, ◌+◌, ◌≤◌, ◌<◌, ◌&&◌, ◌⊎◌, ◌↔◌, List, [], ◌∷◌, ◌++◌, Some, None, Ok, true, is_some, slice_get, Contains, AllPairs};
 ghost use Rattle.slice_ranges.specs.Sets.{has};
 ghost use Rattle.policy_rules.specs.declared.lease.Kind.TheVariants.{Guard, Bridge};
 ghost use Rattle.assignment.specs.Slices.{Slicing};
 ghost use Rattle.assignment.specs.Owners.{owns};
 ghost use Rattle.lease_table.specs.declared.call.TableCall.{TableCall};
+ghost use Rattle.lease_table.specs.declared.call.TableCall.TheVariants as call;
+ghost use Rattle.lease_table.specs.declared.call.TableReply.{TableReply};
+ghost use Rattle.lease_table.specs.declared.call.TableReply.TheVariants.{Term};
 ghost use Rattle.lease_table.specs.declared.error.TableError.{TableError};
 ghost use Rattle.lease_table.specs.declared.error.TableError.TheVariants.{Held};
 ghost use Rattle.lease_table.specs.declared.values.Grant.{Grant};
+ghost use Rattle.lease_table.specs.declared.values.JobTerm.{JobTerm};
 ghost use Rattle.lease_table.specs.declared.values.Row.{Row};
 ghost use Rattle.lease_table.specs.Policies.{Terms, is_policy};
-ghost use Rattle.lease_table.specs.Tables.{Standing, opening, generation_of, slices_of};
-ghost use Rattle.lease_table.specs.Calls.{AnsweredTableCall, table_step, standing_after, LeadsTo, last_reading, committed_in, pending_in, grants_sent};
-ghost use Rattle.machines.specs.Calls.{LeadsOn};
+ghost use Rattle.lease_table.specs.Tables.{Standing, opening, generation_of, slices_of, last_number};
+ghost use Rattle.lease_table.specs.Calls.{AnsweredTableCall, table_step, standing_after, LeadsTo};
+ghost use Rattle.lease_table.specs.Calls.{reading_of, last_reading, last_term, committed_in, pending_in, grants_sent};
+ghost use Rattle.machines.specs.Calls.{LeadsOn, answered};
 ghost use Rattle.lease_table.specs.Runs.{IsRun, commits_in, proposed_at, longest_term};
 ghost use Rattle.lease_table.specs.Generations.{assignment_in, published_in, newest_generation, covers_by_owners, HasFewOwners};
 ghost use Rattle.lease_table.specs.OpenRows.{IsSent, IsFreed, IsOpen, HoldsUp, IsHeldUp, grant_numbered};
 ghost use Rattle.lease_table.specs.Steps.{row_of, held_up, guard_of, bridge_of};
+ghost use Rattle.lease_table.specs.JobTerms.{takes_in, number_passed, HoldsJob, IsGiven};
 
 use crate::policy::Policy;
 use key_hash::KEYS;
@@ -126,10 +132,34 @@ pub fn held_law()
         × ((other : Grant) → HoldsUp past at other → grant.number ≤ other.number) }
 {}
 
-/// A commit at a reading that is by the longest term of a task lease above that of the proposal is
-/// not held up.
+/// A commit is not held up once its reading is the longest term of a task lease, or more, after that of
+/// the proposal.
 pub fn bound_law()
     ensures { (policy : Terms) (past : List AnsweredTableCall) (next : Slicing) (at : ℕ)
         → is_policy policy ≡ true → IsRun policy past → pending_in past ≡ Some next
         → proposed_at past + longest_term policy ≤ at → held_up (standing_after policy past) at ≡ None }
+{}
+
+/// The terms of the job lease have the numbers 1, 2, and so on in the order in which they were taken,
+/// and each ends a job term after its take or its last renewal. An accepted renewal, proposal or commit
+/// passed the number of the last term given, before its end; an accepted take came at the end of every
+/// term given before it, or later. So those terms that run at a reading, from the last accepted one on,
+/// are one term of one assigner.
+pub fn terms_law()
+    ensures number { (policy : Terms) (past : List AnsweredTableCall) → IsRun policy past → last_number (last_term past) ≡ takes_in past }
+    ensures taken { (policy : Terms) (past : List AnsweredTableCall) (assigner at : ℕ) (reply : TableReply)
+        → IsRun policy (answered (call.JobTake assigner at) (Ok reply) ∷ past)
+        → reply ≡ Term (record { number = takes_in past + 1; assigner = assigner; until = at + policy.job }) }
+    ensures renewed { (policy : Terms) (past : List AnsweredTableCall) (number at : ℕ) (reply : TableReply) (term : JobTerm)
+        → IsRun policy (answered (call.JobRenew number at) (Ok reply) ∷ past) → last_term past ≡ Some term
+        → reply ≡ Term (record term { until = at + policy.job }) }
+    ensures given { (past : List AnsweredTableCall) (term : JobTerm) → last_term past ≡ Some term → IsGiven past term }
+    ensures held { (policy : Terms) (past : List AnsweredTableCall) (asked : TableCall) (reply : TableReply) (number : ℕ)
+        → IsRun policy (answered asked (Ok reply) ∷ past) → number_passed asked ≡ Some number
+        → HoldsJob past number (reading_of asked) }
+    ensures single { (policy : Terms) (past : List AnsweredTableCall) (assigner at : ℕ) (reply : TableReply) (term : JobTerm)
+        → IsRun policy (answered (call.JobTake assigner at) (Ok reply) ∷ past) → IsGiven past term → term.until ≤ at }
+    ensures one { (policy : Terms) (past : List AnsweredTableCall) (at : ℕ) (term other : JobTerm) → IsRun policy past → last_reading past ≤ at
+        → IsGiven past term → IsGiven past other → at < term.until → at < other.until
+        → (term.number ≡ other.number) × (term.assigner ≡ other.assigner) }
 {}

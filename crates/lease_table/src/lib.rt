@@ -14,7 +14,7 @@ pub use call::{TableCall, TableReply};
 pub use error::TableError;
 pub use laws::{
     assignments_law, bound_law, covers_law, generations_law, held_law, leases_law, numbers_law,
-    policy_law, rows_law, standing_law,
+    policy_law, rows_law, standing_law, terms_law,
 };
 pub use machine::TableEvent;
 pub use policy::{LONGEST_TERM, MOST_GRANTS, Policy};
