@@ -30,7 +30,9 @@ pub fn write_if_served(
     ensures written { IfOk result (λ written. kept.new ≡ (if written then value else kept.old)) }
     ensures unwritten { OnErr result (kept.new ≡ kept.old) }
     ensures leads { (job : Job) (past : Past) → LeadsTo job past world.old
-        → IfOk result (λ _. (answer : Reply) × LeadsTo job (event (step.Serve task key at) answer ∷ past) world.new) }
+        → IfOk result (λ written. (answer : Reply) × (written ≡ is_served answer)
+        × LeadsTo job (event (step.Serve task key at) answer ∷ past) world.new) }
+    ensures refused { OnErr result (world.new ≡ world.old) }
     ensures owned { (job : Job) (past : Past) → LeadsTo job past world.old → result ≡ Ok true
         → IsTimely job.policy.skew (step.Serve task key at ∷ steps_of past) → IsOwner job past task key }
     ensures alone { (job : Job) (past : Past) (other : ℕ) → LeadsTo job past world.old → result ≡ Ok true
