@@ -20,5 +20,8 @@ pub mod Lengthening
 pub mod Ruling
 pub mod LiveLeases
 pub mod Owning
+pub mod GivenHandles
+pub mod LaterPoints
+pub mod Holding
 pub mod TaskShares
 pub mod Planning

@@ -1,5 +1,5 @@
 -- What holds of every run, in the words of whoever runs a service.
-use Rattle.std.specs.Prelude.{◌≡◌, ℕ, Bool, false, IsTrue, List, ◌∷◌, Some, None, Contains, ◌↔◌}
+use Rattle.std.specs.Prelude.{◌≡◌, ℕ, Bool, false, IsTrue, List, ◌∷◌, ◌++◌, Some, None, Contains, ◌↔◌}
 use Rattle.key_hash.specs.Hash.{slice_key}
 use Rattle.assignment.specs.Slices.{Slicing, refusal_of}
 use Rattle.assignment.specs.Owners.{owns}
@@ -14,7 +14,7 @@ use Rattle.world.specs.Jobs.{Job}
 use Rattle.world.specs.declared.step.Step.TheVariants as step
 use Rattle.world.specs.declared.reply.Reply.{Reply}
 use Rattle.world.specs.declared.reply.Reply.TheVariants as reply
-use Rattle.world.specs.Pasts.{Event, Past, steps_of, table_reading, IsTimely}
+use Rattle.world.specs.Pasts.{Event, event, Past, steps_of, table_reading, IsTimely}
 use Rattle.world.specs.Bounds.{Bounds}
 use Rattle.world.specs.Told.{draft_of, standing, task_calls}
 use Rattle.weighted_move.specs.declared.made.Plan.{Plan}
@@ -49,6 +49,37 @@ MayServe job past task key = (at : ℕ) × IsTimely job.policy.skew (step.Serve 
 -- a task owns a key in the committed assignment
 abbrev pub IsOwner : Job → Past → ℕ → List ℕ → Type 0
 IsOwner job past task key = IsTrue (owns (slices_of (standing job.policy past).committed) (slice_key key) task)
+
+-- a `hold` of a key, or of another of the same hash, was answered with the handle of a number
+pub record IsHold (e : Event) (key : List ℕ) (number : ℕ) : Type 0 where
+  pub task : ℕ
+  pub held : List ℕ
+  pub alike : slice_key held ≡ slice_key key
+  pub at : ℕ
+  pub handle : KeyHandle
+  pub is : e ≡ event (step.Hold task held at) (reply.Holding number handle)
+
+-- a `check` by a task was answered that the handle of a number is continuous
+pub record IsContinuousCheck (e : Event) (task number : ℕ) : Type 0 where
+  pub at : ℕ
+  pub is : e ≡ event (step.Check task number at) reply.Continuous
+
+-- a point of a run from the `hold` of a key to a `check` by a task that found its handle continuous:
+-- at the earliest just before the one, and at the latest just after the other
+pub record IsWhileHeld (run past : Past) (task : ℕ) (key : List ℕ) : Type 0 where
+  pub before : Past
+  pub hold : Event
+  pub between : Past
+  pub check : Event
+  pub later : Past
+  pub whole : run ≡ later ++ check ∷ (between ++ hold ∷ before)
+  pub number : ℕ
+  pub holds : IsHold hold key number
+  pub checks : IsContinuousCheck check task number
+  pub since : Past
+  pub from_hold : past ≡ since ++ before
+  pub rest : Past
+  pub up_to_check : check ∷ (between ++ hold ∷ before) ≡ rest ++ past
 
 -- a note was sent by its task
 abbrev pub IsNoteOf : Job → Past → ReleaseNote → Type 0

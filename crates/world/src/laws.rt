@@ -23,13 +23,14 @@ ghost use Rattle.world.specs.declared.reply.Reply.{Reply};
 ghost use Rattle.world.specs.declared.reply.Reply.TheVariants as reply;
 ghost use Rattle.weighted_move.specs.declared.made.Plan.{Plan};
 ghost use Rattle.world.specs.Bounds.{Bounds};
-ghost use Rattle.world.specs.Pasts.{Past, event};
+ghost use Rattle.world.specs.Pasts.{Past, event, steps_of, IsTimely};
 ghost use Rattle.world.specs.Told.{numbered, notes_made, handles_made, table_calls, task_calls};
 ghost use Rattle.world.specs.Replies.{history};
 ghost use Rattle.world.specs.Runs.{IsRun};
-ghost use Rattle.world.specs.Headline.{IsServedByRule, IsCheckedByHistory, IsPlannedFromDraft, IsNoteOf, WasRead, MayServe, IsOwner};
+ghost use Rattle.world.specs.Headline.{IsServedByRule, IsCheckedByHistory, IsPlannedFromDraft, IsNoteOf, WasRead, MayServe, IsOwner, IsWhileHeld};
 
-/// In every run the table answers its calls by its steps, and each task accepts its own.
+/// The calls of the table in a past, with the answers of the table's steps to them, are a run of the table;
+/// and in every run each task accepts its calls.
 pub fn told_law()
     ensures table { (job : Job) (past : Past) → IsTableRun job.policy (table_calls job.policy past) }
     ensures tasks { (job : Job) (past : Past) (task : ℕ) → IsRun job past
@@ -102,4 +103,21 @@ pub fn owner_law()
     assignment::one_owner_law();
     slicelet::held_law();
     slicelet::covering_lease_law();
+}
+
+/// In a run whose clocks were timely, where a `check` by a task found a handle continuous, the task
+/// owned its key in the committed assignment at each point from the handle's `hold` to that `check`:
+/// at redundancy one, no other task may serve the key at any of these points.
+pub fn interval_law()
+    ensures owner { (job : Job) (run past : Past) (task : ℕ) (key : List ℕ) → is_policy job.policy ≡ true → IsRun job run
+        → IsTimely job.policy.skew (steps_of run) → IsWhileHeld run past task key → IsOwner job past task key }
+    ensures alone { (job : Job) (run past : Past) (task other : ℕ) (key : List ℕ) → is_policy job.policy ≡ true
+        → job.policy.redundancy ≡ 1 → IsRun job run → IsTimely job.policy.skew (steps_of run)
+        → IsWhileHeld run past task key → MayServe job past other key → other ≡ task }
+{
+    lease_table::leases_law();
+    slicelet::agreement_law();
+    slicelet::between_law();
+    known_generations_law();
+    owner_law();
 }

@@ -23,7 +23,8 @@ pub use actors::numbered;
 pub use job::{Job, MOST_ASSIGNERS, MOST_CLERKS};
 pub use judge::{Question, WrittenLease};
 pub use laws::{
-    handle_law, known_generations_law, owner_law, planned_law, rule_law, sent_law, told_law,
+    handle_law, interval_law, known_generations_law, owner_law, planned_law, rule_law, sent_law,
+    told_law,
 };
 pub use plans::PlanBounds;
 pub use readings::timely;

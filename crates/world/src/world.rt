@@ -9,16 +9,16 @@ ghost use Rattle.assigner.specs.Terms.{Keeping};
 ghost use Rattle.world.specs.declared.step.Step.{Step};
 ghost use Rattle.world.specs.declared.step.Step.TheVariants as step;
 ghost use Rattle.world.specs.declared.reply.Reply.{Reply};
-ghost use Rattle.world.specs.Pasts.{Past, event};
+ghost use Rattle.world.specs.Pasts.{Past, event, steps_of, IsTimely};
 ghost use Rattle.world.specs.Told.{numbered, handles_made};
 ghost use Rattle.world.specs.Replies.{history};
 ghost use Rattle.world.specs.Runs.{IsRun, past_after};
-ghost use Rattle.world.specs.Headline.{IsServedByRule, IsCheckedByHistory, MayServe, IsOwner};
+ghost use Rattle.world.specs.Headline.{IsServedByRule, IsCheckedByHistory, MayServe, IsOwner, IsWhileHeld};
 ghost use Rattle.world.specs.Worlds.{AreActors, Keeps, LeadsTo, Played};
 
 use crate::job::Job;
 use crate::judge::judge;
-use crate::laws::{handle_law, owner_law, rule_law};
+use crate::laws::{handle_law, interval_law, owner_law, rule_law};
 use crate::loads::shares_of;
 use crate::reply::{Refusal, Reply};
 use crate::step::Step;
@@ -33,8 +33,8 @@ use machines::Trouble;
 use slicelet::Slicelet;
 use std::alloc::{AllocError, Global};
 
-/// Every actor of a job, and everything that was made so far: grants, notes, handles and
-/// proposals, each of which may be delivered later, again and in any order.
+/// Every actor of a job, and everything that was made so far: grants, notes, handles and committed
+/// assignments, each of which may be delivered later, again and in any order.
 #[derive(Drop)]
 pub struct World {
     pub(crate) alloc: Global,
@@ -157,6 +157,20 @@ impl World {
         rule_law();
         handle_law();
         owner_law();
+    }
+
+    /// As long as the clocks were timely: where a `check` by a task found a handle continuous, the task
+    /// owned its key in the committed assignment at each point from the handle's `hold` to that `check`,
+    /// and at redundancy one no other task may serve the key at any of these points.
+    pub fn interval_law(&self)
+        ensures owner { (job : Job) (later run past : Past) (task : ℕ) (key : List ℕ) → LeadsTo job (later ++ run) self.now
+            → IsTimely job.policy.skew (steps_of run) → IsWhileHeld run past task key → IsOwner job past task key }
+        ensures alone { (job : Job) (later run past : Past) (task other : ℕ) (key : List ℕ) → LeadsTo job (later ++ run) self.now
+            → job.policy.redundancy ≡ 1 → IsTimely job.policy.skew (steps_of run) → IsWhileHeld run past task key
+            → MayServe job past other key → other ≡ task }
+    {
+        self.run_law();
+        interval_law();
     }
 
     // Plays one more step, and answers it.
