@@ -53,7 +53,8 @@ pub fn answers_law()
 
 /// With timely clocks, whoever may serve a key at a point of a run owns it in the assignment that is
 /// committed there: at redundancy one, never two tasks. So did, in a run whose clocks were timely,
-/// each task of which a caller was told that the key is served.
+/// each task of which a caller was told that the key is served: at redundancy one, no other task
+/// might serve the key at that point.
 pub fn audit_law()
     ensures owner { (job : Job) (run before : List Turn) (stage : Stage) (task key : ℕ) → is_policy job.policy ≡ true
         → IsOneRun job run → IsPoint job run before stage → key < KEYS
@@ -65,6 +66,10 @@ pub fn audit_law()
         → is_policy job.policy ≡ true → IsOneRun job run → IsTimelyRun job run → IsTurnAt job run before stage turn
         → turn.call ≡ call.Serve task key at → key < KEYS → turn.told ≡ Some (told.Verdict (Allow kind generation))
         → IsOwner stage task key }
+    ensures served_alone { (job : Job) (run before : List Turn) (stage : Stage) (turn : Turn) (task other key at generation : ℕ) (kind : Kind)
+        → is_policy job.policy ≡ true → job.policy.redundancy ≡ 1 → IsOneRun job run → IsTimelyRun job run → IsTurnAt job run before stage turn
+        → turn.call ≡ call.Serve task key at → key < KEYS → turn.told ≡ Some (told.Verdict (Allow kind generation))
+        → MayServe job before stage other key → other ≡ task }
 {
     lease_table::standing_law();
     lease_table::leases_law();

@@ -1,5 +1,6 @@
 -- What a call tells, of what its steps told.
 use Rattle.std.proofs.Common.{◌≡◌, ◌≢◌, ℕ, ◌+◌, ◌-◌, Bool, true, false, eqb, eq-eqb, List, [], ◌∷◌, ◌++◌, ◌≤◌, length, refl, sym, ap, ◌∙◌, subst, arith, Some, Result, Ok, Err}
+use Rattle.std.proofs.lemmas.Bool.{eqb-true}
 use Rattle.atomic_table.specs.Seated.{TableId}
 use Rattle.history_lock.specs.declared.entry.Entry.{Entry}
 use Rattle.std.specs.Prelude.{if◌then◌else◌}
@@ -32,12 +33,21 @@ word_of n word ne is = by_test (eqb word 1) refl is
     by_test true test e = absurd (cc)
     by_test false test e = let f : word - 2 ≡ n = cc in let g : word ≢ 1 = λ h. absurd (let t : true ≡ false = sym (eq-eqb word 1 h) ∙ sym test in cc) in omega arith
 
+-- the word of a writer names no reader
+no_reader : (n word : ℕ) → word ≡ n + 2 → holder_of word ≢ Reader
+no_reader n word is e = by_test (eqb word 1) refl e
+  where
+    by_test : (b : Bool) → b ≡ eqb word 1 → (if b then Reader else Writer (word - 2)) ≢ Reader
+    by_test true test f = let one : word ≡ 1 = eqb-true word 1 (sym test) in omega arith
+    by_test false test f = absurd (cc)
+
 -- a refused claim names what its word showed
 pub held_by_other : {M E : Type 0} (home : TableId) (opened : Opened M) (lane : ℕ) (v : View M E) (refusal : Busy) → v.opened ≡ Some opened → v.role ≡ Lane lane → IsRefusedClaim v refusal
     → IsHeldByOther (lock_at home opened) lane refusal
 held_by_other home opened lane v refusal knows role h = record {
   inside = h.other.lane opened knows;
   writer = λ n is. let w = h.other.writer n (word_of n h.found h.held (sym (ap (λ x. x.holder) h.named) ∙ is)) in ((λ e. w.0 (role ∙ ap Lane (sym e))), w.1 opened knows);
+  reader = λ is here. let w = h.other.own (role ∙ ap Lane (sym here)) in no_reader w.0 h.found w.1 (sym (ap (λ x. x.holder) h.named) ∙ is);
 }
 
 -- a pass of the lane saw this history, and the book of the last lane had it

@@ -2,7 +2,7 @@
 use Rattle.std.specs.Prelude.{◌≡◌, ◌≢◌, ◌⊎◌, ℕ, ◌<◌, List, [], ◌∷◌, ◌++◌, length, true, is_ok, Some, Result, Ok, Err}
 use Rattle.std.specs.List.{AllByRecursion}
 use Rattle.history_lock.specs.declared.error.Busy.{Busy}
-use Rattle.history_lock.specs.declared.error.Holder.TheVariants.{Writer}
+use Rattle.history_lock.specs.declared.error.Holder.TheVariants.{Reader, Writer}
 use Rattle.history_lock.specs.declared.error.WriteError.{WriteError}
 use Rattle.history_lock.specs.declared.error.WriteError.TheVariants.{HistoryFull, Refused, NoMemory}
 use Rattle.history_lock.specs.declared.error.LockError.{LockError}
@@ -17,10 +17,12 @@ abbrev pub write_error_of : {F : Type 0} → Trouble F → WriteError F
 write_error_of (trouble.Refused fault) = Refused fault
 write_error_of trouble.NoMemory = NoMemory
 
--- the pass of a lane found a lane of the lock held; a writer that held it is the pass of another lane of the lock
+-- the pass of a lane found a lane of the lock held: a writer that held it is the pass of another lane of the lock;
+-- where a reader held it, it is not the pass's own lane
 pub record IsHeldByOther {M : Type 0} (lock : Lock M) (lane : ℕ) (busy : Busy) : Type 0 where
   pub inside : busy.lane < lock.opened.lanes
   pub writer : (n : ℕ) → busy.holder ≡ Writer n → (n ≢ lane) × (n < lock.opened.lanes)
+  pub reader : busy.holder ≡ Reader → busy.lane ≢ lane
 
 -- the lane was held by a writer
 abbrev pub IsWriterAt : ℕ → Busy → Type 0

@@ -115,8 +115,8 @@ impl<M: Machine> LaneLock<M> {
         unreachable!()
     }
 
-    /// Afterwards the first pass has seen all that the second had. A writer may hold the first pass's lane
-    /// instead.
+    /// Afterwards the first pass has seen all that the second had. Refused with `Busy` where a writer holds the
+    /// first pass's lane.
     pub fn try_meet(&self, first: &mut Pass<M>, second: &mut Pass<M>) -> Result<(), Busy>
         requires own { IsPassOf self.now first.old }
         requires other { IsPassOf self.now second.old }
