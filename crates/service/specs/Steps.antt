@@ -1,5 +1,5 @@
 -- What an element of a script says as a step, in a script of this job.
-use Rattle.std.specs.Prelude.{ℕ, List, [], ◌∷◌, codes, Result, Ok, Err, if◌then◌else◌}
+use Rattle.std.specs.Prelude.{ℕ, List, [], ◌∷◌, ◌++◌, codes, Result, Ok, Err, if◌then◌else◌}
 use Rattle.std.specs.Str.{bytes_eq}
 use Rattle.serde_json.specs.Data.{Data}
 use Rattle.assignment.specs.declared.slice.Slice.{Slice}
@@ -255,59 +255,63 @@ next_step job d = do
   wanted ← flag_at (codes "wanted") d
   Ok (Next assigner at wanted)
 
--- the step of this name among those of loads and plans, and what an assigner does next; there are no others
-unfoldable pub step_of_loads : Job → List ℕ → Data → Result Step WrongForm
-step_of_loads job name d =
-    if bytes_eq name (codes "load") then load_step job d else
-    (if bytes_eq name (codes "gather") then gather_step d else
-    (if bytes_eq name (codes "plan") then plan_step d else
-    (if bytes_eq name (codes "next") then next_step job d else
-    Err wrong)))
+-- what reads the object of a step, in a script of this job
+abbrev pub Reader : Type 0
+Reader = Job → Data → Result Step WrongForm
 
--- the step of this name among those of a clerk, or else of loads and plans
-unfoldable pub step_of_clerk : Job → List ℕ → Data → Result Step WrongForm
-step_of_clerk job name d =
-    if bytes_eq name (codes "learn") then learn_step job d else
-    (if bytes_eq name (codes "look") then look_step job d else
-    (if bytes_eq name (codes "forget") then forget_step job d else
-    step_of_loads job name d))
+-- the step that the reader of this name makes of the object; a name without one is wrong
+abbrev pub read_named : List (List ℕ × Reader) → List ℕ → Job → Data → Result Step WrongForm
+read_named [] name job d = Err wrong
+read_named (kind ∷ kinds) name job d = if bytes_eq name kind.0 then kind.1 job d else read_named kinds name job d
 
--- the step of this name among those of a task, or else of a clerk, loads and plans
-unfoldable pub step_of_task : Job → List ℕ → Data → Result Step WrongForm
-step_of_task job name d =
-    if bytes_eq name (codes "start") then start_step job d else
-    (if bytes_eq name (codes "hear") then hear_step job d else
-    (if bytes_eq name (codes "release") then release_step job d else
-    (if bytes_eq name (codes "serve") then serve_step job d else
-    (if bytes_eq name (codes "hold") then hold_step job d else
-    (if bytes_eq name (codes "check") then check_step job d else
-    step_of_clerk job name d)))))
+-- the steps of loads and plans, and what an assigner does next
+abbrev pub load_kinds : List (List ℕ × Reader)
+load_kinds =
+    (codes "load", load_step) ∷
+    (codes "gather", λ job. gather_step) ∷
+    (codes "plan", λ job. plan_step) ∷
+    (codes "next", next_step) ∷ []
 
--- the step of this name among those of the table and its assigners, or else of a task, a clerk, loads and plans
-unfoldable pub step_of_table : Job → List ℕ → Data → Result Step WrongForm
-step_of_table job name d =
-    if bytes_eq name (codes "take") then take_step job d else
-    (if bytes_eq name (codes "renew") then renew_step job d else
-    (if bytes_eq name (codes "propose") then propose_step job d else
-    (if bytes_eq name (codes "commit") then commit_step job d else
-    (if bytes_eq name (codes "phase") then phase_step d else
-    (if bytes_eq name (codes "rows") then rows_step d else
-    (if bytes_eq name (codes "grant") then grant_step job d else
-    (if bytes_eq name (codes "free") then free_step d else
-    (if bytes_eq name (codes "restart") then restart_step job d else
-    step_of_task job name d))))))))
+-- the steps of a clerk
+abbrev pub clerk_kinds : List (List ℕ × Reader)
+clerk_kinds =
+    (codes "learn", learn_step) ∷
+    (codes "look", look_step) ∷
+    (codes "forget", forget_step) ∷ []
 
--- the step of this name among those of no actor, or else of an actor
-abbrev step_named : Job → List ℕ → Data → Result Step WrongForm
-step_named job name d =
-    if bytes_eq name (codes "hash") then hash_step d else
-    (if bytes_eq name (codes "assign") then assign_step d else
-    (if bytes_eq name (codes "owners") then owners_step d else
-    (if bytes_eq name (codes "judge") then judge_step d else
-    step_of_table job name d)))
+-- the steps of a task
+abbrev pub task_kinds : List (List ℕ × Reader)
+task_kinds =
+    (codes "start", start_step) ∷
+    (codes "hear", hear_step) ∷
+    (codes "release", release_step) ∷
+    (codes "serve", serve_step) ∷
+    (codes "hold", hold_step) ∷
+    (codes "check", check_step) ∷ []
+
+-- the steps of the table and its assigners
+abbrev pub table_kinds : List (List ℕ × Reader)
+table_kinds =
+    (codes "take", take_step) ∷
+    (codes "renew", renew_step) ∷
+    (codes "propose", propose_step) ∷
+    (codes "commit", commit_step) ∷
+    (codes "phase", λ job. phase_step) ∷
+    (codes "rows", λ job. rows_step) ∷
+    (codes "grant", grant_step) ∷
+    (codes "free", λ job. free_step) ∷
+    (codes "restart", restart_step) ∷ []
+
+-- the steps of no actor
+abbrev pub plain_kinds : List (List ℕ × Reader)
+plain_kinds =
+    (codes "hash", λ job. hash_step) ∷
+    (codes "assign", λ job. assign_step) ∷
+    (codes "owners", λ job. owners_step) ∷
+    (codes "judge", λ job. judge_step) ∷ []
 
 -- a step, named by its member `do`
 unfoldable pub step_of : Job → Data → Result Step WrongForm
 step_of job d = do
   name ← text_at (codes "do") d
-  step_named job name d
+  read_named (plain_kinds ++ table_kinds ++ task_kinds ++ clerk_kinds ++ load_kinds) name job d

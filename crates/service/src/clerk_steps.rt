@@ -1,9 +1,9 @@
 //! The steps of clerks.
 
-ghost use Rattle.std.specs.Prelude.{◌≡◌};
+ghost use Rattle.std.specs.Prelude.{◌≡◌, ◌++◌};
 ghost use Rattle.serde_json.specs.View.{view};
 ghost use Rattle.service.specs.Reading.{Gives};
-ghost use Rattle.service.specs.Steps.{learn_step, look_step, forget_step, step_of_clerk};
+ghost use Rattle.service.specs.Steps.{learn_step, look_step, forget_step, read_named, clerk_kinds, load_kinds};
 
 use crate::fault::{Unread, WrongForm};
 use crate::load_steps::step_of_loads;
@@ -45,9 +45,8 @@ fn forget_step(job: Job, step: &Value) -> Result<Step, WrongForm>
 }
 
 /// The step of this name among those of a clerk, or else of loads and plans.
-#[tactic(auto, unfolding(crate::specs::Steps::step_of_clerk))]
 pub fn step_of_clerk(alloc: Global, job: Job, name: &str, step: &Value) -> Result<Step, Unread>
-    ensures { Gives result (step_of_clerk job name.now (view step.now)) }
+    ensures { Gives result (read_named (clerk_kinds ++ load_kinds) name.now job (view step.now)) }
 {
     match name {
         "learn" => Ok(learn_step(job, step)?),

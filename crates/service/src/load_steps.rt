@@ -3,7 +3,7 @@
 ghost use Rattle.std.specs.Prelude.{◌≡◌};
 ghost use Rattle.serde_json.specs.View.{view};
 ghost use Rattle.service.specs.Reading.{Gives};
-ghost use Rattle.service.specs.Steps.{load_step, gather_step, next_step, step_of_loads};
+ghost use Rattle.service.specs.Steps.{load_step, gather_step, next_step, read_named, load_kinds};
 
 use crate::fault::{Unread, WrongForm};
 use crate::members::{exactly, flag_at, key_at, number_at, number_in};
@@ -45,9 +45,8 @@ fn next_step(job: Job, step: &Value) -> Result<Step, WrongForm>
 }
 
 /// The step of this name among those of loads and plans, and what an assigner does next. There are no others.
-#[tactic(auto, unfolding(crate::specs::Steps::step_of_loads))]
 pub fn step_of_loads(alloc: Global, job: Job, name: &str, step: &Value) -> Result<Step, Unread>
-    ensures { Gives result (step_of_loads job name.now (view step.now)) }
+    ensures { Gives result (read_named load_kinds name.now job (view step.now)) }
 {
     match name {
         "load" => load_step(alloc, job, step),

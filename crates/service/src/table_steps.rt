@@ -1,9 +1,9 @@
 //! The steps of the table and its assigners.
 
-ghost use Rattle.std.specs.Prelude.{◌≡◌};
+ghost use Rattle.std.specs.Prelude.{◌≡◌, ◌++◌};
 ghost use Rattle.serde_json.specs.View.{view};
 ghost use Rattle.service.specs.Reading.{Gives};
-ghost use Rattle.service.specs.Steps.{take_step, renew_step, propose_step, commit_step, phase_step, rows_step, grant_step, free_step, restart_step, step_of_table};
+ghost use Rattle.service.specs.Steps.{take_step, renew_step, propose_step, commit_step, phase_step, rows_step, grant_step, free_step, restart_step, read_named, table_kinds, task_kinds, clerk_kinds, load_kinds};
 
 use crate::fault::{Unread, WrongForm};
 use crate::members::{exactly, life_at, list_at, number_at, number_in};
@@ -108,9 +108,8 @@ fn restart_step(job: Job, step: &Value) -> Result<Step, WrongForm>
 }
 
 /// The step of this name among those of the table and its assigners, or else of a task, a clerk, loads and plans.
-#[tactic(auto, unfolding(crate::specs::Steps::step_of_table))]
 pub fn step_of_table(alloc: Global, job: Job, name: &str, step: &Value) -> Result<Step, Unread>
-    ensures { Gives result (step_of_table job name.now (view step.now)) }
+    ensures { Gives result (read_named (table_kinds ++ task_kinds ++ clerk_kinds ++ load_kinds) name.now job (view step.now)) }
 {
     match name {
         "take" => Ok(take_step(job, step)?),

@@ -1,9 +1,9 @@
 //! The steps of tasks.
 
-ghost use Rattle.std.specs.Prelude.{◌≡◌};
+ghost use Rattle.std.specs.Prelude.{◌≡◌, ◌++◌};
 ghost use Rattle.serde_json.specs.View.{view};
 ghost use Rattle.service.specs.Reading.{Gives};
-ghost use Rattle.service.specs.Steps.{start_step, hear_step, release_step, serve_step, hold_step, check_step, step_of_task};
+ghost use Rattle.service.specs.Steps.{start_step, hear_step, release_step, serve_step, hold_step, check_step, read_named, task_kinds, clerk_kinds, load_kinds};
 
 use crate::clerk_steps::step_of_clerk;
 use crate::fault::{Unread, WrongForm};
@@ -85,9 +85,8 @@ fn check_step(job: Job, step: &Value) -> Result<Step, WrongForm>
 }
 
 /// The step of this name among those of a task, or else of a clerk, loads and plans.
-#[tactic(auto, unfolding(crate::specs::Steps::step_of_task))]
 pub fn step_of_task(alloc: Global, job: Job, name: &str, step: &Value) -> Result<Step, Unread>
-    ensures { Gives result (step_of_task job name.now (view step.now)) }
+    ensures { Gives result (read_named (task_kinds ++ clerk_kinds ++ load_kinds) name.now job (view step.now)) }
 {
     match name {
         "start" => Ok(start_step(job, step)?),
