@@ -30,7 +30,7 @@ use Rattle.world.specs.declared.record.Told.{Told}
 use Rattle.world.specs.declared.record.Told.TheVariants as told
 use Rattle.world.specs.declared.reply.Refusal.{Refusal}
 use Rattle.world.specs.declared.reply.Refusal.TheVariants as refusal
-use Rattle.audit.specs.Stages.{Stage, Turned, refused, by, unless, same_handle, checked, table_refusal, table_took, task_refusal, task_took, clerk_refusal, clerk_took, held_turn, looked, IsCheckTurn, IsCheckBy, IsTurn}
+use Rattle.audit.specs.Stages.{Stage, Turned, refused, by, unless, same_handle, check_told, table_refusal, table_took, task_refusal, task_took, clerk_refusal, clerk_took, held_turn, look_told, IsCheckTurn, IsCheckBy, IsTurn}
 
 -- a call that changes nothing of the table, of tasks or of clerks
 abbrev pub IsLook : RecordedCall → Type 0
@@ -93,12 +93,12 @@ module _ (job : Job) (stage : Stage) (c : RecordedCall) (P : Turned → Type 0) 
     of_serve key at None = all.unchanged refusal.NoActor
     of_serve key at (Some s) = all.looks look (told.Verdict (rule_after (covers_key key) s.calls at))
 
-    of_look : (key : ℕ) (o : Option (Option Slicing)) → P (by stage o (λ s. (stage, looked (look_at s key))))
+    of_look : (key : ℕ) (o : Option (Option Slicing)) → P (by stage o (λ s. (stage, look_told (look_at s key))))
     of_look key None = all.unchanged refusal.NoActor
-    of_look key (Some s) = all.looks look (looked (look_at s key))
+    of_look key (Some s) = all.looks look (look_told (look_at s key))
 
     of_check_turn : (b : Bool) (s : History) (handle : KeyHandle) (at : ℕ) (turned : Turned) → IsCheckTurn b stage s handle at turned → P turned
-    of_check_turn true s handle at turned h = subst P (sym h.2) (all.looks look (checked h.0))
+    of_check_turn true s handle at turned h = subst P (sym h.2) (all.looks look (check_told h.0))
     of_check_turn false s handle at turned h = subst P (sym h) (all.unchanged refusal.NotSent)
 
     of_check : (o : Option History) (handle : KeyHandle) (at : ℕ) (turned : Turned) → IsCheckBy o stage handle at turned → P turned

@@ -1,8 +1,7 @@
 -- What those were told who looked.
-use Rattle.std.proofs.Common.{◌≡◌, ℕ, Bool, true, false, not, ◌&&◌, ◌||◌, List, length, refl, sym, ◌∙◌, ap, subst, inl, inr, ◌⊎◌, arith, eqb-true}
+use Rattle.std.proofs.Common.{◌≡◌, ℕ, Bool, true, false, not, ◌&&◌, ◌||◌, List, length, refl, sym, ◌∙◌, ap, subst, inl, inr, ◌⊎◌, eqb-true}
 use Rattle.std.specs.Prelude.{Option, Some, None, Result, Ok, Err, Contains, ◌==◌, nat_lt}
 use Rattle.std.specs.List.{list_any}
-use Rattle.std.proofs.lemmas.Bool.Decides.{nat_tests}
 use Rattle.std.proofs.lemmas.List.Folds.{list_any_at}
 use Rattle.policy_rules.specs.declared.answer.Ground.{Ground}
 use Rattle.policy_rules.specs.declared.answer.Verdict.{Verdict}
@@ -20,7 +19,8 @@ use Rattle.world.specs.declared.record.RecordedCall.TheVariants as call
 use Rattle.world.specs.declared.record.Told.{Told}
 use Rattle.world.specs.declared.record.Told.TheVariants as told
 use Rattle.world.specs.declared.reply.Refusal.TheVariants as refusal
-use Rattle.audit.specs.Stages.{Stage, Turned, by, held_turn, same_handle, checked, IsCheckTurn, IsCheckBy, IsTurn}
+use Rattle.world.proofs.Noting.{same_number}
+use Rattle.audit.specs.Stages.{Stage, Turned, by, held_turn, hold_told, same_handle, check_told, IsCheckTurn, IsCheckBy, IsTurn}
 use Rattle.audit.specs.OneRun.{Turn, Fits, IsOneRun}
 use Rattle.audit.specs.Promised.{IsTurnAt, IsRuled, IsServedByRule, IsHeldByRule, IsCheckedByHistory}
 use Rattle.audit.proofs.Splitting.{run_from_turn}
@@ -67,11 +67,7 @@ allowed_handle : (stage : Stage) (v : Verdict) (made handle : KeyHandle) → (he
 allowed_handle stage (Allow kind generation) made handle e = let same : made ≡ handle = cc in ap (λ (h : KeyHandle). let r : Result KeyHandle Ground = Ok h in r) same
 allowed_handle stage (Deny why) made handle e = absurd (cc)
 
-abbrev told_hold : Result KeyHandle Ground → Told
-told_hold (Ok handle) = told.Holding handle
-told_hold (Err why) = told.Verdict (Deny why)
-
-held_reply : (stage : Stage) (r : Result KeyHandle Ground) → (held_turn stage r).1 ≡ told_hold r
+held_reply : (stage : Stage) (r : Result KeyHandle Ground) → (held_turn stage r).1 ≡ hold_told r
 held_reply stage (Ok handle) = refl
 held_reply stage (Err why) = refl
 
@@ -84,9 +80,9 @@ module _ (stage : Stage) (key at : ℕ) where
   hold_by handle None e = absurd (cc)
   hold_by handle (Some s) e = (s, refl, allowed_handle stage (rule_after (covers_key key) s.calls at) (handle_on key s) handle e)
 
-  hold_told : (o : Option History) (s : History) (r : Result KeyHandle Ground) → o ≡ Some s → held_by (rule_after (covers_key key) s.calls at) (handle_on key s) ≡ r
-      → (turn_of o).1 ≡ told_hold r
-  hold_told o s r here e =
+  hold_turn_told : (o : Option History) (s : History) (r : Result KeyHandle Ground) → o ≡ Some s → held_by (rule_after (covers_key key) s.calls at) (handle_on key s) ≡ r
+      → (turn_of o).1 ≡ hold_told r
+  hold_turn_told o s r here e =
       ap (λ (x : Option History). (turn_of x).1) here
       ∙ (ap (λ (x : Result KeyHandle Ground). (held_turn stage x).1) e ∙ held_reply stage r)
 
@@ -94,27 +90,27 @@ pub held_by_rule : (job : Job) (stage : Stage) (task key at : ℕ) (turned : Tur
     → turned.1 ≡ reply → IsHeldByRule stage task key at reply
 held_by_rule job stage task key at turned reply is said = record {
   made = λ handle e. hold_by stage key at handle (numbered task stage.tasks) (sym (ap (λ (x : Turned). x.1) is) ∙ (said ∙ e));
-  allowed = λ s handle here e. sym said ∙ (ap (λ (x : Turned). x.1) is ∙ hold_told stage key at (numbered task stage.tasks) s (Ok handle) here e);
-  denied = λ s why here e. sym said ∙ (ap (λ (x : Turned). x.1) is ∙ hold_told stage key at (numbered task stage.tasks) s (Err why) here e);
+  allowed = λ s handle here e. sym said ∙ (ap (λ (x : Turned). x.1) is ∙ hold_turn_told stage key at (numbered task stage.tasks) s (Ok handle) here e);
+  denied = λ s why here e. sym said ∙ (ap (λ (x : Turned). x.1) is ∙ hold_turn_told stage key at (numbered task stage.tasks) s (Err why) here e);
 }
 
 -- A CHECK
 
 module _ (s : History) (handle : KeyHandle) (at : ℕ) where
-  said_continuous : (result : Result Bool Stranger) → IsChecked s handle at result → checked result ≡ told.Continuous
+  said_continuous : (result : Result Bool Stranger) → IsChecked s handle at result → check_told result ≡ told.Continuous
       → IsContinuous (covers_key handle.key) s.calls handle at
   said_continuous (Ok true) is e = is.1
   said_continuous (Ok false) is e = absurd (cc)
   said_continuous (Err stranger) is e = absurd (cc)
 
-  said_broken : (result : Result Bool Stranger) → IsChecked s handle at result → checked result ≡ told.Broken
+  said_broken : (result : Result Bool Stranger) → IsChecked s handle at result → check_told result ≡ told.Broken
       → IsContinuous (covers_key handle.key) s.calls handle at → ⊥
   said_broken (Ok true) is e = absurd (cc)
   said_broken (Ok false) is e = is.1
   said_broken (Err stranger) is e = absurd (cc)
 
   said_either : (result : Result Bool Stranger) → IsChecked s handle at result → is_strange s handle ≡ false
-      → (checked result ≡ told.Continuous) ⊎ (checked result ≡ told.Broken)
+      → (check_told result ≡ told.Continuous) ⊎ (check_told result ≡ told.Broken)
   said_either (Ok true) is familiar = inl refl
   said_either (Ok false) is familiar = inr refl
   said_either (Err stranger) is familiar = absurd (let f : is_strange s handle ≡ true = is in cc)
@@ -131,14 +127,11 @@ module _ (s : History) (handle : KeyHandle) (at : ℕ) where
     turn_either : (b : Bool) → b ≡ true → IsCheckTurn b stage s handle at turned → is_strange s handle ≡ false
         → (turned.1 ≡ told.Continuous) ⊎ (turned.1 ≡ told.Broken)
     turn_either true made h familiar =
-        let same : turned.1 ≡ checked h.0 = ap (λ (x : Turned). x.1) h.2 in
+        let same : turned.1 ≡ check_told h.0 = ap (λ (x : Turned). x.1) h.2 in
         elim (said_either h.0 h.1 familiar) [ inl e ↦ inl (same ∙ e) | inr e ↦ inr (same ∙ e) ]
     turn_either false made h familiar = absurd (cc)
 
 -- a handle that was made is found
-same_number : (n : ℕ) → (n == n) ≡ true
-same_number n = grind (arith, nat_tests)
-
 same_itself : (handle : KeyHandle) → same_handle handle handle ≡ true
 same_itself handle = rw (same_number handle.task) (rw (same_number handle.life) (rw (same_number handle.key) (same_number handle.position)))
 
@@ -173,7 +166,7 @@ familiar_task s handle familiar = by_test (handle.task == s.task) refl familiar
     by_test true e f = eqb-true handle.task s.task (sym e)
     by_test false e f = absurd (let g : true ≡ false = f in cc)
 
-continuous_result : (s : History) (handle : KeyHandle) (at : ℕ) (result : Result Bool Stranger) → IsChecked s handle at result → checked result ≡ told.Continuous
+continuous_result : (s : History) (handle : KeyHandle) (at : ℕ) (result : Result Bool Stranger) → IsChecked s handle at result → check_told result ≡ told.Continuous
     → is_strange s handle ≡ false
 continuous_result s handle at (Ok true) is e = is.0
 continuous_result s handle at (Ok false) is e = is.0

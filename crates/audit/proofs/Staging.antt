@@ -24,7 +24,7 @@ use Rattle.world.specs.declared.reply.Refusal.{Refusal}
 use Rattle.world.specs.declared.reply.Refusal.TheVariants as refusal
 use Rattle.world.specs.declared.record.Told.TheVariants as told
 use Rattle.world.specs.Told.{numbered}
-use Rattle.audit.specs.Stages.{Stage, Turned, by, unless, refused, notes_with, task_refusal, task_took, task_turn, clerk_refusal, clerk_took, clerk_turn, same_handle, checked, IsCheckBy, IsCheckTurn}
+use Rattle.audit.specs.Stages.{Stage, Turned, by, unless, refused, notes_with, task_refusal, task_took, task_turn, clerk_refusal, clerk_took, clerk_turn, same_handle, check_told, IsCheckBy, IsCheckTurn}
 use Rattle.audit.proofs.Numbering.{numbered_at}
 
 -- one actor more
@@ -121,10 +121,10 @@ clerk_missing stage clerk c e = sym
 
 -- a handle that was made is checked
 pub check_made : (stage : Stage) (task : ℕ) (s : History) (handle : KeyHandle) (at : ℕ) (result : Result Bool Stranger) → numbered task stage.tasks ≡ Some s
-    → list_any (same_handle handle) stage.handles ≡ true → IsChecked s handle at result → IsCheckBy (numbered task stage.tasks) stage handle at (stage, checked result)
+    → list_any (same_handle handle) stage.handles ≡ true → IsChecked s handle at result → IsCheckBy (numbered task stage.tasks) stage handle at (stage, check_told result)
 check_made stage task s handle at result here made is =
-    subst (λ (o : Option History). IsCheckBy o stage handle at (stage, checked result)) (sym here)
-    (subst (λ (b : Bool). IsCheckTurn b stage s handle at (stage, checked result)) (sym made) (result, is, refl))
+    subst (λ (o : Option History). IsCheckBy o stage handle at (stage, check_told result)) (sym here)
+    (subst (λ (b : Bool). IsCheckTurn b stage s handle at (stage, check_told result)) (sym made) (result, is, refl))
 
 pub check_unsent : (stage : Stage) (task : ℕ) (s : History) (handle : KeyHandle) (at : ℕ) → numbered task stage.tasks ≡ Some s
     → list_any (same_handle handle) stage.handles ≡ false → IsCheckBy (numbered task stage.tasks) stage handle at (refused stage refusal.NotSent)

@@ -170,18 +170,22 @@ abbrev pub held_turn : Stage → Result KeyHandle Ground → Turned
 held_turn stage (Ok handle) = (record stage { handles = stage.handles ++ handle ∷ [] }, told.Holding handle)
 held_turn stage (Err why) = (stage, told.Verdict (Deny why))
 
-abbrev pub looked : Result Found Unknown → Told
-looked (Ok found) = told.Found found
-looked (Err unknown) = told.Refused refusal.Unknown
+abbrev pub hold_told : Result KeyHandle Ground → Told
+hold_told (Ok handle) = told.Holding handle
+hold_told (Err why) = told.Verdict (Deny why)
 
-abbrev pub checked : Result Bool Stranger → Told
-checked (Ok true) = told.Continuous
-checked (Ok false) = told.Broken
-checked (Err stranger) = told.Refused refusal.Stranger
+abbrev pub look_told : Result Found Unknown → Told
+look_told (Ok found) = told.Found found
+look_told (Err unknown) = told.Refused refusal.Unknown
+
+abbrev pub check_told : Result Bool Stranger → Told
+check_told (Ok true) = told.Continuous
+check_told (Ok false) = told.Broken
+check_told (Err stranger) = told.Refused refusal.Stranger
 
 -- `check` of a handle that was made tells whether it is continuous
 abbrev pub IsCheckTurn : Bool → Stage → History → KeyHandle → ℕ → Turned → Type 0
-IsCheckTurn true stage s handle at turned = (result : Result Bool Stranger) × IsChecked s handle at result × (turned ≡ (stage, checked result))
+IsCheckTurn true stage s handle at turned = (result : Result Bool Stranger) × IsChecked s handle at result × (turned ≡ (stage, check_told result))
 IsCheckTurn false stage s handle at turned = turned ≡ refused stage refusal.NotSent
 
 abbrev pub IsCheckBy : Option History → Stage → KeyHandle → ℕ → Turned → Type 0
@@ -198,4 +202,4 @@ IsTurn job stage call.Rows turned = turned ≡ (stage, told.Rows stage.table.row
 IsTurn job stage (call.Serve task key at) turned = turned ≡ by stage (numbered task stage.tasks) (λ s. (stage, told.Verdict (rule_after (covers_key key) s.calls at)))
 IsTurn job stage (call.Hold task key at) turned = turned ≡ by stage (numbered task stage.tasks) (λ s. held_turn stage (held_by (rule_after (covers_key key) s.calls at) (handle_on key s)))
 IsTurn job stage (call.Check task handle at) turned = IsCheckBy (numbered task stage.tasks) stage handle at turned
-IsTurn job stage (call.Look clerk key) turned = turned ≡ by stage (numbered clerk stage.clerks) (λ s. (stage, looked (look_at s key)))
+IsTurn job stage (call.Look clerk key) turned = turned ≡ by stage (numbered clerk stage.clerks) (λ s. (stage, look_told (look_at s key)))

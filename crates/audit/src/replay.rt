@@ -12,7 +12,7 @@ ghost use Rattle.clerk.specs.Steps.{look_at};
 ghost use Rattle.world.specs.Told.{numbered};
 ghost use Rattle.world.specs.Jobs.{Job};
 ghost use Rattle.world.specs.declared.record.Told.TheVariants as told;
-ghost use Rattle.audit.specs.Stages.{IsCheckBy, IsTurn, by, clerk_refusal, clerk_turn, first_stage, grants_with, held_turn, is_assignment, is_grant, looked, notes_with, published_with, same_handle, same_note, table_refusal, table_turn, task_refusal, task_turn};
+ghost use Rattle.audit.specs.Stages.{IsCheckBy, IsTurn, by, clerk_refusal, clerk_turn, first_stage, grants_with, held_turn, is_assignment, is_grant, look_told, notes_with, published_with, same_handle, same_note, table_refusal, table_turn, task_refusal, task_turn};
 ghost use Rattle.audit.specs.Shown.{shown};
 
 use crate::points::Point;
@@ -338,7 +338,7 @@ impl Replay {
     /// `look` of a clerk.
     pub(crate) fn look(&self, clerk: u64, key: SliceKey) -> Told
         ensures { (self.now, result) ≡ by self.now (numbered clerk self.now.clerks)
-            (λ s. (self.now, looked (look_at s key))) }
+            (λ s. (self.now, look_told (look_at s key))) }
     {
         let Some(of_job) = numbered(clerk, self.clerks.as_slice()) else {
             return Told::Refused(Refusal::NoActor);

@@ -18,7 +18,7 @@ use Rattle.live_service.specs.Reports.{asked_keys, serves, task_keys, worker_key
 use Rattle.live_service.proofs.Asked.{asked-append, asked_by_worker, asked_nothing, workers_push}
 use Rattle.live_service.specs.declared.worker.Member.{Member}
 use Rattle.live_service.specs.declared.worker.Worked.{Worked}
-use Rattle.live_service.specs.Crews.{AreOfLanesFrom, AreMembersFrom, IsMember, IsGathered, HasLeft, HasWorked, HaveWorkedFrom}
+use Rattle.live_service.specs.inside.Crews.{AreOfLanesFrom, AreMembersFrom, IsMember, IsGathered, HasLeft, HasWorked, HaveWorkedFrom}
 
 module _ {M E : Type 0} where
   pub lanes_push : (lane : ℕ) (passes : List (PassView M E)) (pass : PassView M E) → AreOfLanesFrom lane passes → pass.lane ≡ lane + length passes → AreOfLanesFrom lane (passes ++ pass ∷ [])

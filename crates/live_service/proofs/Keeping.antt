@@ -10,7 +10,7 @@ use Rattle.live_service.specs.declared.seat.TableSeat.{TableSeat}
 use Rattle.live_service.specs.declared.task_loop.TaskSeat.{TaskSeat}
 use Rattle.live_service.specs.declared.clerk_loop.ClerkSeat.{ClerkSeat}
 use Rattle.live_service.specs.Reports.{serves}
-use Rattle.live_service.specs.Seats.{IsSeatOf, KeepsSeat, IsTaskSeatOf, KeepsTaskSeat, IsClerkSeatOf, KeepsClerkSeat}
+use Rattle.live_service.specs.inside.Seats.{IsSeatOf, KeepsSeat, IsTaskSeatOf, KeepsTaskSeat, IsClerkSeatOf, KeepsClerkSeat}
 
 module _ (table : Lock Standing) (ticket : TicketView) where
   pub keeps_same : (seat : TableSeat) → IsSeatOf table ticket seat → KeepsSeat table ticket seat seat

@@ -18,9 +18,9 @@ use Rattle.live_service.specs.declared.clerk_loop.ClerkSeat.{ClerkSeat}
 use Rattle.live_service.specs.declared.remains.Remains.{Remains}
 use Rattle.live_service.specs.declared.crew.Crew.{Crew}
 use Rattle.live_service.specs.declared.crew.CrewLeft.{CrewLeft}
-use Rattle.live_service.specs.Crews.{AreOfLanesFrom, IsCrew, HasLeft}
+use Rattle.live_service.specs.inside.Crews.{AreOfLanesFrom, IsCrew, HasLeft}
 use Rattle.live_service.specs.Reports.{asked_keys, job_keys, serves, task_keys, AreOfTasksFrom}
-use Rattle.live_service.specs.Stages.{AreCrewsFrom, HaveLeftFrom, IsQuietClerkSeat, IsQuietSeat, IsRemains}
+use Rattle.live_service.specs.inside.Stages.{AreCrewsFrom, HaveLeftFrom, IsQuietClerkSeat, IsQuietSeat, IsRemains}
 use Rattle.live_service.proofs.Asked.{asked-append, asked_nothing, serves-append, tasks_push}
 use Rattle.live_service.proofs.Crewing.{lanes_push, passes_push}
 

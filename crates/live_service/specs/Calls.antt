@@ -3,7 +3,7 @@ use Rattle.std.specs.Prelude.{◌≡◌, ◌⊎◌, ℕ, Result, Ok, Err}
 use Rattle.machines.specs.declared.event.Event.{Event}
 use Rattle.history_lock.specs.Histories.{IsLegal}
 use Rattle.history_lock.specs.Passes.{Lock, PassView}
-use Rattle.history_lock.specs.Answers.{HasWaited, IsTurnedAway, Wrote, Shared}
+use Rattle.history_lock.specs.Answers.{HasWaited, IsTurnedAway, IsWriterAt, Wrote, Shared}
 use Rattle.history_lock.specs.declared.error.Busy.{Busy}
 use Rattle.history_lock.specs.declared.error.WriteError.{WriteError}
 use Rattle.history_lock.specs.declared.error.WriteError.TheVariants as write_error
@@ -78,10 +78,11 @@ module _ {M E : Type 0} (old_draws new_draws : TicketPassView) {A : Type 0} (ask
   CalledToAsk old (Err spent) new = WasSpent old_draws new_draws old new
 
 module _ {M E R F : Type 0} (step : M → E → Result (M × R) F) (lock : Lock M) (old_draws new_draws : TicketPassView) {A : Type 0} (asks : PassView M E → A → PassView M E → Type 0) where
-  -- a lane was held, and the call drew nothing
+  -- a writer had the lane, and the call drew nothing
   pub record WasBusy (old : PassView M E) (busy : Busy) (new : PassView M E) : Type 0 where
     pub could : CanDraw old_draws
     pub draws : new_draws ≡ old_draws
+    pub writer : IsWriterAt old.lane busy
     pub turned : IsTurnedAway lock old busy new
     pub legal : IsLegal step lock.opened.machine new.seen
 

@@ -5,6 +5,4 @@ pub mod Calls
 pub mod Objects
 pub mod LiveJobs
 pub mod Reports
-pub mod Seats
-pub mod Crews
-pub mod Stages
+pub mod inside

@@ -1,9 +1,6 @@
 -- Shared objects, as callers know them, and what their calls answer.
-use Rattle.std.specs.Prelude.{◌≡◌, ℕ, Bool, true, false, List, Option, Result, Ok, Err, IfOk}
+use Rattle.std.specs.Prelude.{◌≡◌, ℕ, List, Option, Result, Ok, Err, IfOk}
 use Rattle.assignment.specs.Slices.{Slicing}
-use Rattle.policy_rules.specs.declared.answer.Ground.{Ground}
-use Rattle.policy_rules.specs.declared.answer.Verdict.TheVariants.{Deny}
-use Rattle.key_handle.specs.declared.handle.KeyHandle.{KeyHandle}
 use Rattle.lease_table.specs.Calls.{event_step as table_step}
 use Rattle.lease_table.specs.Tables.{Standing}
 use Rattle.lease_table.specs.declared.call.TableCall.{TableCall}
@@ -14,13 +11,10 @@ use Rattle.slicelet.specs.Steps.{History, event_step as slicelet_step}
 use Rattle.slicelet.specs.declared.call.SliceletCall.{SliceletCall}
 use Rattle.slicelet.specs.declared.call.SliceletReply.{SliceletReply}
 use Rattle.slicelet.specs.declared.error.SliceletError.{SliceletError}
-use Rattle.slicelet.specs.declared.error.Stranger.{Stranger}
 use Rattle.clerk.specs.Calls.{event_step as clerk_step}
 use Rattle.clerk.specs.declared.call.ClerkCall.{ClerkCall}
 use Rattle.clerk.specs.declared.call.ClerkReply.{ClerkReply}
-use Rattle.clerk.specs.declared.clerk.Found.{Found}
 use Rattle.clerk.specs.declared.error.ClerkError.{ClerkError}
-use Rattle.clerk.specs.declared.error.Unknown.{Unknown}
 use Rattle.machines.specs.declared.event.Event.{Event}
 use Rattle.history_lock.specs.Passes.{Lock, PassView}
 use Rattle.history_lock.specs.Answers.{HasWaited, Shared}
@@ -53,19 +47,6 @@ slicelet_told fault = told.Refused (refusal.Slicelet fault)
 
 abbrev pub clerk_told : ClerkError → Told
 clerk_told fault = told.Refused (refusal.Clerk fault)
-
-abbrev pub hold_told : Result KeyHandle Ground → Told
-hold_told (Ok handle) = told.Holding handle
-hold_told (Err why) = told.Verdict (Deny why)
-
-abbrev pub check_told : Result Bool Stranger → Told
-check_told (Ok true) = told.Continuous
-check_told (Ok false) = told.Broken
-check_told (Err stranger) = told.Refused refusal.Stranger
-
-abbrev pub look_told : Result Found Unknown → Told
-look_told (Ok found) = told.Found found
-look_told (Err unknown) = told.Refused refusal.Unknown
 
 -- a reply is one of this name
 abbrev pub IsNamed : {A R : Type 0} → (A → R) → R → Type 0

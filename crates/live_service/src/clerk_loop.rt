@@ -4,7 +4,7 @@ ghost use Rattle.std.specs.Prelude.{◌≡◌, IfOk};
 ghost use Rattle.history_lock.specs.Passes.{IsPassOf};
 ghost use Rattle.tickets.specs.Tickets.{DrawsFrom};
 ghost use Rattle.live_service.specs.Reports.{serves};
-ghost use Rattle.live_service.specs.Seats.{IsClerkSeatOf, KeepsClerkSeat};
+ghost use Rattle.live_service.specs.inside.Seats.{IsClerkSeatOf, KeepsClerkSeat};
 
 use crate::job::LiveJob;
 use crate::seat::{Halt, TURNS, TableSeat, written};

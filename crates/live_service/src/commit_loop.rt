@@ -1,7 +1,7 @@
 //! The thread that proposes and commits the generations of a live run.
 
 ghost use Rattle.std.specs.Prelude.{◌≤◌, IfOk};
-ghost use Rattle.live_service.specs.Seats.{IsSeatOf, KeepsSeat};
+ghost use Rattle.live_service.specs.inside.Seats.{IsSeatOf, KeepsSeat};
 
 use crate::job::LiveJob;
 use crate::seat::{Halt, TURNS, TableSeat};

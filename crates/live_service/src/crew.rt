@@ -6,9 +6,9 @@ ghost use Rattle.history_lock.specs.Histories.{IsLegal};
 ghost use Rattle.history_lock.specs.Passes.{AreNewFrom, IsPassOf};
 ghost use Rattle.slicelet.specs.Steps.{event_step};
 ghost use Rattle.tickets.specs.Tickets.{DrawsFrom, new_ticket_pass};
-ghost use Rattle.live_service.specs.Crews.{AreMembersFrom, HasLeft, HasWorked, HaveWorkedFrom, IsCrew, IsGathered, IsMember};
+ghost use Rattle.live_service.specs.inside.Crews.{AreMembersFrom, HasLeft, HasWorked, HaveWorkedFrom, IsCrew, IsGathered, IsMember};
 ghost use Rattle.live_service.specs.Reports.{serves};
-ghost use Rattle.live_service.specs.Seats.{IsTaskSeatOf, KeepsTaskSeat};
+ghost use Rattle.live_service.specs.inside.Seats.{IsTaskSeatOf, KeepsTaskSeat};
 
 use crate::gate::Gate;
 use crate::job::LiveJob;

@@ -7,10 +7,10 @@ ghost use Rattle.history_lock.specs.Passes.{ArePassesOf};
 ghost use Rattle.lease_table.specs.Calls.{event_step as table_step};
 ghost use Rattle.lease_table.specs.Tables.{opening};
 ghost use Rattle.tickets.specs.Tickets.{DrawsFrom};
-ghost use Rattle.live_service.specs.Crews.{AreOfLanesFrom};
+ghost use Rattle.live_service.specs.inside.Crews.{AreOfLanesFrom};
 ghost use Rattle.live_service.specs.LiveJobs.{live_policy};
 ghost use Rattle.live_service.specs.Reports.{IsReported, asked_keys, job_keys, serves};
-ghost use Rattle.live_service.specs.Stages.{HaveLeftFrom, IsQuietClerkSeat, IsQuietSeat, IsRemains};
+ghost use Rattle.live_service.specs.inside.Stages.{HaveLeftFrom, IsQuietClerkSeat, IsQuietSeat, IsRemains};
 
 use crate::clerk_loop::ClerkSeat;
 use crate::crew::CrewLeft;

@@ -2,9 +2,9 @@
 
 ghost use Rattle.std.specs.Prelude.{ℕ, Ok, ◌≡◌, ◌≤◌, ◌<◌, All, IfOk, vec_len, slice_index_or};
 ghost use Rattle.std.specs.Thread.{IsSync};
-ghost use Rattle.live_service.specs.Crews.{HasLeft, IsCrew};
+ghost use Rattle.live_service.specs.inside.Crews.{HasLeft, IsCrew};
 ghost use Rattle.live_service.specs.Reports.{IsReported};
-ghost use Rattle.live_service.specs.Stages.{AreCrewsFrom, HaveLeftFrom, IsQuietClerkSeat, IsQuietSeat};
+ghost use Rattle.live_service.specs.inside.Stages.{AreCrewsFrom, HaveLeftFrom, IsQuietClerkSeat, IsQuietSeat};
 
 use crate::clerk_loop::{ClerkSeat, learn_all};
 use crate::commit_loop::assign;

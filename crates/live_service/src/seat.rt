@@ -3,7 +3,7 @@
 ghost use Rattle.std.specs.Prelude.{◌≡◌};
 ghost use Rattle.live_service.specs.declared.seat.Halt.TheVariants as halt;
 ghost use Rattle.live_service.specs.Reports.{serves};
-ghost use Rattle.live_service.specs.Seats.{IsSeatOf, KeepsSeat, RefusesNoServe};
+ghost use Rattle.live_service.specs.inside.Seats.{IsSeatOf, KeepsSeat, RefusesNoServe};
 
 use crate::error::{CallError, RefusedCall, RowsError};
 use crate::shared_table::SharedTable;

@@ -11,7 +11,8 @@ ghost use Rattle.history_lock.specs.declared.error.NewLockError.TheVariants as n
 ghost use Rattle.tickets.specs.Tickets.{DrawsFrom};
 ghost use Rattle.world.specs.declared.record.RecordedCall.TheVariants as recorded_call;
 ghost use Rattle.live_service.specs.Calls.{CalledToAsk, AsksFor};
-ghost use Rattle.live_service.specs.Objects.{CalledClerk, look_told};
+ghost use Rattle.audit.specs.Stages.{look_told};
+ghost use Rattle.live_service.specs.Objects.{CalledClerk};
 
 use crate::ask::{Ask, read};
 use crate::error::{CallError, NotClosed, Recorded};

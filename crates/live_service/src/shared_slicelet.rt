@@ -14,7 +14,8 @@ ghost use Rattle.world.specs.declared.record.RecordedCall.TheVariants as recorde
 ghost use Rattle.world.specs.declared.record.Told.TheVariants as told;
 ghost use Rattle.live_service.specs.Readings.{reading_at, slicelet_call_at};
 ghost use Rattle.live_service.specs.Calls.{CalledToAsk, AsksFor, AsksAtOnceFor, TriedToAsk};
-ghost use Rattle.live_service.specs.Objects.{CalledSlicelet, check_told, hold_told};
+ghost use Rattle.audit.specs.Stages.{check_told, hold_told};
+ghost use Rattle.live_service.specs.Objects.{CalledSlicelet};
 
 use crate::ask::{Ask, read, read_gated, try_read};
 use crate::calls::UNREAD;

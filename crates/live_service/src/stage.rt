@@ -3,8 +3,8 @@
 ghost use Rattle.std.specs.Prelude.{◌≡◌, ◌≤◌, ◌<◌, ◌+◌, ◌*◌, All, IfOk, OnOk, vec_len};
 ghost use Rattle.history_lock.specs.Passes.{AreNewFrom, IsPassOf};
 ghost use Rattle.tickets.specs.Tickets.{new_ticket_pass};
-ghost use Rattle.live_service.specs.Crews.{IsCrew};
-ghost use Rattle.live_service.specs.Stages.{AreCrewsFrom, IsQuietClerkSeat, IsQuietSeat, IsStaged};
+ghost use Rattle.live_service.specs.inside.Crews.{IsCrew};
+ghost use Rattle.live_service.specs.inside.Stages.{AreCrewsFrom, IsQuietClerkSeat, IsQuietSeat, IsStaged};
 
 use crate::clerk_loop::ClerkSeat;
 use crate::crew::{Crew, MOST_ENTRIES};

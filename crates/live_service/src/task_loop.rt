@@ -4,7 +4,7 @@ ghost use Rattle.std.specs.Prelude.{◌≡◌, IfOk};
 ghost use Rattle.history_lock.specs.Passes.{IsPassOf};
 ghost use Rattle.tickets.specs.Tickets.{DrawsFrom};
 ghost use Rattle.live_service.specs.Reports.{serves};
-ghost use Rattle.live_service.specs.Seats.{IsTaskSeatOf, KeepsTaskSeat};
+ghost use Rattle.live_service.specs.inside.Seats.{IsTaskSeatOf, KeepsTaskSeat};
 
 use crate::job::LiveJob;
 use crate::seat::{Halt, LIFE, TURNS, TableSeat, written};

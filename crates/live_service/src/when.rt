@@ -6,7 +6,8 @@ ghost use Rattle.live_service.specs.Readings.{reading_at};
 /// The reading of a call.
 #[derive(Clone, Copy, Debug, PartialEq, Eq)]
 pub enum When {
-    /// This reading, in ticks of the caller's clock.
+    /// This reading, in ticks: of the table's clock for a call of the table, of the task's for one of its
+    /// slicelet.
     At(u64),
     /// The call's own ticket.
     AtTicket,

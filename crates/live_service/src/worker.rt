@@ -6,7 +6,7 @@ ghost use Rattle.key_hash.specs.Hash.{slice_key};
 ghost use Rattle.tickets.specs.Tickets.{DrawsFrom, new_ticket_pass};
 ghost use Rattle.world.specs.declared.record.RecordedCall.TheVariants as recorded_call;
 ghost use Rattle.live_service.specs.Draws.{CanDraw};
-ghost use Rattle.live_service.specs.Crews.{HasWorked};
+ghost use Rattle.live_service.specs.inside.Crews.{HasWorked};
 
 use crate::gate::Gate;
 use crate::shared_slicelet::SharedSlicelet;
@@ -44,26 +44,24 @@ pub(crate) fn work<R: Wait, G: Gate>(
     ticket: &Ticket,
     gate: &G,
     asks: u32,
-    member: Member,
+    mut member: Member,
 ) -> Result<Worked, AllocError>
     requires own { IsPassOf slicelet.now member.pass }
     requires draws { member.draws ≡ new_ticket_pass ticket.now }
     requires enough { asks ≤ ticket.now.terms.quota }
     ensures { IfOk result (λ worked. HasWorked slicelet.now ticket.now asks member.pass.lane worked) }
 {
-    let Member {
-        number,
-        mut pass,
-        mut draws,
-    } = member;
     let mut records = Vec::with_capacity(alloc, asks as usize)?;
     for ask in 0..asks {
         let key = nth_key(alloc, ask)?;
-        let record = ask_for(
-            rt, slicelet, ticket, &mut pass, &mut draws, key, gate, number, ask,
-        );
+        let record = member.ask_for(rt, slicelet, ticket, key, gate, ask);
         records.push(record)?;
     }
+    let Member {
+        number: _,
+        pass,
+        draws,
+    } = member;
     Ok(Worked {
         pass,
         draws,
@@ -79,31 +77,33 @@ fn nth_key(alloc: Global, number: u32) -> Result<SliceKey, AllocError>
     Ok(slice_key(text.as_str().as_bytes()))
 }
 
-// One ask for a key, at its ticket, and the record of it.
-#[tactic(auto, using(crate::proofs::Lanes::asked_lane, crate::proofs::Asked::asked_drew, crate::proofs::Asked::asked_step, crate::proofs::Asked::spent_not))]
-fn ask_for<R: Wait, G: Gate>(
-    rt: &R,
-    slicelet: &SharedSlicelet,
-    ticket: &Ticket,
-    pass: &mut Pass<Slicelet>,
-    draws: &mut TicketPass,
-    key: SliceKey,
-    gate: &G,
-    worker: u32,
-    ask: u32,
-) -> CallRecord
-    requires own { IsPassOf slicelet.now pass.old }
-    requires draws { DrawsFrom ticket.now draws.old }
-    requires can { CanDraw draws.old }
-    ensures own { IsPassOf slicelet.now pass.new }
-    ensures lane { pass.new.lane ≡ pass.old.lane }
-    ensures draws { DrawsFrom ticket.now draws.new }
-    ensures drew { length draws.new.drawn ≡ length draws.old.drawn + 1 }
-    ensures asked { result.step ≡ recorded_call.Serve slicelet.now.opened.machine.task key result.ticket }
-{
-    let at = When::AtTicket;
-    let Ok(asked) = slicelet.serve_gated(rt, ticket, pass, draws, key, at, gate, worker, ask) else {
-        unreachable!()
-    };
-    asked.call
+impl Member {
+    // One ask for a key, at its ticket, and the record of it.
+    #[tactic(auto, using(crate::proofs::Lanes::asked_lane, crate::proofs::Asked::asked_drew, crate::proofs::Asked::asked_step, crate::proofs::Asked::spent_not))]
+    fn ask_for<R: Wait, G: Gate>(
+        &mut self,
+        rt: &R,
+        slicelet: &SharedSlicelet,
+        ticket: &Ticket,
+        key: SliceKey,
+        gate: &G,
+        ask: u32,
+    ) -> CallRecord
+        requires own { IsPassOf slicelet.now self.old.pass }
+        requires draws { DrawsFrom ticket.now self.old.draws }
+        requires can { CanDraw self.old.draws }
+        ensures own { IsPassOf slicelet.now self.new.pass }
+        ensures lane { self.new.pass.lane ≡ self.old.pass.lane }
+        ensures draws { DrawsFrom ticket.now self.new.draws }
+        ensures drew { length self.new.draws.drawn ≡ length self.old.draws.drawn + 1 }
+        ensures asked { result.step ≡ recorded_call.Serve slicelet.now.opened.machine.task key result.ticket }
+    {
+        let (pass, draws) = (&mut self.pass, &mut self.draws);
+        let (at, worker) = (When::AtTicket, self.number);
+        let Ok(asked) = slicelet.serve_gated(rt, ticket, pass, draws, key, at, gate, worker, ask)
+        else {
+            unreachable!()
+        };
+        asked.call
+    }
 }

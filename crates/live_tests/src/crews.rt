@@ -1,10 +1,16 @@
 //! Live runs, and what their gates see.
 
+use assignment::OwnedSlice;
 use audit::Audit;
+use clerk::{ClerkCall, ClerkEvent};
 use crossbeam_utils::Backoff;
 use crossbeam_utils::atomic::AtomicCell;
+use history_lock::History;
 use key_hash::slice_key;
+use lease_table::TableCall;
 use live_service::{Gate, LiveJob, LiveReport, OpenGate, run_live};
+use policy_rules::Kind;
+use slicelet::{SliceletCall, SliceletEvent};
 use std::alloc::Global;
 use std::sync::Wait;
 use std::test::Fail;
@@ -18,6 +24,68 @@ fn reports_what_two_tasks_with_two_workers_did(rt: HostRuntime) -> Result<(), Fa
     assert_eq!(rt; (report.asked, report.generation), (400, 3));
     assert_eq!(rt; (report.tasks.len(), report.clerks.len()), (2, 1));
     assert!(rt; matches!(report.audit, Audit::One { timely: true, .. }));
+    Ok(())
+}
+
+// The generation of the guard that a task heard by its last entry.
+fn last_guard(history: &History<SliceletEvent>) -> Option<u64> {
+    match &history.entries().last()?.event.call {
+        SliceletCall::Hear { grant, .. } if grant.lease.kind == Kind::Guard => {
+            Some(grant.lease.generation)
+        }
+        _ => None,
+    }
+}
+
+// The generation that a clerk learnt by its last entry.
+fn last_learnt(history: &History<ClerkEvent>) -> Option<u64> {
+    match &history.entries().last()?.event.call {
+        ClerkCall::Learn(assignment) => Some(assignment.generation()),
+        ClerkCall::Forget => None,
+    }
+}
+
+// Whether a slice has this owner alone.
+fn is_owned_by(slice: &OwnedSlice, owner: u64) -> bool {
+    matches!(slice.owners(), [only] if only.number() == owner)
+}
+
+// Whether a call proposes this generation with these two owners of a half of the keys each.
+fn proposes(call: &TableCall, generation: u64, owners: (u64, u64)) -> bool {
+    match call {
+        TableCall::Propose { assignment, .. } => {
+            assignment.generation() == generation
+                && matches!(assignment.slices(), [lower, upper] if is_owned_by(lower, owners.0) && is_owned_by(upper, owners.1))
+        }
+        _ => false,
+    }
+}
+
+#[test]
+fn moves_the_halves_and_their_leases_in_each_round(rt: HostRuntime) -> Result<(), Fail> {
+    let job = LiveJob::new(2, 1, 3, 10).ok_or("within the limits")?;
+    let report = run_live(&rt, rt.alloc(), &job, &OpenGate)?;
+    for (generation, owners) in [(1, (2, 1)), (2, (1, 2)), (3, (2, 1))] {
+        assert!(rt;
+            report
+                .table
+                .entries()
+                .iter()
+                .any(|entry| proposes(&entry.event.call, generation, owners))
+        );
+    }
+    assert!(rt;
+        report
+            .tasks
+            .iter()
+            .all(|history| last_guard(history) == Some(3))
+    );
+    assert!(rt;
+        report
+            .clerks
+            .iter()
+            .all(|history| last_learnt(history) == Some(3))
+    );
     Ok(())
 }
 

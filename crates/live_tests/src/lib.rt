@@ -7,3 +7,5 @@ mod calls;
 mod crews;
 #[cfg(test)]
 mod objects;
+#[cfg(test)]
+mod refusals;

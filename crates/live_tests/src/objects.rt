@@ -64,7 +64,7 @@ pub fn open_all(alloc: Global) -> Result<(Objects, Passes), Fail>
     ensures own { IfOk result (λ made. IsPassOf made.0.table made.1.table × IsPassOf made.0.task made.1.task × IsPassOf made.0.clerk.lock made.1.clerk) }
     ensures draws { IfOk result (λ made. DrawsFrom made.0.ticket made.1.draws) }
 {
-    let (table, table_pass) = open_table(alloc)?;
+    let (table, table_pass) = open_table(alloc, 10)?;
     let (task, task_pass) = open_task(alloc)?;
     let (clerk, clerk_pass) = open_clerk(alloc)?;
     let (ticket, draws) = open_ticket(alloc, 18)?;
@@ -83,11 +83,12 @@ pub fn open_all(alloc: Global) -> Result<(Objects, Passes), Fail>
     Ok((objects, passes))
 }
 
-fn open_table(alloc: Global) -> Result<(SharedTable, Pass<LeaseTable>), Fail>
+/// A table of one lane that takes so many entries, and its one pass.
+pub fn open_table(alloc: Global, entries: usize) -> Result<(SharedTable, Pass<LeaseTable>), Fail>
     ensures { IfOk result (λ made. IsPassOf made.0 made.1) }
 {
-    let made = SharedTable::new(alloc, policy()?, 1, 10);
-    let (table, mut others) = made.ok().ok_or("one lane and ten entries")?;
+    let made = SharedTable::new(alloc, policy()?, 1, entries);
+    let (table, mut others) = made.ok().ok_or("one lane and some entries")?;
     let pass = others.pop().ok_or("the pass of lane 0")?;
     Ok((table, pass))
 }
@@ -110,7 +111,8 @@ fn open_clerk(alloc: Global) -> Result<(SharedClerk, Pass<Clerk>), Fail>
     Ok((clerk, pass))
 }
 
-fn open_ticket(alloc: Global, draws: u64) -> Result<(Ticket, TicketPass), Fail>
+/// A ticket of one pass that may draw so many numbers, and that pass.
+pub fn open_ticket(alloc: Global, draws: u64) -> Result<(Ticket, TicketPass), Fail>
     ensures { IfOk result (λ made. DrawsFrom made.0 made.1) }
 {
     let made = Ticket::new(alloc, 1, draws);

@@ -22,10 +22,13 @@ pub struct TicketShare {
     pub drawn: LinkedList<u64>,
 }
 
+/// The table of a ticket's one word, which one owner has.
 pub type TicketTable = Table<(), TicketShare, TicketTerms, EachOnce, Global>;
 
+/// The same table, as threads share it.
 pub type TicketWord = Shared<(), TicketShare, TicketTerms, EachOnce>;
 
+/// The seat of a pass at that table.
 pub type TicketSeat = Seat<(), TicketShare>;
 
 /// What holds of the word and all seats between any two steps.

@@ -33,7 +33,7 @@ use Rattle.world.proofs.TaskAcceptance.{given_reply}
 
 -- NOTES STAY SENT
 
-note_stays : (task : ℕ) (c : SliceletCall) (h : List SliceletCall) (note : ReleaseNote) → Contains (notes_sent task h) note
+pub note_stays : (task : ℕ) (c : SliceletCall) (h : List SliceletCall) (note : ReleaseNote) → Contains (notes_sent task h) note
     → Contains (notes_sent task (c ∷ h)) note
 note_stays task (Start life at) h note i = i
 note_stays task (Hear grant at) h note i = i
@@ -58,7 +58,7 @@ note_later job e past note i = by_test (is_accepted e.reply)
 
 -- WHAT WAS MADE WAS SENT
 
-same_number : (n : ℕ) → (n == n) ≡ true
+pub same_number : (n : ℕ) → (n == n) ≡ true
 same_number n = grind (arith, nat_tests)
 
 released_note : (b : Bool) (o : Option SliceletError) (place given : ℕ) (new : History) (made other : ReleaseNote)

@@ -1,4 +1,4 @@
-use Rattle.live_service.specs.Seats.{KeepsClerkSeat}
+use Rattle.live_service.specs.inside.Seats.{KeepsClerkSeat}
 use Rattle.live_service.proofs.clerk_loop.follow_commits.Given as goal
 
 abbrev pub invariant-loop : goal.invariant-loop

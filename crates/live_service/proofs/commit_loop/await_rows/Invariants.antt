@@ -1,4 +1,4 @@
-use Rattle.live_service.specs.Seats.{KeepsSeat}
+use Rattle.live_service.specs.inside.Seats.{KeepsSeat}
 use Rattle.live_service.proofs.commit_loop.await_rows.Given as goal
 
 abbrev pub invariant-loop : goal.invariant-loop

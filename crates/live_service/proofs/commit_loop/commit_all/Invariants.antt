@@ -1,4 +1,4 @@
-use Rattle.live_service.specs.Seats.{KeepsSeat}
+use Rattle.live_service.specs.inside.Seats.{KeepsSeat}
 use Rattle.live_service.proofs.commit_loop.commit_all.Given as goal
 
 abbrev pub invariant-loop-generation : goal.invariant-loop-generation

@@ -1,6 +1,6 @@
 use Rattle.std.proofs.Common.{◌≡◌, ◌+◌, vec_len}
 use Rattle.std.specs.Vec.Iter.{into_iter_items, into_iter_len}
-use Rattle.live_service.specs.Crews.{HaveWorkedFrom, IsGathered}
+use Rattle.live_service.specs.inside.Crews.{HaveWorkedFrom, IsGathered}
 use Rattle.live_service.proofs.crew.gather.Given as goal
 
 abbrev pub invariant-loop-one : goal.invariant-loop-one

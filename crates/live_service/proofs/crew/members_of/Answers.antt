@@ -4,7 +4,7 @@ use Rattle.std.specs.Vec.Iter.{into_iter_items}
 use Rattle.history_lock.specs.Passes.{AreNewFrom}
 use Rattle.tickets.specs.Tickets.{TicketPassView, new_ticket_pass}
 use Rattle.live_service.specs.declared.worker.Member.{Member}
-use Rattle.live_service.specs.Crews.{AreMembersFrom}
+use Rattle.live_service.specs.inside.Crews.{AreMembersFrom}
 use Rattle.live_service.proofs.Crewing.{members_push, new_member}
 use Rattle.live_service.proofs.crew.members_of.Goals as goal
 

@@ -1,8 +1,8 @@
 use Rattle.std.proofs.Common.{rules, ◌≡◌, ◌+◌, ◌∷◌, [], length, ap, subst, arith, vec_len, IfOk}
 use Rattle.std.proofs.lemmas.List.{length-append}
 use Rattle.std.specs.Vec.Iter.{into_iter_items}
-use Rattle.live_service.specs.Crews.{HasLeft}
-use Rattle.live_service.specs.Stages.{HaveLeftFrom}
+use Rattle.live_service.specs.inside.Crews.{HasLeft}
+use Rattle.live_service.specs.inside.Stages.{HaveLeftFrom}
 use Rattle.live_service.proofs.Staging.{remains_more, remains_two}
 use Rattle.live_service.proofs.remains.remains_of.Goals as goal
 

@@ -1,6 +1,6 @@
 use Rattle.std.proofs.Common.{◌≡◌, ◌+◌, vec_len}
 use Rattle.std.specs.Vec.Iter.{into_iter_items, into_iter_len}
-use Rattle.live_service.specs.Stages.{HaveLeftFrom, IsRemains}
+use Rattle.live_service.specs.inside.Stages.{HaveLeftFrom, IsRemains}
 use Rattle.live_service.proofs.remains.remains_of.Given as goal
 
 abbrev pub invariant-loop-crew : goal.invariant-loop-crew

@@ -2,7 +2,7 @@ use Rattle.std.proofs.Common.{◌≡◌, ◌∙◌, ℕ, ◌+◌, ◌*◌, List,
 use Rattle.std.specs.Vec.Iter.{into_iter_items, into_iter_len}
 use Rattle.history_lock.specs.Passes.{AreNewFrom}
 use Rattle.live_service.specs.declared.crew.Crew.{Crew}
-use Rattle.live_service.specs.Stages.{AreCrewsFrom}
+use Rattle.live_service.specs.inside.Stages.{AreCrewsFrom}
 use Rattle.live_service.proofs.Staging.{crews_push}
 use Rattle.live_service.proofs.stage.crews.Goals as goal
 

@@ -1,4 +1,4 @@
-use Rattle.live_service.specs.Seats.{KeepsTaskSeat}
+use Rattle.live_service.specs.inside.Seats.{KeepsTaskSeat}
 use Rattle.live_service.proofs.task_loop.follow_phases.Given as goal
 
 abbrev pub invariant-loop : goal.invariant-loop

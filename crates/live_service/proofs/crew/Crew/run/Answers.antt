@@ -1,7 +1,7 @@
 use Rattle.std.proofs.Common.{◌≡◌, ◌∙◌, ℕ, ◌+◌, ap, arith, subst, vec_len}
 use Rattle.history_lock.specs.Histories.{IsLegal}
 use Rattle.slicelet.specs.Steps.{event_step, History}
-use Rattle.live_service.specs.Crews.{IsGathered}
+use Rattle.live_service.specs.inside.Crews.{IsGathered}
 use Rattle.live_service.proofs.Crewing.{has_left}
 use Rattle.live_service.proofs.crew.Crew.run.Goals as goal
 

@@ -13,7 +13,7 @@ use Rattle.live_service.specs.declared.stage.Stage.{Stage}
 use Rattle.live_service.specs.declared.remains.Remains.{Remains}
 use Rattle.live_service.specs.LiveJobs.{LiveSizes, live_policy}
 use Rattle.live_service.specs.Reports.{serves, asked_keys, job_keys, AreOfTasksFrom}
-use Rattle.live_service.specs.Crews.{AreOfLanesFrom, IsCrew, HasLeft}
+use Rattle.live_service.specs.inside.Crews.{AreOfLanesFrom, IsCrew, HasLeft}
 
 module _ (table : Lock Standing) (ticket : TicketView) where
   -- the passes of a thread that calls the table are of this lane of its lock and of this ticket, and none of its records tells of a key that a task was asked for

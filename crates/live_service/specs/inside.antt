@@ -1,0 +1,4 @@
+-- What private functions and proofs speak of, and no clause of a public call.
+pub mod Seats
+pub mod Crews
+pub mod Stages

@@ -1,0 +1,133 @@
+//! What shared objects refuse, and the records that refusals leave.
+
+use crate::objects::{first_assignment, open_all, open_table, open_ticket};
+use clerk::{ClerkCall, ClerkError};
+use lease_table::{TableCall, TableError};
+use live_service::{CallError, RefusedCall, When};
+use slicelet::{SliceletCall, SliceletError};
+use std::test::Fail;
+use world::{RecordedCall, Refusal, Told};
+
+// The machine's refusal, where that is what a call answered.
+fn refused<A: Drop, F: Drop>(answer: Result<A, CallError<F>>) -> Option<RefusedCall<F>> {
+    match answer {
+        Err(CallError::Refused(why)) => Some(why),
+        _ => None,
+    }
+}
+
+#[test]
+fn records_a_take_while_the_job_is_held(rt: HostRuntime) -> Result<(), Fail> {
+    let (objects, mut passes) = open_all(rt.alloc())?;
+    let (table, ticket) = (&objects.table, &objects.ticket);
+    let (pass, draws) = (&mut passes.table, &mut passes.draws);
+    table
+        .take(&rt, ticket, pass, draws, 1, When::At(0))
+        .ok()
+        .ok_or("nobody holds the job")?;
+    let again = table.take(&rt, ticket, pass, draws, 2, When::At(5));
+    let RefusedCall { fault, call } = refused(again).ok_or("the job is held")?;
+    assert_eq!(rt;
+        (fault, call.ticket),
+        (TableError::JobHeld { until: 1000 }, 1)
+    );
+    assert!(rt;
+        matches!(
+            call.step,
+            RecordedCall::Table(TableCall::JobTake { assigner: 2, at: 5 })
+        )
+    );
+    assert!(rt;
+        matches!(
+            call.reply,
+            Told::Refused(Refusal::Table(TableError::JobHeld { until: 1000 }))
+        )
+    );
+    Ok(())
+}
+
+#[test]
+fn records_a_start_of_a_life_that_was_started(rt: HostRuntime) -> Result<(), Fail> {
+    let (objects, mut passes) = open_all(rt.alloc())?;
+    let (task, ticket) = (&objects.task, &objects.ticket);
+    let (pass, draws) = (&mut passes.task, &mut passes.draws);
+    task.start(&rt, ticket, pass, draws, 1, When::At(3))
+        .ok()
+        .ok_or("the first life")?;
+    let again = task.start(&rt, ticket, pass, draws, 1, When::At(4));
+    let RefusedCall { fault, call } = refused(again).ok_or("life 1 was started")?;
+    assert_eq!(rt; (fault, call.ticket), (SliceletError::OldLife, 1));
+    assert!(rt;
+        matches!(
+            call.step,
+            RecordedCall::Task {
+                task: 1,
+                call: SliceletCall::Start { life: 1, at: 4 }
+            }
+        )
+    );
+    assert!(rt;
+        matches!(
+            call.reply,
+            Told::Refused(Refusal::Slicelet(SliceletError::OldLife))
+        )
+    );
+    Ok(())
+}
+
+#[test]
+fn records_an_assignment_that_a_clerk_has(rt: HostRuntime) -> Result<(), Fail> {
+    let alloc = rt.alloc();
+    let (objects, mut passes) = open_all(alloc)?;
+    let (clerk, ticket) = (&objects.clerk, &objects.ticket);
+    let (pass, draws) = (&mut passes.clerk, &mut passes.draws);
+    clerk
+        .learn(&rt, ticket, pass, draws, first_assignment(alloc)?)
+        .ok()
+        .ok_or("the first assignment")?;
+    let again = clerk.learn(&rt, ticket, pass, draws, first_assignment(alloc)?);
+    let RefusedCall { fault, call } = refused(again).ok_or("it has generation 1")?;
+    assert_eq!(rt;
+        (fault, call.ticket),
+        (ClerkError::Old { generation: 1 }, 1)
+    );
+    assert!(rt;
+        matches!(
+            call.step,
+            RecordedCall::Clerk {
+                clerk: 1,
+                call: ClerkCall::Learn(_)
+            }
+        )
+    );
+    assert!(rt;
+        matches!(
+            call.reply,
+            Told::Refused(Refusal::Clerk(ClerkError::Old { generation: 1 }))
+        )
+    );
+    Ok(())
+}
+
+#[test]
+fn draws_nothing_where_the_history_is_full(rt: HostRuntime) -> Result<(), Fail> {
+    let (table, mut pass) = open_table(rt.alloc(), 1)?;
+    let (ticket, mut draws) = open_ticket(rt.alloc(), 2)?;
+    let first = table.take(&rt, &ticket, &mut pass, &mut draws, 1, When::At(0));
+    let second = table.take(&rt, &ticket, &mut pass, &mut draws, 1, When::At(1000));
+    assert!(rt; first.is_ok());
+    assert!(rt; matches!(second, Err(CallError::HistoryFull)));
+    assert_eq!(rt; draws.left(), 1);
+    Ok(())
+}
+
+#[test]
+fn calls_nothing_once_its_ticket_pass_is_spent(rt: HostRuntime) -> Result<(), Fail> {
+    let (table, mut pass) = open_table(rt.alloc(), 10)?;
+    let (ticket, mut draws) = open_ticket(rt.alloc(), 1)?;
+    let first = table.take(&rt, &ticket, &mut pass, &mut draws, 1, When::At(0));
+    let second = table.take(&rt, &ticket, &mut pass, &mut draws, 1, When::At(1000));
+    assert!(rt; first.is_ok());
+    assert!(rt; matches!(second, Err(CallError::Spent)));
+    Ok(())
+}
