@@ -1,22 +1,18 @@
 -- What comparing slices and assignments tells.
-use Rattle.std.proofs.Common.{◌≡◌, Bool, true, false, ◌&&◌, refl}
+use Rattle.std.proofs.Common.{◌≡◌, Bool, true, refl}
 use Rattle.std.specs.Bool.{Decides}
 use Rattle.std.specs.Cmp.Lexicographic.{pointwise_decides, bytes_decides}
-use Rattle.std.proofs.lemmas.Bool.{eqb-true}
+use Rattle.std.proofs.lemmas.Bool.{eqb-true, and_parts}
 use Rattle.assignment.specs.declared.slice.Slice.{Slice}
 use Rattle.assignment.specs.Slices.{Slicing}
 use Rattle.assignment.specs.Equality.{slice_eq, slicing_eq, slice_equivalence, slicing_equivalence}
-
-both : (s t : Bool) → (s && t) ≡ true → (s ≡ true) × (t ≡ true)
-both true t e = (refl, e)
-both false t e = absurd (cc)
 
 slice_same : (a b : Slice) → Decides (slice_eq a b) (a ≡ b)
 slice_same a b = (equal, λ e. rw e (slice_equivalence.refl b))
   where
     equal : slice_eq a b ≡ true → a ≡ b
     equal e =
-        let parts = both _ _ e in
+        let parts = and_parts _ _ e in
         let start = eqb-true a.start b.start parts.0 in
         let owners = (bytes_decides a.owners b.owners).0 parts.1 in
         λ i. record { start = start i; owners = owners i }
@@ -26,7 +22,7 @@ slicing_same a b = (equal, λ e. rw e (slicing_equivalence.refl b))
   where
     equal : slicing_eq a b ≡ true → a ≡ b
     equal e =
-        let parts = both _ _ e in
+        let parts = and_parts _ _ e in
         let generation = eqb-true a.generation b.generation parts.0 in
         let slices = (pointwise_decides slice_same a.slices b.slices).0 parts.1 in
         λ i. record { generation = generation i; slices = slices i }

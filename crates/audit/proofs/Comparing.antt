@@ -3,7 +3,7 @@ use Rattle.std.proofs.Common.{◌≡◌, ◌≢◌, Bool, true, false, List, Mat
 use Rattle.std.specs.Prelude.{◌&&◌, nat_eq}
 use Rattle.std.specs.Cmp.{nat_eq_equiv}
 use Rattle.std.specs.Cmp.Lexicographic.{pointwise, bytes_decides, nat_list_eq_equiv}
-use Rattle.std.proofs.lemmas.Bool.{eqb-true}
+use Rattle.std.proofs.lemmas.Bool.{eqb-true, and_parts}
 use Rattle.lease_table.specs.declared.values.Row.{Row}
 use Rattle.clerk.specs.declared.clerk.Found.{Found}
 use Rattle.world.specs.declared.record.Told.{Told}
@@ -17,17 +17,13 @@ pub same_found : (r : Bool) (told : Told) (found other : Found) → told ≡ ans
 same_found true told found other is d = let e = d.0 refl in cc
 same_found false told found other is d = λ e. let f : found ≡ other = cc in let t = d.1 f in cc
 
-both : (s t : Bool) → (s && t) ≡ true → (s ≡ true) × (t ≡ true)
-both true t e = (refl, e)
-both false t e = absurd (cc)
-
 -- what a clerk answers is compared by its generation and its owners
 pub found_decides : (a b : Found) → Decides (nat_eq a.generation b.generation && pointwise nat_eq a.owners.items b.owners.items) (a ≡ b)
 found_decides a b = (equal, λ e. rw e (alike b))
   where
     equal : (nat_eq a.generation b.generation && pointwise nat_eq a.owners.items b.owners.items) ≡ true → a ≡ b
     equal e =
-        let parts = both _ _ e in
+        let parts = and_parts _ _ e in
         let generation = eqb-true a.generation b.generation parts.0 in
         let owners = (bytes_decides a.owners.items b.owners.items).0 parts.1 in
         λ i. record { generation = generation i; owners = record { items = owners i } }

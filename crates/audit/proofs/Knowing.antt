@@ -1,8 +1,7 @@
 -- What is known of the machines at each point of a run.
-use Rattle.std.proofs.Common.{◌≡◌, ℕ, ◌-◌, true, false, List, [], ◌∷◌, refl, sym, ◌∙◌, ap, subst, inl, inr, ◌⊎◌, arith, set}
+use Rattle.std.proofs.Common.{◌≡◌, ℕ, ◌-◌, true, false, List, ◌∷◌, refl, sym, ◌∙◌, ap, subst, inl, inr, ◌⊎◌, arith, set}
 use Rattle.std.specs.Prelude.{◌≢◌, Option, Some, None, Result, Ok, Contains}
 use Rattle.std.specs.List.{AllByRecursion}
-use Rattle.std.proofs.lemmas.List.Elements.{Contains-append_left}
 use Rattle.machines.specs.Refusals.{first_of, unless_refused}
 use Rattle.machines.specs.Answers.{replied}
 use Rattle.machines.specs.Calls.{answered, answer_of, LeadsOn}
@@ -18,7 +17,7 @@ use Rattle.lease_table.specs.Policies.{Terms, is_policy}
 use Rattle.lease_table.specs.Tables.{Standing}
 use Rattle.lease_table.specs.Calls.{AnsweredTableCall, standing_after, table_step, grants_after, grants_sent, LeadsTo}
 use Rattle.lease_table.specs.Runs.{IsRun as IsTableRun}
-use Rattle.lease_table.proofs.Members.{here, there, first_or_rest}
+use Rattle.lease_table.proofs.Members.{here, first_or_rest}
 use Rattle.slicelet.specs.declared.call.SliceletCall.{SliceletCall}
 use Rattle.slicelet.specs.declared.call.SliceletCall.TheVariants.{Start, Hear, Release}
 use Rattle.slicelet.specs.declared.call.SliceletReply.{SliceletReply}
@@ -27,7 +26,8 @@ use Rattle.slicelet.specs.Steps.{History, with_call, slicelet_step, note_of, sta
 use Rattle.slicelet.specs.Accepted.{AreAccepted, checks_of, notes_sent}
 use Rattle.world.specs.Told.{numbered}
 use Rattle.world.proofs.Answering.{answer_is}
-use Rattle.world.proofs.Sending.{HearsSent, made_of_number}
+use Rattle.world.proofs.Noting.{note_stays}
+use Rattle.world.proofs.Sending.{HearsSent, made_of_number, sent_longer}
 use Rattle.audit.specs.Stages.{grants_with, notes_with, is_grant}
 use Rattle.audit.proofs.Numbering.{numbered_set, numbered_other, equal_grants}
 
@@ -72,13 +72,9 @@ same_grants : (r : TableReply) (before : List Grant) → grants_with r before �
 same_grants (Granted grant) before = refl
 same_grants _ before = refl
 
-sent_more : (answer : Result TableReply TableError) (sent : List Grant) (grant : Grant) → Contains sent grant → Contains (grants_after answer sent) grant
-sent_more (Ok (Granted other)) sent grant i = Contains-append_left sent (other ∷ []) grant i
-sent_more _ sent grant i = i
-
 hears_more : (e : AnsweredTableCall) (calls : List AnsweredTableCall) (c : SliceletCall) → HearsSent calls c → HearsSent (e ∷ calls) c
 hears_more e calls (Start life at) h = tt
-hears_more e calls (Hear grant at) h = sent_more e.answer (grants_sent calls) grant h
+hears_more e calls (Hear grant at) h = sent_longer e.answer (grants_sent calls) grant h
 hears_more e calls (Release kind at) h = tt
 
 told_more : (e : AnsweredTableCall) (calls : List AnsweredTableCall) (number : ℕ) (s : History) → IsTold calls number s → IsTold (e ∷ calls) number s
@@ -124,12 +120,6 @@ taken s (Start life at) p e = let d = done (λ _. Started) (first_of (start_chec
 taken s (Hear grant at) p e = let d = done (λ _. Heard) (first_of (hear_checks s grant at)) _ p e in record { unrefused = d.0; left = d.1 }
 taken s (Release kind at) p e = let d = done Released (first_of (release_checks s.calls kind at)) _ p e in record { unrefused = d.0; left = d.1 }
 
--- a note that was sent was also sent with one call more
-sent_later : (task : ℕ) (c : SliceletCall) (h : List SliceletCall) (note : ReleaseNote) → Contains (notes_sent task h) note → Contains (notes_sent task (c ∷ h)) note
-sent_later task (Start life at) h note i = i
-sent_later task (Hear grant at) h note i = i
-sent_later task (Release kind at) h note i = there _ note (notes_sent task h) i
-
 same_or_other : (a b : ℕ) → (a ≡ b) ⊎ (a ≢ b)
 same_or_other a b = grind arith
 
@@ -174,7 +164,7 @@ module _ (task : ℕ) (tasks : List History) (s : History) (at_task : numbered t
           record {
             task = with_call s c;
             of_number = subst (λ (n : ℕ). numbered n (with_task_call task tasks s c) ≡ Some (with_call s c)) same here_after;
-            sent = sent_later note.task c s.calls note (subst (λ (x : History). Contains (notes_sent note.task x.calls) note) is h.sent);
+            sent = note_stays note.task c s.calls note (subst (λ (x : History). Contains (notes_sent note.task x.calls) note) is h.sent);
           }
       by_number (inr differ) = record { task = h.task; of_number = other_after note.task differ ∙ h.of_number; sent = h.sent }
 

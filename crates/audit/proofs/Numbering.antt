@@ -1,11 +1,12 @@
 -- Actors by their numbers, and values that are compared field by field.
-use Rattle.std.proofs.Common.{◌≡◌, ℕ, zero, suc, ◌+◌, ◌-◌, ◌<◌, Bool, true, false, ◌&&◌, ◌||◌, List, [], ◌∷◌, refl, sym, ◌∙◌, ap, subst, arith, map, eqb-true, set}
+use Rattle.std.proofs.Common.{◌≡◌, ℕ, zero, suc, ◌+◌, ◌-◌, ◌<◌, Bool, true, false, ◌||◌, List, [], ◌∷◌, refl, sym, ◌∙◌, ap, subst, arith, map, eqb-true, set}
 use Rattle.std.specs.Prelude.{◌≢◌, ◌==◌, slice_get, Some, None, if◌then◌else◌}
 use Rattle.std.specs.List.{range_with_len, list_any, AllByRecursion}
 use Rattle.std.specs.Cmp.Lexicographic.{bytes_decides}
 use Rattle.std.proofs.lemmas.List.FromFn.{get_or-map-range_with_len, length-map-range_with_len}
 use Rattle.std.proofs.lemmas.Option.{slice_get_within, get_or_from_slice_get, slice_get-get_or}
 use Rattle.std.proofs.lemmas.Bool.Decides.{nat_tests}
+use Rattle.std.proofs.lemmas.Bool.{and_parts}
 use Rattle.lease_table.specs.Policies.{is_within}
 use Rattle.policy_rules.specs.declared.lease.Lease.{Lease}
 use Rattle.policy_rules.specs.Equality.{lease_eq}
@@ -74,15 +75,11 @@ module _ {X : Type 0} where
 
 -- EQUAL FIELDS
 
-both : (a b : Bool) → (a && b) ≡ true → (a ≡ true) × (b ≡ true)
-both true b e = (refl, e)
-both false b e = absurd (cc)
-
 equal_leases : (a b : Lease) → lease_eq a b ≡ true → a ≡ b
 equal_leases a b e =
-    let one = both _ _ e in
-    let two = both _ _ one.1 in
-    let three = both _ _ two.1 in
+    let one = and_parts _ _ e in
+    let two = and_parts _ _ one.1 in
+    let three = and_parts _ _ two.1 in
     let kind = equal_kinds a.kind b.kind one.0 in
     let generation = eqb-true a.generation b.generation two.0 in
     let ranges = (bytes_decides a.ranges b.ranges).0 three.0 in
@@ -91,10 +88,10 @@ equal_leases a b e =
 
 pub equal_grants : (a b : Grant) → grant_eq a b ≡ true → a ≡ b
 equal_grants a b e =
-    let one = both _ _ e in
-    let two = both _ _ one.1 in
-    let three = both _ _ two.1 in
-    let four = both _ _ three.1 in
+    let one = and_parts _ _ e in
+    let two = and_parts _ _ one.1 in
+    let three = and_parts _ _ two.1 in
+    let four = and_parts _ _ three.1 in
     let number = eqb-true a.number b.number one.0 in
     let task = eqb-true a.task b.task two.0 in
     let life = eqb-true a.life b.life three.0 in
@@ -104,9 +101,9 @@ equal_grants a b e =
 
 equal_notes : (a b : ReleaseNote) → same_note a b ≡ true → a ≡ b
 equal_notes a b e =
-    let one = both _ _ e in
-    let two = both _ _ one.1 in
-    let three = both _ _ two.1 in
+    let one = and_parts _ _ e in
+    let two = and_parts _ _ one.1 in
+    let three = and_parts _ _ two.1 in
     let task = eqb-true a.task b.task one.0 in
     let life = eqb-true a.life b.life two.0 in
     let kind = equal_kinds a.kind b.kind three.0 in

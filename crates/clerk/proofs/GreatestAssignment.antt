@@ -7,6 +7,7 @@ use Rattle.std.proofs.lemmas.List.Elements.{All-from_recursion}
 use Rattle.machines.specs.Refusals.{when, first_of, unless_refused}
 use Rattle.machines.proofs.Every.{all_weaker}
 use Rattle.assignment.specs.Slices.{Slicing}
+use Rattle.assignment.proofs.SliceOrder.{some_is}
 use Rattle.clerk.specs.declared.call.ClerkCall.{ClerkCall}
 use Rattle.clerk.specs.declared.call.ClerkCall.TheVariants.{Learn, Forget}
 use Rattle.clerk.specs.declared.call.ClerkReply.{ClerkReply}
@@ -36,10 +37,6 @@ IsFirst (s ∷ slicings) state = (state ≡ Some s) × AllBelow s.generation sli
 below_more : (low high : ℕ) (slicings : List Slicing) → low ≤ high → AllBelow low slicings → AllBelow high slicings
 unfolding AllBelow
 below_more low high slicings l h = all_weaker (λ s. s.generation < low) (λ s. s.generation < high) slicings (λ s below. omega arith) h
-
--- values under `Some`
-some_is : {A : Type 0} {x y : A} → Some x ≡ Some y → x ≡ y
-some_is e = cc
 
 -- what a call leaves
 abbrev left_by : Result (Option Slicing × ClerkReply) ClerkError → Option Slicing

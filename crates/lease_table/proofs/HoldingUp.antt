@@ -1,7 +1,7 @@
 -- Which grants hold a commit up, and until when.
 use Rattle.std.proofs.Common.{◌≡◌, ◌∙◌, ℕ, ◌+◌, ◌<◌, ◌≤◌, Bool, true, false, List, ◌∷◌, refl, sym, ap, subst, inl, inr, arith}
 use Rattle.std.specs.Prelude.{Option, Some, None, Result, Ok, Err, is_some, option_map, nat_lt, nat_le, ◌&&◌}
-use Rattle.std.proofs.lemmas.Bool.{cases_lt}
+use Rattle.std.proofs.lemmas.Bool.{cases_lt, and_parts, and_from}
 use Rattle.std.proofs.lemmas.Bool.Decides.{nat_tests}
 use Rattle.machines.specs.Calls.{answered}
 use Rattle.assignment.specs.Slices.{Slicing}
@@ -28,14 +28,6 @@ use Rattle.lease_table.proofs.Members.{found, findable, found_first}
 
 -- THE ROWS THAT HOLD A COMMIT UP
 
-both_true : (a b : Bool) → (a && b) ≡ true → (a ≡ true) × (b ≡ true)
-both_true true b e = (refl, e)
-both_true false b e = absurd (cc)
-
-and_true : (a b : Bool) → a ≡ true → b ≡ true → (a && b) ≡ true
-and_true true b p q = q
-and_true false b p q = absurd (cc)
-
 -- a row of a generation up to this one that runs
 is_reached : ℕ → ℕ → Row → Bool
 is_reached generation at row = nat_le row.generation generation && runs_at at row
@@ -45,12 +37,12 @@ unfolding is_reached
 reaches g at row low runs =
     let first : nat_le row.generation g ≡ true = grind (arith, nat_tests) in
     let second : nat_lt at row.table_ends ≡ true = grind (arith, nat_tests) in
-    and_true (nat_le row.generation g) (runs_at at row) first second
+    and_from (nat_le row.generation g) (runs_at at row) first second
 
 reached : (g at : ℕ) (row : Row) → is_reached g at row ≡ true → (row.generation ≤ g) × (at < row.table_ends)
 unfolding is_reached
 reached g at row t =
-    let both = both_true (nat_le row.generation g) (runs_at at row) t in
+    let both = and_parts (nat_le row.generation g) (runs_at at row) t in
     let first : nat_le row.generation g ≡ true = both.0 in
     let second : nat_lt at row.table_ends ≡ true = both.1 in
     (grind (arith, nat_tests), grind (arith, nat_tests))

@@ -1,19 +1,16 @@
 -- What a fault leaves.
-use Rattle.std.proofs.Common.{◌≡◌, ℕ, List, take, refl}
-use Rattle.std.specs.Prelude.{Option, Some, None}
-use Rattle.std.specs.Io.KnownBytes.{Appends, Keeps}
+use Rattle.std.proofs.Common.{◌≡◌, ℕ, List, take}
+use Rattle.std.specs.Prelude.{Option}
+use Rattle.std.specs.Io.KnownBytes.{Appends}
 use Rattle.service.specs.declared.fault.Fault.{Fault}
 use Rattle.service.specs.declared.fault.Fault.TheVariants as stream
 use Rattle.service.specs.Streams.{ReadsAll}
+use Rattle.service.proofs.Failing.{keeps_itself}
 use Rattle.audit.specs.declared.finding.Audit.{Audit}
 use Rattle.live_text.specs.declared.fault.LiveFault.{LiveFault}
 use Rattle.live_text.specs.declared.fault.LiveFault.TheVariants as fault
 use Rattle.live_text.specs.Faults.{of_stream}
 use Rattle.live_text.specs.Inputs.{IsUnread, IsRun, Failed}
-
-keeps_itself : (held : Option (List ℕ)) → Keeps held held
-keeps_itself None = tt
-keeps_itself (Some xs) = refl
 
 -- where no job was read
 pub fails_unread : (before after held : Option (List ℕ)) (bytes : List ℕ) (e : LiveFault) → ReadsAll before after bytes → IsUnread bytes e → Failed before after held held e

@@ -1,6 +1,6 @@
 -- How the program of live runs ends, and the status that it exits with.
 use Rattle.std.specs.Prelude.{◌≡◌, ◌⊎◌, ℕ, List, Option}
-use Rattle.std.specs.Io.KnownBytes.{Keeps}
+use Rattle.service.specs.Status.{EndsAtArguments}
 use Rattle.audit.specs.declared.finding.Audit.{Audit}
 use Rattle.audit.specs.declared.finding.Audit.TheVariants.{One, No}
 use Rattle.live_text.specs.declared.fault.LiveFault.{LiveFault}
@@ -23,11 +23,6 @@ pub record EndsAtFault (before after held holds : Option (List ℕ)) (code : ℕ
   pub why : LiveFault
   pub status : code ≡ status_of why
   pub failed : Failed before after held holds why
-
--- there were arguments: nothing was read, and nothing written
-pub record EndsAtArguments (before after held holds : Option (List ℕ)) (code : ℕ) : Type 0 where
-  pub status : code ≡ 2
-  pub kept : Keeps before after × Keeps held holds
 
 -- how the program ends
 abbrev pub Ends : Option (List ℕ) → Option (List ℕ) → Option (List ℕ) → Option (List ℕ) → ℕ → Type 0

@@ -6,7 +6,8 @@ use Rattle.service.specs.declared.fault.Fault.TheVariants as fault
 use Rattle.service.specs.Streams.{ReadsAll}
 use Rattle.service.specs.Service.{IsUnread, Failed}
 
-keeps_itself : (held : Option (List ℕ)) → Keeps held held
+-- what was held before is held still
+pub keeps_itself : (held : Option (List ℕ)) → Keeps held held
 keeps_itself None = tt
 keeps_itself (Some xs) = refl
 

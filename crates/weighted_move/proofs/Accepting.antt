@@ -6,6 +6,7 @@ use Rattle.std.proofs.lemmas.Bool.Decides.{nat_tests}
 use Rattle.std.proofs.lemmas.List.{length-map, length_push}
 use Rattle.std.proofs.lemmas.List.Elements.{All-from_recursion}
 use Rattle.std.proofs.lemmas.List.Folds.{list_any_none}
+use Rattle.std.proofs.lemmas.Bool.{and_parts}
 use Rattle.slice_ranges.specs.Sets.{Rises}
 use Rattle.key_hash.specs.declared.TheConstants.{KEYS}
 use Rattle.assignment.specs.declared.slice.Slice.{Slice}
@@ -75,12 +76,8 @@ pub halved_few : (hot room : ℕ) (slices : List WeighedSlice) → length (halve
 halved_few hot room [] = omega arith
 halved_few hot room (s ∷ slices) = by_test (is_hot hot s && nat_lt 0 room) refl (halved_few hot (room - 1) slices) (halved_few hot room slices)
   where
-    second_and : (a b : Bool) → (a && b) ≡ true → b ≡ true
-    second_and true b e = e
-    second_and false b e = absurd (cc)
-
     by_test : (b : Bool) → b ≡ (is_hot hot s && nat_lt 0 room) → length (halved_into hot (room - 1) slices) ≤ length slices + (room - 1) → length (halved_into hot room slices) ≤ length slices + room → length (halved_into hot room (s ∷ slices)) ≤ suc (length slices) + room
-    by_test true e two one = let f : nat_lt 0 room ≡ true = second_and (is_hot hot s) (nat_lt 0 room) (sym e) in let some : 0 < room = grind (arith, nat_tests) in rw (← e) (omega (arith, two, some))
+    by_test true e two one = let f : nat_lt 0 room ≡ true = (and_parts (is_hot hot s) (nat_lt 0 room) (sym e)).1 in let some : 0 < room = grind (arith, nat_tests) in rw (← e) (omega (arith, two, some))
     by_test false e two one = rw (← e) (omega (arith, one))
 
 -- nor do the other phases add slices

@@ -1,8 +1,8 @@
 -- How many tasks a set has with one task more or less.
 use Rattle.std.proofs.Common.{◌≡◌, ◌∙◌, ℕ, zero, suc, ◌+◌, ◌<◌, ◌≤◌, inl, inr, ◌⊎◌, Bool, true, false, List, [], ◌∷◌, length, get_or, Option, Some, None, refl, sym, ap, arith}
-use Rattle.std.specs.Prelude.{◌==◌, ◌||◌, ◌&&◌, not, nat_le, filter, fold, Contains, if◌then◌else◌}
+use Rattle.std.specs.Prelude.{◌==◌, ◌||◌, not, nat_le, filter, fold, Contains, if◌then◌else◌}
 use Rattle.std.specs.List.{range_with_len}
-use Rattle.std.proofs.lemmas.Bool.{cases_lt}
+use Rattle.std.proofs.lemmas.Bool.{cases_lt, and_parts, or_right}
 use Rattle.std.proofs.lemmas.Bool.Decides.{nat_tests}
 use Rattle.slice_ranges.specs.Sets.{Rises}
 use Rattle.assignment.specs.Slices.{is_among}
@@ -25,11 +25,7 @@ found_among (x ∷ xs) t e = by_test (x == t) refl e (found_among xs t)
 pub among_found : (xs : List ℕ) (t k : ℕ) → k < length xs → get_or xs k t ≡ t → is_among xs t ≡ true
 among_found [] t k l e = absurd (omega arith)
 among_found (x ∷ xs) t zero l e = let itself : (x == t) ≡ true = grind (arith, nat_tests) in rw itself refl
-among_found (x ∷ xs) t (suc k) l e = rw (among_found xs t k (omega arith) e) (or_true (x == t))
-  where
-    or_true : (b : Bool) → (b || true) ≡ true
-    or_true true = refl
-    or_true false = refl
+among_found (x ∷ xs) t (suc k) l e = rw (among_found xs t k (omega arith) e) (or_right (x == t) true refl)
 
 -- a set without one of its tasks has one task less
 pub length-removed : (t : ℕ) (xs : List ℕ) → Rises 1 xs 65 → is_among xs t ≡ true → length (without_task t xs) + 1 ≡ length xs
@@ -144,12 +140,8 @@ most_in load known (x ∷ xs) t e = elim (most_in load (Some (heavier load known
     | inl g ↦ inl g
     | inr g ↦ inr (let itself : (x == t) ≡ true = grind (arith, nat_tests) in rw itself refl)
   ]
-  | inr f ↦ inr (rw f (or_true (x == t)))
+  | inr f ↦ inr (rw f (or_right (x == t) true refl))
 ]
-  where
-    or_true : (b : Bool) → (b || true) ≡ true
-    or_true true = refl
-    or_true false = refl
 
 some_most : (load : ℕ → ℕ) (k : ℕ) (xs : List ℕ) → fold (λ known task. Some (heavier load known task)) (Some k) xs ≡ None → ⊥
 some_most load k [] e = cc
@@ -180,16 +172,12 @@ plus_number load members slice set rises few = by_choice (least_loaded load (str
     some : 0 < length (strangers members slice.owners)
     some = omega (arith, parts (is_among slice.owners) members, few_owners 1 65 members slice.owners set)
 
-    first_and : (a b : Bool) → (a && b) ≡ true → a ≡ true
-    first_and true b e = refl
-    first_and false b e = absurd (cc)
-
     by_choice : (o : Option ℕ) → o ≡ least_loaded load (strangers members slice.owners) → length (with_owner o slice).owners ≡ length slice.owners + 1
     by_choice None e = absurd (there (strangers members slice.owners) some (sym e))
     by_choice (Some t) e = elim (least_in load None (strangers members slice.owners) t (sym e)) [
       | inl f ↦ absurd (cc)
       | inr f ↦
-          let member = first_and (is_among members t) _ (sym (among-filter (λ x. not (is_among slice.owners x)) members t) ∙ f) in
+          let member = (and_parts (is_among members t) _ (sym (among-filter (λ x. not (is_among slice.owners x)) members t) ∙ f)).0 in
           let known = known_member 1 65 t members set member in
           length-added t slice.owners rises known.0 known.1 (least_stranger load members slice.owners t (sym e))
     ]

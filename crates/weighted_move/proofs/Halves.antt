@@ -1,7 +1,7 @@
 -- The slices of a plan, where hot ones were halved.
 use Rattle.std.proofs.Common.{◌≡◌, ◌∙◌, ℕ, ◌+◌, ◌-◌, ◌/◌, ◌<◌, ◌≤◌, inl, inr, ◌⊎◌, Bool, true, false, List, [], ◌∷◌, Some, None, refl, sym, arith}
 use Rattle.std.specs.Prelude.{◌&&◌, nat_le, nat_lt, if◌then◌else◌}
-use Rattle.std.proofs.lemmas.Bool.{cases_lt}
+use Rattle.std.proofs.lemmas.Bool.{cases_lt, and_parts}
 use Rattle.std.proofs.lemmas.Bool.Decides.{nat_tests}
 use Rattle.slice_ranges.specs.Sets.{Rises}
 use Rattle.key_hash.specs.declared.TheConstants.{KEYS}
@@ -43,17 +43,9 @@ first_at x xs key rising begins none = first_or_later x xs key rising begins ∙
 later_at : (x : Slice) (xs : List Slice) (key : ℕ) (y : Slice) → is_rising (x ∷ xs) ≡ true → x.start ≤ key → slice_at xs key ≡ Some y → slice_at (x ∷ xs) key ≡ Some y
 later_at x xs key y rising begins found = first_or_later x xs key rising begins ∙ rw found refl
 
-second_and : (a b : Bool) → (a && b) ≡ true → b ≡ true
-second_and true b e = e
-second_and false b e = absurd (cc)
-
-first_and : (a b : Bool) → (a && b) ≡ true → a ≡ true
-first_and true b e = refl
-first_and false b e = absurd (cc)
-
 wide : (hot room : ℕ) (s : WeighedSlice) → (is_hot hot s && nat_lt 0 room) ≡ true → 2 ≤ s.width
 wide hot room s e =
-    let f : nat_le 2 s.width ≡ true = second_and (nat_lt hot s.load) (nat_le 2 s.width) (first_and (is_hot hot s) (nat_lt 0 room) e) in
+    let f : nat_le 2 s.width ≡ true = (and_parts (nat_lt hot s.load) (nat_le 2 s.width) (and_parts (is_hot hot s) (nat_lt 0 room) e).0).1 in
     grind (arith, nat_tests)
 
 halved_first : (hot room n low high : ℕ) (slices : List WeighedSlice) → Tiles low slices high → n < low → FirstAbove n (halved_into hot room slices)

@@ -1,8 +1,9 @@
 -- What holds of every plan.
-use Rattle.std.proofs.Common.{◌≡◌, ◌∙◌, ℕ, ◌-◌, ◌<◌, ◌≤◌, true, false, Bool, List, [], length, refl, sym, ap, subst, arith}
+use Rattle.std.proofs.Common.{◌≡◌, ◌∙◌, ℕ, ◌-◌, ◌<◌, ◌≤◌, true, Bool, List, [], length, sym, ap, subst, arith}
 use Rattle.std.specs.Prelude.{◌&&◌, nat_le, All, None}
 use Rattle.std.proofs.lemmas.Bool.Decides.{nat_tests}
 use Rattle.std.proofs.lemmas.List.Elements.{All-from_recursion}
+use Rattle.std.proofs.lemmas.Bool.{and_parts}
 use Rattle.slice_ranges.specs.Sets.{Rises}
 use Rattle.key_hash.specs.declared.TheConstants.{KEYS}
 use Rattle.assignment.specs.declared.slice.Slice.{Slice}
@@ -34,22 +35,14 @@ record Allows (limits : Limits) : Type 0 where
   few : limits.redundancy ≤ MOST_OWNERS
   most : limits.most ≤ MOST_SLICES
 
-first_and : (a b : Bool) → (a && b) ≡ true → a ≡ true
-first_and true b e = refl
-first_and false b e = absurd (cc)
-
-second_and : (a b : Bool) → (a && b) ≡ true → b ≡ true
-second_and true b e = e
-second_and false b e = absurd (cc)
-
 allows : (limits : Limits) → is_policy limits ≡ true → Allows limits
 allows limits h =
-    let ends = first_and (is_within limits.redundancy MOST_OWNERS && nat_le limits.churn KEYS) (is_within limits.most MOST_SLICES) h in
-    let redundancy = first_and (is_within limits.redundancy MOST_OWNERS) (nat_le limits.churn KEYS) ends in
-    let rest = second_and (is_within limits.redundancy MOST_OWNERS && nat_le limits.churn KEYS) (is_within limits.most MOST_SLICES) h in
-    let low = first_and (nat_le 1 limits.redundancy) (nat_le limits.redundancy MOST_OWNERS) redundancy in
-    let high = second_and (nat_le 1 limits.redundancy) (nat_le limits.redundancy MOST_OWNERS) redundancy in
-    let most = second_and (nat_le 1 limits.most) (nat_le limits.most MOST_SLICES) rest in
+    let ends = (and_parts (is_within limits.redundancy MOST_OWNERS && nat_le limits.churn KEYS) (is_within limits.most MOST_SLICES) h).0 in
+    let redundancy = (and_parts (is_within limits.redundancy MOST_OWNERS) (nat_le limits.churn KEYS) ends).0 in
+    let rest = (and_parts (is_within limits.redundancy MOST_OWNERS && nat_le limits.churn KEYS) (is_within limits.most MOST_SLICES) h).1 in
+    let low = (and_parts (nat_le 1 limits.redundancy) (nat_le limits.redundancy MOST_OWNERS) redundancy).0 in
+    let high = (and_parts (nat_le 1 limits.redundancy) (nat_le limits.redundancy MOST_OWNERS) redundancy).1 in
+    let most = (and_parts (nat_le 1 limits.most) (nat_le limits.most MOST_SLICES) rest).1 in
     record { some = grind (arith, nat_tests); few = grind (arith, nat_tests); most = grind (arith, nat_tests) }
 
 module _ (slices : List Slice) (loads tasks : List ℕ) (limits : Limits) (plan : Plan) (can : CanPlan slices loads tasks limits) (h : IsPlan slices loads tasks limits plan) where

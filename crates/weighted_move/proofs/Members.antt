@@ -5,6 +5,7 @@ use Rattle.std.specs.List.{AllByRecursion}
 use Rattle.std.proofs.lemmas.Bool.Decides.{nat_tests}
 use Rattle.std.proofs.lemmas.List.Elements.{All-from_recursion, recursion_from_All}
 use Rattle.std.proofs.lemmas.List.Folds.{list_any_at}
+use Rattle.std.proofs.lemmas.Bool.{and_parts}
 use Rattle.assignment.specs.declared.slice.Slice.{Slice}
 use Rattle.assignment.specs.Slices.{is_among}
 use Rattle.assignment.specs.Owners.{tasks}
@@ -24,23 +25,15 @@ use Rattle.weighted_move.specs.Plans.{IsPlan, owners_each}
 use Rattle.weighted_move.proofs.TaskLists.{among-filter}
 use Rattle.weighted_move.proofs.Settled.{least_in}
 
-first_and : (a b : Bool) → (a && b) ≡ true → a ≡ true
-first_and true b e = refl
-first_and false b e = absurd (cc)
-
-second_and : (a b : Bool) → (a && b) ≡ true → b ≡ true
-second_and true b e = e
-second_and false b e = absurd (cc)
-
 module _ (members : List ℕ) where
   abbrev pub Within : WeighedSlice → Type 0
   Within slice = IsWithin members slice.owners
 
   pub without_within : (task : ℕ) (owners : List ℕ) → IsWithin members owners → IsWithin members (without_task task owners)
-  without_within task owners h t e = h t (first_and (is_among owners t) _ (sym (among-filter (λ x. not (x == task)) owners t) ∙ e))
+  without_within task owners h t e = h t (and_parts (is_among owners t) _ (sym (among-filter (λ x. not (x == task)) owners t) ∙ e)).0
 
   pub with_within : (task : ℕ) (owners : List ℕ) → is_among members task ≡ true → IsWithin members owners → IsWithin members (with_task task owners)
-  with_within task owners known h t e = by_test (t == task) refl (second_and (is_among tasks t) _ (sym (among-filter (λ x. x == task || is_among owners x) tasks t) ∙ e))
+  with_within task owners known h t e = by_test (t == task) refl (and_parts (is_among tasks t) _ (sym (among-filter (λ x. x == task || is_among owners x) tasks t) ∙ e)).1
     where
       by_test : (b : Bool) → b ≡ (t == task) → (b || is_among owners t) ≡ true → is_among members t ≡ true
       by_test true f g = let same : task ≡ t = grind (arith, nat_tests) in let P : ℕ → Type 0 = λ x. is_among members x ≡ true in subst P same known
@@ -50,7 +43,7 @@ module _ (members : List ℕ) where
   weighed_within [] loads = tt
   weighed_within (s ∷ slices) [] = tt
   weighed_within (s ∷ slices) (load ∷ loads) =
-      ((λ t e. second_and (is_among s.owners t) _ (second_and (is_among tasks t) _ (sym (among-filter (λ x. is_among s.owners x && is_among members x) tasks t) ∙ e))), weighed_within slices loads)
+      ((λ t e. (and_parts (is_among s.owners t) _ (and_parts (is_among tasks t) _ (sym (among-filter (λ x. is_among s.owners x && is_among members x) tasks t) ∙ e)).1).1), weighed_within slices loads)
 
   pub less_within : (load : ℕ → ℕ) (slice : WeighedSlice) → Within slice → Within (less_one load slice)
   unfolding less_one
@@ -68,7 +61,7 @@ module _ (members : List ℕ) where
       by_choice None e = h
       by_choice (Some task) e = elim (least_in load None (strangers members slice.owners) task (sym e)) [
         | inl f ↦ absurd (cc)
-        | inr f ↦ with_within task slice.owners (first_and (is_among members task) _ (sym (among-filter (λ x. not (is_among slice.owners x)) members task) ∙ f)) h
+        | inr f ↦ with_within task slice.owners (and_parts (is_among members task) _ (sym (among-filter (λ x. not (is_among slice.owners x)) members task) ∙ f)).0 h
       ]
 
   pruned_within : (count : ℕ) (before after : List WeighedSlice) (slice : WeighedSlice) → Within slice → Within (pruned count before slice after)

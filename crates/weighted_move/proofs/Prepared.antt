@@ -1,8 +1,8 @@
 -- What settling and merging keep.
 use Rattle.std.proofs.Common.{◌≡◌, ◌∙◌, ℕ, zero, suc, ◌+◌, ◌-◌, ◌^◌, ◌<◌, ◌≤◌, inl, inr, Bool, true, false, List, [], ◌∷◌, ◌++◌, length, Option, Some, None, refl, sym, ap, subst, arith}
-use Rattle.std.specs.Prelude.{◌==◌, ◌||◌, ◌&&◌, not, fold}
+use Rattle.std.specs.Prelude.{◌==◌, ◌||◌, not, fold}
 use Rattle.std.specs.List.{AllByRecursion}
-use Rattle.std.proofs.lemmas.Bool.{cases_lt}
+use Rattle.std.proofs.lemmas.Bool.{cases_lt, and_parts}
 use Rattle.std.proofs.lemmas.Bool.Decides.{nat_tests}
 use Rattle.std.proofs.lemmas.List.{append-nil, append_assoc}
 use Rattle.std.proofs.lemmas.List.Elements.{All-from_recursion, recursion_from_All}
@@ -144,15 +144,11 @@ known_member low high t (x ∷ xs) h e = by_test (x == t) refl e (λ f. known_me
     by_test true f e rest = let is : x ≡ t = grind (arith, nat_tests) in let p : low ≤ x = h.0 in let q : x + 1 ≤ high = ends_high (x + 1) high xs h.1 in (omega (arith, is, p), omega (arith, is, q))
     by_test false f e rest = let more = rest e in let p : low ≤ x = h.0 in let q = more.0 in (omega (arith, p, q), more.1)
 
-first_and : (a b : Bool) → (a && b) ≡ true → a ≡ true
-first_and true b e = refl
-first_and false b e = absurd (cc)
-
 least_known : (load : ℕ → ℕ) (members owners : List ℕ) (t : ℕ) → Rises 1 members 65 → least_loaded load (strangers members owners) ≡ Some t → is_task t ≡ true
 least_known load members owners t rises e = elim (least_in load None (strangers members owners) t e) [
   | inl f ↦ absurd (cc)
   | inr f ↦
-      let member : is_among members t ≡ true = first_and (is_among members t) _ (sym (among-filter (λ x. not (is_among owners x)) members t) ∙ f) in
+      let member : is_among members t ≡ true = (and_parts (is_among members t) _ (sym (among-filter (λ x. not (is_among owners x)) members t) ∙ f)).0 in
       let known = known_member 1 65 t members rises member in
       let low = known.0 in
       let high = known.1 in

@@ -1,11 +1,12 @@
 -- Where slices start and end.
 use Rattle.std.proofs.Common.{◌≡◌, ℕ, zero, suc, ◌+◌, ◌-◌, ◌*◌, ◌^◌, ◌<◌, ◌≤◌, true, false, List, [], ◌∷◌, length, get_or, drop, refl, sym, subst, arith}
-use Rattle.std.specs.Prelude.{All, Bool, nat_lt, ◌==◌, ◌||◌, None}
+use Rattle.std.specs.Prelude.{All, Bool, nat_lt, ◌==◌, None}
 use Rattle.std.specs.List.{AllByRecursion, list_any}
 use Rattle.std.proofs.lemmas.Bool.Decides.{nat_tests}
 use Rattle.std.proofs.lemmas.List.{drop_more}
 use Rattle.std.proofs.lemmas.List.Elements.{recursion_from_All}
 use Rattle.std.proofs.lemmas.List.Sums.{sum_by-cons}
+use Rattle.std.proofs.lemmas.Bool.{or_parts}
 use Rattle.slice_ranges.specs.Sets.{Rises}
 use Rattle.assignment.specs.declared.slice.Slice.{Slice}
 use Rattle.assignment.specs.Slices.{is_rising, first_starts_at, refusal_of}
@@ -62,15 +63,11 @@ pub weighed_total : (tasks : List ℕ) (slices : List Slice) (loads : List ℕ) 
 weighed_total tasks [] loads h = omega arith
 weighed_total tasks (s ∷ slices) [] h = omega arith
 weighed_total tasks (s ∷ slices) (load ∷ loads) h =
-    let facts = both (nat_lt (2 ^ 40) load) (list_any (λ l. nat_lt (2 ^ 40) l) loads) h in
+    let facts = or_parts (nat_lt (2 ^ 40) load) (list_any (λ l. nat_lt (2 ^ 40) l) loads) h in
     let rest = weighed_total tasks slices loads facts.1 in
     let small : load ≤ 2 ^ 40 = let e = facts.0 in grind (arith, nat_tests) in
     let sum = sum_by-cons (λ (x : WeighedSlice). x.load) (weighed_slice tasks s (next_start slices) load) (weighed tasks slices loads) in
     omega (arith, rest, small, sum)
-  where
-    both : (a b : Bool) → (a || b) ≡ false → (a ≡ false) × (b ≡ false)
-    both true b e = absurd (cc)
-    both false b e = (refl, e)
 
 -- the owners of the weighed slices rise
 pub weighed_rises : (tasks : List ℕ) (slices : List Slice) (loads : List ℕ) → AllByRecursion (λ s. Rises 1 s.owners 65) (weighed tasks slices loads)

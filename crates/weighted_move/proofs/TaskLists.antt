@@ -4,7 +4,7 @@ use Rattle.std.specs.Prelude.{◌==◌, ◌||◌, ◌&&◌, not, nat_le, nat_lt,
 use Rattle.std.specs.List.{range_with_len}
 use Rattle.std.specs.List.Sorted.{IsSorted}
 use Rattle.std.specs.Ordering.{nat_cmp}
-use Rattle.std.proofs.lemmas.Bool.{cases_lt}
+use Rattle.std.proofs.lemmas.Bool.{cases_lt, or_parts}
 use Rattle.std.proofs.lemmas.Bool.Decides.{nat_tests}
 use Rattle.std.proofs.lemmas.List.Elements.{All-push, All-filter}
 use Rattle.std.proofs.lemmas.List.Folds.{list_any-append, list_any_none}
@@ -87,14 +87,10 @@ length-without t xs h = shorter t xs h.0 h.1 h.2
 distinct : (low high task : ℕ) (xs : List ℕ) → Rises low xs high → is_among xs task ≡ false → has_twice (xs ++ task ∷ []) ≡ false
 distinct low high task [] h stranger = refl
 distinct low high task (x ∷ xs) h stranger =
-    let facts : ((x == task) ≡ false) × (is_among xs task ≡ false) = both (x == task) (is_among xs task) stranger in
+    let facts : ((x == task) ≡ false) × (is_among xs task ≡ false) = or_parts (x == task) (is_among xs task) stranger in
     let later : is_among xs x ≡ false = list_any_none (λ t. t == x) xs (λ k d l. let p : x + 1 ≤ get_or xs k d = from_low (x + 1) high xs h.1 k d l in grind (arith, nat_tests)) in
     let other : (task == x) ≡ false = let p = facts.0 in grind (arith, nat_tests) in
     rw (list_any-append (λ t. t == x) xs (task ∷ []), later, other) (distinct (x + 1) high task xs h.1 facts.1)
-  where
-    both : (a b : Bool) → (a || b) ≡ false → (a ≡ false) × (b ≡ false)
-    both true b e = absurd (cc)
-    both false b e = (refl, e)
 
 -- a rising list with a task more, sorted, is the set with the task more
 pub sorted_with : (task : ℕ) (owners sorted : List ℕ) → Rises 1 owners 65 → 1 ≤ task → task ≤ 64 → is_among owners task ≡ false

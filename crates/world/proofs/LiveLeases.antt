@@ -3,6 +3,7 @@ use Rattle.std.proofs.Common.{◌≡◌, ℕ, ◌+◌, ◌-◌, ◌<◌, ◌≤�
 use Rattle.std.specs.Prelude.{Option, Some, None, ◌==◌, nat_le, Contains, Result, Ok}
 use Rattle.std.proofs.lemmas.Bool.Decides.{nat_tests}
 use Rattle.std.proofs.lemmas.List.Elements.{Contains-append_right}
+use Rattle.std.proofs.lemmas.Bool.{and_parts}
 use Rattle.machines.specs.Calls.{answered}
 use Rattle.policy_rules.specs.declared.lease.Kind.{Kind}
 use Rattle.policy_rules.specs.declared.lease.Kind.TheVariants.{Guard, Bridge}
@@ -32,10 +33,6 @@ use Rattle.slicelet.specs.Accepted.{notes_sent}
 use Rattle.slicelet.specs.Laws.{IsSpent, HoldsOwnLeases, HasCoveringLease}
 use Rattle.world.proofs.Noting.{member}
 
-and_true : (a b : Bool) → (a && b) ≡ true → (a ≡ true) × (b ≡ true)
-and_true true b e = (refl, e)
-and_true false b e = absurd (let f : false ≡ true = e in cc)
-
 -- what a table that answered these calls is known by
 pub record TableFacts (skew : ℕ) (calls : List AnsweredTableCall) : Type 0 where
   pub newest : (grant : Grant) → IsSent calls grant → grant.lease.generation ≤ newest_generation calls
@@ -50,9 +47,9 @@ newer_than_its_notes : (task : ℕ) (h : List SliceletCall) (kind : Kind) (grant
     → closes note (row_of grant) ≡ true → Contains (notes_sent task h) note → ⊥
 newer_than_its_notes task h kind grant note own is_held closing sent =
     let o = own.own kind grant is_held in
-    let last = and_true (note.task == grant.task && note.life == grant.life && same_kind note.kind grant.lease.kind) (nat_le grant.number note.number) closing in
-    let kinds = and_true (note.task == grant.task && note.life == grant.life) (same_kind note.kind grant.lease.kind) last.0 in
-    let both = and_true (note.task == grant.task) (note.life == grant.life) kinds.0 in
+    let last = and_parts (note.task == grant.task && note.life == grant.life && same_kind note.kind grant.lease.kind) (nat_le grant.number note.number) closing in
+    let kinds = and_parts (note.task == grant.task && note.life == grant.life) (same_kind note.kind grant.lease.kind) last.0 in
+    let both = and_parts (note.task == grant.task) (note.life == grant.life) kinds.0 in
     let of_life : note.life ≡ grant.life = eqb-true note.life grant.life both.1 in
     let of_kind : note.kind ≡ kind = equal_kinds note.kind grant.lease.kind kinds.1 ∙ o.of_kind in
     let spent = member (IsSpent h) (notes_sent task h) note own.spent sent in
@@ -62,9 +59,9 @@ newer_than_its_notes task h kind grant note own is_held closing sent =
 
 of_closed_task : (note : ReleaseNote) (grant : Grant) → closes note (row_of grant) ≡ true → note.task ≡ grant.task
 of_closed_task note grant closing =
-    let last = and_true (note.task == grant.task && note.life == grant.life && same_kind note.kind grant.lease.kind) (nat_le grant.number note.number) closing in
-    let kinds = and_true (note.task == grant.task && note.life == grant.life) (same_kind note.kind grant.lease.kind) last.0 in
-    eqb-true note.task grant.task (and_true (note.task == grant.task) (note.life == grant.life) kinds.0).0
+    let last = and_parts (note.task == grant.task && note.life == grant.life && same_kind note.kind grant.lease.kind) (nat_le grant.number note.number) closing in
+    let kinds = and_parts (note.task == grant.task && note.life == grant.life) (same_kind note.kind grant.lease.kind) last.0 in
+    eqb-true note.task grant.task (and_parts (note.task == grant.task) (note.life == grant.life) kinds.0).0
 
 -- each note of a task that was freed is one of those that it sent
 abbrev pub FreesSentNotes : List AnsweredTableCall → ℕ → List SliceletCall → Type 0
@@ -91,7 +88,7 @@ covered_now Guard calls key grant guard low high c =
     let same : grant.lease.generation ≡ commits_in calls = let g = guard refl in omega arith in
     subst (λ (g : ℕ). owns_in calls g key grant.task ≡ true) same c
 covered_now Bridge calls key grant guard low high c =
-    let both = and_true (owns_in calls (grant.lease.generation - 1) key grant.task) (owns_in calls grant.lease.generation key grant.task) c in
+    let both = and_parts (owns_in calls (grant.lease.generation - 1) key grant.task) (owns_in calls grant.lease.generation key grant.task) c in
     elim (either grant.lease.generation (commits_in calls) low high) [
       | inl same ↦ subst (λ (g : ℕ). owns_in calls g key grant.task ≡ true) same both.1
       | inr next ↦ (let same : grant.lease.generation - 1 ≡ commits_in calls = omega arith in subst (λ (g : ℕ). owns_in calls g key grant.task ≡ true) same both.0)

@@ -1,6 +1,7 @@
 -- What a `plan` is answered.
 use Rattle.std.proofs.Common.{◌≡◌, ℕ, Bool, List, true, false, ◌&&◌, refl, sym, ◌∙◌, ap, subst, inl, inr}
 use Rattle.std.specs.Prelude.{Option, Some, None, Err, nat_le, unwrap_or}
+use Rattle.std.proofs.lemmas.Bool.{and_parts}
 use Rattle.key_hash.specs.declared.TheConstants.{KEYS}
 use Rattle.assignment.specs.declared.slice.TheConstants.{MOST_OWNERS}
 use Rattle.assignment.specs.declared.assignment.TheConstants.{MOST_SLICES}
@@ -26,10 +27,6 @@ use Rattle.world.specs.Worlds.{Keeps, Played}
 use Rattle.world.specs.Headline.{IsPlannedFromDraft}
 use Rattle.world.proofs.Answering.{replied_without_memory}
 
-left : (a b : Bool) → (a && b) ≡ true → a ≡ true
-left true b e = refl
-left false b e = absurd (let f : false ≡ true = e in cc)
-
 joined : (a b c : Bool) → a ≡ true → (b && c) ≡ true → (a && b && c) ≡ true
 joined true b c e f = f
 joined false b c e f = absurd (let g : false ≡ true = e in cc)
@@ -37,7 +34,7 @@ joined false b c e f = absurd (let g : false ≡ true = e in cc)
 -- what holds a plan in a job is within its limits
 pub are_limits : (t : Terms) (b : Bounds) → is_policy t ≡ true → is_bounds b ≡ true → is_plan_policy (limits_of t.redundancy b) ≡ true
 are_limits t b h k =
-    let few = left _ _ (left _ _ (left _ _ (left _ _ (left _ _ (left _ _ h))))) in
+    let few = (and_parts _ _ (and_parts _ _ (and_parts _ _ (and_parts _ _ (and_parts _ _ (and_parts _ _ h).0).0).0).0).0).0 in
     joined (is_within t.redundancy MOST_OWNERS) (nat_le b.churn KEYS) (is_within b.most MOST_SLICES) few k
 
 -- want of memory is told where there is no refusal, and else the refusal

@@ -45,7 +45,7 @@ made_of_number {X = X} number made x e = by_test (number == 0) e
     by_test false e = (number - 1, slice_get_within made (number - 1) x e, get_or_from_slice_get made (number - 1) x x e)
 
 -- grants stay sent
-sent_longer : (answer : Result TableReply TableError) (sent : List Grant) (grant : Grant) → Contains sent grant → Contains (grants_after answer sent) grant
+pub sent_longer : (answer : Result TableReply TableError) (sent : List Grant) (grant : Grant) → Contains sent grant → Contains (grants_after answer sent) grant
 sent_longer (Ok (told.Granted other)) sent grant s = Contains-append_left sent (other ∷ []) grant s
 sent_longer _ sent grant s = s
 
