@@ -7,7 +7,8 @@ use assignment::{Assignment, TaskId};
 use machines::Duplicate;
 use std::alloc::AllocError;
 
-/// A call that may change the table.
+/// A call that may change the table. `number` is that of a job term, and `at` a reading of the table's
+/// clock, in ticks.
 #[derive(Debug, Drop)]
 pub enum TableCall {
     /// An assigner takes the job lease.

@@ -123,7 +123,8 @@ impl LeaseTable {
         Ok(term)
     }
 
-    /// Renews the last term given, for the job's term from the reading on, in ticks.
+    /// Renews the term of this number, which is to be the last one given: it lasts the job's term from the
+    /// reading on, in ticks.
     ///
     /// Refused by `ReadingRange`, `ClockBack` and `NotHolder`, in this order.
     pub fn job_renew(&mut self, number: u64, at: u64) -> Result<JobTerm, TableError>
@@ -136,7 +137,7 @@ impl LeaseTable {
         Ok(term)
     }
 
-    /// Proposes the assignment of the next generation.
+    /// Proposes the assignment of the next generation, under the job term of this number.
     ///
     /// Refused by `ReadingRange`, `ClockBack`, `NotHolder`, `StaleBase`, `Pending` and
     /// `TooManyOwnersForJob`, in this order; want of memory comes last, and changes nothing.
@@ -173,7 +174,8 @@ impl LeaseTable {
         self.check_proposal(number, generation, too_many, at).err()
     }
 
-    /// Commits the assignment that is proposed, and answers its generation.
+    /// Commits the assignment that is proposed, under the job term of this number, and answers its
+    /// generation.
     ///
     /// Refused by `ReadingRange`, `ClockBack`, `NotHolder`, `NothingPending` and `Held`, in this
     /// order.

@@ -55,7 +55,7 @@ impl LoadBook {
     /// by these shares.
     ///
     /// Refused by `TotalRange` where all totals together would be above [`MOST_TOTAL`]; want of
-    /// memory comes last. Either way nothing changes, and the shares are handed back.
+    /// memory comes last. On any error nothing changes, and the shares are handed back.
     pub fn gather(
         &mut self,
         alloc: Global,

@@ -11,9 +11,10 @@ use key_hash::SliceKey;
 
 /// Whether a task that holds this may serve a key at a reading of its clock, in ticks.
 ///
-/// The first case that holds: the task is down; the reading is below its last one; the guard is
-/// live and covers the key; the bridge is live and covers the key; a held lease covers the key, and
-/// so has ended; a held lease is live; else there is no lease.
+/// The first case that holds: the task is down (`Down`); the reading is below its last one
+/// (`ClockBack`); the guard is live and covers the key (`Allow`); the bridge is live and covers the key
+/// (`Allow`); a held lease covers the key, and so has ended (`Ended`); a held lease is live
+/// (`NotOwned`); else there is no lease (`NoLease`).
 pub fn verdict(holding: &Holding, key: SliceKey, at: u64) -> Verdict
     ensures { result ≡ rule (holding_seen_from holding.now key) at }
 {

@@ -52,6 +52,7 @@ fn bounds_of(step: &Value) -> Result<PlanBounds, WrongForm>
     }
 }
 
+/// A `plan`, as an element of a script says it.
 #[tactic(auto, unfolding(crate::specs::Steps::plan_step))]
 pub fn plan_step(alloc: Global, step: &Value) -> Result<Step, Unread>
     ensures { Gives result (plan_step (view step.now)) }

@@ -56,6 +56,9 @@ impl Model for Slicelet {
 
 impl Slicelet {
     /// The slicelet of a task before its first call.
+    ///
+    /// What a slicelet knows ends with it: one that takes the place of another of its task has to start
+    /// above each life that the other started, or it may hear again a grant that the other released.
     pub fn new(alloc: Global, task: TaskId) -> Self
         ensures { result ≡ opening task }
     {
@@ -69,7 +72,7 @@ impl Slicelet {
         }
     }
 
-    /// Starts a life of the task, which holds nothing and has heard no number yet.
+    /// Starts a life of the task at a reading in ticks of its clock. It holds nothing and has heard no number yet.
     ///
     /// Refused by `OldLife`, `ClockBack` and `HistoryFull`, in this order; want of memory comes last,
     /// and changes nothing.

@@ -33,7 +33,7 @@ impl Model for PlanPolicy {
 impl PlanPolicy {
     /// A policy, or `None` where an argument is outside its limits: how many tasks own a slice (1 to
     /// 3); how many keys may move (up to 2^63); the load up to which neighbours merge; the load above
-    /// which a slice is halved; and up to how many slices that is done (1 to 1024).
+    /// which a slice is halved; and the number of slices up to which that is done (1 to 1024).
     pub fn new(redundancy: u64, churn: u64, cold: u64, hot: u64, most: u64) -> Option<Self>
         ensures valid { is_some result ≡ is_policy (limits redundancy churn cold hot most) }
         ensures value { IfSome result (λ p. p ≡ limits redundancy churn cold hot most) }
@@ -85,7 +85,7 @@ impl PlanPolicy {
         self.hot
     }
 
-    /// Up to how many slices are halved.
+    /// Slices are halved while there are fewer than this many in all.
     pub fn most(&self) -> u64
         ensures value { result ≡ self.now.most }
         ensures within { (1 ≤ result) × (result ≤ 1024) }

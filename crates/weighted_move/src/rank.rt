@@ -16,9 +16,9 @@ use std::cmp::Ordering;
 pub struct Rank {
     /// The place of the slice in its list.
     pub place: usize,
-    /// The move of its whole share from the lowest task to the lowest one: none of its moves is better.
+    /// None of the slice's moves is better: its gain is the whole share, and giver and taker are the lowest task.
     pub most: Move,
-    /// The best of these from this rank on.
+    /// The best `most` from this rank on.
     pub rest: Move,
 }
 
