@@ -36,10 +36,8 @@ abbrev pub takes_memory : Step → Bool
 takes_memory (step.Assign generation slices) = true
 takes_memory (step.Judge question) = true
 takes_memory (step.Propose assigner generation slices at) = true
-takes_memory (step.Commit assigner at) = true
 takes_memory step.Rows = true
 takes_memory (step.Grant task life at) = true
-takes_memory (step.Free note at) = true
 takes_memory (step.Start task life at) = true
 takes_memory (step.Hear task number at) = true
 takes_memory (step.Release task kind at) = true
