@@ -69,6 +69,7 @@ pub(crate) fn learn_all<R: Wait>(
     }
 }
 
+// Learns each newer committed assignment, up to that of the last round.
 #[tactic(auto, using(crate::proofs::Keeping::clerk_same, crate::proofs::Keeping::clerk_more, crate::proofs::Keeping::clerk_by_table, crate::proofs::Keeping::clerk_by_own))]
 fn follow_commits<R: Wait>(
     rt: &R,

@@ -35,6 +35,7 @@ pub(crate) fn assign<R: Wait>(
     }
 }
 
+// Takes the job, and proposes and commits the halves of each round.
 #[tactic(auto, using(crate::proofs::Keeping::keeps_same, crate::proofs::Keeping::keeps_more))]
 fn commit_all<R: Wait>(
     rt: &R,

@@ -269,7 +269,7 @@ fn work_all<R: Threads + Wait + Sync, G: Gate + Sync>(
     work_each(rt, alloc, slicelet, ticket, gate, asks, workers)
 }
 
-// The same, by the places of the workers.
+// Apart from `work_all`, whose lemma turns what is said of each place into what is said of the list.
 fn work_each<R: Threads + Wait + Sync, G: Gate + Sync>(
     rt: &R,
     alloc: Global,

@@ -143,7 +143,7 @@ fn run_crews<R: Threads + Wait + Sync, G: Gate + Sync>(
     run_each(rt, alloc, ticket, table, gate, job, crews)
 }
 
-// The same, by the places of the tasks.
+// Apart from `run_crews`, whose lemma turns what is said of each place into what is said of the list.
 fn run_each<R: Threads + Wait + Sync, G: Gate + Sync>(
     rt: &R,
     alloc: Global,

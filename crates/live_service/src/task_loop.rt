@@ -155,6 +155,7 @@ pub(crate) fn see_to_leases<R: Wait>(
     }
 }
 
+// Starts the task's life, and asks for a lease in each phase that wants another, up to the guard of the last round.
 #[tactic(auto, using(crate::proofs::Keeping::task_same, crate::proofs::Keeping::task_more, crate::proofs::Keeping::task_by_table, crate::proofs::Keeping::task_by_own))]
 fn follow_phases<R: Wait>(
     rt: &R,

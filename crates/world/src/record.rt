@@ -13,7 +13,8 @@ use policy_rules::Verdict;
 use slicelet::{SliceletCall, SliceletReply};
 use std::alloc::AllocError;
 
-/// A call of one actor, with what it delivers: grants, notes, handles and assignments themselves.
+/// A call of one actor, with what it delivers: grants, notes, handles and assignments themselves. `at` is a
+/// reading of a task's clock, in ticks.
 #[derive(Debug, Drop)]
 pub enum RecordedCall {
     /// A call that may change the table.
