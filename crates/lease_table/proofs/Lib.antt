@@ -11,3 +11,4 @@ pub mod OpenRows
 pub mod HoldingUp
 pub mod Covering
 pub mod JobTerms
+pub mod FewOwners

@@ -1,13 +1,9 @@
-use Rattle.std.proofs.Common.{◌≡◌, ℕ, false, List, ◌∷◌, length, refl, ◌∙◌, ap, subst, Some}
-use Rattle.std.specs.Prelude.{Option, nat_lt}
-use Rattle.std.specs.List.{list_any}
+use Rattle.std.proofs.Common.{◌≡◌, ℕ, List, ◌∷◌, refl, ◌∙◌, ap, subst, Some}
 use Rattle.policy_rules.specs.declared.answer.Verdict.TheVariants.{Allow}
 use Rattle.policy_rules.specs.declared.lease.Kind.{Kind}
-use Rattle.assignment.specs.Slices.{Slicing}
-use Rattle.lease_table.specs.Policies.{Terms}
 use Rattle.lease_table.specs.Tables.{Standing, slices_of}
 use Rattle.lease_table.specs.Runs.{commits_in}
-use Rattle.lease_table.specs.Generations.{HasFewOwners}
+use Rattle.lease_table.proofs.FewOwners.{few_committed}
 use Rattle.world.specs.Jobs.{Job}
 use Rattle.world.specs.declared.record.RecordedCall.TheVariants as call
 use Rattle.world.specs.declared.record.Told.TheVariants as told
@@ -38,12 +34,6 @@ returns-clause-owner c = λ job run before stage task key within one here low ma
     } in
     let tasks : TaskLaws = record { covering = c.covering_lease_law.ensures.allowed; own = c.held_law.ensures } in
     owner_known job stage k laws tasks before task key here.reached low may
-
--- no slice of the committed assignment has two owners
-few_committed : (policy : Terms) (committed known : Option Slicing) → policy.redundancy ≡ 1 → known ≡ committed → HasFewOwners policy known
-    → list_any (λ s. nat_lt 1 (length s.owners)) (slices_of committed) ≡ false
-few_committed policy committed known single same few =
-    subst (λ (n : ℕ). list_any (λ s. nat_lt n (length s.owners)) (slices_of committed) ≡ false) single (subst (HasFewOwners policy) same few)
 
 pub returns-clause-one : goal.returns-clause-one
 returns-clause-one c = λ job run before stage task other key within single one here low may also.

@@ -1,13 +1,9 @@
-use Rattle.std.proofs.Common.{◌≡◌, ℕ, false, length, subst}
-use Rattle.std.specs.Prelude.{Option, nat_lt}
-use Rattle.std.specs.List.{list_any}
 use Rattle.key_hash.specs.Hash.{slice_key}
-use Rattle.assignment.specs.Slices.{Slicing}
-use Rattle.lease_table.specs.Policies.{Terms}
 use Rattle.lease_table.specs.Tables.{slices_of}
 use Rattle.lease_table.specs.Calls.{committed_in}
 use Rattle.lease_table.specs.Runs.{commits_in}
-use Rattle.lease_table.specs.Generations.{assignment_in, HasFewOwners}
+use Rattle.lease_table.specs.Generations.{assignment_in}
+use Rattle.lease_table.proofs.FewOwners.{few_committed}
 use Rattle.world.specs.Told.{table_calls, task_calls}
 use Rattle.world.proofs.Sending.{table_run}
 use Rattle.world.proofs.TaskAcceptance.{accepted_calls}
@@ -27,11 +23,6 @@ returns-clause-owner c = λ job past task key within run may.
       committed = c.assignments_law.ensures.committed calls;
     } in
     owner c.covering_lease_law.ensures.allowed job past task key run facts (c.held_law.ensures task (task_calls job.policy task past) (accepted_calls job past task run)) may
-
--- no slice of the committed assignment has two owners
-few_committed : (policy : Terms) (committed known : Option Slicing) → policy.redundancy ≡ 1 → known ≡ committed → HasFewOwners policy known → list_any (λ s. nat_lt 1 (length s.owners)) (slices_of committed) ≡ false
-few_committed policy committed known single same few =
-    subst (λ (n : ℕ). list_any (λ s. nat_lt n (length s.owners)) (slices_of committed) ≡ false) single (subst (HasFewOwners policy) same few)
 
 pub returns-clause-one : goal.returns-clause-one
 returns-clause-one c = λ job past task other key within single run may also.
