@@ -7,7 +7,7 @@ use Rattle.std.proofs.lemmas.List.FromFn.{get_or-map-range_with_len, length-map-
 use Rattle.std.proofs.lemmas.Option.{slice_get_within, get_or_from_slice_get, slice_get-get_or}
 use Rattle.std.proofs.lemmas.Bool.Decides.{nat_tests}
 use Rattle.std.proofs.lemmas.Bool.{and_parts}
-use Rattle.lease_table.specs.Policies.{is_within}
+use Rattle.machines.specs.Numbers.{is_within}
 use Rattle.policy_rules.specs.declared.lease.Lease.{Lease}
 use Rattle.policy_rules.specs.Equality.{lease_eq}
 use Rattle.lease_table.specs.declared.values.Grant.{Grant}

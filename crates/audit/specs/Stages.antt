@@ -16,7 +16,7 @@ use Rattle.lease_table.specs.declared.error.TableError.{TableError}
 use Rattle.lease_table.specs.declared.values.Grant.{Grant}
 use Rattle.lease_table.specs.declared.values.ReleaseNote.{ReleaseNote}
 use Rattle.lease_table.specs.Equality.{grant_eq}
-use Rattle.lease_table.specs.Policies.{is_within}
+use Rattle.machines.specs.Numbers.{is_within}
 use Rattle.lease_table.specs.Tables.{Standing, opening, phase_of}
 use Rattle.lease_table.specs.Calls.{table_step}
 use Rattle.key_handle.specs.declared.handle.KeyHandle.{KeyHandle}

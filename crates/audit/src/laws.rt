@@ -3,7 +3,8 @@
 ghost use Rattle.std.specs.Prelude.{◌≡◌, ℕ, ◌++◌, ◌<◌, List, true, Some};
 ghost use Rattle.policy_rules.specs.declared.answer.Verdict.TheVariants.{Allow};
 ghost use Rattle.policy_rules.specs.declared.lease.Kind.{Kind};
-ghost use Rattle.lease_table.specs.Policies.{is_policy, is_within};
+ghost use Rattle.lease_table.specs.Policies.{is_policy};
+ghost use Rattle.machines.specs.Numbers.{is_within};
 ghost use Rattle.key_handle.specs.declared.handle.KeyHandle.{KeyHandle};
 ghost use Rattle.world.specs.Jobs.{Job};
 ghost use Rattle.world.specs.Told.{numbered};

@@ -3,7 +3,7 @@
 ghost use Rattle.std.specs.Prelude.{◌≡◌, ℕ, ◌+◌, ◌<◌, [], false, map, length, IfOk, None, Option, MatchOption};
 ghost use Rattle.std.specs.List.{list_any, range_with_len};
 ghost use Rattle.assignment.specs.Slices.{Slicing};
-ghost use Rattle.lease_table.specs.Policies.{is_within};
+ghost use Rattle.machines.specs.Numbers.{is_within};
 ghost use Rattle.slicelet.specs.Steps.{History};
 ghost use Rattle.world.specs.declared.record.RecordedCall.TheVariants as call;
 ghost use Rattle.slicelet.specs.Rules.{rule_after, covers_key};

@@ -1,6 +1,7 @@
 -- Live jobs.
 use Rattle.std.specs.Prelude.{ℕ, Bool, ◌&&◌}
-use Rattle.lease_table.specs.Policies.{Terms, is_within, terms}
+use Rattle.lease_table.specs.Policies.{Terms, terms}
+use Rattle.machines.specs.Numbers.{is_within}
 use Rattle.world.specs.Jobs.{Job, job_of}
 use Rattle.live_service.specs.declared.job.TheConstants.{MOST_TASKS, MOST_WORKERS, MOST_ROUNDS, MOST_ASKS, LONG}
 

@@ -18,7 +18,7 @@ use crate::shared_table::SharedTable;
 use crate::task_loop::{TaskSeat, see_to_leases};
 use crate::worker::{Member, Worked, work};
 use assignment::TaskId;
-use history_lock::{Closed, History, Pass};
+use history_lock::{Closed, History, MOST_ENTRIES, Pass};
 use lease_table::LeaseTable;
 use slicelet::{Slicelet, SliceletEvent};
 use std::alloc::{AllocError, Global};
@@ -26,9 +26,6 @@ use std::sync::Wait;
 use std::thread::{Threads, join, map_vec};
 use tickets::{Ticket, TicketPass};
 use world::CallRecord;
-
-/// How many entries the history of each lock of a live run has at the most.
-pub(crate) const MOST_ENTRIES: usize = 65_536;
 
 /// A task of a live run: its slicelet, its pass of the table's lock, and the passes of its threads, of its own
 /// first.

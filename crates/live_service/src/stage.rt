@@ -7,14 +7,14 @@ ghost use Rattle.live_service.specs.inside.Crews.{IsCrew};
 ghost use Rattle.live_service.specs.inside.Stages.{AreCrewsFrom, IsQuietClerkSeat, IsQuietSeat, IsStaged};
 
 use crate::clerk_loop::ClerkSeat;
-use crate::crew::{Crew, MOST_ENTRIES};
+use crate::crew::Crew;
 use crate::job::{LiveJob, live_policy};
 use crate::seat::TableSeat;
 use crate::shared_clerk::SharedClerk;
 use crate::shared_table::SharedTable;
 use assignment::TaskId;
 use clerk::Clerk;
-use history_lock::Pass;
+use history_lock::{MOST_ENTRIES, Pass};
 use lease_table::LeaseTable;
 use std::alloc::{AllocError, Global};
 use tickets::{MOST_DRAWS, Ticket, TicketPass};

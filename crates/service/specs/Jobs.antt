@@ -1,7 +1,8 @@
 -- What the job line of a script says.
 use Rattle.std.specs.Prelude.{◌&&◌, [], ◌∷◌, codes, Result, Ok}
 use Rattle.serde_json.specs.Data.{Data}
-use Rattle.lease_table.specs.Policies.{Terms, is_policy, is_within, terms}
+use Rattle.lease_table.specs.Policies.{Terms, is_policy, terms}
+use Rattle.machines.specs.Numbers.{is_within}
 use Rattle.world.specs.Jobs.{Job, job_of as job_with}
 use Rattle.service.specs.declared.fault.WrongForm.{WrongForm}
 use Rattle.service.specs.Reading.{◌>>=◌, ◌>>◌, check}

@@ -7,7 +7,7 @@ use Rattle.world.specs.Jobs.{Job}
 use Rattle.world.specs.declared.step.Step.{Step}
 use Rattle.world.specs.declared.step.Step.TheVariants.{Hash, Assign, Owners, Judge, Take, Renew, Propose, Commit, Phase, Rows, Grant, Free, Start, Hear, Release, Serve, Hold, Check, Learn, Look, Forget, Load, Gather, Plan, Next, Restart}
 use Rattle.service.specs.declared.fault.WrongForm.{WrongForm}
-use Rattle.lease_table.specs.Policies.{is_within}
+use Rattle.machines.specs.Numbers.{is_within}
 use Rattle.assignment.specs.declared.task.TheConstants.{TASKS}
 use Rattle.weighted_move.specs.Owning.{rise_from}
 use Rattle.world.specs.Bounds.{Bounds, bounds, is_bounds}

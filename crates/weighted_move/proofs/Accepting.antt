@@ -22,9 +22,8 @@ use Rattle.weighted_move.specs.Merging.{AreRuns, in_line}
 use Rattle.weighted_move.specs.Moves.{moved, moved_slice}
 use Rattle.weighted_move.specs.Chains.{after_moves}
 use Rattle.weighted_move.specs.Halving.{halved_into, slice_from, is_hot}
-use Rattle.weighted_move.proofs.Ordered.{from_low, below_high}
+use Rattle.assignment.proofs.Rising.{from_low, below_high, none_among}
 use Rattle.weighted_move.proofs.Tiling.{widths}
-use Rattle.weighted_move.proofs.TaskLists.{none_among}
 use Rattle.weighted_move.proofs.Fits.{IsFit, AreFit}
 use Rattle.weighted_move.proofs.Halves.{halved_rising}
 

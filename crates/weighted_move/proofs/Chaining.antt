@@ -14,7 +14,7 @@ use Rattle.weighted_move.specs.Owning.{with_task, without_task}
 use Rattle.weighted_move.specs.Weights.{total_load, Tiles, IsOwned, IsCover}
 use Rattle.weighted_move.specs.Moves.{IsCandidate, moved, moved_slice}
 use Rattle.weighted_move.specs.Chains.{after_moves, left_by, IsBestAfter}
-use Rattle.weighted_move.proofs.Ordered.{from_low, below_high}
+use Rattle.assignment.proofs.Rising.{from_low, below_high}
 use Rattle.weighted_move.proofs.TaskLists.{among-filter, among-tasks}
 
 -- slices that follow one another have starts of their own

@@ -12,7 +12,7 @@ use Rattle.assignment.proofs.SliceOrder.{first_or_later, none_from}
 use Rattle.weighted_move.specs.declared.weighed.WeighedSlice.{WeighedSlice}
 use Rattle.weighted_move.specs.Weights.{Tiles}
 use Rattle.weighted_move.specs.Halving.{halved_into, slice_from, is_hot}
-use Rattle.weighted_move.proofs.TaskLists.{filter-range}
+use Rattle.assignment.proofs.Rising.{filter-range}
 use Rattle.weighted_move.proofs.Fits.{IsFit, AreFit}
 
 -- the owners of the slice that has a key

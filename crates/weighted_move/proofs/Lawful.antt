@@ -1,5 +1,5 @@
 -- What holds of every plan.
-use Rattle.std.proofs.Common.{◌≡◌, ◌∙◌, ℕ, ◌-◌, ◌<◌, ◌≤◌, true, Bool, List, [], length, sym, ap, subst, arith}
+use Rattle.std.proofs.Common.{◌≡◌, ◌∙◌, ℕ, ◌-◌, ◌<◌, ◌≤◌, true, List, [], length, sym, ap, subst, arith}
 use Rattle.std.specs.Prelude.{◌&&◌, nat_le, All, None}
 use Rattle.std.proofs.lemmas.Bool.Decides.{nat_tests}
 use Rattle.std.proofs.lemmas.List.Elements.{All-from_recursion}
@@ -13,7 +13,8 @@ use Rattle.assignment.specs.Slices.{refusal_of}
 use Rattle.assignment.specs.Owners.{owners_of}
 use Rattle.weighted_move.specs.declared.weighed.WeighedSlice.{WeighedSlice}
 use Rattle.weighted_move.specs.declared.made.Plan.{Plan}
-use Rattle.weighted_move.specs.Policies.{Limits, is_policy, is_within}
+use Rattle.weighted_move.specs.Policies.{Limits, is_policy}
+use Rattle.machines.specs.Numbers.{is_within}
 use Rattle.weighted_move.specs.Weights.{Tiles}
 use Rattle.weighted_move.specs.Weighing.{weighed}
 use Rattle.weighted_move.specs.Merging.{in_line}

@@ -1,7 +1,6 @@
 pub mod Order
 pub mod Prefixes
 pub mod Choosing
-pub mod Ordered
 pub mod Seeking
 pub mod Giving
 pub mod Loading

@@ -14,8 +14,9 @@ use Rattle.weighted_move.specs.Owning.{without_task}
 use Rattle.weighted_move.specs.Weights.{Tiles, total_load, load_of, IsOwned, IsCover}
 use Rattle.weighted_move.specs.Settling.{lighter, most_loaded, least_loaded, strangers, without_owner, with_owner, less_one, plus_one, pruned, filled, settled_slice, settled_from}
 use Rattle.weighted_move.specs.Merging.{joins, joined, merged_from, merged}
-use Rattle.weighted_move.proofs.Ordered.{ends_high}
-use Rattle.weighted_move.proofs.TaskLists.{rises_filter, among-filter, none_among}
+use Rattle.slice_ranges.proofs.Boundaries.{rises_bounds}
+use Rattle.assignment.proofs.Rising.{none_among}
+use Rattle.weighted_move.proofs.TaskLists.{rises_filter, among-filter}
 use Rattle.weighted_move.proofs.Settled.{least_in}
 use Rattle.weighted_move.proofs.Chaining.{owned_with}
 
@@ -141,7 +142,7 @@ known_member low high t [] h e = absurd (cc)
 known_member low high t (x ∷ xs) h e = by_test (x == t) refl e (λ f. known_member (x + 1) high t xs h.1 f)
   where
     by_test : (b : Bool) → b ≡ (x == t) → (b || is_among xs t) ≡ true → (is_among xs t ≡ true → (x + 1 ≤ t) × (t < high)) → (low ≤ t) × (t < high)
-    by_test true f e rest = let is : x ≡ t = grind (arith, nat_tests) in let p : low ≤ x = h.0 in let q : x + 1 ≤ high = ends_high (x + 1) high xs h.1 in (omega (arith, is, p), omega (arith, is, q))
+    by_test true f e rest = let is : x ≡ t = grind (arith, nat_tests) in let p : low ≤ x = h.0 in let q : x + 1 ≤ high = rises_bounds (x + 1) xs high h.1 in (omega (arith, is, p), omega (arith, is, q))
     by_test false f e rest = let more = rest e in let p : low ≤ x = h.0 in let q = more.0 in (omega (arith, p, q), more.1)
 
 least_known : (load : ℕ → ℕ) (members owners : List ℕ) (t : ℕ) → Rises 1 members 65 → least_loaded load (strangers members owners) ≡ Some t → is_task t ≡ true

@@ -1,5 +1,5 @@
 -- Sets of tasks as rising lists.
-use Rattle.std.proofs.Common.{◌≡◌, ◌∙◌, ℕ, zero, suc, ◌+◌, ◌<◌, ◌≤◌, inl, inr, ◌⊎◌, Bool, true, false, List, [], ◌∷◌, ◌++◌, length, get_or, refl, sym, ap, subst, arith}
+use Rattle.std.proofs.Common.{◌≡◌, ◌∙◌, ℕ, zero, suc, ◌+◌, ◌<◌, ◌≤◌, inl, inr, ◌⊎◌, Bool, true, false, List, [], ◌∷◌, ◌++◌, length, get_or, refl, sym, subst, arith}
 use Rattle.std.specs.Prelude.{◌==◌, ◌||◌, ◌&&◌, not, nat_le, nat_lt, filter, All, Contains, IsPermutation}
 use Rattle.std.specs.List.{range_with_len}
 use Rattle.std.specs.List.Sorted.{IsSorted}
@@ -14,7 +14,7 @@ use Rattle.assignment.specs.Slices.{is_among, is_task, has_twice}
 use Rattle.assignment.specs.Owners.{tasks}
 use Rattle.assignment.proofs.Tasks.{owners_rise}
 use Rattle.weighted_move.specs.Owning.{tasks_where, with_task, without_task}
-use Rattle.weighted_move.proofs.Ordered.{from_low, below_high, ends_high}
+use Rattle.assignment.proofs.Rising.{from_low, below_high, filter-range}
 
 rises_lower : (low low' high : ℕ) (xs : List ℕ) → low' ≤ low → Rises low xs high → Rises low' xs high
 rises_lower low low' high [] l h = let p : low ≤ high = h in omega arith
@@ -127,41 +127,6 @@ pub sorted_among : (set owners sorted : List ℕ) → has_twice owners ≡ false
 sorted_among set owners sorted distinct_owners known same order =
     sym (owners_rise (filter (λ t. is_among set t) owners) sorted (λ t. is_among owners t && is_among set t) same order (twice_less (λ t. is_among set t) owners distinct_owners)
     (All-filter (λ t. is_among set t) (λ o. is_task o ≡ true) owners known) (λ t. sym (among-filter (λ x. is_among set x) owners t)))
-
-pub none_among : (low high t : ℕ) (xs : List ℕ) → Rises low xs high → t < low → is_among xs t ≡ false
-none_among low high t xs h l = list_any_none (λ y. y == t) xs (λ k d m. let p : low ≤ get_or xs k d = from_low low high xs h k d m in grind (arith, nat_tests))
-
--- rising numbers are those of a range that are among them
-pub filter-range : (test : ℕ → Bool) (n low : ℕ) (xs : List ℕ) → ((t : ℕ) → low ≤ t → test t ≡ is_among xs t) → Rises low xs (low + n) → filter test (range_with_len low n) ≡ xs
-filter-range test zero low [] same h = refl
-filter-range test zero low (x ∷ xs) same h = absurd (let p : low ≤ x = h.0 in let q : x + 1 ≤ low + 0 = ends_high (x + 1) (low + 0) xs h.1 in omega arith)
-filter-range test (suc n) low [] same h =
-    let other : test low ≡ false = same low (omega arith) in
-    rw other (filter-range test n (low + 1) [] (λ t l. same t (omega arith)) (omega arith))
-filter-range test (suc n) low (x ∷ xs) same h =
-    elim (cases_lt low x) [
-      | inl later ↦
-          let absent : is_among (x ∷ xs) low ≡ false = none_among x (low + suc n) low (x ∷ xs) (omega arith, h.1) later in
-          let other : test low ≡ false = same low (omega arith) ∙ absent in
-          let end : low + suc n ≡ low + 1 + n = omega arith in
-          let P : ℕ → Type 0 = λ high. Rises (low + 1) (x ∷ xs) high in
-          let rest : Rises (low + 1) (x ∷ xs) (low + suc n) = (omega arith, h.1) in
-          rw other (filter-range test n (low + 1) (x ∷ xs) (λ t l. same t (omega arith)) (subst P end rest))
-      | inr here ↦
-          let is : x ≡ low = let p : low ≤ x = h.0 in omega arith in
-          let itself : (x == low) ≡ true = grind (arith, nat_tests) in
-          let kept : test low ≡ true = same low (omega arith) ∙ rw itself refl in
-          let end : low + suc n ≡ low + 1 + n = omega arith in
-          let P : ℕ → ℕ → Type 0 = λ first high. Rises (first + 1) xs high in
-          let rest : Rises (low + 1) xs (low + suc n) = let Q : ℕ → Type 0 = λ first. P first (low + suc n) in subst Q is h.1 in
-          let rest' : Rises (low + 1) xs (low + 1 + n) = let Q : ℕ → Type 0 = λ high. P low high in subst Q end rest in
-          rw (kept, is) (ap (λ ys. low ∷ ys) (filter-range test n (low + 1) xs (after is) rest'))
-    ]
-  where
-    after : x ≡ low → (t : ℕ) → low + 1 ≤ t → test t ≡ is_among xs t
-    after is t l =
-        let other : (x == t) ≡ false = grind (arith, nat_tests) in
-        same t (omega arith) ∙ rw other refl
 
 -- a task that is in a set already adds nothing
 pub with-same : (task : ℕ) (xs : List ℕ) → Rises 1 xs 65 → is_among xs task ≡ true → with_task task xs ≡ xs

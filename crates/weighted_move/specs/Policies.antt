@@ -1,5 +1,6 @@
 -- What a plan is held to.
 use Rattle.std.specs.Prelude.{ℕ, Bool, ◌&&◌, nat_le}
+use Rattle.machines.specs.Numbers.{is_within}
 use Rattle.key_hash.specs.declared.TheConstants.{KEYS}
 use Rattle.assignment.specs.declared.slice.TheConstants.{MOST_OWNERS}
 use Rattle.assignment.specs.declared.assignment.TheConstants.{MOST_SLICES}
@@ -15,10 +16,6 @@ pub record Limits : Type 0 where
 
 abbrev pub limits : ℕ → ℕ → ℕ → ℕ → ℕ → Limits
 limits redundancy churn cold hot most = record { redundancy = redundancy; churn = churn; cold = cold; hot = hot; most = most }
-
--- a number is from 1 to the most
-abbrev pub is_within : ℕ → ℕ → Bool
-is_within number most = nat_le 1 number && nat_le number most
 
 -- the limits are in their ranges
 abbrev pub is_policy : Limits → Bool

@@ -2,7 +2,7 @@
 use Rattle.std.proofs.Common.{◌≡◌, ℕ, List, true, false, refl, sym, ◌∙◌, ap, inl, inr}
 use Rattle.std.specs.Prelude.{Option, Some, None, Result, Ok, Err, is_ok}
 use Rattle.machines.specs.Refusals.{unless_refused}
-use Rattle.lease_table.specs.Policies.{is_within}
+use Rattle.machines.specs.Numbers.{is_within}
 use Rattle.world.specs.Jobs.{Job}
 use Rattle.assignment.specs.Slices.{Slicing}
 use Rattle.weighted_move.specs.declared.made.Plan.{Plan}

@@ -4,7 +4,7 @@ use Rattle.std.specs.Prelude.{◌≢◌, ◌==◌, Option, if◌then◌else◌}
 use Rattle.std.proofs.Math.ListN.{set, get_or}
 use Rattle.std.proofs.lemmas.Bool.Decides.{nat_tests}
 use Rattle.lease_table.specs.declared.values.JobTerm.{JobTerm}
-use Rattle.lease_table.specs.Policies.{is_within}
+use Rattle.machines.specs.Numbers.{is_within}
 use Rattle.assigner.specs.Terms.{Keeping}
 use Rattle.world.specs.Jobs.{Job}
 use Rattle.world.specs.Pasts.{Past}

@@ -5,7 +5,7 @@ use Rattle.std.proofs.Math.ListN.{set, get_or}
 use Rattle.std.proofs.lemmas.Bool.Decides.{nat_tests}
 use Rattle.machines.specs.Refusals.{when, first_of, unless_refused}
 use Rattle.assignment.specs.Slices.{Slicing}
-use Rattle.lease_table.specs.Policies.{is_within}
+use Rattle.machines.specs.Numbers.{is_within}
 use Rattle.clerk.specs.declared.call.ClerkCall.{ClerkCall}
 use Rattle.clerk.specs.declared.error.ClerkError.TheVariants.{Old}
 use Rattle.clerk.specs.Steps.{learn_checks, learn_step}

@@ -8,7 +8,7 @@ use Rattle.key_hash.specs.Hash.{slice_key}
 use Rattle.policy_rules.specs.declared.answer.Verdict.{Verdict}
 use Rattle.policy_rules.specs.declared.answer.Verdict.TheVariants.{Allow, Deny}
 use Rattle.key_handle.specs.declared.handle.KeyHandle.{KeyHandle}
-use Rattle.lease_table.specs.Policies.{is_within}
+use Rattle.machines.specs.Numbers.{is_within}
 use Rattle.slicelet.specs.Steps.{History}
 use Rattle.slicelet.specs.Calls.{life_of}
 use Rattle.slicelet.specs.Continuity.{handle_on, held_by, is_strange, IsContinuous}

@@ -5,7 +5,7 @@ use Rattle.key_hash.specs.Hash.{slice_key}
 use Rattle.policy_rules.specs.declared.answer.Verdict.{Verdict}
 use Rattle.key_handle.specs.declared.handle.KeyHandle.{KeyHandle}
 use Rattle.lease_table.specs.declared.values.Grant.{Grant}
-use Rattle.lease_table.specs.Policies.{is_within}
+use Rattle.machines.specs.Numbers.{is_within}
 use Rattle.slicelet.specs.declared.call.SliceletCall.{SliceletCall}
 use Rattle.slicelet.specs.Rules.{is_allowed, is_permitted}
 use Rattle.slicelet.specs.Continuity.{IsContinuous, next_reading}

@@ -9,7 +9,7 @@ use Rattle.machines.proofs.Every.{all_weaker, all_push}
 use Rattle.lease_table.specs.declared.call.TableCall.{TableCall}
 use Rattle.lease_table.specs.declared.call.TableCall.TheVariants as call
 use Rattle.lease_table.specs.declared.values.ReleaseNote.{ReleaseNote}
-use Rattle.lease_table.specs.Policies.{is_within}
+use Rattle.machines.specs.Numbers.{is_within}
 use Rattle.lease_table.specs.Calls.{AnsweredTableCall}
 use Rattle.lease_table.proofs.Members.{here, there, nowhere, first_or_rest}
 use Rattle.slicelet.specs.declared.call.SliceletCall.{SliceletCall}

@@ -4,7 +4,7 @@ use Rattle.std.specs.Prelude.{Some, Contains, if◌then◌else◌}
 use Rattle.std.specs.List.{AllByRecursion}
 use Rattle.key_hash.specs.Hash.{slice_key}
 use Rattle.policy_rules.specs.declared.answer.Verdict.{Verdict}
-use Rattle.lease_table.specs.Policies.{is_within}
+use Rattle.machines.specs.Numbers.{is_within}
 use Rattle.lease_table.specs.Calls.{last_reading}
 use Rattle.lease_table.proofs.Members.{nowhere, first_or_rest}
 use Rattle.slicelet.specs.Rules.{is_allowed}

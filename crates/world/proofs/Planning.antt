@@ -5,7 +5,8 @@ use Rattle.std.proofs.lemmas.Bool.{and_parts}
 use Rattle.key_hash.specs.declared.TheConstants.{KEYS}
 use Rattle.assignment.specs.declared.slice.TheConstants.{MOST_OWNERS}
 use Rattle.assignment.specs.declared.assignment.TheConstants.{MOST_SLICES}
-use Rattle.lease_table.specs.Policies.{Terms, is_policy, is_within}
+use Rattle.lease_table.specs.Policies.{Terms, is_policy}
+use Rattle.machines.specs.Numbers.{is_within}
 use Rattle.assignment.specs.Slices.{Slicing, refusal_of}
 use Rattle.weighted_move.specs.declared.error.PlanError.{PlanError}
 use Rattle.weighted_move.specs.declared.error.PlanError.TheVariants as plan

@@ -3,7 +3,7 @@ use Rattle.std.proofs.Common.{◌≡◌, ℕ, Bool, true, false, List, [], ◌�
 use Rattle.std.specs.Prelude.{Option, Some, None, IsTrue, ◌↔◌, if◌then◌else◌}
 use Rattle.key_hash.specs.Hash.{slice_key}
 use Rattle.key_handle.specs.declared.handle.KeyHandle.{KeyHandle}
-use Rattle.lease_table.specs.Policies.{is_within}
+use Rattle.machines.specs.Numbers.{is_within}
 use Rattle.slicelet.specs.Continuity.{IsContinuous, is_strange}
 use Rattle.world.specs.Jobs.{Job}
 use Rattle.world.specs.declared.step.Step.TheVariants as step

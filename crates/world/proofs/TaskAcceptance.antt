@@ -3,7 +3,7 @@ use Rattle.std.proofs.Common.{◌≡◌, ℕ, ◌+◌, Bool, true, false, [], �
 use Rattle.std.specs.Prelude.{Option, Some, None, ◌==◌, length, option_map, if◌then◌else◌}
 use Rattle.machines.specs.Refusals.{first_of, unless_refused}
 use Rattle.lease_table.specs.declared.values.Grant.{Grant}
-use Rattle.lease_table.specs.Policies.{is_within}
+use Rattle.machines.specs.Numbers.{is_within}
 use Rattle.slicelet.specs.declared.call.SliceletCall.{SliceletCall}
 use Rattle.slicelet.specs.declared.call.SliceletCall.TheVariants.{Hear}
 use Rattle.slicelet.specs.Steps.{History, start_checks, hear_checks, release_checks, hear_step}

@@ -2,7 +2,8 @@
 use Rattle.std.specs.Prelude.{ℕ, Bool, ◌&&◌, nat_le}
 use Rattle.key_hash.specs.declared.TheConstants.{KEYS}
 use Rattle.assignment.specs.declared.assignment.TheConstants.{MOST_SLICES}
-use Rattle.weighted_move.specs.Policies.{Limits, is_within, limits}
+use Rattle.weighted_move.specs.Policies.{Limits, limits}
+use Rattle.machines.specs.Numbers.{is_within}
 
 -- how many keys may move; the loads up to which neighbours merge, and above which a slice is halved;
 -- and how many slices there may be for that

@@ -9,7 +9,7 @@ use Rattle.policy_rules.specs.declared.answer.Ground.{Ground}
 use Rattle.policy_rules.specs.declared.answer.Verdict.{Verdict}
 use Rattle.policy_rules.specs.declared.answer.Verdict.TheVariants.{Deny}
 use Rattle.lease_table.specs.declared.values.Grant.{Grant}
-use Rattle.lease_table.specs.Policies.{is_within}
+use Rattle.machines.specs.Numbers.{is_within}
 use Rattle.lease_table.specs.Tables.{phase_of}
 use Rattle.lease_table.specs.Generations.{covers_by_owners}
 use Rattle.lease_table.specs.Steps.{take_step, renew_step, propose_step, commit_step, grant_step, free_step}

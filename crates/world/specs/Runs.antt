@@ -2,7 +2,7 @@
 use Rattle.std.specs.Prelude.{◌≡◌, ℕ, Bool, true, false, IsTrue, List, [], ◌∷◌, Some, None, ⊤, ◌⊎◌, ◌↔◌}
 use Rattle.assignment.specs.Slices.{Slicing}
 use Rattle.key_handle.specs.declared.handle.KeyHandle.{KeyHandle}
-use Rattle.lease_table.specs.Policies.{is_within}
+use Rattle.machines.specs.Numbers.{is_within}
 use Rattle.slicelet.specs.Continuity.{IsContinuous, is_strange}
 use Rattle.weighted_move.specs.declared.made.Plan.{Plan}
 use Rattle.weighted_move.specs.Plans.{CanPlan, IsPlan, plan_refusal}

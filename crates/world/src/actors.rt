@@ -2,7 +2,7 @@
 
 ghost use Rattle.std.specs.Prelude.{◌≡◌, ◌+◌, ◌<◌, false, length, MatchResult, option_map};
 ghost use Rattle.machines.specs.declared.machine.Trouble.TheVariants as trouble;
-ghost use Rattle.lease_table.specs.Policies.{is_within};
+ghost use Rattle.machines.specs.Numbers.{is_within};
 ghost use Rattle.world.specs.declared.reply.Refusal.TheVariants as refusal;
 ghost use Rattle.world.specs.Told.{numbered};
 ghost use Rattle.world.specs.Troubles.{of_layer};

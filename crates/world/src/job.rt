@@ -1,7 +1,8 @@
 //! What a job is made of.
 
 ghost use Rattle.std.specs.Prelude.{◌≡◌, ◌≤◌, ◌&&◌, IfSome, is_some};
-ghost use Rattle.lease_table.specs.Policies.{Terms, is_within};
+ghost use Rattle.lease_table.specs.Policies.{Terms};
+ghost use Rattle.machines.specs.Numbers.{is_within};
 ghost use Rattle.world.specs.Jobs.{Job, job_of};
 
 use assignment::TASKS;
@@ -25,7 +26,7 @@ pub struct Job {
 
 impl Model for Job {
     ghost use Rattle.std.specs.Prelude.{◌≡◌, true, ◌&&◌};
-    ghost use Rattle.lease_table.specs.Policies.{is_within};
+    ghost use Rattle.machines.specs.Numbers.{is_within};
     ghost use Rattle.world.specs.Jobs.{Job as JobTerms, job_of};
 
     ghost Value = { JobTerms };

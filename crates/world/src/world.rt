@@ -2,7 +2,8 @@
 
 ghost use Rattle.std.specs.Prelude.{◌≡◌, ℕ, List, ◌∷◌, ◌++◌, [], true, false, IsTrue, None, Some, length, IfOk, OnErr};
 ghost use Rattle.key_handle.specs.declared.handle.KeyHandle.{KeyHandle};
-ghost use Rattle.lease_table.specs.Policies.{is_policy, is_within};
+ghost use Rattle.lease_table.specs.Policies.{is_policy};
+ghost use Rattle.machines.specs.Numbers.{is_within};
 ghost use Rattle.slicelet.specs.Continuity.{is_strange};
 ghost use Rattle.world.specs.Jobs.{Job};
 ghost use Rattle.assigner.specs.Terms.{Keeping};

@@ -1,7 +1,7 @@
 use Rattle.std.proofs.Common.{◌≡◌, ◌<◌, ℕ, length, subst, sym, arith}
 use Rattle.std.specs.Prelude.{None, false}
 use Rattle.std.proofs.Math.ListN.{set}
-use Rattle.lease_table.specs.Policies.{is_within}
+use Rattle.machines.specs.Numbers.{is_within}
 use Rattle.world.specs.declared.record.Told.TheVariants as told
 use Rattle.world.specs.declared.reply.Refusal.TheVariants as refusal
 use Rattle.audit.specs.Stages.{Stage, Turned, clerk_refusal, clerk_turn}
