@@ -20,4 +20,5 @@ pub mod Halves
 pub mod Keyed
 pub mod Accepting
 pub mod Lawful
+pub mod Loaded
 pub mod Ranking

@@ -21,7 +21,7 @@ mod weighed;
 
 pub use balance::MOST_MOVES;
 pub use error::PlanError;
-pub use laws::plan_law;
+pub use laws::{plan_law, settling_law};
 pub use made::Plan;
 pub use moves::Move;
 pub use planning::{MOST_LOAD, plan};
