@@ -11,7 +11,7 @@ use Rattle.assignment.specs.Slices.{Slicing}
 use Rattle.lease_table.specs.declared.call.TableCall.{TableCall}
 use Rattle.lease_table.specs.declared.call.TableCall.TheVariants as call
 use Rattle.lease_table.specs.declared.call.TableReply.{TableReply}
-use Rattle.lease_table.specs.declared.call.TableReply.TheVariants.{Term, Proposed, Committed, Granted, Freed}
+use Rattle.lease_table.specs.declared.call.TableReply.TheVariants.{Term, Proposed, Committed, Granted, Freed, Lost}
 use Rattle.lease_table.specs.declared.error.TableError.{TableError}
 use Rattle.lease_table.specs.declared.error.TableError.TheVariants.{Held}
 use Rattle.lease_table.specs.declared.table.TheConstants.{READINGS}
@@ -21,7 +21,7 @@ use Rattle.lease_table.specs.Policies.{Terms}
 use Rattle.lease_table.specs.Rows.{running_rows, closes, first_up_to}
 use Rattle.lease_table.specs.Tables.{Standing, generation_of}
 use Rattle.lease_table.specs.Steps
-use Rattle.lease_table.specs.Calls.{AnsweredTableCall, reading_of, standing_after, table_step}
+use Rattle.lease_table.specs.Calls.{AnsweredTableCall, reading_after, standing_after, table_step}
 
 -- the reading of an accepted call
 pub record IsReading (t : Standing) (at : ℕ) : Type 0 where
@@ -43,13 +43,14 @@ pub record IsProposed (t : Standing) (number : ℕ) (slicing : Slicing) (at : �
   pub holder : Steps.is_holder number at t.term ≡ true
   pub next : slicing.generation ≡ generation_of t.committed + 1
   pub alone : t.pending ≡ None
-  pub few : list_any (λ s. nat_lt t.policy.redundancy (length s.owners)) slicing.slices ≡ false
+  pub few : list_any (λ s. nat_lt t.policy.high (length s.owners)) slicing.slices ≡ false
   pub replies : reply ≡ Proposed
 
 pub record IsCommitted (t : Standing) (number at : ℕ) (reply : TableReply) : Type 0 where
   pub reading : IsReading t at
   pub holder : Steps.is_holder number at t.term ≡ true
   pub proposed : is_none t.pending ≡ false
+  pub ended : t.grace ≤ at
   pub unheld : first_up_to (generation_of t.committed) at t.rows ≡ None
   pub replies : reply ≡ Committed (generation_of t.pending)
 
@@ -63,6 +64,9 @@ pub record IsClosing (t : Standing) (note : ReleaseNote) (at : ℕ) (reply : Tab
   pub reading : IsReading t at
   pub replies : reply ≡ Freed (length (filter (closes note) (running_rows at t.rows)))
 
+pub record IsRestarted (t : Standing) (reply : TableReply) : Type 0 where
+  pub replies : reply ≡ Lost (length t.rows)
+
 -- a call was accepted with this reply
 abbrev pub IsAccepted : Standing → TableCall → TableReply → Type 0
 IsAccepted t (call.JobTake assigner at) reply = IsTaken t assigner at reply
@@ -71,6 +75,7 @@ IsAccepted t (call.Propose number slicing at) reply = IsProposed t number slicin
 IsAccepted t (call.Commit number at) reply = IsCommitted t number at reply
 IsAccepted t (call.Grant task life at) reply = IsGranted t task life at reply
 IsAccepted t (call.Free note at) reply = IsClosing t note at reply
+IsAccepted t call.Restart reply = IsRestarted t reply
 
 abbrev pub IsAcceptedAfter : Terms → List AnsweredTableCall → TableCall → TableReply → Type 0
 IsAcceptedAfter policy past c reply = IsAccepted (standing_after policy past) c reply
@@ -128,11 +133,13 @@ module _ (t : Standing) where
   acceptance (call.Commit number at) reply e =
       let a = unrefused Committed (first_of (Steps.commit_checks t number at)) _ _ reply e in
       let none = all_none (Steps.commit_checks t number at) a.0 in
+      let over : nat_lt at t.grace ≡ false = not_when _ _ none.1.1.1.1.0 in
       record {
         reading = read t at none.0 none.1.0;
         holder = unnot _ (not_when _ _ none.1.1.0);
         proposed = not_when _ _ none.1.1.1.0;
-        unheld = unheld_row _ none.1.1.1.1.0;
+        ended = grind (arith, nat_tests);
+        unheld = unheld_row _ none.1.1.1.1.1.0;
         replies = a.1;
       }
   acceptance (call.Grant task life at) reply e =
@@ -144,11 +151,14 @@ module _ (t : Standing) where
       let a = unrefused Freed (first_of (Steps.free_checks t note at)) _ _ reply e in
       let none = all_none (Steps.free_checks t note at) a.0 in
       record { reading = read t at none.0 none.1.0; replies = a.1 }
+  acceptance call.Restart reply e = record { replies = cc }
 
-pub accepted_reading : (t : Standing) (c : TableCall) (reply : TableReply) → IsAccepted t c reply → IsReading t (reading_of c)
-accepted_reading t (call.JobTake assigner at) reply a = a.reading
-accepted_reading t (call.JobRenew number at) reply a = a.reading
-accepted_reading t (call.Propose number slicing at) reply a = a.reading
-accepted_reading t (call.Commit number at) reply a = a.reading
-accepted_reading t (call.Grant task life at) reply a = a.reading
-accepted_reading t (call.Free note at) reply a = a.reading
+-- the last reading after an accepted call is not below that before it
+pub accepted_reading : (t : Standing) (c : TableCall) (reply : TableReply) → IsAccepted t c reply → t.last ≤ reading_after c t.last
+accepted_reading t (call.JobTake assigner at) reply a = a.reading.low
+accepted_reading t (call.JobRenew number at) reply a = a.reading.low
+accepted_reading t (call.Propose number slicing at) reply a = a.reading.low
+accepted_reading t (call.Commit number at) reply a = a.reading.low
+accepted_reading t (call.Grant task life at) reply a = a.reading.low
+accepted_reading t (call.Free note at) reply a = a.reading.low
+accepted_reading t call.Restart reply a = omega arith

@@ -1,5 +1,5 @@
 -- What each call answers and leaves, from what the table stands at.
-use Rattle.std.specs.Prelude.{ℕ, ◌==◌, ◌+◌, ◌-◌, Bool, false, not, ◌&&◌, nat_lt, nat_le, List, [], ◌∷◌, ◌++◌, length, filter, Option, Some, None, is_some, is_none, option_map, Result}
+use Rattle.std.specs.Prelude.{ℕ, ◌==◌, ◌+◌, ◌-◌, Bool, false, not, ◌&&◌, nat_lt, nat_le, max, List, [], ◌∷◌, ◌++◌, length, filter, Option, Some, None, is_some, is_none, option_map, Result, Ok}
 use Rattle.std.specs.List.{list_any}
 use Rattle.machines.specs.Refusals.{when, answer}
 use Rattle.slice_ranges.specs.Sets.{keys_where}
@@ -7,7 +7,7 @@ use Rattle.policy_rules.specs.declared.lease.Kind.TheVariants.{Guard, Bridge}
 use Rattle.assignment.specs.Slices.{Slicing}
 use Rattle.assignment.specs.Owners.{owns}
 use Rattle.lease_table.specs.declared.error.TableError.{TableError}
-use Rattle.lease_table.specs.declared.error.TableError.TheVariants.{ReadingRange, ClockBack, JobHeld, NotHolder, StaleBase, Pending, NothingPending, TooManyOwnersForJob, Held, NoRow, NoAssignment, NumbersSpent}
+use Rattle.lease_table.specs.declared.error.TableError.TheVariants.{ReadingRange, ClockBack, JobHeld, NotHolder, StaleBase, Pending, NothingPending, TooManyOwnersForJob, Grace, Held, NoRow, NoAssignment, NumbersSpent}
 use Rattle.lease_table.specs.declared.table.TheConstants.{READINGS}
 use Rattle.lease_table.specs.declared.values.JobTerm.{JobTerm}
 use Rattle.lease_table.specs.declared.values.Grant.{Grant}
@@ -35,6 +35,10 @@ is_holder number at (Some term) = term.number == number && nat_lt at term.until
 
 abbrev pub not_holder : Standing → ℕ → ℕ → Option TableError
 not_holder t number at = when (not (is_holder number at t.term)) (NotHolder (last_number t.term))
+
+-- the leases whose rows were lost may not have ended
+abbrev pub in_grace : Standing → ℕ → Option TableError
+in_grace t at = when (nat_lt at t.grace) (Grace t.grace)
 
 -- a row of the committed generation or an older one runs at the reading; the first is named
 abbrev pub held_up : Standing → ℕ → Option TableError
@@ -78,7 +82,7 @@ proposal_checks t number generation too_many at =
 
 abbrev pub propose_checks : Standing → ℕ → Slicing → ℕ → List (Option TableError)
 propose_checks t number slicing at =
-    proposal_checks t number slicing.generation (list_any (λ s. nat_lt t.policy.redundancy (length s.owners)) slicing.slices) at
+    proposal_checks t number slicing.generation (list_any (λ s. nat_lt t.policy.high (length s.owners)) slicing.slices) at
 
 abbrev pub propose_step : Standing → ℕ → Slicing → ℕ → Result (Standing × Unit {0}) TableError
 propose_step t number slicing at = answer (propose_checks t number slicing at) (record (standing_at t at) { pending = Some slicing }, tt)
@@ -86,7 +90,7 @@ propose_step t number slicing at = answer (propose_checks t number slicing at) (
 -- `commit`
 abbrev pub commit_checks : Standing → ℕ → ℕ → List (Option TableError)
 commit_checks t number at =
-    out_of_range at ∷ clock_back t at ∷ not_holder t number at ∷ when (is_none t.pending) NothingPending ∷ held_up t at ∷ []
+    out_of_range at ∷ clock_back t at ∷ not_holder t number at ∷ when (is_none t.pending) NothingPending ∷ in_grace t at ∷ held_up t at ∷ []
 
 abbrev pub commit_step : Standing → ℕ → ℕ → Result (Standing × ℕ) TableError
 commit_step t number at =
@@ -146,7 +150,7 @@ row_of grant = record {
 }
 
 abbrev pub with_row : Standing → ℕ → Row → Standing
-with_row t at row = record (standing_at t at) { granted = t.granted + 1; rows = running_rows at t.rows ++ row ∷ [] }
+with_row t at row = record (standing_at t at) { granted = t.granted + 1; deadline = max t.deadline row.table_ends; rows = running_rows at t.rows ++ row ∷ [] }
 
 abbrev pub grant_step : Standing → ℕ → ℕ → ℕ → Result (Standing × Grant) TableError
 grant_step t task life at =
@@ -160,3 +164,11 @@ free_checks t note at = out_of_range at ∷ clock_back t at ∷ when (length (fi
 abbrev pub free_step : Standing → ReleaseNote → ℕ → Result (Standing × ℕ) TableError
 free_step t note at =
     answer (free_checks t note at) (record (standing_at t at) { rows = rows_left_open note (running_rows at t.rows) }, length (filter (closes note) (running_rows at t.rows)))
+
+-- `restart`, which is never refused: the rows are lost, and no commit is accepted before the greatest
+-- deadline that was given; all else is kept
+abbrev pub restarted : Standing → Standing
+restarted t = record t { grace = t.deadline; rows = [] }
+
+abbrev pub restart_step : Standing → Result (Standing × ℕ) TableError
+restart_step t = Ok (restarted t, length t.rows)

@@ -29,8 +29,13 @@ pub enum TableError {
     Pending,
     /// No assignment is proposed.
     NothingPending,
-    /// A slice has more owners than the job's redundancy.
+    /// A slice has more owners than the job allows (`Policy::high`).
     TooManyOwnersForJob,
+    /// The table has restarted, and a lease whose row it lost may not have ended.
+    Grace {
+        /// The first reading at which all of them have.
+        until: u64,
+    },
     /// A row of the committed generation or an older one is neither ended nor freed.
     Held {
         /// The task of the row.

@@ -1,6 +1,6 @@
 //! What holds after every list of calls that a table answered.
 
-ghost use Rattle.std.specs.Prelude.{◌≡◌, ℕ, ◌+◌, ◌≤◌, ◌<◌, ◌&&◌, ◌⊎◌, ◌↔◌, List, [], ◌∷◌, ◌++◌, Some, None, Ok, true, is_some, slice_get, Contains, AllPairs};
+ghost use Rattle.std.specs.Prelude.{◌≡◌, ℕ, ◌+◌, ◌≤◌, ◌<◌, ◌&&◌, ◌⊎◌, ◌↔◌, List, [], ◌∷◌, ◌++◌, Some, None, Ok, Err, true, is_ok, is_some, slice_get, Contains, AllPairs};
 ghost use Rattle.slice_ranges.specs.Sets.{has};
 ghost use Rattle.policy_rules.specs.declared.lease.Kind.TheVariants.{Guard, Bridge};
 ghost use Rattle.assignment.specs.Slices.{Slicing};
@@ -10,22 +10,23 @@ ghost use Rattle.lease_table.specs.declared.call.TableCall.TheVariants as call;
 ghost use Rattle.lease_table.specs.declared.call.TableReply.{TableReply};
 ghost use Rattle.lease_table.specs.declared.call.TableReply.TheVariants.{Term};
 ghost use Rattle.lease_table.specs.declared.error.TableError.{TableError};
-ghost use Rattle.lease_table.specs.declared.error.TableError.TheVariants.{Held};
+ghost use Rattle.lease_table.specs.declared.error.TableError.TheVariants.{Grace, Held};
 ghost use Rattle.lease_table.specs.declared.values.Grant.{Grant};
 ghost use Rattle.lease_table.specs.declared.values.JobTerm.{JobTerm};
 ghost use Rattle.lease_table.specs.declared.values.Row.{Row};
 ghost use Rattle.lease_table.specs.Policies.{Terms, is_policy};
 ghost use Rattle.lease_table.specs.Tables.{Standing, opening, generation_of, slices_of, last_number};
 ghost use Rattle.lease_table.specs.Calls.{AnsweredTableCall, table_step, standing_after, LeadsTo};
-ghost use Rattle.lease_table.specs.Calls.{reading_of, last_reading, last_term, committed_in, pending_in, grants_sent};
+ghost use Rattle.lease_table.specs.Calls.{reading_after, last_reading, last_term, committed_in, pending_in, grants_sent, deadline_in, grace_in};
 ghost use Rattle.machines.specs.Calls.{LeadsOn, answered};
-ghost use Rattle.lease_table.specs.Runs.{IsRun, commits_in, proposed_at, longest_term};
+ghost use Rattle.lease_table.specs.Runs.{IsRun, commits_in, proposed_at, restarted_at, longest_term};
 ghost use Rattle.lease_table.specs.Generations.{assignment_in, published_in, newest_generation, covers_by_owners, HasFewOwners};
-ghost use Rattle.lease_table.specs.OpenRows.{IsSent, IsFreed, IsOpen, HoldsUp, IsHeldUp, grant_numbered};
-ghost use Rattle.lease_table.specs.Steps.{row_of, held_up, guard_of, bridge_of};
+ghost use Rattle.lease_table.specs.OpenRows.{IsSent, IsFreed, IsLost, IsOut, IsOpen, HoldsUp, IsHeldUp, grant_numbered};
+ghost use Rattle.lease_table.specs.Steps.{row_of, held_up, commit_step, guard_of, bridge_of};
 ghost use Rattle.lease_table.specs.JobTerms.{takes_in, number_passed, HoldsJob, IsGiven};
 
 use crate::policy::Policy;
+use crate::table::READINGS;
 use key_hash::KEYS;
 
 /// A policy is within its limits.
@@ -55,7 +56,7 @@ pub fn generations_law()
 
 /// A generation up to the newest has one assignment for ever: that of the accepted commit of its
 /// number, or the proposed one while it is not committed. None has a slice with more owners than the
-/// job's redundancy.
+/// job allows.
 pub fn assignments_law()
     ensures stays { (policy : Terms) (later past : List AnsweredTableCall) (generation : ℕ) → IsRun policy (later ++ past)
         → generation ≤ newest_generation past → assignment_in generation (later ++ past) ≡ assignment_in generation past }
@@ -107,8 +108,9 @@ pub fn covers_law()
 {}
 
 /// The rows of a table are those of the grants sent that are open at the last accepted reading, in
-/// the order of the grants, and of the committed generation or a later one: a grant that was sent has
-/// its row, or has ended, or was freed.
+/// the order of the grants: a grant that was sent has its row, or has ended, or was freed, or its row
+/// was lost by a restart. A grant that has neither ended nor been freed is of the committed generation
+/// or a later one, also where its row was lost.
 pub fn rows_law()
     ensures listed { (policy : Terms) (past : List AnsweredTableCall) (row : Row) → IsRun policy past
         → Contains (standing_after policy past).rows row
@@ -116,13 +118,34 @@ pub fn rows_law()
     ensures ordered { (policy : Terms) (past : List AnsweredTableCall) → IsRun policy past
         → AllPairs (λ first second. first.number < second.number) (standing_after policy past).rows }
     ensures sent { (policy : Terms) (past : List AnsweredTableCall) (grant : Grant) → IsRun policy past → IsSent past grant
-        → Contains (standing_after policy past).rows (row_of grant) ⊎ ((grant.table_ends ≤ last_reading past) ⊎ IsFreed past grant) }
+        → Contains (standing_after policy past).rows (row_of grant)
+        ⊎ ((grant.table_ends ≤ last_reading past) ⊎ (IsFreed past grant ⊎ IsLost past grant)) }
     ensures generation { (policy : Terms) (past : List AnsweredTableCall) (grant : Grant) → IsRun policy past
-        → IsOpen past (last_reading past) grant → commits_in past ≤ grant.lease.generation }
+        → IsOut past (last_reading past) grant → commits_in past ≤ grant.lease.generation }
+{}
+
+/// A grant whose row was lost by a restart ends at the grace of the table or before, which is the
+/// greatest deadline given before the last restart. A commit is refused with it while its reading is
+/// below, and accepted only from then on, so that none of the grants whose rows were lost is out. It is
+/// at most the longest term of a task lease after the last accepted reading before that restart.
+pub fn grace_law()
+    ensures covers { (past : List AnsweredTableCall) (grant : Grant) → IsLost past grant → grant.table_ends ≤ grace_in past }
+    ensures greatest { (past : List AnsweredTableCall) (grant : Grant) → IsSent past grant → grant.table_ends ≤ deadline_in past }
+    ensures given { (past : List AnsweredTableCall) → (deadline_in past ≡ 0) ⊎ ((grant : Grant) × IsSent past grant × (grant.table_ends ≡ deadline_in past)) }
+    ensures bound { (policy : Terms) (past : List AnsweredTableCall) → is_policy policy ≡ true → IsRun policy past
+        → grace_in past ≤ restarted_at past + longest_term policy }
+    ensures refused { (policy : Terms) (past : List AnsweredTableCall) (number at until : ℕ) → is_policy policy ≡ true → IsRun policy past
+        → commit_step (standing_after policy past) number at ≡ Err (Grace until)
+        → (until ≡ grace_in past) × (at < until) × (at < restarted_at past + longest_term policy) }
+    ensures accepted { (policy : Terms) (past : List AnsweredTableCall) (number at : ℕ) (reply : TableReply)
+        → IsRun policy (answered (call.Commit number at) (Ok reply) ∷ past) → grace_in past ≤ at }
 {}
 
 /// A commit is held up exactly where the row of a sent grant of the committed generation or an older
 /// one is open at its reading. The refusal names the grant of the lowest number that holds it up.
+/// Under a term that runs, with an assignment proposed, a commit is accepted exactly where nothing holds
+/// it up and the grace is over. Once it is accepted, every grant of the generation before it or an older
+/// one has ended or was freed, also where its row was lost.
 pub fn held_law()
     ensures held { (policy : Terms) (past : List AnsweredTableCall) (at : ℕ) → IsRun policy past → last_reading past ≤ at
         → (is_some (held_up (standing_after policy past) at) ≡ true) ↔ IsHeldUp past at }
@@ -130,6 +153,12 @@ pub fn held_law()
         → held_up (standing_after policy past) at ≡ Some refusal
         → (grant : Grant) × HoldsUp past at grant × (refusal ≡ Held grant.task grant.lease.kind grant.number)
         × ((other : Grant) → HoldsUp past at other → grant.number ≤ other.number) }
+    ensures exactly { (policy : Terms) (past : List AnsweredTableCall) (number at : ℕ) → IsRun policy past → last_reading past ≤ at → at < READINGS
+        → HoldsJob past number at → is_some (pending_in past) ≡ true
+        → (is_ok (commit_step (standing_after policy past) number at) ≡ true) ↔ ((grace_in past ≤ at) × (IsHeldUp past at → ⊥)) }
+    ensures cleared { (policy : Terms) (past : List AnsweredTableCall) (number at : ℕ) (reply : TableReply) (grant : Grant)
+        → IsRun policy (answered (call.Commit number at) (Ok reply) ∷ past) → IsSent past grant
+        → grant.lease.generation ≤ commits_in past → (grant.table_ends ≤ at) ⊎ IsFreed past grant }
 {}
 
 /// A commit is not held up once its reading is the longest term of a task lease, or more, after that of
@@ -156,7 +185,7 @@ pub fn terms_law()
     ensures given { (past : List AnsweredTableCall) (term : JobTerm) → last_term past ≡ Some term → IsGiven past term }
     ensures held { (policy : Terms) (past : List AnsweredTableCall) (asked : TableCall) (reply : TableReply) (number : ℕ)
         → IsRun policy (answered asked (Ok reply) ∷ past) → number_passed asked ≡ Some number
-        → HoldsJob past number (reading_of asked) }
+        → HoldsJob past number (reading_after asked (last_reading past)) }
     ensures single { (policy : Terms) (past : List AnsweredTableCall) (assigner at : ℕ) (reply : TableReply) (term : JobTerm)
         → IsRun policy (answered (call.JobTake assigner at) (Ok reply) ∷ past) → IsGiven past term → term.until ≤ at }
     ensures one { (policy : Terms) (past : List AnsweredTableCall) (at : ℕ) (term other : JobTerm) → IsRun policy past → last_reading past ≤ at

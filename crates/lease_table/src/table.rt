@@ -1,16 +1,16 @@
 //! The lease table.
 
-ghost use Rattle.std.specs.Prelude.{◌≡◌, ◌≤◌, ◌<◌, ◌+◌, ◌&&◌, IfOk, OnOk, OnErr, option_map};
+ghost use Rattle.std.specs.Prelude.{◌≡◌, ◌≤◌, ◌<◌, ◌+◌, ◌&&◌, IfOk, OnOk, OnErr, option_map, length, max};
 ghost use Rattle.machines.specs.Refusals.{first_of};
 ghost use Rattle.slice_ranges.specs.Sets.{keys_where};
 ghost use Rattle.assignment.specs.Owners.{owns};
 ghost use Rattle.lease_table.specs.Tables.{opening, phase_of, generation_of, slices_of, last_number};
 ghost use Rattle.machines.specs.Answers.{Answers, Takes};
-ghost use Rattle.lease_table.specs.Steps.{grant_checks, standing_at, propose_checks, grant_with, with_row, take_step, renew_step, propose_step, commit_step, grant_step, free_step};
+ghost use Rattle.lease_table.specs.Steps.{grant_checks, standing_at, propose_checks, grant_with, with_row, take_step, renew_step, propose_step, commit_step, grant_step, free_step, restarted};
 
 mod checks;
 
-use self::checks::{any_has_more_owners, any_written_has_more_owners};
+use self::checks::any_written_has_more_owners;
 use crate::error::TableError;
 use crate::policy::{MOST_GRANTS, Policy};
 use crate::rows::Rows;
@@ -35,6 +35,8 @@ pub struct LeaseTable {
     committed: Option<Assignment>,
     pending: Option<Assignment>,
     granted: u64,
+    deadline: u64,
+    grace: u64,
     rows: Rows,
 }
 
@@ -53,6 +55,8 @@ impl Model for LeaseTable {
       committed = t.committed;
       pending = t.pending;
       granted = t.granted;
+      deadline = t.deadline;
+      grace = t.grace;
       rows = running_rows t.last t.rows;
     } };
 
@@ -71,6 +75,8 @@ impl LeaseTable {
             committed: None,
             pending: None,
             granted: 0,
+            deadline: 0,
+            grace: 0,
             rows: Rows::new(alloc),
         }
     }
@@ -99,7 +105,7 @@ impl LeaseTable {
         self.term
     }
 
-    /// The rows that are neither freed nor ended at the last accepted reading, in grant order.
+    /// The rows that are neither freed nor lost, nor ended at the last accepted reading, in grant order.
     pub fn rows(&self) -> Result<Vec<Row>, AllocError>
         ensures { IfOk result (λ rows. rows.items ≡ self.now.rows) }
     {
@@ -149,8 +155,7 @@ impl LeaseTable {
     ) -> Result<(), Trouble<TableError>>
         ensures { Takes (propose_step self.old number assignment.now at) self.old result self.new }
     {
-        let too_many = any_has_more_owners(assignment.slices(), self.policy.redundancy());
-        self.check_proposal(number, assignment.generation(), too_many, at)
+        self.check_assignment(number, assignment, at)
             .map_err(Trouble::Refused)?;
         let next = assignment.copy()?;
         self.advance(at);
@@ -170,15 +175,15 @@ impl LeaseTable {
         ensures { result ≡ first_of
             (propose_checks self.now number (record { generation = generation; slices = slices.now }) at) }
     {
-        let too_many = any_written_has_more_owners(slices, self.policy.redundancy());
+        let too_many = any_written_has_more_owners(slices, self.policy.high());
         self.check_proposal(number, generation, too_many, at).err()
     }
 
     /// Commits the assignment that is proposed, under the job term of this number, and answers its
     /// generation.
     ///
-    /// Refused by `ReadingRange`, `ClockBack`, `NotHolder`, `NothingPending` and `Held`, in this
-    /// order.
+    /// Refused by `ReadingRange`, `ClockBack`, `NotHolder`, `NothingPending`, `Grace` and `Held`, in
+    /// this order.
     pub fn commit(&mut self, number: u64, at: u64) -> Result<u64, TableError>
         ensures { Answers (commit_step self.old number at) self.old result self.new }
     {
@@ -223,6 +228,19 @@ impl LeaseTable {
         Ok(count)
     }
 
+    /// The table restarts: it loses its rows, and answers how many they were. All else it keeps. From
+    /// then on no commit is accepted before the greatest deadline given so far, also of rows that were
+    /// freed. It takes no memory and is never refused.
+    pub fn restart(&mut self) -> u64
+        ensures count { result ≡ length self.old.rows }
+        ensures left { self.new ≡ restarted self.old }
+    {
+        let count = self.rows.count_running(self.last);
+        self.rows.clear();
+        self.grace = self.deadline;
+        count as u64
+    }
+
     /// A table that equals this one.
     pub fn copy(&self) -> Result<Self, AllocError>
         ensures { IfOk result (λ table. table ≡ self.now) }
@@ -234,6 +252,8 @@ impl LeaseTable {
             committed: copy_of(&self.committed)?,
             pending: copy_of(&self.pending)?,
             granted: self.granted,
+            deadline: self.deadline,
+            grace: self.grace,
             rows: self.rows.copy()?,
         })
     }
@@ -311,9 +331,11 @@ impl LeaseTable {
         ensures ok { OnOk result (self.new ≡ with_row self.old at row) }
         ensures err { OnErr result (self.new ≡ self.old) }
     {
+        let deadline = later_of(self.deadline, row.table_ends);
         self.rows.push(row)?;
         self.rows.keep_running(at);
         self.granted += 1;
+        self.deadline = deadline;
         self.last = at;
         Ok(())
     }
@@ -326,6 +348,13 @@ impl LeaseTable {
     {
         self.last = at;
     }
+}
+
+// The later of two deadlines.
+fn later_of(deadline: u64, other: u64) -> u64
+    ensures { result ≡ max deadline other }
+{
+    deadline.max(other)
 }
 
 // The keys that a task owns in an assignment, none where there is none.

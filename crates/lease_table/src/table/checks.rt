@@ -6,13 +6,13 @@ ghost use Rattle.std.specs.Result.{result_err};
 ghost use Rattle.machines.specs.Refusals.{first_of};
 ghost use Rattle.lease_table.specs.Rows.{first_up_to, running_rows, closes};
 ghost use Rattle.lease_table.specs.Tables.{generation_of};
-ghost use Rattle.lease_table.specs.Steps.{out_of_range, clock_back, take_checks, renew_checks, proposal_checks, commit_checks, grant_checks, free_checks};
+ghost use Rattle.lease_table.specs.Steps.{out_of_range, clock_back, take_checks, renew_checks, proposal_checks, propose_checks, commit_checks, grant_checks, free_checks};
 
 use super::{LeaseTable, READINGS};
 use crate::error::TableError;
 use crate::policy::MOST_GRANTS;
 use crate::values::{JobTerm, ReleaseNote, Row};
-use assignment::{OwnedSlice, Slice};
+use assignment::{Assignment, OwnedSlice, Slice};
 
 impl LeaseTable {
     // What every call asks of its reading.
@@ -82,6 +82,20 @@ impl LeaseTable {
         Ok(())
     }
 
+    // Whether an assignment may be proposed.
+    pub(super) fn check_assignment(
+        &self,
+        number: u64,
+        assignment: &Assignment,
+        at: u64,
+    ) -> Result<(), TableError>
+        ensures refusal { result_err result ≡ first_of (propose_checks self.now number assignment.now at) }
+        ensures reading { OnOk result ((self.now.last ≤ at) × (at < READINGS)) }
+    {
+        let too_many = any_has_more_owners(assignment.slices(), self.policy.high());
+        self.check_proposal(number, assignment.generation(), too_many, at)
+    }
+
     // The generation that is proposed, where it may be committed.
     pub(super) fn check_commit(&self, number: u64, at: u64) -> Result<u64, TableError>
         ensures refusal { result_err result ≡ first_of (commit_checks self.now number at) }
@@ -92,6 +106,9 @@ impl LeaseTable {
         let Some(next) = &self.pending else {
             return Err(TableError::NothingPending);
         };
+        if at < self.grace {
+            return Err(TableError::Grace { until: self.grace });
+        }
         if let Some(row) = self.first_held(at) {
             return Err(TableError::Held {
                 task: row.task,
@@ -148,7 +165,7 @@ impl LeaseTable {
 }
 
 // Whether a slice has more owners than this.
-pub(super) fn any_has_more_owners(slices: &[OwnedSlice], most: u64) -> bool
+fn any_has_more_owners(slices: &[OwnedSlice], most: u64) -> bool
     ensures { result ≡ list_any (λ s. nat_lt most (length s.owners)) slices.now }
 {
     slices
