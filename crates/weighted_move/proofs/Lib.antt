@@ -1,6 +1,11 @@
 pub mod Order
 pub mod Prefixes
 pub mod Choosing
+pub mod Gains
+pub mod Removing
+pub mod Slicing
+pub mod Changing
+pub mod Placing
 pub mod Seeking
 pub mod Giving
 pub mod Loading
@@ -22,3 +27,4 @@ pub mod Accepting
 pub mod Lawful
 pub mod Loaded
 pub mod Ranking
+pub mod Handing

@@ -1,6 +1,7 @@
 pub mod Weights
 pub mod Owning
 pub mod Moves
+pub mod Kinds
 pub mod Ranks
 pub mod Chains
 pub mod Merging
@@ -10,6 +11,7 @@ pub mod Weighing
 pub mod Policies
 pub mod Plans
 pub mod Keys
+pub mod Handovers
 pub use Rattle.assignment.specs.Slices
 pub use Rattle.assignment.specs.Owners
 pub use Rattle.machines.specs.Refusals

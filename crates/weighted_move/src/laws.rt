@@ -1,19 +1,25 @@
 //! What holds of every plan.
 
-ghost use Rattle.std.specs.Prelude.{◌≡◌, ◌<◌, ℕ, List, None, All, length};
+ghost use Rattle.std.specs.Prelude.{◌≡◌, ◌<◌, ◌+◌, ◌-◌, ◌↔◌, ℕ, min, max, length, List, Some, None, All};
 ghost use Rattle.key_hash.specs.declared.TheConstants.{KEYS};
 ghost use Rattle.assignment.specs.declared.slice.Slice.{Slice};
 ghost use Rattle.assignment.specs.Slices.{refusal_of};
 ghost use Rattle.assignment.specs.Owners.{owners_of};
 ghost use Rattle.weighted_move.specs.declared.made.Plan.{Plan};
 ghost use Rattle.weighted_move.specs.Policies.{Limits};
-ghost use Rattle.weighted_move.specs.Owning.{IsTaskSet, IsWithin};
-ghost use Rattle.weighted_move.specs.Plans.{CanPlan, IsPlan, owners_each, prepared};
+ghost use Rattle.weighted_move.specs.declared.range.OwnerRange.{OwnerRange};
+ghost use Rattle.weighted_move.specs.declared.weighed.WeighedSlice.{WeighedSlice};
+ghost use Rattle.weighted_move.specs.declared.moves.Move.{Move};
+ghost use Rattle.weighted_move.specs.Weights.{Tiles, load_of, share_of};
+ghost use Rattle.weighted_move.specs.Moves.{IsCandidate, load_after, changed_slice, moved};
+ghost use Rattle.weighted_move.specs.Owning.{IsFit, IsRange, IsTaskSet, IsWithin};
+ghost use Rattle.weighted_move.specs.Plans.{CanPlan, IsPlan, range_for, prepared};
 ghost use Rattle.weighted_move.specs.Settling.{IsLeastLoaded, IsMostLoaded, least_loaded, most_loaded, strangers};
 ghost use Rattle.weighted_move.specs.Keys.{bare, owners_after};
+ghost use Rattle.weighted_move.specs.Handovers.{IsHandover, IsPlanOfHandovers};
 
 /// The slices of a plan make an assignment of any generation. Their owners are tasks of the set, as
-/// many as each slice gets. The owners of a key are those that it had before the moves, with each
+/// many as a slice may have. The owners of a key are those that it had before the moves, with each
 /// move made that takes the key along: merging and halving change no owner.
 pub fn plan_law()
     ensures accepted { (slices : List Slice) (loads tasks : List ℕ) (limits : Limits) (plan : Plan)
@@ -23,7 +29,7 @@ pub fn plan_law()
         → IsPlan slices loads tasks limits plan → All (λ s. IsWithin tasks s.owners) plan.slices }
     ensures number { (slices : List Slice) (loads tasks : List ℕ) (limits : Limits) (plan : Plan)
         → CanPlan slices loads tasks limits → IsPlan slices loads tasks limits plan
-        → All (λ s. length s.owners ≡ owners_each limits tasks) plan.slices }
+        → All (λ s. IsFit tasks (range_for limits tasks) s.owners) plan.slices }
     ensures keys { (slices : List Slice) (loads tasks : List ℕ) (limits : Limits) (plan : Plan) (key : ℕ)
         → CanPlan slices loads tasks limits → IsPlan slices loads tasks limits plan → key < KEYS
         → owners_of plan.slices key
@@ -38,4 +44,34 @@ pub fn settling_law()
         → IsMostLoaded load owners (most_loaded load owners) }
     ensures gets { (load : ℕ → ℕ) (tasks owners : List ℕ) → IsTaskSet tasks
         → IsLeastLoaded load (strangers tasks owners) (least_loaded load (strangers tasks owners)) }
+{}
+
+/// The loads after a candidate are those of the list with it made. Where as many owners must be as may be, a
+/// candidate is a task in the place of an owner, and gains what the greater of their two loads falls by.
+pub fn move_law()
+    ensures loads { (slices : List WeighedSlice) (tasks : List ℕ) (range : OwnerRange) (left : ℕ) (move : Move) (candidate : IsCandidate slices tasks range left move) (task : ℕ)
+        → Tiles 0 slices KEYS
+        → load_of (moved slices move) task ≡ load_after (load_of slices) candidate.slice (changed_slice move.giver move.taker candidate.slice) task }
+    ensures fixed { (slices : List WeighedSlice) (tasks : List ℕ) (range : OwnerRange) (left : ℕ) (move : Move) (candidate : IsCandidate slices tasks range left move)
+        → range.low ≡ range.high → IsFit tasks range candidate.slice.owners
+        → (a : ℕ) × (b : ℕ) × (move.giver ≡ Some a) × (move.taker ≡ Some b) }
+    ensures gain { (slices : List WeighedSlice) (tasks : List ℕ) (range : OwnerRange) (left a b : ℕ) (move : Move) (candidate : IsCandidate slices tasks range left move)
+        → IsTaskSet tasks → IsRange tasks range → IsFit tasks range candidate.slice.owners → move.giver ≡ Some a → move.taker ≡ Some b
+        → move.gain ≡ max (load_of slices a) (load_of slices b)
+        - max (load_of slices a - share_of candidate.slice) (load_of slices b + share_of candidate.slice) }
+{}
+
+/// Where as many owners must be as may be, a plan hands slices over and does nothing else to their owners: each slice
+/// is given that number of owners, or as many as there are tasks, and keeps it, and each move is the best handover
+/// where the earlier ones were made. The candidates are then the handovers, no more and no fewer.
+pub fn fixed_law()
+    ensures plan { (slices : List Slice) (loads tasks : List ℕ) (limits : Limits) (plan : Plan)
+        → CanPlan slices loads tasks limits → IsPlan slices loads tasks limits plan → limits.low ≡ limits.high
+        → IsPlanOfHandovers slices loads tasks limits (min limits.low (length tasks)) plan }
+    ensures number { (slices : List Slice) (loads tasks : List ℕ) (limits : Limits) (plan : Plan)
+        → CanPlan slices loads tasks limits → IsPlan slices loads tasks limits plan → limits.low ≡ limits.high
+        → All (λ s. length s.owners ≡ min limits.low (length tasks)) plan.slices }
+    ensures candidates { (slices : List WeighedSlice) (tasks : List ℕ) (range : OwnerRange) (left : ℕ) (move : Move)
+        → IsTaskSet tasks → IsRange tasks range → range.low ≡ range.high → All (λ s. IsFit tasks range s.owners) slices
+        → IsCandidate slices tasks range left move ↔ IsHandover slices tasks left move }
 {}
