@@ -6,11 +6,12 @@ ghost use Rattle.history_lock.specs.Inside.Seats.{IsTaking};
 ghost use Rattle.history_lock.specs.Closing.{has_lane, IsWhole};
 ghost use Rattle.history_lock.specs.Inside.Gathering.{AreAt, IsGathered, IsEnd, gathered_pass, gathered_pass_of};
 
-use crate::entry::History;
+use crate::entry::{History, history_of};
 use crate::pass::{LaneLock, Pass};
 use crate::rule::{Board, Common, Gather, Place};
 use crate::view::Book;
 use machines::Machine;
+use std::alloc::AllocError;
 use std::marker::Model;
 
 /// What a lock leaves.
@@ -20,6 +21,18 @@ pub struct Closed<M: Machine> {
     pub machine: M,
     /// The history, which is legal from the machine that the lock was opened with.
     pub history: History<M::Event>,
+}
+
+impl<M: Machine> Closed<M> {
+    /// A machine and a history that equal these.
+    pub fn copy(&self) -> Result<Self, AllocError>
+        ensures { IfOk result (λ copied. copied ≡ self.now) }
+    {
+        Ok(Closed {
+            machine: self.machine.copy()?,
+            history: history_of::<M>(&self.history)?,
+        })
+    }
 }
 
 /// A lock was not closed, since one of its passes is missing.
