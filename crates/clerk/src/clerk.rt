@@ -6,7 +6,7 @@ ghost use Rattle.clerk.specs.Steps.{learn_step, look_at};
 
 use crate::error::{ClerkError, Unknown};
 use arrayvec::ArrayVec;
-use assignment::{Assignment, TaskId};
+use assignment::{Assignment, Owners};
 use key_hash::SliceKey;
 use machines::Trouble;
 use std::alloc::AllocError;
@@ -34,7 +34,7 @@ pub struct Found {
     /// The generation of the assignment that says so.
     pub generation: u64,
     /// The tasks that own the key in it, in rising order.
-    pub owners: ArrayVec<TaskId, 3>,
+    pub owners: Owners,
 }
 
 impl Found {
