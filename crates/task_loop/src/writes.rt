@@ -17,7 +17,7 @@ use world::{Reply, Step, World};
 /// whether it did.
 ///
 /// Where it did, and the clocks were timely, the task owned the key in the committed assignment when
-/// it wrote, and at redundancy one no other task might serve the key. Where there was no memory to
+/// it wrote, and where a slice has at most one owner, no other task might serve the key. Where there was no memory to
 /// ask, nothing changed.
 pub fn write_if_served(
     world: &mut World,
@@ -37,7 +37,7 @@ pub fn write_if_served(
         → IsTimely job.policy.skew (step.Serve task key at ∷ steps_of past) → IsOwner job past task key }
     ensures alone { (job : Job) (past : Past) (other : ℕ) → LeadsTo job past world.old → result ≡ Ok true
         → IsTimely job.policy.skew (step.Serve task key at ∷ steps_of past)
-        → job.policy.redundancy ≡ 1 → MayServe job past other key → task ≡ other }
+        → job.policy.high ≡ 1 → MayServe job past other key → task ≡ other }
 {
     world.headline_law();
     let replies = world.run(&[Step::Serve { task, key, at }])?;

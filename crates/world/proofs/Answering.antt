@@ -16,7 +16,7 @@ use Rattle.world.specs.declared.reply.Reply.TheVariants as reply
 use Rattle.world.specs.Pasts.{event, Past, is_accepted}
 use Rattle.world.specs.Told.{draft_of}
 use Rattle.world.specs.Replies.{Outcome, Plain, plan_in, by_actor, from_layer, planned, plan_reply, reply_to}
-use Rattle.world.specs.Runs.{IsReply, IsOutcome, takes_memory}
+use Rattle.world.specs.Runs.{IsReply, IsOutcome, takes_memory, needs_memory}
 use Rattle.machines.specs.declared.machine.Trouble.{Trouble}
 use Rattle.machines.specs.declared.machine.Trouble.TheVariants.{Refused, NoMemory}
 use Rattle.machines.specs.Answers.{Takes}
@@ -42,18 +42,18 @@ drafted_alike : (o : Option Slicing) (loads tasks : List ℕ) (plan other : Plan
 drafted_alike None loads tasks plan other = refl
 drafted_alike (Some draft) loads tasks plan other = planned_alike (plan_refusal draft.slices loads tasks) plan other
 
--- a step that takes memory is refused whatever its outcome
-accepted_alike : (job : Job) (past : Past) (s : Step) (outcome other : Outcome) → takes_memory s ≡ true
-    → is_accepted (reply_to job past s outcome) ≡ is_accepted (reply_to job past s other)
-accepted_alike job past (step.Check task number at) outcome other takes = absurd (let f : false ≡ true = takes in cc)
-accepted_alike job past (step.Plan loads tasks bounds) outcome other takes = drafted_alike (draft_of past) loads tasks (plan_in outcome) (plan_in other)
-accepted_alike job past _ outcome other takes = refl
+-- a step that takes memory needs it whatever its outcome
+needed_alike : (job : Job) (past : Past) (s : Step) (outcome other : Outcome) → takes_memory s ≡ true
+    → needs_memory s (reply_to job past s outcome) ≡ needs_memory s (reply_to job past s other)
+needed_alike job past (step.Check task number at) outcome other takes = absurd (let f : false ≡ true = takes in cc)
+needed_alike job past (step.Plan loads tasks bounds) outcome other takes = drafted_alike (draft_of past) loads tasks (plan_in outcome) (plan_in other)
+needed_alike job past _ outcome other takes = refl
 
--- memory is wanting for a step that would be accepted
-pub replied_without_memory : (job : Job) (past : Past) (s : Step) → takes_memory s ≡ true → (answer : Reply) → reply_to job past s Plain ≡ answer → is_accepted answer ≡ true
+-- a step is out of memory where its reply would need some
+pub replied_without_memory : (job : Job) (past : Past) (s : Step) → takes_memory s ≡ true → (answer : Reply) → reply_to job past s Plain ≡ answer → needs_memory s answer ≡ true
     → IsReply job past (event s reply.NoMemory)
 replied_without_memory job past s takes answer e ok =
-    inr (refl, takes, λ outcome. accepted_alike job past s outcome Plain takes ∙ ap is_accepted e ∙ ok)
+    inr (refl, takes, λ outcome. needed_alike job past s outcome Plain takes ∙ ap (needs_memory s) e ∙ ok)
 
 module _ (job : Job) (past : Past) (s : Step) (told : IsOutcome job past s Plain) where
   -- the reply that the steps before give
@@ -67,16 +67,16 @@ module _ (job : Job) (past : Past) (s : Step) (told : IsOutcome job past s Plain
     pub refuses : (why : E) → step ≡ Err why → IsReply job past (event s (reply.Refused (refused why)))
     refuses why e = replied_as (reply.Refused (refused why)) (is ∙ ap (from_layer refused name) e)
 
-    pub wants_memory : takes_memory s ≡ true → ((x : A) → is_accepted (name x) ≡ true) → is_ok step ≡ true → IsReply job past (event s reply.NoMemory)
+    pub wants_memory : takes_memory s ≡ true → ((x : A) → needs_memory s (name x) ≡ true) → is_ok step ≡ true → IsReply job past (event s reply.NoMemory)
     wants_memory takes each ok = replied_without_memory job past s takes (from_layer refused name step) is (accepted step ok)
       where
-        accepted : (r : Result (M × A) E) → is_ok r ≡ true → is_accepted (from_layer refused name r) ≡ true
+        accepted : (r : Result (M × A) E) → is_ok r ≡ true → needs_memory s (from_layer refused name r) ≡ true
         accepted (Ok p) e = each p.1
         accepted (Err why) e = absurd (let f : false ≡ true = e in cc)
 
 -- a refusal of a layer below, or its want of memory, changes nothing
 pub troubled : {M A E : Type 0} (job : Job) (past : Past) (s : Step) (world : World) (refused : E → Refusal) (name : A → Reply) (step : Result (M × A) E) (old new : M) (error : Trouble E)
-    → IsOutcome job past s Plain → reply_to job past s Plain ≡ from_layer refused name step → takes_memory s ≡ true → ((x : A) → is_accepted (name x) ≡ true)
+    → IsOutcome job past s Plain → reply_to job past s Plain ≡ from_layer refused name step → takes_memory s ≡ true → ((x : A) → needs_memory s (name x) ≡ true)
     → Takes step old (Err error) new → (new ≡ old → Keeps job past world) → Played job past s (Err (of_layer refused error)) world
 troubled job past s world refused name step old new (Refused why) told is takes each h keeps = (keeps h.1, refuses job past s told refused name step is why h.0)
 troubled job past s world refused name step old new NoMemory told is takes each h keeps = (keeps h.1, wants_memory job past s told refused name step is takes each h.0)
@@ -84,7 +84,7 @@ troubled job past s world refused name step old new NoMemory told is takes each 
 -- where the step's own memory is wanting, the layer's refusal comes first
 pub unmade : {M A E : Type 0} (job : Job) (past : Past) (s : Step) (world : World) (refused : E → Refusal) (name : A → Reply) (o : Option E) (p : M × A)
     → IsOutcome job past s Plain → reply_to job past s Plain ≡ from_layer refused name (unless_refused o p) → takes_memory s ≡ true
-    → ((x : A) → is_accepted (name x) ≡ true)
+    → ((x : A) → needs_memory s (name x) ≡ true)
     → Keeps job past world → Played job past s (Err (unless_refused_for refused o)) world
 unmade {M = M} {A = A} {E = E} job past s world refused name None p told is takes each k = let step : Result (M × A) E = Ok p in (k, wants_memory job past s told refused name step is takes each refl)
 unmade {M = M} {A = A} {E = E} job past s world refused name (Some why) p told is takes each k = let step : Result (M × A) E = Err why in let same : step ≡ Err why = refl in (k, refuses job past s told refused name step is why same)

@@ -23,7 +23,7 @@ use Rattle.lease_table.specs.Tables.{slices_of}
 use Rattle.lease_table.specs.Calls.{AnsweredTableCall, last_reading, committed_in, pending_in}
 use Rattle.lease_table.specs.Runs.{commits_in}
 use Rattle.lease_table.specs.Generations.{assignment_in, newest_with, newest_generation, owns_in, covers_as, covers_by_owners}
-use Rattle.lease_table.specs.OpenRows.{IsSent, IsFreed, IsOpen}
+use Rattle.lease_table.specs.OpenRows.{IsSent, IsFreed, IsOut}
 use Rattle.lease_table.proofs.Members.{here}
 use Rattle.slicelet.specs.declared.call.SliceletCall.{SliceletCall}
 use Rattle.slicelet.proofs.OwnLeases.{equal_kinds}
@@ -38,7 +38,7 @@ pub record TableFacts (skew : ℕ) (calls : List AnsweredTableCall) : Type 0 whe
   pub newest : (grant : Grant) → IsSent calls grant → grant.lease.generation ≤ newest_generation calls
   pub guard : (grant : Grant) → IsSent calls grant → grant.lease.kind ≡ Guard → grant.lease.generation ≤ commits_in calls
   pub skewed : (grant : Grant) → IsSent calls grant → grant.lease.ends + skew ≡ grant.table_ends
-  pub young : (grant : Grant) → IsOpen calls (last_reading calls) grant → commits_in calls ≤ grant.lease.generation
+  pub young : (grant : Grant) → IsOut calls (last_reading calls) grant → commits_in calls ≤ grant.lease.generation
   pub committed : assignment_in (commits_in calls) calls ≡ committed_in calls
 
 -- NO NOTE CLOSES THE ROW OF A HELD LEASE

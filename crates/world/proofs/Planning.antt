@@ -33,10 +33,10 @@ joined true b c e f = f
 joined false b c e f = absurd (let g : false ≡ true = e in cc)
 
 -- what holds a plan in a job is within its limits
-pub are_limits : (t : Terms) (b : Bounds) → is_policy t ≡ true → is_bounds b ≡ true → is_plan_policy (limits_of t.redundancy b) ≡ true
+pub are_limits : (t : Terms) (b : Bounds) → is_policy t ≡ true → is_bounds b ≡ true → is_plan_policy (limits_of t.low t.high b) ≡ true
 are_limits t b h k =
     let few = (and_parts _ _ (and_parts _ _ (and_parts _ _ (and_parts _ _ (and_parts _ _ (and_parts _ _ h).0).0).0).0).0).0 in
-    joined (is_within t.redundancy MOST_OWNERS) (nat_le b.churn KEYS) (is_within b.most MOST_SLICES) few k
+    joined (is_within t.low t.high && nat_le t.high MOST_OWNERS) (nat_le b.churn KEYS) (is_within b.most MOST_SLICES) few k
 
 -- want of memory is told where there is no refusal, and else the refusal
 pub trouble_of : (o : Option PlanError) (e : PlanError) → (o ≡ Some plan.NoMemory → ⊥) → e ≡ unwrap_or o plan.NoMemory

@@ -99,6 +99,7 @@ accepted_step policy past (call.JobTake assigner at) reply run h a = record { al
 accepted_step policy past (call.JobRenew number at) reply run h a = record { all = h.all; many = h.many; each = h.each }
 accepted_step policy past (call.Grant task life at) reply run h a = record { all = h.all; many = h.many; each = h.each }
 accepted_step policy past (call.Free note at) reply run h a = record { all = h.all; many = h.many; each = h.each }
+accepted_step policy past call.Restart reply run h a = record { all = h.all; many = h.many; each = h.each }
 
 refused_step : (past : List AnsweredTableCall) (c : TableCall) (refusal : TableError) → IsPublished past → IsPublished (answered c (Err refusal) ∷ past)
 refused_step past (call.Propose number slicing at) refusal h = record { all = h.all; many = h.many; each = h.each }
@@ -107,6 +108,7 @@ refused_step past (call.JobTake assigner at) refusal h = record { all = h.all; m
 refused_step past (call.JobRenew number at) refusal h = record { all = h.all; many = h.many; each = h.each }
 refused_step past (call.Grant task life at) refusal h = record { all = h.all; many = h.many; each = h.each }
 refused_step past (call.Free note at) refusal h = record { all = h.all; many = h.many; each = h.each }
+refused_step past call.Restart refusal h = record { all = h.all; many = h.many; each = h.each }
 
 start_is : (generation : ℕ) → published_in generation [] ≡ numbered generation []
 start_is zero = refl

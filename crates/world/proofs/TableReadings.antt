@@ -6,7 +6,7 @@ use Rattle.lease_table.specs.declared.call.TableCall.{TableCall}
 use Rattle.lease_table.specs.declared.call.TableCall.TheVariants as call
 use Rattle.lease_table.specs.declared.values.ReleaseNote.{ReleaseNote}
 use Rattle.lease_table.specs.Policies.{Terms}
-use Rattle.lease_table.specs.Calls.{AnsweredTableCall, reading_of, last_reading, standing_after, table_step}
+use Rattle.lease_table.specs.Calls.{AnsweredTableCall, reading_of, reading_after, last_reading, or_before, standing_after, table_step}
 use Rattle.lease_table.proofs.Members.{here, there}
 use Rattle.world.specs.declared.step.Step.{Step}
 use Rattle.world.specs.declared.step.Step.TheVariants as step
@@ -17,7 +17,7 @@ use Rattle.world.specs.Headline.{WasRead}
 -- a step's call of the table is at the step's reading
 IsReadWith : Step → Option TableCall → Type 0
 IsReadWith s None = Unit {0}
-IsReadWith s (Some c) = table_reading s ≡ Some (reading_of c)
+IsReadWith s (Some c) = table_reading s ≡ reading_of c
 
 freed_read : (number at : ℕ) (o : Option ReleaseNote) → IsReadWith (step.Free number at) (option_map (λ given. call.Free given at) o)
 unfolding IsReadWith
@@ -32,6 +32,7 @@ call_read past (step.Propose assigner generation slices at) = refl
 call_read past (step.Commit assigner at) = refl
 call_read past (step.Grant task life at) = refl
 call_read past (step.Free number at) = freed_read number at (numbered number (notes_made past))
+call_read past step.Lose = refl
 call_read past _ = tt
 
 read_later : (e : Event) (past : Past) (at : ℕ) → WasRead past at → WasRead (e ∷ past) at
@@ -51,8 +52,13 @@ unfolding IsReadWith
 read_with policy e past None calls new h = kept_read e past calls h
 read_with policy e past (Some c) calls new h = by_test (is_ok (answer_of (table_step (standing_after policy calls) c)))
   where
-    by_test : (b : Bool) → ((if b then reading_of c else last_reading calls) ≡ 0) ⊎ WasRead (e ∷ past) (if b then reading_of c else last_reading calls)
-    by_test true = inr (e, here e past, new)
+    by_reading : (o : Option ℕ) → table_reading e.step ≡ o → (or_before o (last_reading calls) ≡ 0) ⊎ WasRead (e ∷ past) (or_before o (last_reading calls))
+    by_reading (Some at) read = inr (e, here e past, read)
+    by_reading None read = kept_read e past calls h
+
+    by_test : (b : Bool) → ((if b then reading_after c (last_reading calls) else last_reading calls) ≡ 0)
+        ⊎ WasRead (e ∷ past) (if b then reading_after c (last_reading calls) else last_reading calls)
+    by_test true = by_reading (reading_of c) new
     by_test false = kept_read e past calls h
 
 pub last_read : (policy : Terms) (past : Past) → IsRead past (table_calls policy past)

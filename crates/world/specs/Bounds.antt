@@ -20,6 +20,6 @@ bounds churn cold hot most = record { churn = churn; cold = cold; hot = hot; mos
 abbrev pub is_bounds : Bounds → Bool
 is_bounds b = nat_le b.churn KEYS && is_within b.most MOST_SLICES
 
--- what a plan is held to where so many tasks own a slice
-abbrev pub limits_of : ℕ → Bounds → Limits
-limits_of redundancy b = limits redundancy b.churn b.cold b.hot b.most
+-- what a plan is held to where a slice has so many owners at the least and at the most
+abbrev pub limits_of : ℕ → ℕ → Bounds → Limits
+limits_of low high b = limits low high b.churn b.cold b.hot b.most

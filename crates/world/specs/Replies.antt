@@ -156,6 +156,7 @@ reply_to job past step.Phase outcome = reply.Phase (phase_of (standing job.polic
 reply_to job past step.Rows outcome = reply.Rows (standing job.policy past).rows
 reply_to job past (step.Grant task life at) outcome = by_actor task job.tasks (from_layer refusal.Table granted (grant_step (standing job.policy past) task life at))
 reply_to job past (step.Free note at) outcome = if_sent (numbered note (notes_made past)) (λ given. from_layer refusal.Table reply.Freed (free_step (standing job.policy past) given at))
+reply_to job past step.Lose outcome = reply.Lost (length (standing job.policy past).rows)
 reply_to job past (step.Start task life at) outcome = by_actor task job.tasks (from_layer refusal.Slicelet (λ _. reply.Started life) (start_step (history job task past) life at))
 reply_to job past (step.Hear task number at) outcome =
     by_actor task job.tasks (if_sent (numbered number (grants job.policy past)) (λ grant. from_layer refusal.Slicelet (λ _. reply.Heard number) (hear_step (history job task past) grant at)))

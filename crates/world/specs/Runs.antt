@@ -16,10 +16,10 @@ use Rattle.world.specs.Bounds.{Bounds, limits_of}
 use Rattle.world.specs.Told.{numbered, draft_of, handles_made, task_calls}
 use Rattle.world.specs.Replies.{Outcome, is_continuous_in, plan_in, covers_in, history, reply_to}
 
--- a plan of a draft for loads and tasks, within bounds and by the redundancy of the job: there is one, and this is one
+-- a plan of a draft for loads and tasks, within bounds and by the numbers of owners of the job: there is one, and this is one
 abbrev pub IsPlanOf : Job → Slicing → List ℕ → List ℕ → Bounds → Plan → Type 0
 IsPlanOf job draft loads tasks bounds plan =
-    CanPlan draft.slices loads tasks (limits_of job.policy.redundancy bounds) × IsPlan draft.slices loads tasks (limits_of job.policy.redundancy bounds) plan
+    CanPlan draft.slices loads tasks (limits_of job.policy.low job.policy.high bounds) × IsPlan draft.slices loads tasks (limits_of job.policy.low job.policy.high bounds) plan
 
 -- a handle that was made, and that the task can have given, is continuous exactly where the outcome of a `check` says so; the outcome of a `plan` that is not refused has a
 -- plan of the draft; other steps have no outcome
@@ -31,7 +31,7 @@ IsOutcome job past (step.Plan loads tasks bounds) outcome =
     (draft : Slicing) → draft_of past ≡ Some draft → plan_refusal draft.slices loads tasks ≡ None → IsPlanOf job draft loads tasks bounds (plan_in outcome)
 IsOutcome job past _ outcome = ⊤
 
--- a step may want memory
+-- a step may be out of memory
 abbrev pub takes_memory : Step → Bool
 takes_memory (step.Assign generation slices) = true
 takes_memory (step.Judge question) = true
@@ -52,11 +52,20 @@ takes_memory _ = false
 abbrev pub IsAnswer : Job → Past → Event → Type 0
 IsAnswer job past e = (outcome : Outcome) × IsOutcome job past e.step outcome × (e.reply ≡ reply_to job past e.step outcome)
 
--- memory is wanting for a step that takes some and would not be refused, whatever its outcome
-abbrev pub WantsMemory : Job → Past → Event → Type 0
-WantsMemory job past e = (e.reply ≡ reply.NoMemory) × IsTrue (takes_memory e.step) × ((outcome : Outcome) → IsTrue (is_accepted (reply_to job past e.step outcome)))
+-- a reply needs memory where it accepts its step; that of a `hold` only where it gives a handle, and a denial needs none
+abbrev pub gives_handle : Reply → Bool
+gives_handle (reply.Holding number handle) = true
+gives_handle _ = false
 
--- a reply is the one that the steps before it give, or want of memory
+abbrev pub needs_memory : Step → Reply → Bool
+needs_memory (step.Hold task key at) answer = gives_handle answer
+needs_memory _ answer = is_accepted answer
+
+-- a step is out of memory where it takes some, and where its reply would need some, whatever its outcome
+abbrev pub WantsMemory : Job → Past → Event → Type 0
+WantsMemory job past e = (e.reply ≡ reply.NoMemory) × IsTrue (takes_memory e.step) × ((outcome : Outcome) → IsTrue (needs_memory e.step (reply_to job past e.step outcome)))
+
+-- a reply is the one that the steps before it give, or the step is out of memory
 abbrev pub IsReply : Job → Past → Event → Type 0
 IsReply job past e = IsAnswer job past e ⊎ WantsMemory job past e
 

@@ -131,6 +131,7 @@ table_call past (step.Propose assigner generation slices at) = Some (call.Propos
 table_call past (step.Commit assigner at) = Some (call.Commit (kept_number assigner past) at)
 table_call past (step.Grant task life at) = Some (call.Grant task life at)
 table_call past (step.Free note at) = option_map (λ given. call.Free given at) (numbered note (notes_made past))
+table_call past step.Lose = Some call.Restart
 table_call past _ = None
 
 -- calls with one more and its answer, if there is one more

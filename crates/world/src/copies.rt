@@ -75,6 +75,7 @@ impl Duplicate for Step {
                 note: *note,
                 at: *at,
             },
+            Step::Lose => Step::Lose,
             Step::Start { task, life, at } => Step::Start {
                 task: *task,
                 life: *life,
@@ -175,6 +176,7 @@ impl Duplicate for Reply {
                 ends: *ends,
             },
             Reply::Freed(rows) => Reply::Freed(*rows),
+            Reply::Lost(rows) => Reply::Lost(*rows),
             Reply::Started(life) => Reply::Started(*life),
             Reply::Heard(number) => Reply::Heard(*number),
             Reply::Released { number, note } => Reply::Released {

@@ -79,8 +79,8 @@ pub fn handle_law()
         → IsCheckedByHistory job past task handle at answer }
 {}
 
-/// What a `plan` is answered is a plan of the draft by the redundancy of the job, and its slices make
-/// an assignment.
+/// What a `plan` is answered is a plan of the draft by the numbers of owners of the job, and its slices
+/// make an assignment.
 pub fn planned_law()
     ensures { (job : Job) (past : Past) (loads tasks : List ℕ) (bounds : Bounds) (plan : Plan)
         → IsRun job (event (step.Plan loads tasks bounds) (reply.Planned plan) ∷ past)
@@ -89,13 +89,13 @@ pub fn planned_law()
     weighted_move::plan_law();
 }
 
-/// With timely clocks, whoever may serve a key owns it in the committed assignment: at redundancy
-/// one, never two tasks. Each point of a run is the end of a run, so this holds at each.
+/// With timely clocks, whoever may serve a key owns it in the committed assignment: where a slice has
+/// at most one owner, never two tasks. Each point of a run is the end of a run, so this holds at each.
 pub fn owner_law()
     ensures owner { (job : Job) (past : Past) (task : ℕ) (key : List ℕ) → is_policy job.policy ≡ true → IsRun job past
         → MayServe job past task key → IsOwner job past task key }
     ensures one { (job : Job) (past : Past) (task other : ℕ) (key : List ℕ) → is_policy job.policy ≡ true
-        → job.policy.redundancy ≡ 1 → IsRun job past → MayServe job past task key → MayServe job past other key
+        → job.policy.high ≡ 1 → IsRun job past → MayServe job past task key → MayServe job past other key
         → task ≡ other }
 {
     lease_table::leases_law();
@@ -108,12 +108,12 @@ pub fn owner_law()
 
 /// In a run whose clocks were timely, where a `check` by a task found a handle continuous, the task
 /// owned its key in the committed assignment at each point from the handle's `hold` to that `check`:
-/// at redundancy one, no other task may serve the key at any of these points.
+/// where a slice has at most one owner, no other task may serve the key at any of these points.
 pub fn interval_law()
     ensures owner { (job : Job) (run past : Past) (task : ℕ) (key : List ℕ) → is_policy job.policy ≡ true → IsRun job run
         → IsTimely job.policy.skew (steps_of run) → IsWhileHeld run past task key → IsOwner job past task key }
     ensures alone { (job : Job) (run past : Past) (task other : ℕ) (key : List ℕ) → is_policy job.policy ≡ true
-        → job.policy.redundancy ≡ 1 → IsRun job run → IsTimely job.policy.skew (steps_of run)
+        → job.policy.high ≡ 1 → IsRun job run → IsTimely job.policy.skew (steps_of run)
         → IsWhileHeld run past task key → MayServe job past other key → other ≡ task }
 {
     lease_table::leases_law();

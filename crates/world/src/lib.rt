@@ -17,6 +17,7 @@ mod table;
 mod tasks;
 mod values;
 mod world;
+mod world_copy;
 
 pub use crate::world::World;
 pub use actors::numbered;

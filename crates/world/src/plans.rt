@@ -17,7 +17,7 @@ use machines::Trouble;
 use std::marker::Model;
 use weighted_move::{PlanError, PlanPolicy, TaskSet};
 
-/// What a `plan` step holds its plan to, beside the redundancy of the job.
+/// What a `plan` step holds its plan to, beside the numbers of owners of the job.
 #[derive(Clone, Copy, Debug, PartialEq, Eq)]
 pub struct PlanBounds {
     churn: u64,
@@ -62,11 +62,12 @@ impl PlanBounds {
     // What a plan is held to in a job of this policy.
     #[tactic(auto, using(crate::proofs::Planning::are_limits))]
     fn of_job(self, policy: Policy) -> PlanPolicy
-        ensures { result ≡ limits_of policy.redundancy self }
+        ensures { result ≡ limits_of policy.low policy.high self }
     {
         policy_law(policy);
         PlanPolicy::new(
-            policy.redundancy(),
+            policy.low(),
+            policy.high(),
             self.churn,
             self.cold,
             self.hot,

@@ -17,7 +17,8 @@ use std::alloc::AllocError;
 /// reading of a task's clock, in ticks.
 #[derive(Debug, Drop)]
 pub enum RecordedCall {
-    /// A call that may change the table.
+    /// A call that may change the table. A restart is never refused, so it always has its entry, and no
+    /// record tells of it.
     Table(TableCall),
     /// A call that may change what a task holds.
     Task {

@@ -4,7 +4,7 @@ ghost use Rattle.std.specs.Prelude.{◌≡◌};
 
 use arrayvec::ArrayVec;
 use assigner::Action;
-use assignment::{AssignmentError, Listed, TaskId};
+use assignment::{AssignmentError, Listed, Owners, TaskId};
 use clerk::{ClerkError, Found};
 use key_handle::KeyHandle;
 use key_hash::SliceKey;
@@ -50,7 +50,7 @@ pub enum Refusal {
 /// The owners of a key. Clauses see the list of them.
 #[derive(Debug, Drop)]
 pub struct OwnerList {
-    tasks: ArrayVec<TaskId, 3>,
+    tasks: Owners,
 }
 
 impl Model for OwnerList {
@@ -63,7 +63,7 @@ impl Model for OwnerList {
 
 impl OwnerList {
     /// The list of these tasks.
-    pub fn new(tasks: ArrayVec<TaskId, 3>) -> Self
+    pub fn new(tasks: Owners) -> Self
         ensures { result ≡ tasks.items }
     {
         OwnerList { tasks }
@@ -121,6 +121,8 @@ pub enum Reply {
     },
     /// So many rows were freed.
     Freed(u64),
+    /// So many rows were lost.
+    Lost(u64),
     /// The life is started.
     Started(u32),
     /// The grant of this number is heard.

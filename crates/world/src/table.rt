@@ -187,6 +187,14 @@ impl World {
         }
     }
 
+    pub(crate) fn lose(&mut self) -> Result<Reply, Trouble<Refusal>>
+        ensures { (job : Job) (past : Past) → Keeps job past self.old
+            → Played job past step.Lose result self.new }
+    {
+        lease_table::standing_law();
+        Ok(Reply::Lost(self.table.restart()))
+    }
+
     pub(crate) fn restart(&mut self, assigner: u64) -> Result<Reply, Trouble<Refusal>>
         ensures { (job : Job) (past : Past) → Keeps job past self.old
             → Played job past (step.Restart assigner) result self.new }

@@ -139,7 +139,7 @@ impl World {
     /// At every point of what led to this world: a request was served exactly when the written rule
     /// allowed its key on what its task had been told, and each denial named its ground; a handle was
     /// continuous exactly when no step since took its key away; and with timely clocks whoever may serve a
-    /// key owns it in the committed assignment: at redundancy one, never two tasks.
+    /// key owns it in the committed assignment: where a slice has at most one owner, never two tasks.
     pub fn headline_law(&self)
         ensures rule { (job : Job) (later past : Past) (task : ℕ) (key : List ℕ) (at : ℕ) (answer : Reply)
             → LeadsTo job (later ++ event (step.Serve task key at) answer ∷ past) self.now
@@ -152,7 +152,7 @@ impl World {
         ensures owner { (job : Job) (later past : Past) (task : ℕ) (key : List ℕ) → LeadsTo job (later ++ past) self.now
             → MayServe job past task key → IsOwner job past task key }
         ensures one { (job : Job) (later past : Past) (task other : ℕ) (key : List ℕ) → LeadsTo job (later ++ past) self.now
-            → job.policy.redundancy ≡ 1 → MayServe job past task key → MayServe job past other key → task ≡ other }
+            → job.policy.high ≡ 1 → MayServe job past task key → MayServe job past other key → task ≡ other }
     {
         self.run_law();
         rule_law();
@@ -162,12 +162,12 @@ impl World {
 
     /// As long as the clocks were timely: where a `check` by a task found a handle continuous, the task
     /// owned its key in the committed assignment at each point from the handle's `hold` to that `check`,
-    /// and at redundancy one no other task may serve the key at any of these points.
+    /// and where a slice has at most one owner, no other task may serve the key at any of these points.
     pub fn interval_law(&self)
         ensures owner { (job : Job) (later run past : Past) (task : ℕ) (key : List ℕ) → LeadsTo job (later ++ run) self.now
             → IsTimely job.policy.skew (steps_of run) → IsWhileHeld run past task key → IsOwner job past task key }
         ensures alone { (job : Job) (later run past : Past) (task other : ℕ) (key : List ℕ) → LeadsTo job (later ++ run) self.now
-            → job.policy.redundancy ≡ 1 → IsTimely job.policy.skew (steps_of run) → IsWhileHeld run past task key
+            → job.policy.high ≡ 1 → IsTimely job.policy.skew (steps_of run) → IsWhileHeld run past task key
             → MayServe job past other key → other ≡ task }
     {
         self.run_law();
@@ -210,6 +210,7 @@ impl World {
             Step::Rows => self.rows(),
             Step::Grant { task, life, at } => self.grant(*task, *life, *at),
             Step::Free { note, at } => self.free(*note, *at),
+            Step::Lose => self.lose(),
             Step::Start { task, life, at } => self.start(*task, *life, *at),
             Step::Hear { task, number, at } => self.hear(*task, *number, *at),
             Step::Release { task, kind, at } => self.release(*task, *kind, *at),

@@ -19,7 +19,7 @@ returns-clause-owner c = λ job past task key within run may.
       newest = λ grant sent. c.leases_law.ensures.generation job.policy calls grant within table sent;
       guard = λ grant sent kind. c.leases_law.ensures.guard job.policy calls grant within table sent kind;
       skewed = λ grant sent. c.leases_law.ensures.skew job.policy calls grant within table sent;
-      young = λ grant opened. c.rows_law.ensures.generation job.policy calls grant table opened;
+      young = λ grant out. c.rows_law.ensures.generation job.policy calls grant table out;
       committed = c.assignments_law.ensures.committed calls;
     } in
     owner c.covering_lease_law.ensures.allowed job past task key run facts (c.held_law.ensures task (task_calls job.policy task past) (accepted_calls job past task run)) may

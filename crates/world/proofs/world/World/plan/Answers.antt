@@ -13,8 +13,8 @@ use Rattle.world.proofs.world.World.plan.Goals as goal
 pub returns-in-Ok : goal.returns-in-Ok
 returns-in-Ok c = λ job past k.
     let draft : draft_of past ≡ Some c.in-Some.draft = sym k.draft ∙ c.in-Some.is in
-    let held : c.of_job-policy.result ≡ limits_of job.policy.redundancy c.args.bounds =
-    c.of_job-policy.ensures ∙ ap (λ (t : Terms). limits_of t.redundancy c.args.bounds) (c.policy.ensures ∙ ap (λ (j : Job). j.policy) k.same_job) in
+    let held : c.of_job-policy.result ≡ limits_of job.policy.low job.policy.high c.args.bounds =
+    c.of_job-policy.ensures ∙ ap (λ (t : Terms). limits_of t.low t.high c.args.bounds) (c.policy.ensures ∙ ap (λ (j : Job). j.policy) k.same_job) in
     let can = subst (λ (l : Limits). CanPlan c.in-Some.draft.slices c.args.loads.now c.args.tasks.now l) held c.in-Ok.ensures.can in
     let is = subst (λ (l : Limits). IsPlan c.in-Some.draft.slices c.args.loads.now c.args.tasks.now l c.in-Ok.plan) held c.in-Ok.ensures.planned in
     record {
