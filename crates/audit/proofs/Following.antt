@@ -56,6 +56,7 @@ module _ (job : Job) (stage : Stage) (k : KnowsAt job stage) where
   frees_sent (table_call.Propose number slicing at) e = tt
   frees_sent (table_call.Commit number at) e = tt
   frees_sent (table_call.Grant task life at) e = tt
+  frees_sent table_call.Restart e = tt
 
   hears_sent : (c : SliceletCall) → task_refusal stage c ≡ None → HearsSent k.calls c
   hears_sent (Start life at) e = tt

@@ -1,5 +1,5 @@
 -- Lists that rise, and tickets that stand twice.
-use Rattle.std.proofs.Common.{◌≡◌, ◌≢◌, ℕ, zero, suc, ◌+◌, ◌-◌, ◌<◌, ◌≤◌, ◌==◌, cond, Bool, true, List, [], ◌∷◌, map, length, get_or, sym, refl, ap, ◌∙◌, ⊎_elim, arith}
+use Rattle.std.proofs.Common.{◌≡◌, ◌≢◌, inl, inr, subst, ℕ, zero, suc, ◌+◌, ◌-◌, ◌<◌, ◌≤◌, ◌==◌, cond, Bool, true, false, List, [], ◌∷◌, map, length, get_or, sym, refl, ap, ◌∙◌, ⊎_elim, arith}
 use Rattle.std.specs.List.{count_by, AllAdjacentBelow}
 use Rattle.std.specs.List.Sorted.{IsNonDecreasingBy}
 use Rattle.std.proofs.lemmas.List.{get_or_default, length-map, get_or-map}
@@ -63,3 +63,28 @@ doubled n f [] k t low at = absurd (omega arith)
 doubled n f (x ∷ xs) k t low at =
     let next : suc k ≡ k + 1 = omega arith in let too : n (f (get_or (x ∷ xs) (suc k) x)) ≡ t = ap (λ j. n (f (get_or (x ∷ xs) j x))) next ∙ (at x).1 in
     let r = counts_twice (λ z. n (f z)) (x ∷ xs) k x t (omega arith) (at x).0 too in omega (arith, r, count_map (λ y. n y == t) f (x ∷ xs))
+
+-- NO NUMBER STANDS TWICE WHERE THEY RISE
+
+module _ {X : Type 0} (n : X → ℕ) where
+  rises_rest : (x : X) (xs : List X) → Rises n (x ∷ xs) → Rises n xs
+  rises_rest x xs up k d low =
+      let next : suc k + 1 ≡ suc (k + 1) = omega arith in
+      subst (λ (j : ℕ). n (get_or xs k d) < n (get_or (x ∷ xs) j d)) next (up (suc k) d (omega (arith, low)))
+
+  none_after : (t : ℕ) (x : X) (xs : List X) → t ≤ n x → Rises n (x ∷ xs) → count_by (λ y. n y == t) xs ≡ 0
+  none_after t x [] low up = refl
+  none_after t x (y ∷ ys) low up =
+      let next : n x < n y = up 0 x (omega arith) in
+      let other : (n y == t) ≡ false = ⊎_elim (λ u. absurd (let same = u.1 in omega (arith, low, next, same))) (λ u. u.0) (eqb_tells (n y) t) in
+      let rest = none_after t y ys (omega (arith, low, next)) (rises_rest x (y ∷ ys) up) in
+      omega (arith, rest, sum_by-cons (λ z. cond (n z == t) 1 0) y ys, ap {B = ℕ} (λ b. cond b 1 0) other)
+
+  pub at_most_once : (t : ℕ) (xs : List X) → Rises n xs → count_by (λ x. n x == t) xs ≤ 1
+  at_most_once t [] up = omega arith
+  at_most_once t (x ∷ xs) up = elim (eqb_tells (n x) t) [
+    | inl is ↦ (let same = is.1 in let none = none_after t x xs (omega (arith, same)) up in
+        omega (arith, none, sum_by-cons (λ y. cond (n y == t) 1 0) x xs, ap {B = ℕ} (λ b. cond b 1 0) is.0))
+    | inr not ↦ (let rest = at_most_once t xs (rises_rest x xs up) in
+        omega (arith, rest, sum_by-cons (λ y. cond (n y == t) 1 0) x xs, ap {B = ℕ} (λ b. cond b 1 0) not.0))
+  ]

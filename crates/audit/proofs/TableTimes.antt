@@ -1,6 +1,6 @@
 -- The table's last reading was read in the run, and a timely reading is near to it.
 use Rattle.std.proofs.Common.{◌≡◌, ℕ, ◌+◌, ◌≤◌, List, [], ◌∷◌, ◌++◌, refl, sym, ◌∙◌, ap, subst, inl, inr, ◌⊎◌, map, reverse}
-use Rattle.std.specs.Prelude.{Some, Ok}
+use Rattle.std.specs.Prelude.{Option, Some, None, Ok, length}
 use Rattle.std.specs.List.{AllByRecursion}
 use Rattle.std.proofs.lemmas.List.{map-append, reverse-append, append_assoc, append-nil}
 use Rattle.machines.specs.Refusals.{first_of}
@@ -8,13 +8,15 @@ use Rattle.machines.proofs.Every.{all_weaker, all_push}
 use Rattle.lease_table.specs.declared.call.TableCall.{TableCall}
 use Rattle.lease_table.specs.declared.call.TableCall.TheVariants as table_call
 use Rattle.lease_table.specs.declared.call.TableReply.{TableReply}
-use Rattle.lease_table.specs.declared.call.TableReply.TheVariants.{Term, Proposed, Committed, Granted, Freed}
+use Rattle.lease_table.specs.declared.error.TableError.{TableError}
+use Rattle.lease_table.specs.declared.call.TableReply.TheVariants.{Term, Proposed, Committed, Granted, Freed, Lost}
 use Rattle.lease_table.specs.Tables.{Standing}
-use Rattle.lease_table.specs.Steps.{take_checks, renew_checks, propose_checks, commit_checks, grant_checks, free_checks}
-use Rattle.lease_table.specs.Calls.{reading_of, table_step}
+use Rattle.lease_table.specs.Steps.{take_checks, renew_checks, propose_checks, commit_checks, grant_checks, free_checks, restarted}
+use Rattle.lease_table.specs.Calls.{reading_of, or_before, reading_after, table_step}
 use Rattle.world.specs.Jobs.{Job}
 use Rattle.world.specs.declared.step.Step.{Step}
 use Rattle.world.specs.declared.record.RecordedCall.{RecordedCall}
+use Rattle.world.specs.declared.record.RecordedCall.TheVariants as call
 use Rattle.world.specs.Pasts.{table_reading, task_reading, IsNear, IsTimely}
 use Rattle.world.proofs.Timing.{timely_before}
 use Rattle.audit.specs.Stages.{Stage, Turned, IsTurn}
@@ -22,26 +24,35 @@ use Rattle.audit.specs.OneRun.{Turn, clocked_table, clocked, IsRunFrom, IsTimely
 use Rattle.audit.proofs.Knowing.{done}
 use Rattle.audit.proofs.Leaving.{of_turn}
 
--- an accepted call of the table leaves its reading
-table_read : (t : Standing) (c : TableCall) (p : Standing × TableReply) → table_step t c ≡ Ok p → reading_of c ≡ p.0.last
-table_read t (table_call.JobTake assigner at) p e = ap (λ (x : Standing). x.last) (done Term (first_of (take_checks t at)) _ p e).1
-table_read t (table_call.JobRenew number at) p e = ap (λ (x : Standing). x.last) (done Term (first_of (renew_checks t number at)) _ p e).1
-table_read t (table_call.Propose number slicing at) p e = ap (λ (x : Standing). x.last) (done (λ _. Proposed) (first_of (propose_checks t number slicing at)) _ p e).1
-table_read t (table_call.Commit number at) p e = ap (λ (x : Standing). x.last) (done Committed (first_of (commit_checks t number at)) _ p e).1
-table_read t (table_call.Grant task life at) p e = ap (λ (x : Standing). x.last) (done Granted (first_of (grant_checks t at)) _ p e).1
-table_read t (table_call.Free note at) p e = ap (λ (x : Standing). x.last) (done Freed (first_of (free_checks t note at)) _ p e).1
+-- the table stands at its last reading still, or it was read by this call
+abbrev pub IsReadBy : ℕ → RecordedCall → ℕ → Type 0
+IsReadBy old c new = (old ≡ new) ⊎ (table_reading (clocked c) ≡ Some new)
 
-table_clock : (c : TableCall) → table_reading (clocked_table c) ≡ Some (reading_of c)
+-- an accepted call of the table leaves its reading, and a restart the one before
+left_reading : (t : Standing) (c : TableCall) (p : Standing × TableReply) → table_step t c ≡ Ok p → reading_after c t.last ≡ p.0.last
+left_reading t (table_call.JobTake assigner at) p e = ap (λ (x : Standing). x.last) (done Term (first_of (take_checks t at)) _ p e).1
+left_reading t (table_call.JobRenew number at) p e = ap (λ (x : Standing). x.last) (done Term (first_of (renew_checks t number at)) _ p e).1
+left_reading t (table_call.Propose number slicing at) p e = ap (λ (x : Standing). x.last) (done (λ _. Proposed) (first_of (propose_checks t number slicing at)) _ p e).1
+left_reading t (table_call.Commit number at) p e = ap (λ (x : Standing). x.last) (done Committed (first_of (commit_checks t number at)) _ p e).1
+left_reading t (table_call.Grant task life at) p e = ap (λ (x : Standing). x.last) (done Granted (first_of (grant_checks t at)) _ p e).1
+left_reading t (table_call.Free note at) p e = ap (λ (x : Standing). x.last) (done Freed (first_of (free_checks t note at)) _ p e).1
+left_reading t table_call.Restart p e = ap (λ (x : Standing). x.last) (done {F = TableError} Lost None (restarted t, length t.rows) p e).1
+
+table_clock : (c : TableCall) → table_reading (clocked_table c) ≡ reading_of c
 table_clock (table_call.JobTake assigner at) = refl
 table_clock (table_call.JobRenew number at) = refl
 table_clock (table_call.Propose number slicing at) = refl
 table_clock (table_call.Commit number at) = refl
 table_clock (table_call.Grant task life at) = refl
 table_clock (table_call.Free note at) = refl
+table_clock table_call.Restart = refl
 
--- the table stands at its last reading still, or it was read by this call
-abbrev pub IsReadBy : ℕ → RecordedCall → ℕ → Type 0
-IsReadBy old c new = (old ≡ new) ⊎ (table_reading (clocked c) ≡ Some new)
+table_read : (t : Standing) (c : TableCall) (p : Standing × TableReply) → table_step t c ≡ Ok p → IsReadBy t.last (call.Table c) p.0.last
+table_read t c p e = by_reading (reading_of c) (table_clock c) (left_reading t c p e)
+  where
+    by_reading : (o : Option ℕ) → table_reading (clocked_table c) ≡ o → or_before o t.last ≡ p.0.last → IsReadBy t.last (call.Table c) p.0.last
+    by_reading (Some at) read left = inr (read ∙ ap (λ (n : ℕ). Some n) left)
+    by_reading None read left = inl left
 
 turn_read : (job : Job) (stage : Stage) (c : RecordedCall) (turned : Turned) → IsTurn job stage c turned → IsReadBy stage.table.last c turned.0.table.last
 turn_read job stage c turned is = of_turn job stage c (λ (x : Turned). IsReadBy stage.table.last c x.0.table.last) (record {
@@ -49,7 +60,7 @@ turn_read job stage c turned is = of_turn job stage c (λ (x : Turned). IsReadBy
   looks = λ look reply. inl refl;
   holds = λ look handles reply. inl refl;
   table = λ made p same sent e.
-      inr (ap (λ (x : RecordedCall). table_reading (clocked x)) same ∙ (table_clock made ∙ ap (λ (n : ℕ). Some n) (table_read stage.table made p e)));
+      subst (λ (x : RecordedCall). IsReadBy stage.table.last x p.0.last) (sym same) (table_read stage.table made p e);
   task = λ task made s p same here sent e. inl refl;
   clerk = λ clerk made clerks reply same. inl refl;
 }) turned is

@@ -1,15 +1,16 @@
 -- Where tasks and the table stand at a point is what the turns before it say.
 use Rattle.std.proofs.Common.{◌≡◌, ℕ, ◌-◌, ◌==◌, Bool, true, false, not, List, [], ◌∷◌, refl, sym, ◌∙◌, ap, subst, inl, inr, ◌⊎◌, set}
-use Rattle.std.specs.Prelude.{◌≢◌, Option, Some, None, Ok, if◌then◌else◌}
+use Rattle.std.specs.Prelude.{◌≢◌, Option, Some, None, Ok, if◌then◌else◌, length}
 use Rattle.std.proofs.lemmas.Bool.Decides.{eqb_tells}
 use Rattle.machines.specs.Refusals.{first_of}
 use Rattle.lease_table.specs.declared.call.TableCall.{TableCall}
 use Rattle.lease_table.specs.declared.call.TableCall.TheVariants as table_call
 use Rattle.lease_table.specs.declared.call.TableReply.{TableReply}
-use Rattle.lease_table.specs.declared.call.TableReply.TheVariants.{Term, Proposed, Committed, Granted, Freed}
+use Rattle.lease_table.specs.declared.error.TableError.{TableError}
+use Rattle.lease_table.specs.declared.call.TableReply.TheVariants.{Term, Proposed, Committed, Granted, Freed, Lost}
 use Rattle.machines.specs.Numbers.{is_within}
 use Rattle.lease_table.specs.Tables.{Standing}
-use Rattle.lease_table.specs.Steps.{take_checks, renew_checks, propose_checks, commit_checks, grant_checks, free_checks}
+use Rattle.lease_table.specs.Steps.{take_checks, renew_checks, propose_checks, commit_checks, grant_checks, free_checks, restarted}
 use Rattle.lease_table.specs.Calls.{table_step}
 use Rattle.slicelet.specs.declared.call.SliceletCall.{SliceletCall}
 use Rattle.slicelet.specs.Steps.{History}
@@ -115,6 +116,7 @@ table_assigned t (table_call.Propose number slicing at) p e = ap assigned_at (do
 table_assigned t (table_call.Commit number at) p e = ap assigned_at (done Committed (first_of (commit_checks t number at)) _ p e).1
 table_assigned t (table_call.Grant task life at) p e = ap assigned_at (done Granted (first_of (grant_checks t at)) _ p e).1
 table_assigned t (table_call.Free note at) p e = ap assigned_at (done Freed (first_of (free_checks t note at)) _ p e).1
+table_assigned t table_call.Restart p e = ap assigned_at (done {F = TableError} Lost None (restarted t, length t.rows) p e).1
 
 look_assigned : (c : RecordedCall) (old : Assigned) → IsLook c → with_assigned c old ≡ old
 look_assigned (call.Table c) old look = absurd look

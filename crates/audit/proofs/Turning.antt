@@ -1,16 +1,17 @@
 -- Turns of several histories, and runs that grow by one turn.
-use Rattle.std.proofs.Common.{◌≡◌, ℕ, ◌+◌, ◌<◌, List, [], ◌∷◌, ◌++◌, map, length, get_or, take, drop, sym, refl, ap, ◌∙◌, subst, arith}
+use Rattle.std.proofs.Common.{◌≡◌, ℕ, ◌+◌, ◌<◌, ◌==◌, cond, List, [], ◌∷◌, ◌++◌, map, length, get_or, take, drop, sym, refl, ap, ◌∙◌, subst, arith}
 use Rattle.std.specs.Prelude.{Option, Some, None}
 use Rattle.std.proofs.lemmas.List.{map_more, map-append, take-append-drop, append_assoc, append-nil, take_more, length-take-le}
+use Rattle.std.proofs.lemmas.List.Sorted.{sum_by-IsPermutation}
 use Rattle.world.specs.Jobs.{Job}
 use Rattle.world.specs.declared.record.RecordedCall.{RecordedCall}
 use Rattle.world.specs.declared.record.Told.{Told}
 use Rattle.audit.specs.declared.finding.Why.{Why}
 use Rattle.audit.specs.declared.finding.Why.TheVariants.{Double, Order, RefusedEntry, OtherReply}
 use Rattle.audit.specs.Stages.{Stage, Turned, first_stage, IsTurn}
-use Rattle.audit.proofs.Rising.{rises_map}
+use Rattle.audit.proofs.Rising.{rises_map, at_most_once}
 use Rattle.std.specs.List.Sorted.{IsPermutation}
-use Rattle.audit.specs.OneRun.{Turn, Entries, Evidence, all_turns, HistoriesRise, Rises, entry_turn, turns_from, Fits, IsRunFrom, IsWrong, IsBreak, IsInOrder, IsFault}
+use Rattle.audit.specs.OneRun.{Turn, Entries, Evidence, all_turns, TicketsAreDistinct, HistoriesRise, Rises, entry_turn, turns_from, Fits, IsRunFrom, IsWrong, IsBreak, IsInOrder, IsFault}
 
 -- one history more
 pub turns_more : {C : Type 0} (name : ℕ → C → RecordedCall) (number : ℕ) (hs : List (Entries C)) (h : Entries C)
@@ -38,6 +39,14 @@ add_more name hs i h d before old new low is was made =
 -- points with distinct tickets, of histories that rise, show turns in order
 pub in_order : {X : Type 0} (f : X → Turn) (e : Evidence) (points : List X) → IsPermutation (all_turns e) (map f points) → Rises (λ p. (f p).ticket) points → HistoriesRise e → IsInOrder e (map f points)
 in_order f e points each distinct rising = record { each = each; distinct = rises_map (λ (t : Turn). t.ticket) f points distinct; rising = rising }
+
+-- no ticket stands twice where those of the points rise
+pub tickets_distinct : {X : Type 0} (f : X → Turn) (e : Evidence) (points : List X) → IsPermutation (all_turns e) (map f points) → Rises (λ p. (f p).ticket) points
+    → TicketsAreDistinct e
+tickets_distinct f e points each rising ticket =
+    let same = sum_by-IsPermutation (λ (t : Turn). cond (t.ticket == ticket) 1 0) (all_turns e) (map f points) each in
+    let once = at_most_once (λ (t : Turn). t.ticket) ticket (map f points) (rises_map (λ (t : Turn). t.ticket) f points rising) in
+    omega (arith, same, once)
 
 module _ (job : Job) where
   -- one turn more

@@ -66,6 +66,13 @@ Rises number xs = AllAdjacentBelow (λ x y. number x < number y) xs (length xs)
 abbrev pub HistoriesRise : Evidence → Type 0
 HistoriesRise e = Rises ticket_of e.table × (All (Rises ticket_of) e.tasks × All (Rises ticket_of) e.clerks)
 
+-- how many entries and records have a ticket
+abbrev pub times : Evidence → ℕ → ℕ
+times e ticket = count_by (λ t. t.ticket == ticket) (all_turns e)
+
+abbrev pub TicketsAreDistinct : Evidence → Type 0
+TicketsAreDistinct e = (ticket : ℕ) → times e ticket ≤ 1
+
 -- these are the entries and records, each once, in the order of their tickets, which are distinct, and each history rises
 pub record IsInOrder (evidence : Evidence) (run : List Turn) : Type 0 where
   pub each : IsPermutation (all_turns evidence) run
@@ -97,6 +104,7 @@ clocked_table (table_call.Propose number slicing at) = step.Propose 0 slicing.ge
 clocked_table (table_call.Commit number at) = step.Commit 0 at
 clocked_table (table_call.Grant task life at) = step.Grant task life at
 clocked_table (table_call.Free note at) = step.Free note.number at
+clocked_table table_call.Restart = step.Lose
 
 abbrev pub clocked_task : ℕ → SliceletCall → Step
 clocked_task task (task_call.Start life at) = step.Start task life at
@@ -149,9 +157,11 @@ pub record IsBreak (job : Job) (run : List Turn) (ticket : ℕ) (why : Why) : Ty
   pub is_turn : IsTurn job last turn.call turned
   pub wrong : IsWrong why turned.1 turn.told
 
+-- a fault stands at a ticket: it stands twice; none stands twice, and an entry of this one does not rise in its history;
+-- or all are in order, and the answer at this one is another
 abbrev pub IsFault : Job → Evidence → ℕ → Why → Type 0
-IsFault job e ticket Double = 2 ≤ count_by (λ t. t.ticket == ticket) (all_turns e)
-IsFault job e ticket Order = HistoryFalls e ticket
+IsFault job e ticket Double = 2 ≤ times e ticket
+IsFault job e ticket Order = TicketsAreDistinct e × HistoryFalls e ticket
 IsFault job e ticket RefusedEntry = (run : List Turn) × IsInOrder e run × IsBreak job run ticket RefusedEntry
 IsFault job e ticket OtherReply = (run : List Turn) × IsInOrder e run × IsBreak job run ticket OtherReply
 

@@ -46,8 +46,8 @@ fn judge(reply: &Told, told: Option<&Told>) -> Option<Why>
     None
 }
 
-// The reading of the table's clock at a call of the table, in ticks.
-fn reading_of(call: &TableCall) -> u64
+// The reading of the table's clock at a call of the table, in ticks; a restart reads none.
+fn reading_of(call: &TableCall) -> Option<u64>
     ensures { result ≡ reading_of call.now }
 {
     match call {
@@ -56,7 +56,8 @@ fn reading_of(call: &TableCall) -> u64
         | TableCall::Propose { at, .. }
         | TableCall::Commit { at, .. }
         | TableCall::Grant { at, .. }
-        | TableCall::Free { at, .. } => *at,
+        | TableCall::Free { at, .. } => Some(*at),
+        TableCall::Restart => None,
     }
 }
 
@@ -75,9 +76,9 @@ impl<'a> Point<'a> {
         ensures { result ≡ table_reading (clocked (shown self.now).call) }
     {
         match self {
-            Point::Table(event) => Some(reading_of(&event.call)),
+            Point::Table(event) => reading_of(&event.call),
             Point::Record(record) => match &record.step {
-                RecordedCall::Table(call) => Some(reading_of(call)),
+                RecordedCall::Table(call) => reading_of(call),
                 _ => None,
             },
             _ => None,
@@ -174,9 +175,14 @@ fn first_fall(
 /// told just what the machines answer there. A history of a task or a clerk stands at the place of
 /// its number, the first of number 1; what the job has no actor for is refused.
 ///
-/// [`Audit::One`] says that they are; [`Audit::No`] names a fault and the ticket at which it stands:
-/// first tickets that stand twice are looked for, then entries that do not rise, then the first
-/// answer that is another. Where memory is refused nothing is said.
+/// [`Audit::One`] says that they are; [`Audit::No`] names a fault and the ticket at which it stands: a
+/// ticket that stands twice; where all tickets are distinct, an entry that does not rise in its
+/// history; and where all of them rise, the first answer that is another.
+///
+/// A restart of the table is an entry like others: the replayed table loses its rows there, and an
+/// entry of a commit that it would refuse until its grace is over is a refused one. A restart reads no
+/// clock, and whether clocks were timely does not depend on it. Where memory is refused nothing is
+/// said.
 pub fn audit(
     alloc: Global,
     job: &Job,

@@ -5,9 +5,11 @@
 pub enum Why {
     /// Two entries or records have this ticket.
     Double,
-    /// The ticket of an entry is not above that of the one before it in its history.
+    /// The ticket of an entry is not above that of the one before it in its history. All tickets are
+    /// distinct.
     Order,
-    /// An entry is refused, after the entries and records of lower tickets.
+    /// An entry is refused, after the entries and records of lower tickets, for instance a commit that
+    /// is held up by an open lease, or by the table's grace after a restart.
     RefusedEntry,
     /// The caller of a record's call would have been told otherwise.
     OtherReply,

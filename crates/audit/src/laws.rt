@@ -53,22 +53,23 @@ pub fn answers_law()
 {}
 
 /// With timely clocks, whoever may serve a key at a point of a run owns it in the assignment that is
-/// committed there: at redundancy one, never two tasks. So did, in a run whose clocks were timely,
-/// each task of which a caller was told that the key is served: at redundancy one, no other task
-/// might serve the key at that point.
+/// committed there: where a slice has at most one owner, never two tasks. So did, in a run whose
+/// clocks were timely, each task of which a caller was told that the key is served: where a slice has
+/// at most one owner, no other task might serve the key at that point. This holds also of runs in
+/// which the table restarts and loses its rows.
 pub fn audit_law()
     ensures owner { (job : Job) (run before : List Turn) (stage : Stage) (task key : ℕ) → is_policy job.policy ≡ true
         → IsOneRun job run → IsPoint job run before stage → key < KEYS
         → MayServe job before stage task key → IsOwner stage task key }
     ensures one { (job : Job) (run before : List Turn) (stage : Stage) (task other key : ℕ) → is_policy job.policy ≡ true
-        → job.policy.redundancy ≡ 1 → IsOneRun job run → IsPoint job run before stage → key < KEYS
+        → job.policy.high ≡ 1 → IsOneRun job run → IsPoint job run before stage → key < KEYS
         → MayServe job before stage task key → MayServe job before stage other key → task ≡ other }
     ensures served { (job : Job) (run before : List Turn) (stage : Stage) (turn : Turn) (task key at generation : ℕ) (kind : Kind)
         → is_policy job.policy ≡ true → IsOneRun job run → IsTimelyRun job run → IsTurnAt job run before stage turn
         → turn.call ≡ call.Serve task key at → key < KEYS → turn.told ≡ Some (told.Verdict (Allow kind generation))
         → IsOwner stage task key }
     ensures served_alone { (job : Job) (run before : List Turn) (stage : Stage) (turn : Turn) (task other key at generation : ℕ) (kind : Kind)
-        → is_policy job.policy ≡ true → job.policy.redundancy ≡ 1 → IsOneRun job run → IsTimelyRun job run → IsTurnAt job run before stage turn
+        → is_policy job.policy ≡ true → job.policy.high ≡ 1 → IsOneRun job run → IsTimelyRun job run → IsTurnAt job run before stage turn
         → turn.call ≡ call.Serve task key at → key < KEYS → turn.told ≡ Some (told.Verdict (Allow kind generation))
         → MayServe job before stage other key → other ≡ task }
 {
@@ -84,13 +85,14 @@ pub fn audit_law()
 
 /// In a run whose clocks were timely, where a `check` by a task was told that a handle is continuous,
 /// the task owned its key in the committed assignment at each point from the handle's `hold` to that
-/// `check`: at redundancy one, no other task may serve the key at any of these points.
+/// `check`: where a slice has at most one owner, no other task may serve the key at any of these
+/// points. This holds also where the table restarts in between.
 pub fn interval_law()
     ensures owner { (job : Job) (run before : List Turn) (stage : Stage) (task : ℕ) (handle : KeyHandle) → is_policy job.policy ≡ true
         → IsOneRun job run → IsTimelyRun job run → IsPoint job run before stage → IsWhileHeld run before task handle → handle.key < KEYS
         → IsOwner stage task handle.key }
     ensures alone { (job : Job) (run before : List Turn) (stage : Stage) (task other : ℕ) (handle : KeyHandle) → is_policy job.policy ≡ true
-        → job.policy.redundancy ≡ 1 → IsOneRun job run → IsTimelyRun job run → IsPoint job run before stage
+        → job.policy.high ≡ 1 → IsOneRun job run → IsTimelyRun job run → IsPoint job run before stage
         → IsWhileHeld run before task handle → handle.key < KEYS → MayServe job before stage other handle.key → other ≡ task }
 {
     lease_table::standing_law();

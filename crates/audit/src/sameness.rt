@@ -20,6 +20,7 @@ fn is_reply_of_table(reply: &TableReply, other: &TableReply) -> bool
         (TableReply::Committed(generation), TableReply::Committed(other)) => generation == other,
         (TableReply::Granted(grant), TableReply::Granted(other)) => grant == other,
         (TableReply::Freed(rows), TableReply::Freed(other)) => rows == other,
+        (TableReply::Lost(rows), TableReply::Lost(other)) => rows == other,
         _ => false,
     }
 }

@@ -5,7 +5,7 @@ use Rattle.audit.specs.declared.points.Point.{Point}
 use Rattle.audit.specs.OneRun.{Turn, IsOneRun, IsBreak, Rises, all_turns}
 use Rattle.audit.specs.Shown.{shown, evidence}
 use Rattle.audit.proofs.Rising.{doubled}
-use Rattle.audit.proofs.Turning.{fault_from, in_order}
+use Rattle.audit.proofs.Turning.{fault_from, in_order, tickets_distinct}
 use Rattle.audit.proofs.Clocking.{timely_run}
 use Rattle.audit.proofs.auditing.audit.Goals as goal
 
@@ -16,6 +16,12 @@ returns-in-Some c =
     let two = doubled (λ (t : Turn). t.ticket) shown points at.0 ticket at.1 at.2 in
     let same = sum_by-IsPermutation (λ (t : Turn). cond (t.ticket == ticket) 1 0) (all_turns (evidence c.args.table.now c.args.tasks.now c.args.clerks.now c.args.records.now)) (map shown points) c.in_ok-points.ensures.each in
     omega (arith, two, same)
+
+pub returns-in-Some-first_fall : goal.returns-in-Some-first_fall
+returns-in-Some-first_fall c =
+    let points = c.in_ok-points.points.items in let e = evidence c.args.table.now c.args.tasks.now c.args.clerks.now c.args.records.now in
+    let distinct = subst (λ (ps : List Point). Rises (λ p. (shown p).ticket) ps) c.deref.ensures.value c.in_default.ensures in
+    (tickets_distinct shown e points c.in_ok-points.ensures.each distinct, c.in-Some-first_fall.ensures c.args.records.now)
 
 pub returns-in-Some-2 : goal.returns-in-Some-2
 returns-in-Some-2 c =
