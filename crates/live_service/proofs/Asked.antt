@@ -9,7 +9,14 @@ use Rattle.world.specs.declared.record.CallRecord.{CallRecord}
 use Rattle.world.specs.declared.record.RecordedCall.{RecordedCall}
 use Rattle.world.specs.declared.record.RecordedCall.TheVariants.{Check, Clerk, Hold, Look, Phase, Rows, Serve, Table, Task}
 use Rattle.world.specs.declared.record.Told.{Told}
+use Rattle.world.specs.declared.record.Told.TheVariants as told
+use Rattle.machines.specs.declared.event.Event.{Event}
+use Rattle.policy_rules.specs.declared.answer.Verdict.{Verdict}
+use Rattle.slicelet.specs.Rules.{rule_after, covers_key}
+use Rattle.slicelet.specs.Steps.{History, event_step}
+use Rattle.slicelet.specs.declared.call.SliceletCall.{SliceletCall}
 use Rattle.live_service.specs.declared.error.Recorded.{Recorded}
+use Rattle.live_service.specs.inside.Crews.{TellsVerdict}
 use Rattle.live_service.specs.Draws.{CanDraw}
 use Rattle.live_service.specs.Calls.{AsksFor, WasSpent}
 use Rattle.live_service.specs.Reports.{asked_key, asked_keys, is_serve, job_keys, serves, task_keys, worker_keys, AreServesFrom}
@@ -22,6 +29,11 @@ module _ {M E R F : Type 0} (step : M → E → Result (M × R) F) (lock : Lock 
   pub asked_step : (old : PassView M E) (asked : Recorded T) (new : PassView M E) → AsksFor step lock old_draws new_draws answers recorded told old asked new
       → asked.call.step ≡ recorded asked.call.ticket
   asked_step old asked new w = w.1.called
+
+pub asked_verdict : (slicelet : Lock History) (old_draws new_draws : TicketPassView) (key : ℕ) (recorded : ℕ → RecordedCall) (old : PassView History (Event SliceletCall)) (asked : Recorded Verdict) (new : PassView History (Event SliceletCall))
+    → AsksFor event_step slicelet old_draws new_draws (λ machine number answer. answer ≡ rule_after (covers_key key) machine.calls number) recorded told.Verdict old asked new
+    → TellsVerdict slicelet old_draws new_draws key old asked.call new
+asked_verdict slicelet old_draws new_draws key recorded old asked new w = (asked.answer, w.1.told, w.0)
 
 pub spent_not : {M E : Type 0} (old_draws new_draws : TicketPassView) (old new : PassView M E) → CanDraw old_draws → WasSpent old_draws new_draws old new → false ≡ true
 spent_not old_draws new_draws old new can w = let spent : length old_draws.drawn ≡ old_draws.terms.quota = w.spent in absurd (omega (arith, can, spent))

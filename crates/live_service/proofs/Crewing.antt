@@ -18,7 +18,7 @@ use Rattle.live_service.specs.Reports.{asked_keys, serves, task_keys, worker_key
 use Rattle.live_service.proofs.Asked.{asked-append, asked_by_worker, asked_nothing, workers_push}
 use Rattle.live_service.specs.declared.worker.Member.{Member}
 use Rattle.live_service.specs.declared.worker.Worked.{Worked}
-use Rattle.live_service.specs.inside.Crews.{AreOfLanesFrom, AreMembersFrom, IsMember, IsGathered, HasLeft, HasWorked, HaveWorkedFrom}
+use Rattle.live_service.specs.inside.Crews.{AreOfLanesFrom, AreMembersFrom, AreNumberedFrom, IsMember, IsGathered, HasLeft, HasWorked, HaveWorkedFrom}
 
 module _ {M E : Type 0} where
   pub lanes_push : (lane : ℕ) (passes : List (PassView M E)) (pass : PassView M E) → AreOfLanesFrom lane passes → pass.lane ≡ lane + length passes → AreOfLanesFrom lane (passes ++ pass ∷ [])
@@ -28,6 +28,10 @@ module _ {M E : Type 0} where
   pub passes_push : (lock : Lock M) (passes : List (PassView M E)) (pass : PassView M E) → ArePassesOf lock passes → IsPassOf lock pass → ArePassesOf lock (passes ++ pass ∷ [])
   passes_push lock [] pass are is = (is, tt)
   passes_push lock (other ∷ passes) pass are is = (are.0, passes_push lock passes pass are.1 is)
+
+pub numbers_push : (number : ℕ) (members : List Member) (member : Member) → AreNumberedFrom number members → member.number ≡ number + length members → AreNumberedFrom number (members ++ member ∷ [])
+numbers_push number [] member are is = (let e : member.number ≡ number + 0 = is in omega (arith, e), tt)
+numbers_push number (other ∷ members) member are is = (are.0, numbers_push (number + 1) members member are.1 (let e : member.number ≡ number + length (other ∷ members) = is in omega (arith, e)))
 
 either_true : (b c : Bool) → (b ≡ false → c ≡ true) → (b || c) ≡ true
 either_true true c f = refl

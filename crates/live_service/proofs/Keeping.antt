@@ -20,7 +20,7 @@ module _ (table : Lock Standing) (ticket : TicketView) where
   keeps_more a b c k l = record { own = l.own; draws = l.draws; lane = l.lane ∙ k.lane; served = l.served ∙ k.served }
 
   -- a call of another lock leaves the pass of the table
-  keeps_by_own : (a b c : TableSeat) → KeepsSeat table ticket a b → c.pass ≡ b.pass → DrawsFrom ticket c.draws → serves c.records.items ≡ serves b.records.items → KeepsSeat table ticket a c
+  keeps_by_own : (a b c : TableSeat) → KeepsSeat table ticket a b → c.pass ≡ b.pass → DrawsFrom ticket c.draws → serves c.notes.records.items ≡ serves b.notes.records.items → KeepsSeat table ticket a c
   keeps_by_own a b c k pass draws served = record { own = rw pass k.own; draws = draws; lane = ap (λ p. p.lane) pass ∙ k.lane; served = served ∙ k.served }
 
 module _ (table : Lock Standing) (slicelet : Lock History) (ticket : TicketView) where
@@ -33,7 +33,7 @@ module _ (table : Lock Standing) (slicelet : Lock History) (ticket : TicketView)
   pub task_by_table : (a b c : TaskSeat) → KeepsTaskSeat table slicelet ticket a b → KeepsSeat table ticket b.table c.table → c.own ≡ b.own → KeepsTaskSeat table slicelet ticket a c
   task_by_table a b c k l same = record { seat = keeps_more table ticket a.table b.table c.table k.seat l; own = rw same k.own; lane = ap (λ p. p.lane) same ∙ k.lane }
 
-  pub task_by_own : (a b c : TaskSeat) → KeepsTaskSeat table slicelet ticket a b → c.table.pass ≡ b.table.pass → DrawsFrom ticket c.table.draws → serves c.table.records.items ≡ serves b.table.records.items
+  pub task_by_own : (a b c : TaskSeat) → KeepsTaskSeat table slicelet ticket a b → c.table.pass ≡ b.table.pass → DrawsFrom ticket c.table.draws → serves c.table.notes.records.items ≡ serves b.table.notes.records.items
       → IsPassOf slicelet c.own → c.own.lane ≡ b.own.lane → KeepsTaskSeat table slicelet ticket a c
   task_by_own a b c k pass draws served own lane = record { seat = keeps_by_own table ticket a.table b.table c.table k.seat pass draws served; own = own; lane = lane ∙ k.lane }
 
@@ -47,6 +47,6 @@ module _ (table : Lock Standing) (clerk : Lock (Option Slicing)) (ticket : Ticke
   pub clerk_by_table : (a b c : ClerkSeat) → KeepsClerkSeat table clerk ticket a b → KeepsSeat table ticket b.table c.table → c.own ≡ b.own → KeepsClerkSeat table clerk ticket a c
   clerk_by_table a b c k l same = record { seat = keeps_more table ticket a.table b.table c.table k.seat l; own = rw same k.own; lane = ap (λ p. p.lane) same ∙ k.lane }
 
-  pub clerk_by_own : (a b c : ClerkSeat) → KeepsClerkSeat table clerk ticket a b → c.table.pass ≡ b.table.pass → DrawsFrom ticket c.table.draws → serves c.table.records.items ≡ serves b.table.records.items
+  pub clerk_by_own : (a b c : ClerkSeat) → KeepsClerkSeat table clerk ticket a b → c.table.pass ≡ b.table.pass → DrawsFrom ticket c.table.draws → serves c.table.notes.records.items ≡ serves b.table.notes.records.items
       → IsPassOf clerk c.own → c.own.lane ≡ b.own.lane → KeepsClerkSeat table clerk ticket a c
   clerk_by_own a b c k pass draws served own lane = record { seat = keeps_by_own table ticket a.table b.table c.table k.seat pass draws served; own = own; lane = lane ∙ k.lane }

@@ -4,6 +4,8 @@ pub mod Crewing
 pub mod Keeping
 pub mod Lanes
 pub mod NamedReplies
+pub mod Noting
 pub mod Quiet
+pub mod Restarting
 pub mod Staging
 pub mod Writing

@@ -10,7 +10,7 @@ use Rattle.live_service.specs.declared.error.CallError.{CallError}
 use Rattle.live_service.specs.declared.error.CallError.TheVariants.{Spent, HistoryFull, Refused, NoMemory}
 use Rattle.live_service.specs.Calls.{CalledToWrite}
 use Rattle.live_service.specs.Reports.{is_serve}
-use Rattle.live_service.specs.inside.Seats.{RefusesNoServe}
+use Rattle.live_service.specs.inside.Notes.{RefusesNoServe}
 
 module _ {M C R F : Type 0} (step : M → Event C → Result (M × R) F) (lock : Lock M) (old_draws new_draws : TicketPassView) (call : ℕ → C) where
   pub called_quiet : {A : Type 0} (recorded : ℕ → RecordedCall) (told : F → Told) (reply_for : A → R) → ((ticket : ℕ) → is_serve (recorded ticket) ≡ false)

@@ -102,11 +102,11 @@ module _ (table : Lock Standing) (clerk : Lock (Option Slicing)) (ticket : Ticke
   -- what the threads of the assigner and the clerk leave
   pub remains_two : (workers asks : ℕ) (seat : TableSeat) (learner : ClerkSeat) (remains : Remains) → IsQuietSeat table ticket 0 seat → IsQuietClerkSeat table clerk ticket learner
       → remains.table.items ≡ seat.pass ∷ learner.table.pass ∷ [] → remains.clerk.items ≡ learner.own ∷ [] → remains.draws.items ≡ seat.draws ∷ learner.table.draws ∷ []
-      → remains.tasks.items ≡ [] → remains.records.items ≡ seat.records.items ++ learner.table.records.items → IsRemains table clerk ticket workers asks remains
+      → remains.tasks.items ≡ [] → remains.records.items ≡ seat.notes.records.items ++ learner.table.notes.records.items → IsRemains table clerk ticket workers asks remains
   remains_two workers asks seat learner remains a l passes own draws tasks records =
       let two : vec_len remains.table ≡ 2 = remains.table.ok.0 ∙ ap length passes in
       let drew : vec_len remains.draws ≡ 2 = remains.draws.ok.0 ∙ ap length draws in
-      let both : serves remains.records.items ≡ serves seat.records.items + serves learner.table.records.items = ap serves records ∙ serves-append seat.records.items learner.table.records.items in
+      let both : serves remains.records.items ≡ serves seat.notes.records.items + serves learner.table.notes.records.items = ap serves records ∙ serves-append seat.notes.records.items learner.table.notes.records.items in
       let none : serves remains.records.items ≡ 0 = omega (arith, both, a.quiet, l.table_seat.quiet) in
       let no_task : vec_len remains.tasks ≡ 0 = remains.tasks.ok.0 ∙ ap length tasks in
       let Draws : TicketPassView → Type 0 = λ pass. DrawsFrom ticket pass in record {

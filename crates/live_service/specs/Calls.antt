@@ -24,6 +24,11 @@ pub record WasSpent {M E : Type 0} (old_draws new_draws : TicketPassView) (old n
   pub draws : new_draws ≡ old_draws
   pub same : new ≡ old
 
+-- the machine did not refuse the call, so that it has no record
+abbrev pub IsNoRefusal : {F : Type 0} → CallError F → Type 0
+IsNoRefusal (call_error.Refused why) = ⊥
+IsNoRefusal error = Unit {0}
+
 module _ {M C R F : Type 0} (step : M → Event C → Result (M × R) F) (lock : Lock M) (old_draws new_draws : TicketPassView) (call : ℕ → C) where
   -- the one write of the lock that a call makes: its event is the call at the draw
   pub record Writes (old : PassView M (Event C)) (answer : Result R (WriteError F)) (new : PassView M (Event C)) : Type 0 where

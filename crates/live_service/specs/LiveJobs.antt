@@ -1,5 +1,7 @@
 -- Live jobs.
-use Rattle.std.specs.Prelude.{ℕ, Bool, ◌&&◌}
+use Rattle.std.specs.Prelude.{ℕ, ◌+◌, ◌%◌, ◌^◌, [], ◌∷◌, Bool, ◌&&◌}
+use Rattle.assignment.specs.Slices.{Slicing}
+use Rattle.assignment.specs.declared.slice.Slice.{Slice}
 use Rattle.lease_table.specs.Policies.{Terms, terms}
 use Rattle.machines.specs.Numbers.{is_within}
 use Rattle.world.specs.Jobs.{Job, job_of}
@@ -19,10 +21,21 @@ live_sizes tasks workers rounds asks = record { tasks = tasks; workers = workers
 abbrev pub is_live_job : LiveSizes → Bool
 is_live_job s = is_within s.tasks MOST_TASKS && is_within s.workers MOST_WORKERS && is_within s.rounds MOST_ROUNDS && is_within s.asks MOST_ASKS
 
--- what the table and its leases are held to: redundancy one, clocks that agree, and leases that outlast the run
+-- what the table and its leases are held to: one owner a slice, clocks that agree, and leases that outlast the run
 abbrev pub live_policy : Terms
-live_policy = terms 1 0 LONG LONG LONG LONG
+live_policy = terms 1 1 0 LONG LONG LONG LONG
 
 -- the job whose machines the threads play: one assigner, the tasks, and one clerk
 abbrev pub played_job : LiveSizes → Job
 played_job s = job_of live_policy 1 s.tasks 1
+
+-- a slice that starts at a key, with one owner
+abbrev pub half_of : ℕ → ℕ → Slice
+half_of start owner = record { start = start; owners = owner ∷ [] }
+
+-- the assignment of a generation: of the task numbers from 1 on, taken round, the one after the generation's and the next own a half of the keys each
+abbrev pub halves_of : ℕ → ℕ → Slicing
+halves_of generation tasks = record {
+  generation = generation;
+  slices = half_of 0 (generation % tasks + 1) ∷ half_of (2 ^ 62) ((generation + 1) % tasks + 1) ∷ [];
+}

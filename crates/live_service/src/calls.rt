@@ -66,6 +66,7 @@ impl SharedCall<TableError> for TableCall {
             TableCall::Commit { number, at: _ } => TableCall::Commit { number, at },
             TableCall::Grant { task, life, at: _ } => TableCall::Grant { task, life, at },
             TableCall::Free { note, at: _ } => TableCall::Free { note, at },
+            TableCall::Restart => TableCall::Restart,
         }
     }
 

@@ -1,12 +1,16 @@
 //! The thread that proposes and commits the generations of a live run.
 
-ghost use Rattle.std.specs.Prelude.{◌≤◌, IfOk};
+ghost use Rattle.std.specs.Prelude.{◌≡◌, ◌≤◌, IfOk, IfErr, false};
+ghost use Rattle.live_service.specs.LiveJobs.{half_of, halves_of};
+ghost use Rattle.live_service.specs.declared.notes.Halt.TheVariants as halt;
+ghost use Rattle.live_service.specs.inside.Notes.{TellsMemory};
 ghost use Rattle.live_service.specs.inside.Seats.{IsSeatOf, KeepsSeat};
 
 use crate::job::LiveJob;
-use crate::seat::{Halt, TURNS, TableSeat};
+use crate::notes::Halt;
+use crate::seat::{TURNS, TableSeat};
 use crate::shared_table::SharedTable;
-use assignment::{Assignment, AssignmentError, Listed, Slice};
+use assignment::{Assignment, Listed, Slice};
 use crossbeam_utils::Backoff;
 use std::alloc::{AllocError, Global};
 use std::sync::Wait;
@@ -26,7 +30,8 @@ pub(crate) fn assign<R: Wait>(
     mut seat: TableSeat,
 ) -> Result<TableSeat, AllocError>
     requires { IsSeatOf table.now ticket.now seat }
-    ensures { IfOk result (λ left. KeepsSeat table.now ticket.now seat left) }
+    ensures kept { IfOk result (λ left. KeepsSeat table.now ticket.now seat left) }
+    ensures fed { IfOk result (λ left. left.notes.starved ≡ false) }
 {
     match commit_all(rt, alloc, table, ticket, job, &mut seat) {
         Err(Halt::NoMemory) => Err(AllocError),
@@ -46,7 +51,8 @@ fn commit_all<R: Wait>(
     seat: &mut TableSeat,
 ) -> Result<(), Halt>
     requires { IsSeatOf table.now ticket.now seat.old }
-    ensures { KeepsSeat table.now ticket.now seat.old seat.new }
+    ensures kept { KeepsSeat table.now ticket.now seat.old seat.new }
+    ensures memory { TellsMemory result seat.new.notes }
 {
     let term = seat.take(rt, table, ticket)?.number;
     for generation in 1..=job.rounds() {
@@ -68,7 +74,8 @@ fn await_rows<R: Wait>(
     seat: &mut TableSeat,
 ) -> Result<(), Halt>
     requires { IsSeatOf table.now ticket.now seat.old }
-    ensures { KeepsSeat table.now ticket.now seat.old seat.new }
+    ensures kept { KeepsSeat table.now ticket.now seat.old seat.new }
+    ensures memory { TellsMemory result seat.new.notes }
 {
     let backoff = Backoff::new();
     for _ in 0..TURNS {
@@ -89,20 +96,25 @@ fn await_rows<R: Wait>(
 fn halves(alloc: Global, generation: u64, tasks: u64) -> Result<Assignment, Halt>
     requires few { generation ≤ 16 }
     requires some { (1 ≤ tasks) × (tasks ≤ 6) }
+    ensures halves { IfOk result (λ assignment. assignment ≡ halves_of generation tasks) }
+    ensures memory { IfErr result (λ why. why ≡ halt.NoMemory) }
 {
     let mut slices = Vec::new(alloc);
-    for (start, owner) in [
-        (0, generation % tasks + 1),
-        (HALF, (generation + 1) % tasks + 1),
-    ] {
-        slices.push(Slice {
-            start,
-            owners: Listed::from_vec(Vec::from_slice(alloc, &[owner])?),
-        })?;
-    }
-    match Assignment::build(alloc, generation, &slices) {
+    slices.push(half(alloc, 0, generation % tasks + 1)?)?;
+    slices.push(half(alloc, HALF, (generation + 1) % tasks + 1)?)?;
+    match Assignment::build(alloc, generation, slices.as_slice()) {
         Ok(assignment) => Ok(assignment),
-        Err(AssignmentError::NoMemory) => Err(Halt::NoMemory),
-        Err(_) => Err(Halt::Stopped),
+        Err(_) => Err(Halt::NoMemory),
     }
+}
+
+// The slice that starts at a key, with one owner.
+fn half(alloc: Global, start: u64, owner: u64) -> Result<Slice, AllocError>
+    ensures { IfOk result (λ slice. slice ≡ half_of start owner) }
+{
+    let owners = Vec::from_slice(alloc, &[owner])?;
+    Ok(Slice {
+        start,
+        owners: Listed::from_vec(owners),
+    })
 }

@@ -1,12 +1,12 @@
 //! The threads of a task of a live run: the task's own, and one for each of its workers.
 
-ghost use Rattle.std.specs.Prelude.{◌≡◌, ℕ, ◌≤◌, ◌<◌, ◌+◌, [], All, IfOk, OnOk, vec_len, slice_index_or};
+ghost use Rattle.std.specs.Prelude.{◌≡◌, ℕ, ◌≤◌, ◌<◌, ◌+◌, ◌*◌, [], false, All, IfOk, OnOk, vec_len, slice_index_or};
 ghost use Rattle.std.specs.Thread.{IsSync};
 ghost use Rattle.history_lock.specs.Histories.{IsLegal};
 ghost use Rattle.history_lock.specs.Passes.{AreNewFrom, IsPassOf};
 ghost use Rattle.slicelet.specs.Steps.{event_step};
 ghost use Rattle.tickets.specs.Tickets.{DrawsFrom, new_ticket_pass};
-ghost use Rattle.live_service.specs.inside.Crews.{AreMembersFrom, HasLeft, HasWorked, HaveWorkedFrom, IsCrew, IsGathered, IsMember};
+ghost use Rattle.live_service.specs.inside.Crews.{AreMembersFrom, AreNumberedFrom, HasLeft, HasWorked, HaveWorkedFrom, IsCrew, IsGathered, IsMember};
 ghost use Rattle.live_service.specs.Reports.{serves};
 ghost use Rattle.live_service.specs.inside.Seats.{IsTaskSeatOf, KeepsTaskSeat};
 
@@ -67,7 +67,8 @@ impl Crew {
         table: Pass<LeaseTable>,
         draws: Vec<TicketPass>,
     ) -> Result<Crew, AllocError>
-        requires before { before ≤ 35 }
+        requires few { before ≤ 35 }
+        requires before { before + workers ≡ task * workers }
         requires table { IsPassOf shared.now table }
         requires lane { table.lane ≡ task + 1 }
         requires draws { All (λ pass. pass ≡ new_ticket_pass ticket.now) draws.items }
@@ -174,6 +175,7 @@ fn members_of(
     requires draws { All (λ pass. pass ≡ new_ticket_pass ticket.now) draws.items }
     requires many { vec_len draws ≡ vec_len passes }
     ensures members { IfOk result (λ members. AreMembersFrom slicelet.now ticket.now 0 members.items) }
+    ensures numbers { IfOk result (λ members. AreNumberedFrom before members.items) }
     ensures many { IfOk result (λ members. vec_len members ≡ vec_len passes) }
 {
     let mut members = Vec::with_capacity(alloc, passes.len())?;
@@ -196,7 +198,8 @@ fn members_of(
 fn task_seat(alloc: Global, table: Pass<LeaseTable>, member: Member) -> TaskSeat
     ensures table { result.table.pass ≡ table }
     ensures draws { result.table.draws ≡ member.draws }
-    ensures records { result.table.records.items ≡ [] }
+    ensures records { result.table.notes.records.items ≡ [] }
+    ensures fed { result.table.notes.starved ≡ false }
     ensures own { result.own ≡ member.pass }
 {
     let Member {
@@ -205,11 +208,7 @@ fn task_seat(alloc: Global, table: Pass<LeaseTable>, member: Member) -> TaskSeat
         draws,
     } = member;
     TaskSeat {
-        table: TableSeat {
-            pass: table,
-            draws,
-            records: Vec::new(alloc),
-        },
+        table: TableSeat::new(alloc, table, draws),
         own: pass,
     }
 }
@@ -301,7 +300,7 @@ fn gather(
     requires own { IsPassOf slicelet.now seat.own }
     requires lane { seat.own.lane ≡ 0 }
     requires draws { DrawsFrom ticket.now seat.table.draws }
-    requires quiet { serves seat.table.records.items ≡ 0 }
+    requires quiet { serves seat.table.notes.records.items ≡ 0 }
     requires worked { HaveWorkedFrom slicelet.now ticket.now asks 1 worked.items }
     ensures table { IfOk result (λ left. left.0 ≡ seat.table.pass) }
     ensures gathered { IfOk result (λ left. IsGathered slicelet.now ticket.now asks left.1) }
@@ -311,7 +310,7 @@ fn gather(
     let TableSeat {
         pass,
         draws: drawn,
-        records,
+        notes,
     } = seat;
     let mut passes = Vec::new(alloc);
     passes.push(own)?;
@@ -320,7 +319,7 @@ fn gather(
     let mut gathered = Gathered {
         passes,
         draws,
-        records,
+        records: notes.into_records(),
     };
     for one in worked {
         gathered.take_in(slicelet, ticket, asks, one?)?;

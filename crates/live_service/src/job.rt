@@ -26,7 +26,7 @@ const LONG: u64 = 1 << 32;
 pub(crate) fn live_policy() -> Policy
     ensures { result ≡ live_policy }
 {
-    Policy::new(1, 0, LONG, LONG, LONG, LONG).unwrap()
+    Policy::new(1, 1, 0, LONG, LONG, LONG, LONG).unwrap()
 }
 
 /// How large a live run is. Contracts see its sizes.

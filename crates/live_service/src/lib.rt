@@ -9,6 +9,7 @@ mod crew;
 mod error;
 mod gate;
 mod job;
+mod notes;
 mod remains;
 mod replies;
 mod report;

@@ -73,7 +73,7 @@ impl Remains {
         ensures clerk { IfOk result (λ remains. remains.clerk.items ≡ learner.own ∷ []) }
         ensures draws { IfOk result (λ remains. remains.draws.items ≡ assigner.draws ∷ learner.table.draws ∷ []) }
         ensures tasks { IfOk result (λ remains. remains.tasks.items ≡ []) }
-        ensures records { IfOk result (λ remains. remains.records.items ≡ assigner.records.items ++ learner.table.records.items) }
+        ensures records { IfOk result (λ remains. remains.records.items ≡ assigner.notes.records.items ++ learner.table.notes.records.items) }
     {
         let ClerkSeat {
             table: learner,
@@ -98,13 +98,10 @@ impl Remains {
         ensures clerk { self.new.clerk ≡ self.old.clerk }
         ensures draws { OnOk result (self.new.draws.items ≡ self.old.draws.items ++ seat.draws ∷ []) }
         ensures tasks { self.new.tasks ≡ self.old.tasks }
-        ensures records { OnOk result (self.new.records.items ≡ self.old.records.items ++ seat.records.items) }
+        ensures records { OnOk result (self.new.records.items ≡ self.old.records.items ++ seat.notes.records.items) }
     {
-        let TableSeat {
-            pass,
-            draws,
-            mut records,
-        } = seat;
+        let TableSeat { pass, draws, notes } = seat;
+        let mut records = notes.into_records();
         self.table.push(pass)?;
         self.draws.push(draws)?;
         self.records.append(&mut records)?;

@@ -52,6 +52,17 @@ pub(crate) fn count_of(reply: TableReply) -> u64
     }
 }
 
+// The number of rows that were lost.
+pub(crate) fn lost_of(reply: TableReply) -> u64
+    requires { IsNamed table_reply.Lost reply }
+    ensures { reply ≡ table_reply.Lost result }
+{
+    match reply {
+        TableReply::Lost(count) => count,
+        _ => unreachable!(),
+    }
+}
+
 // The note of the lease that was released.
 pub(crate) fn note_of(reply: SliceletReply) -> ReleaseNote
     requires { IsNamed slicelet_reply.Released reply }

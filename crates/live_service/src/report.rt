@@ -11,7 +11,8 @@ use slicelet::SliceletEvent;
 use world::{CallRecord, RecordedCall};
 
 /// What the threads of a live run did: the histories of all locks, and the records of all asks and of the writes
-/// that were refused. Looks at the table's phase and rows, by which threads wait, leave no record.
+/// that were refused. Looks at the table's phase, rows and committed assignment, by which threads wait, leave no
+/// record.
 #[derive(Drop)]
 pub struct LiveReport {
     /// How many keys the workers asked for.

@@ -12,13 +12,13 @@ ghost use Rattle.tickets.specs.Tickets.{DrawsFrom};
 ghost use Rattle.world.specs.declared.record.RecordedCall.TheVariants as recorded_call;
 ghost use Rattle.world.specs.declared.record.Told.TheVariants as told;
 ghost use Rattle.live_service.specs.Readings.{reading_at, table_call_at};
-ghost use Rattle.live_service.specs.Calls.{CalledToAsk, AsksFor};
+ghost use Rattle.live_service.specs.Calls.{CalledToAsk, AsksFor, IsNoRefusal};
 ghost use Rattle.live_service.specs.Objects.{CalledTable, AskedForRows, AskedForCommitted};
 
 use crate::ask::{Ask, read};
 use crate::calls::UNREAD;
 use crate::error::{CallError, NotClosed, Recorded, RowsError};
-use crate::replies::{count_of, generation_of, grant_of, term_of};
+use crate::replies::{count_of, generation_of, grant_of, lost_of, term_of};
 use crate::when::When;
 use crate::write::write;
 use assignment::{Assignment, Listed, TaskId};
@@ -200,7 +200,7 @@ impl SharedTable {
     /// Commits the assignment that is proposed, under the term with this number, and answers its generation.
     ///
     /// Refused as [`CallError`] says; the table refuses by `ReadingRange`, `ClockBack`, `NotHolder`,
-    /// `NothingPending` and `Held`.
+    /// `NothingPending`, `Grace` and `Held`.
     pub fn commit<R: Wait>(
         &self,
         rt: &R,
@@ -278,6 +278,33 @@ impl SharedTable {
         let call = TableCall::Free { note, at: UNREAD };
         match self.call(rt, ticket, pass, draws, call, when) {
             Ok(reply) => Ok(count_of(reply)),
+            Err(error) => Err(error),
+        }
+    }
+
+    /// Restarts the table, which loses its rows, and answers how many of them were open at the last accepted
+    /// reading, as [`Self::rows`] lists them.
+    ///
+    /// A restart has no reading. Fails as [`CallError`] says, but the table never refuses it, so that it never
+    /// has a record.
+    #[tactic(auto, using(crate::proofs::Restarting::restart_accepts))]
+    pub fn restart<R: Wait>(
+        &self,
+        rt: &R,
+        ticket: &Ticket,
+        pass: &mut Pass<LeaseTable>,
+        draws: &mut TicketPass,
+    ) -> Result<u64, CallError<TableError>>
+        requires own { IsPassOf self.now pass.old }
+        requires draws { DrawsFrom ticket.now draws.old }
+        ensures own { IsPassOf self.now pass.new }
+        ensures draws { DrawsFrom ticket.now draws.new }
+        ensures answer { CalledTable self.now draws.old draws.new (λ _. table_call.Restart) table_reply.Lost pass.old result pass.new }
+        ensures unrefused { IfErr result IsNoRefusal }
+    {
+        let call = TableCall::Restart;
+        match self.call(rt, ticket, pass, draws, call, When::AtTicket) {
+            Ok(reply) => Ok(lost_of(reply)),
             Err(error) => Err(error),
         }
     }

@@ -110,11 +110,7 @@ fn seat(
     let Some(drawn) = draws.pop() else {
         unreachable!()
     };
-    TableSeat {
-        pass,
-        draws: drawn,
-        records: Vec::new(alloc),
-    }
+    TableSeat::new(alloc, pass, drawn)
 }
 
 // What the clerk's thread is given.
@@ -181,7 +177,8 @@ fn next_crew(
     pass: Pass<LeaseTable>,
     draws: &mut Vec<TicketPass>,
 ) -> Result<Crew, AllocError>
-    requires before { before ≤ 35 }
+    requires few { before ≤ 35 }
+    requires before { before + job.workers ≡ task * job.workers }
     requires pass { IsPassOf table.now pass }
     requires lane { pass.lane ≡ task + 1 }
     requires draws { All (λ pass. pass ≡ new_ticket_pass ticket.now) draws.old.items }

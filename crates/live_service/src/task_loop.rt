@@ -1,13 +1,17 @@
 //! The thread of a task of a live run, which sees to its leases.
 
-ghost use Rattle.std.specs.Prelude.{◌≡◌, IfOk};
+ghost use Rattle.std.specs.Prelude.{◌≡◌, IfOk, OnOk, false};
 ghost use Rattle.history_lock.specs.Passes.{IsPassOf};
 ghost use Rattle.tickets.specs.Tickets.{DrawsFrom};
 ghost use Rattle.live_service.specs.Reports.{serves};
-ghost use Rattle.live_service.specs.inside.Seats.{IsTaskSeatOf, KeepsTaskSeat};
+ghost use Rattle.slicelet.specs.declared.call.SliceletCall.TheVariants as slicelet_call;
+ghost use Rattle.slicelet.specs.declared.call.SliceletReply.TheVariants as slicelet_reply;
+ghost use Rattle.live_service.specs.inside.Notes.{TellsMemory};
+ghost use Rattle.live_service.specs.inside.Seats.{CalledForTask, HasFreed, IsTaskSeatOf, KeepsTaskSeat};
 
 use crate::job::LiveJob;
-use crate::seat::{Halt, LIFE, TURNS, TableSeat, written};
+use crate::notes::Halt;
+use crate::seat::{LIFE, TURNS, TableSeat};
 use crate::shared_slicelet::SharedSlicelet;
 use crate::shared_table::SharedTable;
 use crate::when::When;
@@ -21,7 +25,7 @@ use std::alloc::AllocError;
 use std::sync::Wait;
 use tickets::Ticket;
 
-/// The passes of a task's thread, and the records of its calls that wrote no entry.
+/// The passes of a task's thread, and what it notes of its calls.
 #[derive(Drop)]
 pub(crate) struct TaskSeat {
     pub(crate) table: TableSeat,
@@ -69,7 +73,7 @@ impl HeldGenerations {
 
 impl TaskSeat {
     // Starts the task's life.
-    #[tactic(auto, using(crate::proofs::Lanes::called_lane, crate::proofs::Quiet::called_quiet))]
+    #[tactic(auto, using(crate::proofs::Lanes::called_lane, crate::proofs::Quiet::called_quiet, crate::proofs::Noting::called_noted))]
     fn start<R: Wait>(
         &mut self,
         rt: &R,
@@ -78,19 +82,22 @@ impl TaskSeat {
     ) -> Result<(), Halt>
         requires own { IsPassOf slicelet.now self.old.own }
         requires draws { DrawsFrom ticket.now self.old.table.draws }
+        requires fed { self.old.table.notes.starved ≡ false }
         ensures own { IsPassOf slicelet.now self.new.own }
         ensures lane { self.new.own.lane ≡ self.old.own.lane }
         ensures draws { DrawsFrom ticket.now self.new.table.draws }
         ensures table { self.new.table.pass ≡ self.old.table.pass }
-        ensures served { serves self.new.table.records.items ≡ serves self.old.table.records.items }
+        ensures served { serves self.new.table.notes.records.items ≡ serves self.old.table.notes.records.items }
+        ensures memory { TellsMemory result self.new.table.notes }
+        ensures noted { CalledForTask slicelet.now (slicelet_call.Start LIFE) (λ _. slicelet_reply.Started) self.old result self.new }
     {
         let (own, draws) = (&mut self.own, &mut self.table.draws);
         let answer = slicelet.start(rt, ticket, own, draws, LIFE, When::AtTicket);
-        written(&mut self.table.records, answer)
+        self.table.notes.note(answer)
     }
 
     // Hears a grant.
-    #[tactic(auto, using(crate::proofs::Lanes::called_lane, crate::proofs::Quiet::called_quiet))]
+    #[tactic(auto, using(crate::proofs::Lanes::called_lane, crate::proofs::Quiet::called_quiet, crate::proofs::Noting::called_noted))]
     fn hear<R: Wait>(
         &mut self,
         rt: &R,
@@ -100,19 +107,22 @@ impl TaskSeat {
     ) -> Result<(), Halt>
         requires own { IsPassOf slicelet.now self.old.own }
         requires draws { DrawsFrom ticket.now self.old.table.draws }
+        requires fed { self.old.table.notes.starved ≡ false }
         ensures own { IsPassOf slicelet.now self.new.own }
         ensures lane { self.new.own.lane ≡ self.old.own.lane }
         ensures draws { DrawsFrom ticket.now self.new.table.draws }
         ensures table { self.new.table.pass ≡ self.old.table.pass }
-        ensures served { serves self.new.table.records.items ≡ serves self.old.table.records.items }
+        ensures served { serves self.new.table.notes.records.items ≡ serves self.old.table.notes.records.items }
+        ensures memory { TellsMemory result self.new.table.notes }
+        ensures noted { CalledForTask slicelet.now (slicelet_call.Hear grant) (λ _. slicelet_reply.Heard) self.old result self.new }
     {
         let (own, draws) = (&mut self.own, &mut self.table.draws);
         let answer = slicelet.hear(rt, ticket, own, draws, grant, When::AtTicket);
-        written(&mut self.table.records, answer)
+        self.table.notes.note(answer)
     }
 
     // Gives up the lease of a kind.
-    #[tactic(auto, using(crate::proofs::Lanes::called_lane, crate::proofs::Quiet::called_quiet))]
+    #[tactic(auto, using(crate::proofs::Lanes::called_lane, crate::proofs::Quiet::called_quiet, crate::proofs::Noting::called_noted))]
     fn release<R: Wait>(
         &mut self,
         rt: &R,
@@ -122,15 +132,18 @@ impl TaskSeat {
     ) -> Result<ReleaseNote, Halt>
         requires own { IsPassOf slicelet.now self.old.own }
         requires draws { DrawsFrom ticket.now self.old.table.draws }
+        requires fed { self.old.table.notes.starved ≡ false }
         ensures own { IsPassOf slicelet.now self.new.own }
         ensures lane { self.new.own.lane ≡ self.old.own.lane }
         ensures draws { DrawsFrom ticket.now self.new.table.draws }
         ensures table { self.new.table.pass ≡ self.old.table.pass }
-        ensures served { serves self.new.table.records.items ≡ serves self.old.table.records.items }
+        ensures served { serves self.new.table.notes.records.items ≡ serves self.old.table.notes.records.items }
+        ensures memory { TellsMemory result self.new.table.notes }
+        ensures noted { CalledForTask slicelet.now (slicelet_call.Release kind) slicelet_reply.Released self.old result self.new }
     {
         let (own, draws) = (&mut self.own, &mut self.table.draws);
         let answer = slicelet.release(rt, ticket, own, draws, kind, When::AtTicket);
-        written(&mut self.table.records, answer)
+        self.table.notes.note(answer)
     }
 }
 
@@ -146,7 +159,8 @@ pub(crate) fn see_to_leases<R: Wait>(
     mut seat: TaskSeat,
 ) -> Result<TaskSeat, AllocError>
     requires { IsTaskSeatOf table.now slicelet.now ticket.now seat }
-    ensures { IfOk result (λ left. KeepsTaskSeat table.now slicelet.now ticket.now seat left) }
+    ensures kept { IfOk result (λ left. KeepsTaskSeat table.now slicelet.now ticket.now seat left) }
+    ensures fed { IfOk result (λ left. left.table.notes.starved ≡ false) }
 {
     match follow_phases(rt, table, slicelet, ticket, job.rounds(), task, &mut seat) {
         Err(Halt::NoMemory) => Err(AllocError),
@@ -167,7 +181,8 @@ fn follow_phases<R: Wait>(
     seat: &mut TaskSeat,
 ) -> Result<(), Halt>
     requires { IsTaskSeatOf table.now slicelet.now ticket.now seat.old }
-    ensures { KeepsTaskSeat table.now slicelet.now ticket.now seat.old seat.new }
+    ensures kept { KeepsTaskSeat table.now slicelet.now ticket.now seat.old seat.new }
+    ensures memory { TellsMemory result seat.new.table.notes }
 {
     seat.start(rt, slicelet, ticket)?;
     let mut held = HeldGenerations {
@@ -202,7 +217,8 @@ fn renew<R: Wait>(
     seat: &mut TaskSeat,
 ) -> Result<HeldGenerations, Halt>
     requires { IsTaskSeatOf table.now slicelet.now ticket.now seat.old }
-    ensures { KeepsTaskSeat table.now slicelet.now ticket.now seat.old seat.new }
+    ensures kept { KeepsTaskSeat table.now slicelet.now ticket.now seat.old seat.new }
+    ensures memory { TellsMemory result seat.new.table.notes }
 {
     let grant = seat.table.grant(rt, table, ticket, task)?;
     let kind = grant.lease.kind;
@@ -232,7 +248,9 @@ fn give_up<R: Wait>(
     seat: &mut TaskSeat,
 ) -> Result<(), Halt>
     requires { IsTaskSeatOf table.now slicelet.now ticket.now seat.old }
-    ensures { KeepsTaskSeat table.now slicelet.now ticket.now seat.old seat.new }
+    ensures kept { KeepsTaskSeat table.now slicelet.now ticket.now seat.old seat.new }
+    ensures memory { TellsMemory result seat.new.table.notes }
+    ensures freed { OnOk result (HasFreed table.now slicelet.now kind seat.old seat.new) }
 {
     let note = seat.release(rt, slicelet, ticket, kind)?;
     seat.table.free(rt, table, ticket, note)?;

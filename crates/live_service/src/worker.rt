@@ -6,7 +6,7 @@ ghost use Rattle.key_hash.specs.Hash.{slice_key};
 ghost use Rattle.tickets.specs.Tickets.{DrawsFrom, new_ticket_pass};
 ghost use Rattle.world.specs.declared.record.RecordedCall.TheVariants as recorded_call;
 ghost use Rattle.live_service.specs.Draws.{CanDraw};
-ghost use Rattle.live_service.specs.inside.Crews.{HasWorked};
+ghost use Rattle.live_service.specs.inside.Crews.{HasWorked, TellsVerdict};
 
 use crate::gate::Gate;
 use crate::shared_slicelet::SharedSlicelet;
@@ -79,7 +79,7 @@ fn nth_key(alloc: Global, number: u32) -> Result<SliceKey, AllocError>
 
 impl Member {
     // One ask for a key, at its ticket, and the record of it.
-    #[tactic(auto, using(crate::proofs::Lanes::asked_lane, crate::proofs::Asked::asked_drew, crate::proofs::Asked::asked_step, crate::proofs::Asked::spent_not))]
+    #[tactic(auto, using(crate::proofs::Lanes::asked_lane, crate::proofs::Asked::asked_drew, crate::proofs::Asked::asked_step, crate::proofs::Asked::asked_verdict, crate::proofs::Asked::spent_not))]
     fn ask_for<R: Wait, G: Gate>(
         &mut self,
         rt: &R,
@@ -97,6 +97,7 @@ impl Member {
         ensures draws { DrawsFrom ticket.now self.new.draws }
         ensures drew { length self.new.draws.drawn ≡ length self.old.draws.drawn + 1 }
         ensures asked { result.step ≡ recorded_call.Serve slicelet.now.opened.machine.task key result.ticket }
+        ensures told { TellsVerdict slicelet.now self.old.draws self.new.draws key self.old.pass result self.new.pass }
     {
         let (pass, draws) = (&mut self.pass, &mut self.draws);
         let (at, worker) = (When::AtTicket, self.number);

@@ -1,11 +1,18 @@
 -- What the threads of one task of a live run are given, and what they leave.
-use Rattle.std.specs.Prelude.{◌≡◌, ℕ, ◌+◌, List, [], ◌∷◌, Result, IfOk, All, vec_len}
+use Rattle.std.specs.Prelude.{◌≡◌, ℕ, ◌+◌, ◌*◌, List, [], ◌∷◌, Result, IfOk, All, vec_len}
 use Rattle.std.specs.declared.alloc.AllocError.{AllocError}
 use Rattle.history_lock.specs.Histories.{IsLegal}
 use Rattle.history_lock.specs.Passes.{Lock, PassView, IsPassOf, ArePassesOf}
 use Rattle.lease_table.specs.Tables.{Standing}
 use Rattle.slicelet.specs.Steps.{History, event_step, opening}
-use Rattle.tickets.specs.Tickets.{TicketView, DrawsFrom, new_ticket_pass}
+use Rattle.machines.specs.declared.event.Event.{Event}
+use Rattle.slicelet.specs.Rules.{rule_after, covers_key}
+use Rattle.slicelet.specs.declared.call.SliceletCall.{SliceletCall}
+use Rattle.tickets.specs.Tickets.{TicketView, TicketPassView, DrawsFrom, new_ticket_pass}
+use Rattle.world.specs.declared.record.CallRecord.{CallRecord}
+use Rattle.world.specs.declared.record.Told.TheVariants as told
+use Rattle.policy_rules.specs.declared.answer.Verdict.{Verdict}
+use Rattle.live_service.specs.Calls.{Asks}
 use Rattle.live_service.specs.declared.worker.Member.{Member}
 use Rattle.live_service.specs.declared.worker.Worked.{Worked}
 use Rattle.live_service.specs.declared.crew.Crew.{Crew}
@@ -17,6 +24,12 @@ use Rattle.live_service.specs.Reports.{AreServesFrom, asked_keys, task_keys}
 abbrev pub AreOfLanesFrom : {M E : Type 0} → ℕ → List (PassView M E) → Type 0
 AreOfLanesFrom lane [] = Unit {0}
 AreOfLanesFrom lane (pass ∷ passes) = (pass.lane ≡ lane) × AreOfLanesFrom (lane + 1) passes
+
+-- the record of a key that a task was asked for tells the verdict of its slicelet, as it was inside the call, at the ticket that the call drew
+abbrev pub TellsVerdict : Lock History → TicketPassView → TicketPassView → ℕ → PassView History (Event SliceletCall) → CallRecord → PassView History (Event SliceletCall) → Type 0
+TellsVerdict slicelet old_draws new_draws key old entry new =
+    (verdict : Verdict) × (entry.reply ≡ told.Verdict verdict)
+    × Asks event_step slicelet old_draws new_draws (λ (machine : History) number answer. answer ≡ rule_after (covers_key key) machine.calls number) old entry.ticket verdict new
 
 module _ (slicelet : Lock History) (ticket : TicketView) where
   -- the passes of a thread are of this lock and lane, and new of this ticket
@@ -49,13 +62,19 @@ module _ (slicelet : Lock History) (ticket : TicketView) where
     pub even : vec_len gathered.draws ≡ vec_len gathered.passes
     pub asked : (workers : ℕ) × (vec_len gathered.passes ≡ workers + 1) × (asked_keys gathered.records.items ≡ task_keys slicelet.opened.machine.task asks workers)
 
+-- the threads of a task have the numbers from this one on
+abbrev pub AreNumberedFrom : ℕ → List Member → Type 0
+AreNumberedFrom number [] = Unit {0}
+AreNumberedFrom number (member ∷ members) = (member.number ≡ number) × AreNumberedFrom (number + 1) members
+
 module _ (table : Lock Standing) (ticket : TicketView) where
-  -- a task has its new slicelet under a lock; its passes are of the table's lock, of its own lock and new of this ticket, with so many workers. Task 1 has lane 2 of the table's lock
+  -- a task has its new slicelet under a lock; its passes are of the table's lock, of its own lock and new of this ticket, with so many workers. Task 1 has lane 2 of the table's lock. The worker of each lane has the number of the workers of the tasks before and that lane
   pub record IsCrew (workers : ℕ) (crew : Crew) : Type 0 where
     pub new : crew.slicelet.opened.machine ≡ opening crew.task
     pub table_pass : IsPassOf table crew.table
     pub of_lane : crew.table.lane ≡ crew.task + 1
     pub members : AreMembersFrom crew.slicelet ticket 0 crew.members.items
+    pub numbers : (before : ℕ) × (before + workers ≡ crew.task * workers) × AreNumberedFrom before crew.members.items
     pub many : vec_len crew.members ≡ workers + 1
     pub lanes : crew.slicelet.opened.lanes ≡ workers + 1
 

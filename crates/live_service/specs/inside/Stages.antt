@@ -1,5 +1,5 @@
 -- What all threads of a live run are given, and what they leave.
-use Rattle.std.specs.Prelude.{◌≡◌, ℕ, ◌+◌, ◌*◌, ◌≤◌, List, [], ◌∷◌, Option, None, Result, IfOk, All, vec_len}
+use Rattle.std.specs.Prelude.{◌≡◌, ℕ, ◌+◌, ◌*◌, ◌≤◌, List, [], ◌∷◌, Option, None, Result, IfOk, All, false, vec_len}
 use Rattle.std.specs.declared.alloc.AllocError.{AllocError}
 use Rattle.assignment.specs.Slices.{Slicing}
 use Rattle.history_lock.specs.Passes.{Lock, IsPassOf, ArePassesOf}
@@ -16,12 +16,13 @@ use Rattle.live_service.specs.Reports.{serves, asked_keys, job_keys, AreOfTasksF
 use Rattle.live_service.specs.inside.Crews.{AreOfLanesFrom, IsCrew, HasLeft}
 
 module _ (table : Lock Standing) (ticket : TicketView) where
-  -- the passes of a thread that calls the table are of this lane of its lock and of this ticket, and none of its records tells of a key that a task was asked for
+  -- the passes of a thread that calls the table are of this lane of its lock and of this ticket, none of its records tells of a key that a task was asked for, and no call of it found no memory
   pub record IsQuietSeat (lane : ℕ) (seat : TableSeat) : Type 0 where
     pub own : IsPassOf table seat.pass
     pub of_lane : seat.pass.lane ≡ lane
     pub draws : DrawsFrom ticket seat.draws
-    pub quiet : serves seat.records.items ≡ 0
+    pub quiet : serves seat.notes.records.items ≡ 0
+    pub fed : seat.notes.starved ≡ false
 
   -- the tasks from this number on, with so many workers each
   abbrev pub AreCrewsFrom : ℕ → ℕ → List Crew → Type 0

@@ -4,8 +4,8 @@ use Rattle.std.specs.Vec.Iter.{into_iter_items}
 use Rattle.history_lock.specs.Passes.{AreNewFrom}
 use Rattle.tickets.specs.Tickets.{TicketPassView, new_ticket_pass}
 use Rattle.live_service.specs.declared.worker.Member.{Member}
-use Rattle.live_service.specs.inside.Crews.{AreMembersFrom}
-use Rattle.live_service.proofs.Crewing.{members_push, new_member}
+use Rattle.live_service.specs.inside.Crews.{AreMembersFrom, AreNumberedFrom}
+use Rattle.live_service.proofs.Crewing.{members_push, new_member, numbers_push}
 use Rattle.live_service.proofs.crew.members_of.Goals as goal
 
 pub loop-pass-preserved : goal.loop-pass-preserved
@@ -24,4 +24,6 @@ loop-pass-preserved c =
       left = omega (arith, c.in-Some-pop.ensures.len, step.1, i.left);
       members = subst (λ (members : List Member). AreMembersFrom slicelet ticket 0 members) (sym c.in_ok-push.ensures.items)
           (members_push slicelet ticket 0 c.loop-pass.members.items member i.members (new_member slicelet ticket lane (0 + length c.loop-pass.members.items) member at new.0 taken.1));
+      numbers = subst (λ (members : List Member). AreNumberedFrom c.args.before members) (sym c.in_ok-push.ensures.items)
+          (numbers_push c.args.before c.loop-pass.members.items member i.numbers (omega (arith, i.count, c.loop-pass.members.ok.0)));
     }

@@ -2,7 +2,7 @@ use Rattle.std.proofs.Common.{◌≡◌, ◌+◌, All, vec_len}
 use Rattle.std.specs.Vec.Iter.{into_iter_items, into_iter_len}
 use Rattle.history_lock.specs.Passes.{AreNewFrom}
 use Rattle.tickets.specs.Tickets.{new_ticket_pass}
-use Rattle.live_service.specs.inside.Crews.{AreMembersFrom}
+use Rattle.live_service.specs.inside.Crews.{AreMembersFrom, AreNumberedFrom}
 use Rattle.live_service.proofs.crew.members_of.Given as goal
 
 abbrev pub invariant-loop-pass : goal.invariant-loop-pass
@@ -13,4 +13,5 @@ invariant-loop-pass l = record {
   draws : All (λ pass. pass ≡ new_ticket_pass l.ticket) l.draws.items;
   left : vec_len l.draws ≡ into_iter_len l.pass-iterator;
   members : AreMembersFrom l.slicelet l.ticket 0 l.members.items;
+  numbers : AreNumberedFrom l.fn.before l.members.items;
 }

@@ -22,6 +22,13 @@ loop-pass-preserved c =
       passes = subst (λ (n : ℕ). AreNewFrom n table (into_iter_items c.next.new.self)) next new.1;
       draws = made.draws;
       left = omega (arith, left, made.left);
-      before = omega (arith, i.before, more, c.requires.few.1);
+      few = omega (arith, i.few, more, c.requires.few.1);
+      before = (let e : c.loop-pass.before + c.workers-before.result ≡ (vec_len crews + 1) * workers = omega (arith, i.before, c.workers-before.ensures.value) in e ∙ ap (λ (n : ℕ). n * workers) (sym more));
       crews = subst (λ (crews : List Crew). AreCrewsFrom table ticket workers 1 crews) (sym c.in_ok-push.ensures.items) (crews_push table ticket workers 1 crews.items c.in_ok-crew.crew i.crews made.crew at);
     }
+
+pub next_crew-requires-clause-before : goal.next_crew-requires-clause-before
+next_crew-requires-clause-before c =
+    let i = c.loop-pass.invariant in let workers = c.args.job.workers in
+    let at : vec_len c.loop-pass.crews + 1 ≡ c.in-Some-new.task = omega (arith, c.in-Some-new.ensures.value, i.count) in
+    let e : c.loop-pass.before + workers ≡ (vec_len c.loop-pass.crews + 1) * workers = omega (arith, i.before) in e ∙ ap (λ (n : ℕ). n * workers) at

@@ -12,6 +12,7 @@ invariant-loop-pass l = record {
   passes : AreNewFrom (vec_len l.crews + 2) l.table (into_iter_items l.pass-iterator);
   draws : All (λ pass. pass ≡ new_ticket_pass l.ticket) l.draws.items;
   left : vec_len l.draws ≡ into_iter_len l.pass-iterator * (l.job.workers + 1);
-  before : l.before ≤ vec_len l.crews * 7;
+  few : l.before ≤ vec_len l.crews * 7;
+  before : l.before ≡ vec_len l.crews * l.job.workers;
   crews : AreCrewsFrom l.table l.ticket l.job.workers 1 l.crews.items;
 }

@@ -22,8 +22,9 @@ returns-clause-seat c =
     let old = subst (λ ps. AreNewFrom 0 table ps) p.ensures.items c.requires.passes.0 in
     let last = (new_last table c.pop.new.self.items p.pass old).1 in
     let taken = (All-pop (λ (p : TicketPassView). p ≡ new_ticket_pass ticket) c.args.draws.now.items c.pop-2.new.self.items (Some q.drawn) q.ensures.items c.requires.draws.0).1 in record {
-      own = rw last (refl, refl);
-      of_lane = ap (λ p. p.lane) last ∙ sym c.pop.new.self.ok.0;
-      draws = rw taken (refl, refl);
-      quiet = ap serves c.new.ensures.items;
+      own = rw (c.new.ensures.pass ∙ last) (refl, refl);
+      of_lane = ap (λ p. p.lane) (c.new.ensures.pass ∙ last) ∙ sym c.pop.new.self.ok.0;
+      draws = rw (c.new.ensures.draws ∙ taken) (refl, refl);
+      quiet = ap serves c.new.ensures.records;
+      fed = c.new.ensures.fed;
     }
