@@ -4,21 +4,23 @@ use Rattle.std.specs.List.{list_all}
 use Rattle.world.specs.declared.reply.Reply.{Reply}
 use Rattle.world.specs.declared.step.Step.{Step}
 use Rattle.world.specs.Pasts.{IsTimely}
+use Rattle.lease_table.specs.Policies.{is_policy}
 use Rattle.world.specs.Runs.{IsRun, past_after}
 use Rattle.service.specs.declared.script.Script.{Script}
 use Rattle.service.specs.Lines.{text_of}
 use Rattle.service.specs.Output.{is_answer, IsOutput}
 
-pub is_output : (script : Script) (steps : List Step) (skew : ℕ) (replies shown : List Reply) (timely : Bool) (text : List ℕ)
-    → steps ≡ script.steps → skew ≡ script.job.policy.skew → shown ≡ replies
+pub is_output : (script : Script) (steps : List Step) (replies shown : List Reply) (timely : Bool) (text : List ℕ)
+    → is_policy script.job.policy ≡ true → steps ≡ script.steps → shown ≡ replies
     → length replies ≡ length steps → IsRun script.job (past_after [] steps replies) → list_all is_answer shown ≡ true
-    → MatchBool timely (IsTimely skew (reverse steps)) (IsTimely skew (reverse steps) → ⊥) → text ≡ text_of shown timely → IsOutput script text
-is_output script steps skew replies shown timely text steps_is skew_is shown_is many run answers by_readings lines = record {
+    → MatchBool timely (IsTimely script.job.policy.skew (reverse script.steps)) (IsTimely script.job.policy.skew (reverse script.steps) → ⊥) → text ≡ text_of shown timely → IsOutput script text
+is_output script steps replies shown timely text within steps_is shown_is many run answers by_readings lines = record {
+  within = within;
   replies = replies;
   many = rw (← steps_is) many;
   run = rw (← steps_is) run;
   answers = rw (← shown_is) answers;
   timely = timely;
-  by_readings = rw (← skew_is, ← steps_is) by_readings;
+  by_readings = by_readings;
   lines = rw (← shown_is) lines;
 }

@@ -1,12 +1,12 @@
 -- What the job line of a script says.
-use Rattle.std.specs.Prelude.{◌&&◌, [], ◌∷◌, codes, Result, Ok}
+use Rattle.std.specs.Prelude.{ℕ, ◌&&◌, [], ◌∷◌, codes, Result, Ok}
 use Rattle.serde_json.specs.Data.{Data}
 use Rattle.lease_table.specs.Policies.{Terms, is_policy, terms}
 use Rattle.machines.specs.Numbers.{is_within}
 use Rattle.world.specs.Jobs.{Job, job_of as job_with}
 use Rattle.service.specs.declared.fault.WrongForm.{WrongForm}
-use Rattle.service.specs.Reading.{◌>>=◌, ◌>>◌, check}
-use Rattle.service.specs.Members.{wrong, exactly, member_at, number_at}
+use Rattle.service.specs.Reading.{◌>>=◌, ◌>>◌, or_else, check}
+use Rattle.service.specs.Members.{wrong, exactly, member_at, number_of, number_at, two_numbers_of}
 
 -- the one member `job` of the line
 unfoldable pub job_member : Data → Result Data WrongForm
@@ -14,19 +14,29 @@ job_member line = do
   exactly (codes "job" ∷ []) line
   member_at (codes "job") line
 
+-- a number, for both ends of a range
+abbrev pub both_ends_of : Data → Result (ℕ × ℕ) WrongForm
+both_ends_of d = do
+  number ← number_of d
+  Ok (number, number)
+
+-- how many tasks own a slice at the least and at the most: `[low, high]`, or a number r for `[r, r]`
+abbrev pub redundancy_of : Data → Result (ℕ × ℕ) WrongForm
+redundancy_of d = or_else (both_ends_of d) (two_numbers_of d)
+
 -- what the table and its leases are held to
 unfoldable pub policy_of : Data → Result Terms WrongForm
 policy_of d = do
-  redundancy ← number_at (codes "redundancy") d
+  redundancy ← member_at (codes "redundancy") d >>= redundancy_of
   skew ← number_at (codes "skew") d
   guard ← number_at (codes "guard") d
   bridge ← number_at (codes "bridge") d
   job ← number_at (codes "job") d
   numbers ← number_at (codes "numbers") d
-  check (is_policy (terms redundancy skew guard bridge job numbers)) wrong
-  Ok (terms redundancy skew guard bridge job numbers)
+  check (is_policy (terms redundancy.0 redundancy.1 skew guard bridge job numbers)) wrong
+  Ok (terms redundancy.0 redundancy.1 skew guard bridge job numbers)
 
--- the job: nine members and no other, each a number within its limits, and the skew below both terms of slice leases
+-- the job: nine members and no other, each within its limits, and the skew below both terms of slice leases
 unfoldable pub job_of : Data → Result Job WrongForm
 job_of d = do
   exactly (codes "redundancy" ∷ codes "skew" ∷ codes "guard" ∷ codes "bridge" ∷ codes "job" ∷ codes "numbers" ∷ codes "assigners" ∷ codes "tasks" ∷ codes "clerks" ∷ []) d

@@ -1,5 +1,5 @@
 -- The lines that are written for the replies.
-use Rattle.std.specs.Prelude.{ℕ, ◌-◌, Bool, List, [], ◌∷◌, ◌++◌, length, replicate, codes, decimal, false, if◌then◌else◌}
+use Rattle.std.specs.Prelude.{ℕ, ◌-◌, Bool, List, [], ◌∷◌, ◌++◌, length, replicate, codes, decimal, false, Option, Some, None, if◌then◌else◌}
 use Rattle.std.specs.List.{flat_map}
 use Rattle.std.specs.Fmt.{radix_digits}
 use Rattle.assignment.specs.declared.error.AssignmentError.{AssignmentError}
@@ -87,6 +87,7 @@ table_words (table.StaleBase generation) = codes "stale-base " ++ decimal genera
 table_words table.Pending = codes "pending"
 table_words table.NothingPending = codes "nothing-pending"
 table_words table.TooManyOwnersForJob = codes "too-many-owners-for-job"
+table_words (table.Grace until) = codes "grace " ++ decimal until
 table_words (table.Held task kind number) = codes "held " ++ decimal task ++ codes " " ++ kind_word kind ++ codes " " ++ decimal number
 table_words table.NoRow = codes "no-row"
 table_words table.NoAssignment = codes "no-assignment"
@@ -181,10 +182,17 @@ unfoldable pub slices_text : List Slice → List ℕ
 slices_text [] = []
 slices_text (slice ∷ slices) = slice_text slice ++ flat_map next_slice slices
 
--- a move: the start of its slice, whom it leaves and where it goes to, its gain and its churn
+-- whom a slice leaves and where it goes to, where it only gets an owner, or where it only loses one; no plan has the last
+abbrev pub owner_change_text : Option ℕ → Option ℕ → List ℕ
+owner_change_text (Some giver) (Some taker) = decimal giver ++ codes ">" ++ decimal taker
+owner_change_text None (Some taker) = codes "+" ++ decimal taker
+owner_change_text (Some giver) None = codes "-" ++ decimal giver
+owner_change_text None None = []
+
+-- a move: the start of its slice, the change of its owners, its gain and its churn
 unfoldable pub move_text : Move → List ℕ
 move_text move =
-    (decimal move.start ++ codes ":" ++ decimal move.giver ++ codes ">" ++ decimal move.taker)
+    (decimal move.start ++ codes ":" ++ owner_change_text move.giver move.taker)
     ++ (codes " gain " ++ decimal move.gain ++ codes " churn " ++ decimal move.churn)
 
 -- a move after another one
@@ -233,6 +241,7 @@ reply_text (reply.Gathered loads totals) = codes "loads" ++ flat_map next_number
 reply_text (reply.Planned plan) = codes "plan [" ++ slices_text plan.slices ++ codes "] moves [" ++ moves_text plan.moves ++ codes "]"
 reply_text (reply.Next action) = codes "next " ++ action_word action
 reply_text reply.Restarted = codes "restarted"
+reply_text (reply.Lost rows) = codes "lost " ++ decimal rows
 reply_text (reply.Refused refusal) = codes "refused " ++ refusal_words refusal
 reply_text reply.NoMemory = codes "no-memory"
 

@@ -103,6 +103,14 @@ pair_in _ = Err wrong
 abbrev pub pair_of : Data → Result (Data × Data) WrongForm
 pair_of d = array_of d >>= pair_in
 
+-- two numbers, written as `[first, second]`
+unfoldable pub two_numbers_of : Data → Result (ℕ × ℕ) WrongForm
+two_numbers_of d = do
+  pair ← pair_of d
+  first ← number_of pair.0
+  second ← number_of pair.1
+  Ok (first, second)
+
 -- the elements of an array, each of them read
 unfoldable pub list_of : {A : Type 0} → (Data → Result A WrongForm) → Data → Result (List A) WrongForm
 list_of read d = do

@@ -8,23 +8,15 @@ use Rattle.world.specs.declared.judge.WrittenLease.{WrittenLease}
 use Rattle.world.specs.declared.judge.Question.{Question}
 use Rattle.service.specs.declared.fault.WrongForm.{WrongForm}
 use Rattle.service.specs.Reading.{◌>>=◌, ◌>>◌, check}
-use Rattle.service.specs.Members.{wrong, exactly, flag_at, number_at, number_of, key_at, kind_at, list_at, pair_of}
+use Rattle.service.specs.Members.{wrong, exactly, flag_at, number_at, key_at, kind_at, list_at, two_numbers_of}
 
--- a range, written as `[start, end]`
-unfoldable pub range_of : Data → Result (ℕ × ℕ) WrongForm
-range_of d = do
-  pair ← pair_of d
-  start ← number_of pair.0
-  end ← number_of pair.1
-  Ok (start, end)
-
--- a lease: four members and no other
+-- a lease: four members and no other; a range is written as `[start, end]`
 unfoldable pub lease_of : Data → Result WrittenLease WrongForm
 lease_of d = do
   exactly (codes "kind" ∷ codes "generation" ∷ codes "ranges" ∷ codes "ends" ∷ []) d
   kind ← kind_at (codes "kind") d
   generation ← number_at (codes "generation") d
-  ranges ← list_at range_of (codes "ranges") d
+  ranges ← list_at two_numbers_of (codes "ranges") d
   ends ← number_at (codes "ends") d
   Ok (record { kind = kind; generation = generation; ranges = ranges; ends = ends })
 

@@ -16,6 +16,11 @@ abbrev pub ◌>>◌ : {E A B : Type 0} → Result A E → Result B E → Result 
 (Ok x) >> r = r
 (Err e) >> r = Err e
 
+-- what is read first, or else what is read second
+abbrev pub or_else : {E A : Type 0} → Result A E → Result A E → Result A E
+or_else (Ok x) r = Ok x
+or_else (Err e) r = r
+
 -- the fault, unless the test holds
 abbrev pub check : {E : Type 0} → Bool → E → Result ⊤ E
 check b e = if b then Ok tt else Err e

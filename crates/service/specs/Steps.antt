@@ -5,7 +5,7 @@ use Rattle.serde_json.specs.Data.{Data}
 use Rattle.assignment.specs.declared.slice.Slice.{Slice}
 use Rattle.world.specs.Jobs.{Job}
 use Rattle.world.specs.declared.step.Step.{Step}
-use Rattle.world.specs.declared.step.Step.TheVariants.{Hash, Assign, Owners, Judge, Take, Renew, Propose, Commit, Phase, Rows, Grant, Free, Start, Hear, Release, Serve, Hold, Check, Learn, Look, Forget, Load, Gather, Plan, Next, Restart}
+use Rattle.world.specs.declared.step.Step.TheVariants.{Hash, Assign, Owners, Judge, Take, Renew, Propose, Commit, Phase, Rows, Grant, Free, Start, Hear, Release, Serve, Hold, Check, Learn, Look, Forget, Load, Gather, Plan, Next, Restart, Lose}
 use Rattle.service.specs.declared.fault.WrongForm.{WrongForm}
 use Rattle.machines.specs.Numbers.{is_within}
 use Rattle.assignment.specs.declared.task.TheConstants.{TASKS}
@@ -198,6 +198,12 @@ restart_step job d = do
   assigner ← number_in 1 job.assigners (codes "assigner") d
   Ok (Restart assigner)
 
+-- a `lose` has nothing more
+unfoldable pub lose_step : Data → Result Step WrongForm
+lose_step d = do
+  exactly (codes "do" ∷ []) d
+  Ok Lose
+
 -- a `load` has a task, a key and a weight
 unfoldable pub load_step : Job → Data → Result Step WrongForm
 load_step job d = do
@@ -300,7 +306,8 @@ table_kinds =
     (codes "rows", λ job. rows_step) ∷
     (codes "grant", grant_step) ∷
     (codes "free", λ job. free_step) ∷
-    (codes "restart", restart_step) ∷ []
+    (codes "restart", restart_step) ∷
+    (codes "lose", λ job. lose_step) ∷ []
 
 -- the steps of no actor
 abbrev pub plain_kinds : List (List ℕ × Reader)

@@ -3,10 +3,10 @@
 ghost use Rattle.std.specs.Prelude.{◌≡◌};
 ghost use Rattle.serde_json.specs.View.{view};
 ghost use Rattle.service.specs.Members.{IsRead};
-ghost use Rattle.service.specs.Jobs.{job_member, policy_of, job_of};
+ghost use Rattle.service.specs.Jobs.{job_member, redundancy_of, policy_of, job_of};
 
 use crate::fault::WrongForm;
-use crate::members::{exactly, member_at, number_at};
+use crate::members::{exactly, member_at, number_at, number_of, two_numbers_of};
 use lease_table::Policy;
 use serde_json::Value;
 use world::Job;
@@ -20,18 +20,28 @@ pub fn job_member(line: &Value) -> Result<&Value, WrongForm>
     member_at("job", line)
 }
 
+// How many tasks own a slice at the least and at the most: two numbers, or one for both.
+fn redundancy_of(value: &Value) -> Result<(u64, u64), WrongForm>
+    ensures { result ≡ redundancy_of (view value.now) }
+{
+    match number_of(value) {
+        Ok(number) => Ok((number, number)),
+        Err(_) => two_numbers_of(value),
+    }
+}
+
 // What the table and its leases are held to.
 #[tactic(auto, unfolding(crate::specs::Jobs::policy_of))]
 fn policy_of(job: &Value) -> Result<Policy, WrongForm>
     ensures { result ≡ policy_of (view job.now) }
 {
-    let redundancy = number_at("redundancy", job)?;
+    let (low, high) = redundancy_of(member_at("redundancy", job)?)?;
     let skew = number_at("skew", job)?;
     let guard = number_at("guard", job)?;
     let bridge = number_at("bridge", job)?;
     let term = number_at("job", job)?;
     let numbers = number_at("numbers", job)?;
-    match Policy::new(redundancy, skew, guard, bridge, term, numbers) {
+    match Policy::new(low, high, skew, guard, bridge, term, numbers) {
         Some(policy) => Ok(policy),
         None => Err(WrongForm),
     }

@@ -4,6 +4,7 @@
 mod clerk_steps;
 mod fault;
 mod job;
+mod laws;
 mod line;
 mod load_steps;
 mod members;
@@ -21,6 +22,7 @@ mod task_steps;
 mod words;
 
 pub use fault::{Fault, ProgramError, ScriptError, WrongForm};
+pub use laws::printed_law;
 pub use members::{exactly, number_in};
 pub use program::{has_arguments, slicer_run};
 pub use run::run_script;

@@ -204,6 +204,7 @@ impl fmt::Display for Line<'_> {
             }
             Reply::Next(action) => write!(f, "next {}", action_word(*action)),
             Reply::Restarted => f.write_str("restarted"),
+            Reply::Lost(rows) => write!(f, "lost {rows}"),
             Reply::Refused(refusal) => write!(f, "refused {}", RefusalWords(*refusal)),
             Reply::NoMemory => f.write_str("no-memory"),
         }

@@ -7,7 +7,7 @@ ghost use Rattle.serde_json.specs.Data.{Data};
 ghost use Rattle.serde_json.specs.View.{view};
 ghost use Rattle.service.specs.declared.fault.WrongForm.{WrongForm};
 ghost use Rattle.service.specs.Reading.{Gives};
-ghost use Rattle.service.specs.Members.{IsRead, count_of, exactly, member_at, number_of, number_at, number_in, flag_at, text_at, key_at, array_of, pair_of, list_of, list_at, kind_at, life_at};
+ghost use Rattle.service.specs.Members.{IsRead, count_of, exactly, member_at, number_of, number_at, number_in, flag_at, text_at, key_at, array_of, pair_of, two_numbers_of, list_of, list_at, kind_at, life_at};
 
 use crate::fault::{Unread, WrongForm};
 use assignment::Listed;
@@ -153,6 +153,15 @@ pub fn pair_of<'v>(value: &'v Value) -> Result<(&'v Value, &'v Value), WrongForm
     }
 }
 
+/// Two numbers, written as an array.
+#[tactic(auto, unfolding(crate::specs::Members::two_numbers_of))]
+pub fn two_numbers_of(value: &Value) -> Result<(u64, u64), WrongForm>
+    ensures { result ≡ two_numbers_of (view value.now) }
+{
+    let (first, second) = pair_of(value)?;
+    Ok((number_of(first)?, number_of(second)?))
+}
+
 /// What can be read of a JSON value.
 pub trait Form: Drop {
     ghost form: { Data → Result Self WrongForm };
@@ -168,6 +177,14 @@ impl Form for u64 {
 
     fn read(_alloc: Global, value: &Value) -> Result<u64, Unread> {
         Ok(number_of(value)?)
+    }
+}
+
+impl Form for (u64, u64) {
+    ghost form = { two_numbers_of };
+
+    fn read(_alloc: Global, value: &Value) -> Result<(u64, u64), Unread> {
+        Ok(two_numbers_of(value)?)
     }
 }
 

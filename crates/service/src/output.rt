@@ -1,13 +1,15 @@
 //! The text that is written for a script.
 
-ghost use Rattle.std.specs.Prelude.{◌≡◌, [], true, IfOk, length, string_bytes};
+ghost use Rattle.std.specs.Prelude.{◌≡◌, [], true, IfOk, MatchBool, length, reverse, string_bytes};
 ghost use Rattle.std.specs.List.{flat_map, list_all};
+ghost use Rattle.world.specs.Pasts.{IsTimely};
 ghost use Rattle.world.specs.Runs.{IsRun, past_after};
 ghost use Rattle.service.specs.Lines.{line_of, text_of};
 ghost use Rattle.service.specs.Output.{is_answer, IsOutput};
 
 use crate::line::Line;
 use crate::script::Script;
+use lease_table::policy_law;
 use std::alloc::{AllocError, Global};
 use world::{Job, Reply, Step, World, timely};
 
@@ -19,6 +21,14 @@ fn replies_of(alloc: Global, job: Job, steps: &[Step]) -> Result<Vec<Reply>, All
     let mut world = World::new(alloc, job)?;
     let replies = world.run(steps)?;
     Ok(replies)
+}
+
+// Whether the steps of a script are timely, by the skew of its job.
+fn is_timely(script: &Script) -> bool
+    ensures { MatchBool result (IsTimely script.now.job.policy.skew (reverse script.now.steps))
+        (IsTimely script.now.job.policy.skew (reverse script.now.steps) → ⊥) }
+{
+    timely(script.steps.as_slice(), script.job.policy().skew())
 }
 
 // The lines of the replies, none of which is for want of memory.
@@ -54,9 +64,9 @@ fn text_of(alloc: Global, replies: &[Reply], timely: bool) -> Result<String, All
 pub fn output_of(alloc: Global, script: &Script) -> Result<String, AllocError>
     ensures { IfOk result (λ text. IsOutput script.now (string_bytes text)) }
 {
+    policy_law(script.job.policy());
     let steps = script.steps.as_slice();
     let replies = replies_of(alloc, script.job, steps)?;
-    let timely = timely(steps, script.job.policy().skew());
-    let text = text_of(alloc, replies.as_slice(), timely)?;
+    let text = text_of(alloc, replies.as_slice(), is_timely(script))?;
     Ok(text)
 }

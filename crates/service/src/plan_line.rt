@@ -1,9 +1,9 @@
 //! The words of plans.
 
 ghost use Rattle.std.specs.Prelude.{◌≡◌, Some};
-ghost use Rattle.service.specs.Lines.{owners_text, slice_text, slices_text, move_text, moves_text};
+ghost use Rattle.service.specs.Lines.{owners_text, slice_text, slices_text, owner_change_text, move_text, moves_text};
 
-use assignment::Slice;
+use assignment::{Slice, TaskId};
 use std::fmt;
 use weighted_move::Move;
 
@@ -59,7 +59,24 @@ impl fmt::Display for SlicesText<'_> {
     }
 }
 
-/// A move: its slice, whom it leaves and where it goes to, its gain and its churn.
+/// The owner that a slice loses, if it loses one, and the one that it gets, if it gets one.
+#[derive(Clone, Copy)]
+struct OwnerChangeText(Option<TaskId>, Option<TaskId>);
+
+impl fmt::Display for OwnerChangeText {
+    ghost output = { λ c. Some (owner_change_text c.0 c.1) };
+
+    fn fmt<W: fmt::Write>(&self, f: &mut fmt::Formatter<W>) -> fmt::Result {
+        match (self.0, self.1) {
+            (Some(giver), Some(taker)) => write!(f, "{giver}>{taker}"),
+            (None, Some(taker)) => write!(f, "+{taker}"),
+            (Some(giver), None) => write!(f, "-{giver}"),
+            (None, None) => Ok(()),
+        }
+    }
+}
+
+/// A move: its slice, the change of its owners, its gain and its churn.
 #[derive(Clone, Copy)]
 struct MoveText(Move);
 
@@ -75,7 +92,7 @@ impl fmt::Display for MoveText {
             gain,
             churn,
         } = self.0;
-        write!(f, "{start}:{giver}>{taker}")?;
+        write!(f, "{start}:{}", OwnerChangeText(giver, taker))?;
         write!(f, " gain {gain} churn {churn}")
     }
 }

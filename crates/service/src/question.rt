@@ -4,27 +4,15 @@ ghost use Rattle.std.specs.Prelude.{◌≡◌, nat_le, count_by};
 ghost use Rattle.serde_json.specs.View.{view};
 ghost use Rattle.policy_rules.specs.Leases.{same_kind};
 ghost use Rattle.service.specs.Reading.{Gives};
-ghost use Rattle.service.specs.Questions.{range_of, lease_of, question_of};
+ghost use Rattle.service.specs.Questions.{lease_of, question_of};
 
 use crate::fault::Unread;
-use crate::members::{
-    Form, exactly, flag_at, key_at, kind_at, list_at, number_at, number_of, pair_of,
-};
+use crate::members::{Form, exactly, flag_at, key_at, kind_at, list_at, number_at};
 use assignment::Listed;
 use policy_rules::Kind;
 use serde_json::Value;
 use std::alloc::Global;
 use world::{Question, WrittenLease};
-
-impl Form for (u64, u64) {
-    ghost form = { range_of };
-
-    #[tactic(auto, unfolding(crate::specs::Questions::range_of))]
-    fn read(_alloc: Global, value: &Value) -> Result<(u64, u64), Unread> {
-        let (start, end) = pair_of(value)?;
-        Ok((number_of(start)?, number_of(end)?))
-    }
-}
 
 impl Form for WrittenLease {
     ghost form = { lease_of };

@@ -3,7 +3,7 @@
 ghost use Rattle.std.specs.Prelude.{◌≡◌, ◌++◌};
 ghost use Rattle.serde_json.specs.View.{view};
 ghost use Rattle.service.specs.Reading.{Gives};
-ghost use Rattle.service.specs.Steps.{take_step, renew_step, propose_step, commit_step, phase_step, rows_step, grant_step, free_step, restart_step, read_named, table_kinds, task_kinds, clerk_kinds, load_kinds};
+ghost use Rattle.service.specs.Steps.{take_step, renew_step, propose_step, commit_step, phase_step, rows_step, grant_step, free_step, restart_step, lose_step, read_named, table_kinds, task_kinds, clerk_kinds, load_kinds};
 
 use crate::fault::{Unread, WrongForm};
 use crate::members::{exactly, life_at, list_at, number_at, number_in};
@@ -107,6 +107,14 @@ fn restart_step(job: Job, step: &Value) -> Result<Step, WrongForm>
     })
 }
 
+#[tactic(auto, unfolding(crate::specs::Steps::lose_step))]
+fn lose_step(step: &Value) -> Result<Step, WrongForm>
+    ensures { result ≡ lose_step (view step.now) }
+{
+    exactly(&["do"], step)?;
+    Ok(Step::Lose)
+}
+
 /// The step of this name among those of the table and its assigners, or else of a task, a clerk, loads and plans.
 pub fn step_of_table(alloc: Global, job: Job, name: &str, step: &Value) -> Result<Step, Unread>
     ensures { Gives result (read_named (table_kinds ++ task_kinds ++ clerk_kinds ++ load_kinds) name.now job (view step.now)) }
@@ -121,6 +129,7 @@ pub fn step_of_table(alloc: Global, job: Job, name: &str, step: &Value) -> Resul
         "grant" => Ok(grant_step(job, step)?),
         "free" => Ok(free_step(step)?),
         "restart" => Ok(restart_step(job, step)?),
+        "lose" => Ok(lose_step(step)?),
         _ => step_of_task(alloc, job, name, step),
     }
 }

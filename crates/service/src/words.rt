@@ -107,6 +107,7 @@ impl fmt::Display for TableWords {
             TableError::Pending => f.write_str("pending"),
             TableError::NothingPending => f.write_str("nothing-pending"),
             TableError::TooManyOwnersForJob => f.write_str("too-many-owners-for-job"),
+            TableError::Grace { until } => write!(f, "grace {until}"),
             TableError::Held { task, kind, number } => {
                 write!(f, "held {task} {} {number}", kind_word(kind))
             }

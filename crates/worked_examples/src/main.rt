@@ -9,7 +9,7 @@ use std::alloc::Global;
 use std::fs;
 use std::rt::Files;
 
-const NAMES: [&str; 61] = [
+const NAMES: [&str; 75] = [
     "owners",
     "hash-of-empty-and-hello",
     "hash-vectors",
@@ -51,7 +51,6 @@ const NAMES: [&str; 61] = [
     "script-cut-off-in-its-third-step",
     "job-line-alone",
     "assignment-refusals",
-    "four-owners-are-too-many-before-the-range",
     "judge-guard-then-bridge",
     "restarted-assigner-waits-for-its-old-term",
     "object-in-place-of-an-array",
@@ -71,6 +70,21 @@ const NAMES: [&str; 61] = [
     "old-bridge-holds-up-the-next-commit",
     "slow-clock-finds-its-handle-continuous",
     "handle-is-broken-when-clocks-agree",
+    "four-equal-owners-with-a-limit-of-five",
+    "lose-before-any-grant",
+    "lost-rows-hold-up-commit-by-grace",
+    "rows-after-a-loss-hold-up-commit",
+    "second-loss-moves-the-grace",
+    "table-restarts-while-a-lease-is-out",
+    "plan-adds-a-replica-for-churn",
+    "plan-removes-a-replica",
+    "hot-slice-gets-a-replica-and-loses-it",
+    "redundancy-range-upside-down",
+    "redundancy-range-above-five",
+    "redundancy-of-zero-with-ranges",
+    "redundancy-of-six",
+    "five-owners-and-six",
+    "four-owners-for-a-job-of-up-to-three",
 ];
 
 /// What a script gave, or what it is to give.

@@ -1,0 +1,31 @@
+//! What holds of every text that is printed for a script.
+
+ghost use Rattle.std.specs.Prelude.{◌≡◌, ℕ, ◌++◌, List, true};
+ghost use Rattle.world.specs.Pasts.{Past};
+ghost use Rattle.world.specs.Headline.{MayServe, IsOwner, IsWhileHeld};
+ghost use Rattle.service.specs.declared.script.Script.{Script};
+ghost use Rattle.service.specs.Output.{past_of, IsOutput};
+
+/// What is printed for a script tells a run of its job, and what holds of every run holds of it.
+///
+/// After each step, with timely clocks, whoever may serve a key owns it in the committed assignment; where a
+/// slice has one owner at the most, no two tasks may serve it. Where the last line is `timely yes` and
+/// a `check` by a task was answered `continuous`, the task owned the key of the handle at each point from
+/// the `hold` to that `check`; where a slice has one owner at the most, no other task may serve the key
+/// at any of these points.
+pub fn printed_law()
+    ensures owner { (script : Script) (text : List ℕ) (output : IsOutput script text) (later past : Past) (task : ℕ) (key : List ℕ)
+        → past_of script output.replies ≡ later ++ past → MayServe script.job past task key → IsOwner script.job past task key }
+    ensures one { (script : Script) (text : List ℕ) (output : IsOutput script text) (later past : Past) (task other : ℕ) (key : List ℕ)
+        → past_of script output.replies ≡ later ++ past → script.job.policy.high ≡ 1
+        → MayServe script.job past task key → MayServe script.job past other key → task ≡ other }
+    ensures held { (script : Script) (text : List ℕ) (output : IsOutput script text) (past : Past) (task : ℕ) (key : List ℕ)
+        → output.timely ≡ true → IsWhileHeld (past_of script output.replies) past task key
+        → IsOwner script.job past task key }
+    ensures alone { (script : Script) (text : List ℕ) (output : IsOutput script text) (past : Past) (task other : ℕ) (key : List ℕ)
+        → output.timely ≡ true → script.job.policy.high ≡ 1 → IsWhileHeld (past_of script output.replies) past task key
+        → MayServe script.job past other key → other ≡ task }
+{
+    world::owner_law();
+    world::interval_law();
+}

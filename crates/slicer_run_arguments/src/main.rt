@@ -1,9 +1,0 @@
-//! The same program as `slicer_run`, run with an argument, which it refuses.
-#![tactic(auto)]
-
-use service::slicer_run;
-use std::process::ExitCode;
-
-fn main(rt: HostRuntime) -> ExitCode {
-    slicer_run(&rt, &mut rt.stdin(), &mut rt.stdout())
-}
