@@ -24,7 +24,7 @@ use tickets::{Ticket, TicketPass};
 use world::{CallRecord, Job, Told};
 
 // Assigner 1 takes the job, and proposes and commits generation 1: its term's end, and the generation.
-fn commit_first<R: Wait>(
+pub fn commit_first<R: Wait>(
     rt: &R,
     alloc: Global,
     table: &SharedTable,

@@ -1,11 +1,19 @@
-//! Tests of objects that threads share.
+//! Tests of audits, and of objects that threads share.
 #![tactic(auto)]
 
+#[cfg(test)]
+mod audits;
 #[cfg(test)]
 mod calls;
 #[cfg(test)]
 mod crews;
 #[cfg(test)]
+mod histories;
+#[cfg(test)]
+mod memory;
+#[cfg(test)]
 mod objects;
 #[cfg(test)]
 mod refusals;
+#[cfg(test)]
+mod restarts;

@@ -17,20 +17,25 @@ use tickets::{Ticket, TicketPass};
 // The half of the key space: "hello" lies below it.
 const HALF: u64 = 1 << 62;
 
-// Generation 1, which gives the lower half to task 1 and the upper half to task 2.
-pub fn first_assignment(alloc: Global) -> Result<Assignment, Fail> {
+// A generation that gives the lower half to one task and the upper half to another.
+pub fn halves(alloc: Global, generation: u64, lower: u64, upper: u64) -> Result<Assignment, Fail> {
     let mut slices = Vec::new(alloc);
-    for (start, owner) in [(0, 1), (HALF, 2)] {
+    for (start, owner) in [(0, lower), (HALF, upper)] {
         slices.push(Slice {
             start,
-            owners: Listed::from_vec(Vec::from_slice(alloc, &[owner])?),
+            owners: Listed::from_slice(alloc, &[owner])?,
         })?;
     }
     Ok(
-        Assignment::build(alloc, 1, &slices)
+        Assignment::build(alloc, generation, &slices)
             .ok()
             .ok_or("two slices make an assignment")?,
     )
+}
+
+// Generation 1, which gives the lower half to task 1 and the upper half to task 2.
+pub fn first_assignment(alloc: Global) -> Result<Assignment, Fail> {
+    halves(alloc, 1, 1, 2)
 }
 
 pub fn first_task() -> Result<TaskId, Fail> {
@@ -38,7 +43,7 @@ pub fn first_task() -> Result<TaskId, Fail> {
 }
 
 pub fn policy() -> Result<Policy, Fail> {
-    Ok(Policy::new(1, 10, 100, 100, 1000, 1000).ok_or("within the limits")?)
+    Ok(Policy::new(1, 1, 10, 100, 100, 1000, 1000).ok_or("within the limits")?)
 }
 
 /// A table, task 1 and a clerk, each of one lane, and a ticket of one pass.

@@ -9,7 +9,7 @@ use std::test::Fail;
 use world::{RecordedCall, Refusal, Told};
 
 // The machine's refusal, where that is what a call answered.
-fn refused<A: Drop, F: Drop>(answer: Result<A, CallError<F>>) -> Option<RefusedCall<F>> {
+pub fn refused<A: Drop, F: Drop>(answer: Result<A, CallError<F>>) -> Option<RefusedCall<F>> {
     match answer {
         Err(CallError::Refused(why)) => Some(why),
         _ => None,

@@ -1,12 +1,6 @@
-//! Tests of machines under the lock.
+//! Tests of machines under the lock, and of tickets.
 #![tactic(auto)]
 
-#[cfg(test)]
-mod clerk_answers;
-#[cfg(test)]
-mod clerk_calls;
-#[cfg(test)]
-mod clerk_threads;
 #[cfg(test)]
 mod counter;
 #[cfg(test)]
@@ -14,10 +8,12 @@ mod counter_calls;
 #[cfg(test)]
 mod counter_laws;
 #[cfg(test)]
+mod counter_memory;
+#[cfg(test)]
 mod counter_threads;
 #[cfg(test)]
 mod locks;
 #[cfg(test)]
-mod table_answers;
+mod ticket_draws;
 #[cfg(test)]
-mod table_calls;
+mod ticket_threads;

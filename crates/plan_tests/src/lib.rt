@@ -1,17 +1,29 @@
-//! Tests of loads and of plans.
+//! Tests of slice keys, sets of them, the written rule, assignments, loads and plans.
 //!
 //! They stand in a crate of their own, since a crate with tests is proved twice.
 #![tactic(auto)]
 
 #[cfg(test)]
+mod hashes;
+#[cfg(test)]
 mod loads;
 #[cfg(test)]
 mod memory;
 #[cfg(test)]
+mod owners;
+#[cfg(test)]
 mod plans;
+#[cfg(test)]
+mod ranges;
 #[cfg(test)]
 mod samples;
 #[cfg(test)]
+mod sets;
+#[cfg(test)]
 mod ties;
+#[cfg(test)]
+mod values_memory;
+#[cfg(test)]
+mod verdicts;
 #[cfg(test)]
 mod wide;

@@ -105,11 +105,15 @@ pub fn words_of(alloc: Global, plan: &Plan) -> Option<String> {
 
 fn move_words(alloc: Global, made: &Move) -> Result<String, AllocError> {
     let start = made.start;
-    let giver = made.giver;
-    let taker = made.taker;
     let gain = made.gain;
     let churn = made.churn;
-    format!(in alloc; "{start}:{giver}>{taker} gain {gain} churn {churn} ")
+    let tasks = match (made.giver, made.taker) {
+        (None, None) => String::new(alloc),
+        (None, Some(taker)) => format!(in alloc; "+{taker}")?,
+        (Some(giver), None) => format!(in alloc; "-{giver}")?,
+        (Some(giver), Some(taker)) => format!(in alloc; "{giver}>{taker}")?,
+    };
+    format!(in alloc; "{start}:{tasks} gain {gain} churn {churn} ")
 }
 
 // The total load of the task of this number.
@@ -131,6 +135,26 @@ pub fn planned(
     Ok(words_of(alloc, &made).ok_or("there is memory")?)
 }
 
-pub fn policy_of(redundancy: u64, churn: u64, cold: u64, hot: u64) -> Result<PlanPolicy, Fail> {
-    Ok(PlanPolicy::new(redundancy, churn, cold, hot, 1024).ok_or("it is a policy")?)
+// The policy where a slice has so many owners.
+pub fn policy_of(owners: u64, churn: u64, cold: u64, hot: u64) -> Result<PlanPolicy, Fail> {
+    Ok(PlanPolicy::new(owners, owners, churn, cold, hot, 1024).ok_or("it is a policy")?)
+}
+
+// The policy where a slice has from so many owners to so many.
+pub fn range_of(low: u64, high: u64, churn: u64) -> Result<PlanPolicy, Fail> {
+    Ok(PlanPolicy::new(low, high, churn, 0, 100, 1024).ok_or("it is a policy")?)
+}
+
+pub fn key_of(number: u64) -> Result<SliceKey, Fail> {
+    Ok(SliceKey::new(number).ok_or("a number of 63 bits is a key")?)
+}
+
+// Asks, and asks once more where the first answer is out of memory.
+pub fn again<T, F: Fn() -> Result<T, AllocError>>(ask: F) -> Result<T, AllocError>
+    requires { F.IsAlwaysCallable ask }
+{
+    match ask() {
+        Ok(made) => Ok(made),
+        Err(AllocError) => ask(),
+    }
 }

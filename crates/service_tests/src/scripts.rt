@@ -77,6 +77,7 @@ const MALFORMED_STEPS: &[&str] = &[
     r#"{"do":"look","clerk":3,"key":"a"}"#,
     r#"{"do":"forget"}"#,
     r#"{"do":"restart","assigner":3}"#,
+    r#"{"do":"lose","at":1}"#,
 ];
 
 #[test]
@@ -111,6 +112,7 @@ fn takes_members_up_to_their_limits(rt: HostRuntime) -> Result<(), Fail> {
             "refused reading-range",
         ),
         (r#"{"do":"forget","clerk":2}"#, "forgotten"),
+        (r#"{"do":"lose"}"#, "lost 0"),
         (
             r#"{"do":"plan","tasks":[1,2,64],"loads":[18446744073709551615],"churn":9223372036854775808,"cold":18446744073709551615,"hot":18446744073709551615,"most":1024}"#,
             "refused no-draft",
@@ -138,7 +140,8 @@ fn takes_members_up_to_their_limits(rt: HostRuntime) -> Result<(), Fail> {
 fn takes_jobs_at_their_limits(rt: HostRuntime) -> Result<(), Fail> {
     let jobs = [
         r#"{"redundancy":1,"skew":0,"guard":1,"bridge":1,"job":1,"numbers":1,"assigners":1,"tasks":1,"clerks":1}"#,
-        r#"{"redundancy":3,"skew":4294967295,"guard":4294967296,"bridge":4294967296,"job":4294967296,"numbers":4294967296,"assigners":8,"tasks":64,"clerks":16}"#,
+        r#"{"redundancy":[1,5],"skew":0,"guard":1,"bridge":1,"job":1,"numbers":1,"assigners":1,"tasks":1,"clerks":1}"#,
+        r#"{"redundancy":[5,5],"skew":4294967295,"guard":4294967296,"bridge":4294967296,"job":4294967296,"numbers":4294967296,"assigners":8,"tasks":64,"clerks":16}"#,
     ];
     for job in jobs {
         let script = format!(in rt.alloc(); "[{{\"job\":{job}}}]")?;
@@ -153,7 +156,14 @@ fn takes_jobs_at_their_limits(rt: HostRuntime) -> Result<(), Fail> {
 fn refuses_jobs_beyond_their_limits(rt: HostRuntime) -> Result<(), Fail> {
     let jobs = [
         r#"{"redundancy":0,"skew":0,"guard":1,"bridge":1,"job":1,"numbers":1,"assigners":1,"tasks":1,"clerks":1}"#,
-        r#"{"redundancy":4,"skew":0,"guard":1,"bridge":1,"job":1,"numbers":1,"assigners":1,"tasks":1,"clerks":1}"#,
+        r#"{"redundancy":6,"skew":0,"guard":1,"bridge":1,"job":1,"numbers":1,"assigners":1,"tasks":1,"clerks":1}"#,
+        r#"{"redundancy":[2,1],"skew":0,"guard":1,"bridge":1,"job":1,"numbers":1,"assigners":1,"tasks":1,"clerks":1}"#,
+        r#"{"redundancy":[1,6],"skew":0,"guard":1,"bridge":1,"job":1,"numbers":1,"assigners":1,"tasks":1,"clerks":1}"#,
+        r#"{"redundancy":[0,1],"skew":0,"guard":1,"bridge":1,"job":1,"numbers":1,"assigners":1,"tasks":1,"clerks":1}"#,
+        r#"{"redundancy":[],"skew":0,"guard":1,"bridge":1,"job":1,"numbers":1,"assigners":1,"tasks":1,"clerks":1}"#,
+        r#"{"redundancy":[1],"skew":0,"guard":1,"bridge":1,"job":1,"numbers":1,"assigners":1,"tasks":1,"clerks":1}"#,
+        r#"{"redundancy":[1,2,3],"skew":0,"guard":1,"bridge":1,"job":1,"numbers":1,"assigners":1,"tasks":1,"clerks":1}"#,
+        r#"{"redundancy":"1","skew":0,"guard":1,"bridge":1,"job":1,"numbers":1,"assigners":1,"tasks":1,"clerks":1}"#,
         r#"{"redundancy":1,"skew":1,"guard":1,"bridge":2,"job":1,"numbers":1,"assigners":1,"tasks":1,"clerks":1}"#,
         r#"{"redundancy":1,"skew":1,"guard":2,"bridge":1,"job":1,"numbers":1,"assigners":1,"tasks":1,"clerks":1}"#,
         r#"{"redundancy":1,"skew":0,"guard":0,"bridge":1,"job":1,"numbers":1,"assigners":1,"tasks":1,"clerks":1}"#,

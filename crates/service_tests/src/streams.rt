@@ -1,6 +1,7 @@
 //! Readers and writers that fail, give a byte at a time, or have no end.
 
 use service::{Fault, run_script};
+use std::alloc::Global;
 use std::io;
 use std::io::{Read, Write};
 use std::test::Fail;
@@ -9,6 +10,52 @@ const SCRIPT: &str =
     "[{\"job\":{\"redundancy\":1,\"skew\":10,\"guard\":100,\"bridge\":100,\"job\":1000,\"numbers\":1000,\"assigners\":2,\"tasks\":2,\"clerks\":2}},{\"do\":\"hash\",\"key\":\"hello\"}]";
 
 const TEXT: &str = "key 167926dd2fd85187\ntimely yes\n";
+
+/// The story of `examples/bridge-carries-a-key-over-a-change.json`, and its text.
+const STORY: &str =
+    r#"[{"job":{"redundancy":1,"skew":10,"guard":100,"bridge":100,"job":1000,"numbers":1000,"assigners":2,"tasks":2,"clerks":2}},
+{"do":"take","assigner":1,"at":0},
+{"do":"propose","assigner":1,"generation":1,"slices":[[0,[1]],[4611686018427387904,[2]]],"at":1},
+{"do":"commit","assigner":1,"at":2},
+{"do":"start","task":1,"life":1,"at":3},
+{"do":"grant","task":1,"life":1,"at":5},
+{"do":"hear","task":1,"number":1,"at":6},
+{"do":"hold","task":1,"key":"hello","at":7},
+{"do":"propose","assigner":1,"generation":2,"slices":[[0,[1]],[4611686018427387904,[1]]],"at":20},
+{"do":"grant","task":1,"life":1,"at":24},
+{"do":"hear","task":1,"number":2,"at":25},
+{"do":"release","task":1,"kind":"guard","at":26},
+{"do":"serve","task":1,"key":"hello","at":27},
+{"do":"free","note":1,"at":28},
+{"do":"commit","assigner":1,"at":29},
+{"do":"grant","task":1,"life":1,"at":30},
+{"do":"hear","task":1,"number":3,"at":31},
+{"do":"serve","task":1,"key":"hello","at":32},
+{"do":"serve","task":1,"key":"abc","at":32},
+{"do":"check","task":1,"handle":1,"at":32}]"#;
+
+const STORY_TEXT: &str = "\
+term 1 until 1000\n\
+proposed 1\n\
+committed 1\n\
+started 1\n\
+grant 1 guard 1 until 105 95\n\
+heard 1\n\
+handle 1\n\
+proposed 2\n\
+grant 2 bridge 2 until 124 114\n\
+heard 2\n\
+released note 1 number 1\n\
+served bridge 2\n\
+freed 1\n\
+committed 2\n\
+grant 3 guard 2 until 130 120\n\
+heard 3\n\
+served guard 2\n\
+served guard 2\n\
+continuous\n\
+timely yes\n\
+";
 
 /// Takes a byte at each write, as long as there is room, and then takes none or fails.
 #[derive(Drop)]
@@ -92,6 +139,40 @@ fn reads_a_byte_at_a_time(rt: HostRuntime) -> Result<(), Fail> {
         assert_eq!(rt; answer, want, "with {reads} reads");
         assert_eq!(rt; written.as_slice(), text.as_bytes());
     }
+    Ok(())
+}
+
+#[test]
+fn reads_the_bridge_story_a_byte_at_a_time(rt: HostRuntime) -> Result<(), Fail> {
+    let mut reader = Slow {
+        left: STORY.as_bytes(),
+        reads: 1 << 20,
+    };
+    let mut written = Vec::new(rt.alloc());
+    let answer = run_script(rt.alloc(), &mut reader, &mut written);
+    assert_eq!(rt; answer, Ok(()));
+    assert_eq!(rt; written.as_slice(), STORY_TEXT.as_bytes());
+    Ok(())
+}
+
+/// What the story is answered, with room for its text, and whether nothing is written where memory is refused.
+fn story_at_last(alloc: Global, written: &mut Vec<u8>) -> Result<(), Fault> {
+    match run_script(alloc, &mut STORY.as_bytes(), written) {
+        Err(Fault::Memory) if written.is_empty() => {
+            run_script(alloc, &mut STORY.as_bytes(), written)
+        }
+        answer => answer,
+    }
+}
+
+#[test]
+fn plays_the_story_as_before_without_memory(rt: HostRuntime) -> Result<(), Fail> {
+    let mut written = match Vec::with_capacity(rt.alloc(), 4096) {
+        Ok(written) => written,
+        Err(_) => Vec::with_capacity(rt.alloc(), 4096)?,
+    };
+    assert_eq!(rt; story_at_last(rt.alloc(), &mut written), Ok(()));
+    assert_eq!(rt; written.as_slice(), STORY_TEXT.as_bytes());
     Ok(())
 }
 

@@ -1,6 +1,6 @@
 //! What the tests share: assignments, and tables with and without a first grant.
 
-use assignment::{Assignment, Listed, Slice, TaskId};
+use assignment::{Assignment, AssignmentError, Listed, Slice, TaskId};
 use lease_table::{Grant, JobTerm, LeaseTable, Policy, ReleaseNote, Row, TableError};
 use machines::Trouble;
 use policy_rules::Kind;
@@ -10,27 +10,47 @@ use std::test::Fail;
 // The half of the key space.
 pub const HALF: u64 = 1 << 62;
 
-// None where memory is wanting.
-pub fn built(alloc: Global, generation: u64, listed: &[(u64, &[u64])]) -> Option<Assignment> {
+fn slices_of(alloc: Global, listed: &[(u64, &[u64])]) -> Result<Vec<Slice>, AllocError> {
     let mut slices = Vec::new(alloc);
     for (start, owners) in listed {
-        let owners = Listed::from_vec(Vec::from_slice(alloc, owners).ok()?);
-        slices
-            .push(Slice {
-                start: *start,
-                owners,
-            })
-            .ok()?;
+        slices.push(Slice {
+            start: *start,
+            owners: Listed::from_slice(alloc, owners)?,
+        })?;
     }
-    Assignment::build(alloc, generation, &slices).ok()
+    Ok(slices)
 }
 
+fn try_assignment(
+    alloc: Global,
+    generation: u64,
+    listed: &[(u64, &[u64])],
+) -> Result<Assignment, AssignmentError> {
+    let slices = slices_of(alloc, listed)?;
+    Assignment::build(alloc, generation, &slices)
+}
+
+// An assignment of slices; it is built again where memory is refused once.
 pub fn assignment_of(
     alloc: Global,
     generation: u64,
     listed: &[(u64, &[u64])],
 ) -> Result<Assignment, Fail> {
-    Ok(built(alloc, generation, listed).ok_or("slices make an assignment")?)
+    let built = match try_assignment(alloc, generation, listed) {
+        Err(AssignmentError::NoMemory) => try_assignment(alloc, generation, listed),
+        first => first,
+    };
+    Ok(built.ok().ok_or("slices make an assignment")?)
+}
+
+// Asks, and asks once more where the first answer is out of memory.
+pub fn again<T, F: Fn() -> Result<T, AllocError>>(ask: F) -> Result<T, AllocError>
+    requires { F.IsAlwaysCallable ask }
+{
+    match ask() {
+        Ok(made) => Ok(made),
+        Err(AllocError) => ask(),
+    }
 }
 
 pub fn task_of(number: u64) -> Result<TaskId, Fail> {
@@ -70,6 +90,10 @@ pub fn free(table: &mut LeaseTable, note: &ReleaseNote, at: u64) -> Result<u64, 
     table.free(note, at)
 }
 
+pub fn restart(table: &mut LeaseTable) -> u64 {
+    table.restart()
+}
+
 pub fn rows_of(table: &LeaseTable) -> Result<Vec<Row>, AllocError> {
     table.rows()
 }
@@ -87,7 +111,7 @@ pub fn has_no_row(table: &LeaseTable) -> bool {
 
 // A table with terms of 1000, 100 and 100 ticks, a skew of 10, and so many numbers of grants.
 pub fn table_of(alloc: Global, numbers: u64) -> Result<LeaseTable, Fail> {
-    let policy = Policy::new(1, 10, 100, 100, 1000, numbers).ok_or("within the limits")?;
+    let policy = Policy::new(1, 1, 10, 100, 100, 1000, numbers).ok_or("within the limits")?;
     Ok(LeaseTable::new(alloc, policy))
 }
 

@@ -41,6 +41,7 @@ pub enum Act {
     Plan(&'static [u64]),
     Next(u64, u64, bool),
     Restart(u64),
+    Lose,
 }
 
 fn bytes_of(alloc: Global, key: &str) -> Result<Listed<u8>, AllocError> {
@@ -114,6 +115,7 @@ fn plain_step(act: Act) -> Option<Step> {
             wanted,
         }),
         Act::Restart(assigner) => Some(Step::Restart { assigner }),
+        Act::Lose => Some(Step::Lose),
         _ => None,
     }
 }

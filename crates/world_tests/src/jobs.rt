@@ -6,7 +6,7 @@ use world::Job;
 
 #[test]
 fn takes_jobs_within_their_limits(rt: HostRuntime) -> Result<(), Fail> {
-    let policy = Policy::new(2, 10, 100, 90, 1000, 500).ok_or("within the limits")?;
+    let policy = Policy::new(2, 2, 10, 100, 90, 1000, 500).ok_or("within the limits")?;
     let cases = [
         (1, 1, 1, true),
         (8, 64, 16, true),

@@ -103,8 +103,8 @@ pub const CHANGE: [Told; 16] = [
     (Act::Check(1, 1, 120), "Broken"),
 ];
 
-// After the change: a clerk learns and forgets, and an assigner is restarted.
-const AFTER: [Told; 10] = [
+// After the change: a clerk learns and forgets, an assigner is restarted, and the table loses its rows.
+const AFTER: [Told; 12] = [
     (Act::Learn(1, 2), "Learnt(2)"),
     (
         Act::Look(1, "hello"),
@@ -124,6 +124,22 @@ const AFTER: [Told; 10] = [
     (Act::Restart(1), "Restarted"),
     (Act::Renew(1, 34), "Refused(Table(NotHolder { term: 1 }))"),
     (Act::Take(1, 35), "Refused(Table(JobHeld { until: 1033 }))"),
+    (Act::Lose, "Lost(2)"),
+    (Act::Rows, "Rows(Listed { items: [] })"),
+];
+
+// After the base: the table loses the row of a lease, and commits nothing before it has ended.
+pub const LOSS: [Told; 6] = [
+    (Act::Lose, "Lost(1)"),
+    (Act::Propose(1, 2, &[(0, &[2])], 20), "Proposed(2)"),
+    (
+        Act::Release(1, Kind::Guard, 21),
+        "Released { number: 1, note: ReleaseNote { task: TaskId { number: 1 }, life: 1, \
+        kind: Guard, number: 1 } }",
+    ),
+    (Act::Free(1, 22), "Refused(Table(NoRow))"),
+    (Act::Commit(1, 104), "Refused(Table(Grace { until: 105 }))"),
+    (Act::Commit(1, 105), "Committed(2)"),
 ];
 
 // After the values: work is recorded and gathered, a plan is made, and an assigner without a term is
@@ -155,7 +171,7 @@ const LOADS: [Told; 9] = [
 pub const STORIES: &[&[Told]] = &[&VALUES, &LOADS, &BASE, &CHANGE, &AFTER];
 
 fn policy_of() -> Result<Policy, Fail> {
-    Ok(Policy::new(1, 10, 100, 100, 1000, 1000).ok_or("within the limits")?)
+    Ok(Policy::new(1, 1, 10, 100, 100, 1000, 1000).ok_or("within the limits")?)
 }
 
 // A job of two assigners, two tasks and two clerks.

@@ -2,7 +2,7 @@
 
 use crate::acts::{Act, step_of};
 use crate::stories::{
-    BASE, CHANGE, STORIES, first_other, has_text, other_answer, replies_of, world_of,
+    BASE, CHANGE, LOSS, STORIES, first_other, has_text, other_answer, replies_of, world_of,
 };
 use std::alloc::{AllocError, Global};
 use std::test::Fail;
@@ -11,6 +11,13 @@ use world::World;
 #[test]
 fn answers_every_kind_of_step(rt: HostRuntime) -> Result<(), Fail> {
     let other = first_other(rt.alloc(), STORIES)?;
+    assert!(rt; other.is_none(), "{other:?}");
+    Ok(())
+}
+
+#[test]
+fn waits_for_leases_whose_rows_are_lost(rt: HostRuntime) -> Result<(), Fail> {
+    let other = first_other(rt.alloc(), &[&BASE, &LOSS])?;
     assert!(rt; other.is_none(), "{other:?}");
     Ok(())
 }

@@ -1,8 +1,8 @@
-//! A slicelet where memory is refused.
+//! A slicelet where memory is refused: the call that wanted it leaves the slicelet as it was, and answers
+//! the next time as with ample memory.
 
-use crate::samples::{
-    allow, copy_of, grant_of, hear, release, sample_grant, serve, slicelet_of, start, task_of,
-};
+use crate::samples::again;
+use crate::task_samples::{allow, copy_of, grant_of, hear, release, serve, slicelet_of, start};
 use key_hash::SliceKey;
 use lease_table::Grant;
 use machines::Trouble;
@@ -17,16 +17,9 @@ fn started_at_last(slicelet: &mut Slicelet, key: SliceKey) -> Result<(), Fail> {
         Err(Trouble::NoMemory) if serve(slicelet, key, 3) == Verdict::Deny(Ground::Down) => {
             start(slicelet, 1, 3).ok().ok_or("a second time")?;
         }
-        first => first.ok().ok_or("want of memory changes nothing")?,
+        first => first.ok().ok_or("running out of memory changes nothing")?,
     }
     Ok(())
-}
-
-fn grant_at_last(alloc: Global) -> Result<Grant, Fail> {
-    match sample_grant(alloc, task_of(1)?, 1, Kind::Guard) {
-        Some(grant) => Ok(grant),
-        None => grant_of(alloc, 1, Kind::Guard),
-    }
 }
 
 // Hears a grant, the second time where there was no memory for it, which changed nothing.
@@ -35,20 +28,13 @@ fn heard_at_last(slicelet: &mut Slicelet, grant: &Grant, key: SliceKey) -> Resul
         Err(Trouble::NoMemory) if serve(slicelet, key, 3) == Verdict::Deny(Ground::NoLease) => {
             hear(slicelet, grant, 6).ok().ok_or("a second time")?;
         }
-        first => first.ok().ok_or("want of memory changes nothing")?,
+        first => first.ok().ok_or("running out of memory changes nothing")?,
     }
     Ok(())
 }
 
-fn copied_at_last(slicelet: &Slicelet) -> Result<Slicelet, AllocError> {
-    match copy_of(slicelet) {
-        Ok(copied) => Ok(copied),
-        Err(_) => copy_of(slicelet),
-    }
-}
-
 fn verdict_of_a_copy(slicelet: &Slicelet, key: SliceKey) -> Result<Verdict, AllocError> {
-    let copied = copied_at_last(slicelet)?;
+    let copied = again(|| copy_of(slicelet))?;
     Ok(serve(&copied, key, 7))
 }
 
@@ -60,11 +46,15 @@ fn released_at_last(slicelet: &mut Slicelet, key: SliceKey) -> Result<u64, Fail>
         }
         first => first,
     };
-    Ok(note.ok().ok_or("want of memory changes nothing")?.number)
+    Ok(
+        note.ok()
+            .ok_or("running out of memory changes nothing")?
+            .number,
+    )
 }
 
 fn hear_at_last(alloc: Global, slicelet: &mut Slicelet, key: SliceKey) -> Result<(), Fail> {
-    let grant = grant_at_last(alloc)?;
+    let grant = grant_of(alloc, 1, Kind::Guard)?;
     heard_at_last(slicelet, &grant, key)
 }
 
@@ -82,8 +72,6 @@ fn answers_at_last(alloc: Global, slicelet: &mut Slicelet) -> Result<Answers, Fa
     Ok(([heard, copied], number, serve(slicelet, key, 41)))
 }
 
-// Where one allocation is refused (`rt try --test --fail-alloc N`), the call that wanted it leaves
-// the slicelet as it was, and answers the next time as with ample memory.
 #[test]
 fn stays_as_it_was_without_memory(rt: HostRuntime) -> Result<(), Fail> {
     let wanted = (

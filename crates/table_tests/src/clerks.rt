@@ -1,48 +1,15 @@
-use assignment::{Assignment, AssignmentError, Listed, Slice};
+//! What a clerk learns, answers and forgets.
+
+use crate::samples::{HALF, again, assignment_of};
+use assignment::Assignment;
 use clerk::{Clerk, ClerkCall, ClerkError, ClerkEvent, ClerkReply, Unknown};
 use key_hash::{SliceKey, slice_key};
 use machines::{Machine, Trouble};
 use std::alloc::Global;
 use std::test::Fail;
 
-// The half of the key space.
-const HALF: u64 = 1 << 62;
-
 // The slice key of "hello".
 const HELLO: u64 = 0x167926dd2fd85187;
-
-fn try_assignment(
-    alloc: Global,
-    generation: u64,
-    listed: &[(u64, u64)],
-) -> Result<Assignment, AssignmentError> {
-    let mut slices = Vec::new(alloc);
-    for (start, owner) in listed {
-        let mut owners = Listed::new(alloc);
-        owners.push(*owner)?;
-        slices.push(Slice {
-            start: *start,
-            owners,
-        })?;
-    }
-    Assignment::build(alloc, generation, &slices)
-}
-
-// An assignment of slices with one owner each; it is built again where memory is refused once.
-fn assignment_of(
-    alloc: Global,
-    generation: u64,
-    listed: &[(u64, u64)],
-) -> Result<Assignment, Fail> {
-    let built = match try_assignment(alloc, generation, listed) {
-        Err(AssignmentError::NoMemory) => try_assignment(alloc, generation, listed),
-        first => first,
-    };
-    match built {
-        Ok(assignment) => Ok(assignment),
-        Err(_) => Err("slices make an assignment".into()),
-    }
-}
 
 fn key_of(number: u64) -> Result<SliceKey, Fail> {
     Ok(SliceKey::new(number).ok_or("a number of 63 bits is a key")?)
@@ -108,8 +75,8 @@ fn forget_and_learn(
 
 #[test]
 fn answers_with_the_newest_it_learnt(rt: HostRuntime) -> Result<(), Fail> {
-    let first = assignment_of(rt.alloc(), 1, &[(0, 1), (HALF, 2)])?;
-    let second = assignment_of(rt.alloc(), 2, &[(0, 2)])?;
+    let first = assignment_of(rt.alloc(), 1, &[(0, &[1]), (HALF, &[2])])?;
+    let second = assignment_of(rt.alloc(), 2, &[(0, &[2])])?;
     let hello = slice_key(b"hello");
     assert_eq!(rt; hello.value(), HELLO);
     let mut clerk = Clerk::new();
@@ -151,7 +118,7 @@ fn learning(
     alloc: Global,
     ticket: u64,
     generation: u64,
-    listed: &[(u64, u64)],
+    listed: &[(u64, &[u64])],
 ) -> Result<ClerkEvent, Fail> {
     let call = ClerkCall::Learn(assignment_of(alloc, generation, listed)?);
     Ok(ClerkEvent { ticket, call })
@@ -208,8 +175,8 @@ fn forget_and_take_copy(
 #[test]
 fn takes_its_calls_as_events(rt: HostRuntime) -> Result<(), Fail> {
     let hello = key_of(HELLO)?;
-    let first = learning(rt.alloc(), 5, 1, &[(0, 1), (HALF, 2)])?;
-    let second = learning(rt.alloc(), 3, 2, &[(0, 2)])?;
+    let first = learning(rt.alloc(), 5, 1, &[(0, &[1]), (HALF, &[2])])?;
+    let second = learning(rt.alloc(), 3, 2, &[(0, &[2])])?;
     let forget = ClerkEvent {
         ticket: 4,
         call: ClerkCall::Forget,
@@ -242,20 +209,6 @@ fn learn_at_last(clerk: &mut Clerk, assignment: &Assignment, key: SliceKey) -> R
     Ok(learnt.ok().ok_or("the assignment is learnt, at the second time at the latest")?)
 }
 
-fn copy_at_last(clerk: &Clerk) -> Result<Clerk, Fail> {
-    match clerk.copy() {
-        Ok(copied) => Ok(copied),
-        Err(_) => Ok(clerk.copy()?),
-    }
-}
-
-fn copy_event_at_last(event: &ClerkEvent) -> Result<ClerkEvent, Fail> {
-    match Clerk::copy_event(event) {
-        Ok(copied) => Ok(copied),
-        Err(_) => Ok(Clerk::copy_event(event)?),
-    }
-}
-
 // The reply of a clerk that knows nothing; again where memory is refused once, which has to leave it so.
 fn reply_at_last(clerk: &mut Clerk, event: &ClerkEvent, key: SliceKey) -> Result<ClerkReply, Fail> {
     let learnt = match clerk.apply(event) {
@@ -281,7 +234,7 @@ fn learnt_at_last(
 
 // What a clerk and a copy of it answer.
 fn answers_of_copy(clerk: &Clerk, key: SliceKey) -> Result<[Answer; 2], Fail> {
-    let copied = copy_at_last(clerk)?;
+    let copied = again(|| clerk.copy())?;
     Ok([answer(clerk, key)?, answer(&copied, key)?])
 }
 
@@ -296,15 +249,15 @@ fn learn_by_event(
         ticket: 9,
         call: ClerkCall::Learn(assignment),
     };
-    let copied = copy_event_at_last(&event)?;
+    let copied = again(|| Clerk::copy_event(&event))?;
     reply_at_last(clerk, &copied, key)
 }
 
 #[test]
-fn stays_as_it_was_where_memory_is_refused(rt: HostRuntime) -> Result<(), Fail> {
+fn stays_as_it_was_without_memory(rt: HostRuntime) -> Result<(), Fail> {
     let hello = key_of(HELLO)?;
-    let first = assignment_of(rt.alloc(), 1, &[(0, 1), (HALF, 2)])?;
-    let second = assignment_of(rt.alloc(), 2, &[(0, 2)])?;
+    let first = assignment_of(rt.alloc(), 1, &[(0, &[1]), (HALF, &[2])])?;
+    let second = assignment_of(rt.alloc(), 2, &[(0, &[2])])?;
     let mut clerk = Clerk::new();
     assert_eq!(rt; learnt_at_last(&mut clerk, &first, hello)?, Some((1, 1)));
     assert_eq!(rt; learnt_at_last(&mut clerk, &second, hello)?, Some((2, 2)));

@@ -1,14 +1,11 @@
 //! Tasks, assignments and the owners of a key.
 
-use crate::samples::key_of;
-use assignment::{Assignment, Listed, OwnedSlice, Slice, TaskId};
+use crate::samples::{HALF, key_of, task_of};
+use assignment::{Assignment, AssignmentError, Listed, OwnedSlice, Slice, TaskId};
 use machines::Duplicate;
 use slice_ranges::Ranges;
 use std::alloc::{AllocError, Global};
 use std::test::Fail;
-
-// The half of the key space.
-const HALF: u64 = 1 << 62;
 
 // The end of the key space.
 const END: u64 = 1 << 63;
@@ -34,10 +31,6 @@ fn assignment_of(
     let slices = slices_of(alloc, listed)?;
     let built = Assignment::build(alloc, generation, &slices);
     Ok(built.ok().ok_or("slices make an assignment")?)
-}
-
-fn task_of(number: u64) -> Result<TaskId, Fail> {
-    Ok(TaskId::new(number).ok_or("a number from 1 to 64")?)
 }
 
 #[test]
@@ -94,6 +87,29 @@ fn names_owners(rt: HostRuntime) -> Result<(), Fail> {
     ];
     let shared = assignment_of(rt.alloc(), 7, &[(0, &[64, 9, 10]), (HALF, &[2])])?;
     assert_eq!(rt; first_at_fault(&shared, &cases)?, None);
+    Ok(())
+}
+
+// Why one slice with these owners makes no assignment, if it makes none.
+fn refusal_of(alloc: Global, owners: &[u64]) -> Result<Option<AssignmentError>, AllocError> {
+    let slices = slices_of(alloc, &[(0, owners)])?;
+    Ok(Assignment::build(alloc, 1, &slices).err())
+}
+
+#[test]
+fn takes_up_to_five_owners(rt: HostRuntime) -> Result<(), Fail> {
+    let cases: [(&[u64], Option<AssignmentError>); 5] = [
+        (&[1, 2, 3, 4, 5], None),
+        (&[1, 2, 3, 4, 5, 6], Some(AssignmentError::TooManyOwners)),
+        (&[1, 1, 1, 1, 1, 1], Some(AssignmentError::TooManyOwners)),
+        (&[1, 1, 1, 1], Some(AssignmentError::OwnerTwice)),
+        (&[], Some(AssignmentError::NoOwner)),
+    ];
+    for (owners, wanted) in cases {
+        assert_eq!(rt; refusal_of(rt.alloc(), owners)?, wanted, "{owners:?}");
+    }
+    let five = assignment_of(rt.alloc(), 1, &[(0, &[5, 4, 3, 2, 1])])?;
+    assert!(rt; has_owners(&five, END - 1, &[1, 2, 3, 4, 5])?);
     Ok(())
 }
 

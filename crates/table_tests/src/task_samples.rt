@@ -1,36 +1,15 @@
 //! What the tests share: a table of two tasks, grants, and the events of a life.
 
-use assignment::{Assignment, Listed, Slice, TaskId};
+use crate::samples::{HALF, assignment_of, task_of};
+use assignment::Assignment;
 use key_hash::{SliceKey, slice_key};
 use lease_table::{Grant, LeaseTable, Policy, ReleaseNote, TableError};
 use machines::Trouble;
 use policy_rules::{Kind, Lease, Verdict};
-use slice_ranges::Ranges;
+use slice_ranges::{Ranges, RangesError};
 use slicelet::{Slicelet, SliceletCall, SliceletError, SliceletEvent};
 use std::alloc::{AllocError, Global};
 use std::test::Fail;
-
-// The half of the key space: "hello" lies below it, "abc" above.
-pub const HALF: u64 = 1 << 62;
-
-pub fn assignment_of(
-    alloc: Global,
-    generation: u64,
-    listed: &[(u64, &[u64])],
-) -> Result<Assignment, Fail> {
-    let mut slices = Vec::new(alloc);
-    for (start, owners) in listed {
-        slices.push(Slice {
-            start: *start,
-            owners: Listed::from_vec(Vec::from_slice(alloc, owners)?),
-        })?;
-    }
-    Ok(
-        Assignment::build(alloc, generation, &slices)
-            .ok()
-            .ok_or("slices make an assignment")?,
-    )
-}
 
 // One task has the whole key space.
 pub fn whole_of(alloc: Global, generation: u64, owner: u64) -> Result<Assignment, Fail> {
@@ -45,10 +24,6 @@ pub fn halves_of(
     upper: u64,
 ) -> Result<Assignment, Fail> {
     assignment_of(alloc, generation, &[(0, &[lower]), (HALF, &[upper])])
-}
-
-pub fn task_of(number: u64) -> Result<TaskId, Fail> {
-    Ok(TaskId::new(number).ok_or("a number from 1 to 64")?)
 }
 
 pub fn hello() -> SliceKey {
@@ -135,7 +110,7 @@ pub fn free(table: &mut LeaseTable, note: &ReleaseNote, at: u64) -> Result<(), F
 }
 
 fn empty_table(alloc: Global) -> Result<LeaseTable, Fail> {
-    let policy = Policy::new(1, 10, 100, 100, 1000, 1000).ok_or("within the limits")?;
+    let policy = Policy::new(1, 1, 10, 100, 100, 1000, 1000).ok_or("within the limits")?;
     Ok(LeaseTable::new(alloc, policy))
 }
 
@@ -177,25 +152,28 @@ pub fn base_of(alloc: Global) -> Result<(LeaseTable, Slicelet, Grant), Fail> {
     Ok((table, slicelet, grant))
 }
 
-// A grant that no table sent, of one key and of the generation of its number, where there is memory.
-pub fn sample_grant(alloc: Global, task: TaskId, number: u64, kind: Kind) -> Option<Grant> {
-    let ranges = Ranges::build(alloc, &[(7, 8)]).ok()?;
-    Some(Grant {
+fn key_7(alloc: Global) -> Result<Ranges, RangesError> {
+    Ranges::build(alloc, &[(7, 8)])
+}
+
+// A grant for task 1 that no table sent, of one key and of the generation of its number.
+pub fn grant_of(alloc: Global, number: u64, kind: Kind) -> Result<Grant, Fail> {
+    let ranges = match key_7(alloc) {
+        Err(RangesError::NoMemory) => key_7(alloc),
+        first => first,
+    };
+    Ok(Grant {
         number,
-        task,
+        task: task_of(1)?,
         life: 1,
         lease: Lease {
             kind,
             generation: number,
-            ranges,
+            ranges: ranges.ok().ok_or("one pair makes a set")?,
             ends: 100,
         },
         table_ends: 100,
     })
-}
-
-pub fn grant_of(alloc: Global, number: u64, kind: Kind) -> Result<Grant, Fail> {
-    Ok(sample_grant(alloc, task_of(1)?, number, kind).ok_or("one pair makes a set")?)
 }
 
 // What tells a call from another.

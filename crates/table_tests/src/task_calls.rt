@@ -1,8 +1,9 @@
 //! What a slicelet hears, releases and serves.
 
-use crate::samples::{
+use crate::samples::task_of;
+use crate::task_samples::{
     abc, allow, base_of, copy_of, grant_of, hear, hello, refusal, release, serve, slicelet_of,
-    start, task_of,
+    start,
 };
 use key_hash::SliceKey;
 use lease_table::{Grant, ReleaseNote};

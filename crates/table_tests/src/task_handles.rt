@@ -1,8 +1,9 @@
 //! Handles, and whether a key was held without a break.
 
-use crate::samples::{
+use crate::samples::task_of;
+use crate::task_samples::{
     abc, allow, base_of, commit, free, grant, halves_of, hear, hello, propose, release, serve,
-    start, task_of, whole_of,
+    start, whole_of,
 };
 use assignment::{Assignment, TaskId};
 use key_handle::KeyHandle;

@@ -10,7 +10,7 @@ use std::alloc::Global;
 use std::test::Fail;
 use world::{CallRecord, Job, Told};
 
-fn task_histories(alloc: Global, ends: u64) -> Option<Vec<History<SliceletEvent>>> {
+pub fn task_histories(alloc: Global, ends: u64) -> Option<Vec<History<SliceletEvent>>> {
     let mut tasks = Vec::new(alloc);
     tasks.push(task_history(alloc, ends)?).ok()?;
     Some(tasks)

@@ -19,7 +19,7 @@ const HALF: u64 = 4_611_686_018_427_387_904;
 
 /// The policy with this redundancy.
 pub fn policy(redundancy: u64) -> Option<Policy> {
-    Policy::new(redundancy, 10, 100, 100, 1000, 1000)
+    Policy::new(redundancy, redundancy, 10, 100, 100, 1000, 1000)
 }
 
 fn slice_of(alloc: Global, start: u64, owners: &[u64]) -> Result<Slice, AllocError> {

@@ -1,6 +1,6 @@
 //! A slicelet as a machine, with ample memory.
 
-use crate::samples::{
+use crate::task_samples::{
     CallOf, call_of, grant_of, hear_event, note_of_guard, release_event, slicelet_of, start_event,
 };
 use lease_table::Grant;

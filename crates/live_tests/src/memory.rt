@@ -1,0 +1,73 @@
+//! Audits and live runs where memory is refused: each is asked once more, and answers then as with ample
+//! memory.
+
+use crate::audits::task_histories;
+use crate::histories::{policy, table_history};
+use audit::{Audit, audit};
+use history_lock::History;
+use lease_table::TableEvent;
+use live_service::{LiveJob, LiveReport, OpenGate, run_live};
+use slicelet::SliceletEvent;
+use std::alloc::{AllocError, Global};
+use std::sync::Wait;
+use std::test::Fail;
+use std::thread::Threads;
+use world::Job;
+
+fn table_at_last(alloc: Global) -> Result<History<TableEvent>, Fail> {
+    let policy = policy(1).ok_or("within the limits")?;
+    let made = match table_history(alloc, policy, &[1], [0, 1, 2]) {
+        None => table_history(alloc, policy, &[1], [0, 1, 2]),
+        first => first,
+    };
+    Ok(made.ok_or("the calls are taken")?)
+}
+
+fn tasks_at_last(alloc: Global) -> Result<Vec<History<SliceletEvent>>, Fail> {
+    let made = match task_histories(alloc, 95) {
+        None => task_histories(alloc, 95),
+        first => first,
+    };
+    Ok(made.ok_or("the calls are taken")?)
+}
+
+fn audit_at_last(
+    alloc: Global,
+    table: &History<TableEvent>,
+    tasks: &[History<SliceletEvent>],
+) -> Result<Audit, Fail> {
+    let policy = policy(1).ok_or("within the limits")?;
+    let job = Job::new(policy, 2, 2, 2).ok_or("within the limits")?;
+    match audit(alloc, &job, table, tasks, &[], &[]) {
+        Err(AllocError) => Ok(audit(alloc, &job, table, tasks, &[], &[])?),
+        Ok(found) => Ok(found),
+    }
+}
+
+#[test]
+fn audits_as_before_without_memory(rt: HostRuntime) -> Result<(), Fail> {
+    let table = table_at_last(rt.alloc())?;
+    let tasks = tasks_at_last(rt.alloc())?;
+    let wanted = Audit::One {
+        steps: 6,
+        timely: true,
+    };
+    assert_eq!(rt; audit_at_last(rt.alloc(), &table, &tasks)?, wanted);
+    Ok(())
+}
+
+fn report_at_last<R: Threads + Wait + Sync>(rt: &R, alloc: Global) -> Result<LiveReport, Fail> {
+    let job = LiveJob::new(1, 1, 1, 2).ok_or("within the limits")?;
+    match run_live(rt, alloc, &job, &OpenGate) {
+        Err(AllocError) => Ok(run_live(rt, alloc, &job, &OpenGate)?),
+        Ok(report) => Ok(report),
+    }
+}
+
+#[test]
+fn runs_live_as_before_without_memory(rt: HostRuntime) -> Result<(), Fail> {
+    let report = report_at_last(&rt, rt.alloc())?;
+    assert_eq!(rt; (report.asked, report.generation), (2, 1));
+    assert!(rt; matches!(report.audit, Audit::One { .. }));
+    Ok(())
+}

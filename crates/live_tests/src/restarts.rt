@@ -1,0 +1,100 @@
+//! A table that restarts under the lock, and the audit of what it did.
+
+ghost use Rattle.history_lock.specs.Passes.{IsPassOf};
+ghost use Rattle.tickets.specs.Tickets.{DrawsFrom};
+
+use crate::calls::commit_first;
+use crate::objects::{close_table, first_task, halves, open_table, open_ticket, policy};
+use crate::refusals::refused;
+use audit::{Audit, audit};
+use history_lock::{History, Pass};
+use lease_table::{LeaseTable, TableError, TableEvent};
+use live_service::{RefusedCall, SharedTable, When};
+use std::alloc::Global;
+use std::sync::Wait;
+use std::test::Fail;
+use tickets::{Ticket, TicketPass};
+use world::{CallRecord, Job};
+
+// Task 1 is granted a lease until 105, the table restarts, and generation 2 is proposed: how many rows
+// were lost.
+fn lose<R: Wait>(
+    rt: &R,
+    alloc: Global,
+    table: &SharedTable,
+    ticket: &Ticket,
+    pass: &mut Pass<LeaseTable>,
+    draws: &mut TicketPass,
+) -> Result<u64, Fail>
+    requires own { IsPassOf table.now pass.old }
+    requires draws { DrawsFrom ticket.now draws.old }
+    ensures own { IsPassOf table.now pass.new }
+    ensures draws { DrawsFrom ticket.now draws.new }
+{
+    let task = first_task()?;
+    let next = halves(alloc, 2, 2, 2)?;
+    table
+        .grant(rt, ticket, pass, draws, task, 1, When::At(5))
+        .ok()
+        .ok_or("numbers are left")?;
+    let lost = table
+        .restart(rt, ticket, pass, draws)
+        .ok()
+        .ok_or("a restart is never refused")?;
+    table
+        .propose(rt, ticket, pass, draws, 1, next, When::At(20))
+        .ok()
+        .ok_or("nothing is proposed")?;
+    Ok(lost)
+}
+
+// The refusal of a commit while the lease of the lost row may run, and the generation that is committed
+// once it has ended.
+fn commits<R: Wait>(
+    rt: &R,
+    table: &SharedTable,
+    ticket: &Ticket,
+    pass: &mut Pass<LeaseTable>,
+    draws: &mut TicketPass,
+) -> Result<(RefusedCall<TableError>, u64), Fail>
+    requires own { IsPassOf table.now pass.old }
+    requires draws { DrawsFrom ticket.now draws.old }
+    ensures own { IsPassOf table.now pass.new }
+    ensures draws { DrawsFrom ticket.now draws.new }
+{
+    let early = table.commit(rt, ticket, pass, draws, 1, When::At(104));
+    let late = table
+        .commit(rt, ticket, pass, draws, 1, When::At(105))
+        .ok()
+        .ok_or("the lease has ended")?;
+    Ok((refused(early).ok_or("the lease may run")?, late))
+}
+
+fn audited(
+    alloc: Global,
+    table: &History<TableEvent>,
+    records: &[CallRecord],
+) -> Result<Audit, Fail> {
+    let job = Job::new(policy()?, 1, 2, 1).ok_or("within the limits")?;
+    Ok(audit(alloc, &job, table, &[], &[], records)?)
+}
+
+#[test]
+fn audits_a_commit_that_waits_for_a_lost_row(rt: HostRuntime) -> Result<(), Fail> {
+    let alloc = rt.alloc();
+    let (table, mut pass) = open_table(alloc, 10)?;
+    let (ticket, mut draws) = open_ticket(alloc, 8)?;
+    commit_first(&rt, alloc, &table, &ticket, &mut pass, &mut draws)?;
+    let lost = lose(&rt, alloc, &table, &ticket, &mut pass, &mut draws)?;
+    let (refusal, generation) = commits(&rt, &table, &ticket, &mut pass, &mut draws)?;
+    let RefusedCall { fault, call } = refusal;
+    let grace = TableError::Grace { until: 105 };
+    assert_eq!(rt; (lost, fault, generation), (1, grace, 2));
+    let history = close_table(alloc, table, pass)?;
+    let wanted = Audit::One {
+        steps: 8,
+        timely: true,
+    };
+    assert_eq!(rt; audited(alloc, &history, &[call])?, wanted);
+    Ok(())
+}
