@@ -27,4 +27,5 @@ pub mod Accepting
 pub mod Lawful
 pub mod Loaded
 pub mod Ranking
+pub mod Ratios
 pub mod Handing

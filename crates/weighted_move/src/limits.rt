@@ -1,0 +1,12 @@
+//! What the next move is held to.
+
+use crate::range::OwnerRange;
+
+/// How many tasks may own a slice, and how many keys may still move.
+#[derive(Clone, Copy, Debug)]
+pub struct MoveLimits {
+    /// How many tasks own a slice.
+    pub range: OwnerRange,
+    /// How many keys may move.
+    pub left: u64,
+}
