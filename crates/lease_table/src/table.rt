@@ -1,12 +1,12 @@
 //! The lease table.
 
-ghost use Rattle.std.specs.Prelude.{◌≡◌, ◌≤◌, ◌<◌, ◌+◌, ◌&&◌, IfOk, OnOk, OnErr, option_map, length, max};
+ghost use Rattle.std.specs.Prelude.{◌≡◌, ◌≤◌, ◌<◌, ◌+◌, ◌&&◌, IfOk, IfErr, OnOk, OnErr, None, option_map, length, max};
 ghost use Rattle.machines.specs.Refusals.{first_of};
 ghost use Rattle.slice_ranges.specs.Sets.{keys_where};
 ghost use Rattle.assignment.specs.Owners.{owns};
 ghost use Rattle.lease_table.specs.Tables.{opening, phase_of, generation_of, slices_of, last_number};
 ghost use Rattle.machines.specs.Answers.{Answers, Takes};
-ghost use Rattle.lease_table.specs.Steps.{grant_checks, standing_at, propose_checks, grant_with, with_row, take_step, renew_step, propose_step, commit_step, grant_step, free_step, restarted};
+ghost use Rattle.lease_table.specs.Steps.{grant_checks, standing_at, propose_checks, grant_with, with_row, take_step, renew_step, propose_step, commit_step, grant_step, free_step, restarted, refused_or_no_memory};
 
 mod checks;
 
@@ -179,6 +179,19 @@ impl LeaseTable {
         self.check_proposal(number, generation, too_many, at).err()
     }
 
+    /// Why a proposal of this assignment is refused, if it is: the refusals of
+    /// [`propose`](Self::propose) in their order.
+    pub fn assignment_refusal(
+        &self,
+        number: u64,
+        assignment: &Assignment,
+        at: u64,
+    ) -> Option<TableError>
+        ensures { result ≡ first_of (propose_checks self.now number assignment.now at) }
+    {
+        self.check_assignment(number, assignment, at).err()
+    }
+
     /// Commits the assignment that is proposed, under the job term of this number, and answers its
     /// generation.
     ///
@@ -203,9 +216,21 @@ impl LeaseTable {
         ensures { Takes (grant_step self.old task life at) self.old result self.new }
     {
         self.check_grant(at).map_err(Trouble::Refused)?;
-        let grant = self.next_grant(task, life, at)?;
+        let grant = self.grant_of_phase(task, life, at)?;
         self.add_row(grant.row(), at)?;
         Ok(grant)
+    }
+
+    /// The grant that [`grant`](Self::grant) would answer. The table stays as it is.
+    ///
+    /// Refused as `grant` is; out of memory comes last.
+    pub fn next_grant(&self, task: TaskId, life: u32, at: u64) -> Result<Grant, Trouble<TableError>>
+        ensures grant { IfOk result (λ grant. grant ≡ grant_with self.now self.now.pending task life at) }
+        ensures accepted { OnOk result (first_of (grant_checks self.now at) ≡ None) }
+        ensures refused { IfErr result (λ trouble. trouble ≡ refused_or_no_memory (first_of (grant_checks self.now at))) }
+    {
+        self.check_grant(at).map_err(Trouble::Refused)?;
+        Ok(self.grant_of_phase(task, life, at)?)
     }
 
     /// Why a grant at a reading is refused, if it is: the refusals of [`grant`](Self::grant) in their
@@ -279,7 +304,7 @@ impl LeaseTable {
     }
 
     // The grant of the phase.
-    fn next_grant(&self, task: TaskId, life: u32, at: u64) -> Result<Grant, AllocError>
+    fn grant_of_phase(&self, task: TaskId, life: u32, at: u64) -> Result<Grant, AllocError>
         requires reading { at < READINGS }
         requires number { self.now.granted < MOST_GRANTS }
         ensures grant { IfOk result (λ grant. grant ≡ grant_with self.now self.now.pending task life at) }
