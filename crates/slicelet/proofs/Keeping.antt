@@ -1,180 +1,205 @@
--- What a slicelet keeps is what its calls say, with one call more.
-use Rattle.std.proofs.Common.{◌≡◌, ◌∙◌, ℕ, ◌+◌, ◌≤◌, Bool, true, false, List, [], ◌∷◌, ◌++◌, length, reverse, refl, sym, ap, arith}
-use Rattle.std.proofs.lemmas.List.{reverse-append}
-use Rattle.std.specs.Prelude.{Option, Some, None, Result, Ok, Err, IfOk, is_some, option_map, if◌then◌else◌}
+-- What a slicelet keeps after a call stands for the state that its step leaves.
+use Rattle.std.proofs.Common.{◌≡◌, ◌∙◌, ℕ, ◌+◌, ◌≤◌, true, false, List, [], ◌∷◌, refl, sym, ap, subst, arith}
+use Rattle.std.specs.Prelude.{Option, Some, None, Result, Ok, Err, IfOk, is_some, option_map}
 use Rattle.slice_ranges.specs.Sets.{has}
 use Rattle.machines.specs.Refusals.{first_of}
 use Rattle.policy_rules.specs.declared.lease.Kind.{Kind}
 use Rattle.policy_rules.specs.declared.lease.Kind.TheVariants.{Guard, Bridge}
 use Rattle.policy_rules.specs.declared.holding.Holding.{Holding}
-use Rattle.policy_rules.specs.Leases.{same_kind}
 use Rattle.policy_rules.specs.declared.lease.Lease.{Lease}
-use Rattle.policy_rules.specs.Rule.{SeenHolding, holding_seen_from, rule, is_allowed, greatest}
-use Rattle.policy_rules.proofs.Permitting.{permitted_live}
+use Rattle.policy_rules.specs.Rule.{SeenHolding, holding_seen_from, rule, is_allowed}
 use Rattle.key_handle.specs.Stamps.{Stamps, since, restamped}
 use Rattle.lease_table.specs.declared.values.Grant.{Grant}
-use Rattle.slicelet.specs.declared.heard.HeardNumbers.{HeardNumbers}
+use Rattle.lease_table.specs.declared.values.ReleaseNote.{ReleaseNote}
+use Rattle.slicelet.specs.declared.error.SliceletError.{SliceletError}
+use Rattle.slicelet.specs.declared.heard.HeardGrant.{HeardGrant}
+use Rattle.slicelet.specs.declared.heard.HeardGrants.{HeardGrants}
 use Rattle.slicelet.specs.declared.call.SliceletCall.{SliceletCall}
 use Rattle.slicelet.specs.declared.call.SliceletCall.TheVariants.{Start, Hear, Release}
-use Rattle.slicelet.specs.Calls.{reading_of, is_started, last_reading, held, greatest_heard}
-use Rattle.slicelet.specs.Rules.{covers_key, holding_after, is_permitted}
-use Rattle.slicelet.specs.Steps.{old_number, start_checks, hear_checks, release_checks}
-use Rattle.slicelet.specs.inside.State.{IsStateAfter, holding_of, lease_of_kind, with_lease, number_of_kind, with_number}
-use Rattle.slicelet.specs.inside.Stamping.{turns, stamp_of, serves, Renews}
+use Rattle.slicelet.specs.Calls.{reading_of, is_started, last_reading}
+use Rattle.slicelet.specs.Rules.{covers_key}
+use Rattle.slicelet.specs.Stamping.{turns, stamp_of, stamps_where}
+use Rattle.slicelet.specs.States.{SliceletState, state_after, held_in, greatest_in, stamp_in, holding_in, permits}
+use Rattle.slicelet.specs.Steps.{hear_checks, release_checks, hear_step, release_step, number_of, note_of, with_grant, with_greatest, moved_by, read_at, counted, next_state}
+use Rattle.slicelet.specs.Accepted.{StandsAfter}
+use Rattle.slicelet.specs.inside.State.{lease_of_kind, with_lease, heard_of_kind, with_heard, number_in, granted_as, leases_of, state_of}
+use Rattle.slicelet.specs.inside.Stamping.{serves, IsRestamped, Renews}
+use Rattle.slicelet.proofs.Seeing.{seen_leases, permits_served}
+use Rattle.slicelet.proofs.States.{same_stamps, stamp_among_where}
+use Rattle.slicelet.proofs.Stamping.{after_last, stamp_unchanged}
 use Rattle.slicelet.proofs.Accepting.{hear_accepted, release_accepted}
-use Rattle.slicelet.proofs.Seeing.{seen_holding}
-use Rattle.slicelet.proofs.Stamping.{length-turns, after_last, stamp_unchanged}
-use Rattle.slicelet.proofs.OwnLeases.{greatest_above, own_leases}
+use Rattle.slicelet.proofs.Standing.{restamped_same, leads_on}
 
--- the last call is the newest
-pub newest_call : {X : Type 0} (xs : List X) (x : X) → reverse (xs ++ x ∷ []) ≡ x ∷ reverse xs
-newest_call xs x = reverse-append xs (x ∷ [])
+-- THE STAMPS AFTER A CALL
 
--- what the held leases serve is permitted, at the last reading or later
-serves_permitted : (key : ℕ) (h : List SliceletCall) (at : ℕ) → is_started h ≡ true → last_reading h ≤ at → serves (holding_of h) key at ≡ is_permitted (covers_key key) h at
-serves_permitted key h at started l =
-    let seen : holding_after (covers_key key) h ≡ holding_seen_from (holding_of h) key = sym (seen_holding key h) in
-    sym (ap (λ (s : SeenHolding). is_allowed (rule s at)) seen ∙ permitted_live (holding_seen_from (holding_of h) key) at started l)
-
--- what leases serve does not depend on the last reading
-serves_at_last : (holding : Holding) (kind : Kind) (lease : Option Lease) (key last at : ℕ) → serves (with_lease holding kind lease) key at ≡ serves (with_lease (record holding { last = last }) kind lease) key at
-serves_at_last holding Guard lease key last at = refl
-serves_at_last holding Bridge lease key last at = refl
+-- the stamps that a call makes are those that its step leaves
+stamps_left : (s moved : SliceletState) (at : ℕ) (next : Holding) (stamps : Stamps) → IsRestamped s at next stamps → moved.up ≡ true → moved.last ≤ at
+    → ((key : ℕ) → serves next key at ≡ serves (leases_of moved) key at) → stamps_where (since stamps) ≡ (counted s moved at).stamps
+stamps_left s moved at next stamps r started l same = same_stamps _ _ (λ key k.
+    r key k ∙ restamped_same (stamp_in s key) _ (permits s key at) _ _ _ (s.count + 1) _ refl refl (same key ∙ sym (permits_served moved key at started l)) refl)
 
 -- what is served now was permitted just after the newest call
-left_last : (key : ℕ) (h : List SliceletCall) (at : ℕ) → is_started h ≡ true → last_reading h ≤ at
-    → ((earlier : ℕ) → earlier ≤ at → serves (holding_of h) key earlier ≡ serves (holding_of h) key at) → after_last (turns (covers_key key) h) ≡ serves (holding_of h) key at
-left_last key [] at started l stays = absurd (cc)
-left_last key (c ∷ h) at started l stays =
+left_last : (task key : ℕ) (h : List SliceletCall) (at : ℕ) → is_started h ≡ true → last_reading h ≤ at
+    → ((earlier : ℕ) → earlier ≤ at → serves (leases_of (state_after task h)) key earlier ≡ serves (leases_of (state_after task h)) key at)
+    → after_last (turns (covers_key key) h) ≡ serves (leases_of (state_after task h)) key at
+left_last task key [] at started l stays = absurd (cc)
+left_last task key (c ∷ h) at started l stays =
     let on_time : reading_of c ≤ reading_of c = omega arith in
-    sym (serves_permitted key (c ∷ h) (reading_of c) started on_time) ∙ stays (reading_of c) l
+    permits_served (state_after task (c ∷ h)) key (reading_of c) started on_time ∙ stays (reading_of c) l
 
--- the stamp after one call more
-abbrev pub IsRestamped : List SliceletCall → ℕ → Holding → Stamps → Type 0
-IsRestamped h at next stamps =
-    (key : ℕ) → since stamps key ≡ restamped (stamp_of (covers_key key) h) (is_permitted (covers_key key) h at) (serves next key at) (length h + 1)
+renewed_after : (task : ℕ) (h : List SliceletCall) (at n key : ℕ) (next : Holding) → is_started h ≡ true → last_reading h ≤ at → Renews (leases_of (state_after task h)) next at
+    → stamp_of (covers_key key) h ≡ restamped (stamp_of (covers_key key) h) (permits (state_after task h) key at) (serves next key at) n
+renewed_after task h at n key next started l renews =
+    let served = serves (leases_of (state_after task h)) key at in
+    stamp_unchanged (turns (covers_key key) h) served n (left_last task key h at started l (renews.stays key))
+    ∙ sym (restamped_same (stamp_of (covers_key key) h) _ _ _ _ _ n _ refl (permits_served (state_after task h) key at started l) (renews.same key) refl)
 
-restamped_same : (o p : Option ℕ) (b c a d : Bool) (m n : ℕ) → o ≡ p → b ≡ c → a ≡ d → m ≡ n → restamped o b a m ≡ restamped p c d n
-restamped_same o p b c a d m n e f g i = rw (e, f, g, i) refl
+-- a lease that renews what is held leaves the stamps
+renewed_stamps : (h : List SliceletCall) (s : SliceletState) (at : ℕ) (next : Holding) (stamps : Stamps) → StandsAfter h s → s.up ≡ true → s.last ≤ at
+    → s.stamps ≡ stamps_where (since stamps) → Renews (leases_of s) next at → IsRestamped s at next stamps
+renewed_stamps h s at next stamps k started l are renews key inside =
+    let here : stamp_in s key ≡ since stamps key = ap (λ (xs : List (Option ℕ)). stamp_in (record s { stamps = xs }) key) are ∙ stamp_among_where (since stamps) key inside in
+    let there : stamp_in s key ≡ stamp_of (covers_key key) h = ap (λ (x : SliceletState). stamp_in x key) k.state ∙ stamp_among_where (λ key. stamp_of (covers_key key) h) key inside in
+    let kept = renewed_after s.task h at (s.count + 1) key next (ap (λ (x : SliceletState). x.up) (sym k.state) ∙ started)
+    (subst (λ (x : SliceletState). x.last ≤ at) k.state l) (subst (λ (x : SliceletState). Renews (leases_of x) next at) k.state renews) in
+    sym here ∙ there ∙ kept
+    ∙ restamped_same _ _ _ _ _ _ _ _ (sym there) (ap (λ (x : SliceletState). permits x key at) (sym k.state)) refl refl
 
-stamped_next : (h : List SliceletCall) (c : SliceletCall) (next : Holding) (stamps : Stamps) → IsRestamped h (reading_of c) next stamps → is_started (c ∷ h) ≡ true
-    → ((key : ℕ) → serves next key (reading_of c) ≡ serves (holding_of (c ∷ h)) key (reading_of c)) → (key : ℕ) → since stamps key ≡ stamp_of (covers_key key) (c ∷ h)
-stamped_next h c next stamps e started same key =
-    let on_time : reading_of c ≤ reading_of c = omega arith in
-    let served : serves next key (reading_of c) ≡ is_permitted (covers_key key) (c ∷ h) (reading_of c) = same key ∙ serves_permitted key (c ∷ h) (reading_of c) started on_time in
-    e key ∙ restamped_same (stamp_of (covers_key key) h) _ (is_permitted (covers_key key) h (reading_of c)) _ _ _ _ _ refl refl served (ap (λ (n : ℕ). n + 1) (sym (length-turns (covers_key key) h)))
+-- THE STATE THAT A SLICELET STANDS FOR
 
-module _ (task : ℕ) (h : List SliceletCall) (life : ℕ) (holding : Holding) (heard : HeardNumbers) (stamps : Stamps) (k : IsStateAfter task h life holding heard stamps) where
-  -- what is kept after a `start`
-  pub keeps_started : (next at : ℕ) → first_of (start_checks h next at) ≡ None
-      → IsStateAfter task (Start next at ∷ h) next (record { up = true; last = at; guard = None; bridge = None }) (record { guard = None; bridge = None }) []
-  keeps_started next at accepted = record { accepted = (accepted, k.accepted); lives = refl; holds = refl; hears = numbers; stamped = no_stamps }
-    where
-      numbers : (kind : Kind) → number_of_kind (record { guard = None; bridge = None }) kind ≡ None
-      numbers Guard = refl
-      numbers Bridge = refl
+lease_back : (task life : ℕ) (heard : Option HeardGrant) (held : Option Lease) → option_map (λ (grant : Grant). grant.lease) (option_map (granted_as task life heard) held) ≡ held
+lease_back task life heard None = refl
+lease_back task life heard (Some lease) = refl
 
-      no_stamps : (key : ℕ) → since [] key ≡ stamp_of (covers_key key) (Start next at ∷ h)
-      no_stamps key =
-          let on_time : at ≤ at = omega arith in
-          let none : is_permitted (covers_key key) (Start next at ∷ h) at ≡ false = permitted_live (holding_after (covers_key key) (Start next at ∷ h)) at refl on_time in
-          sym (restamped_same (stamp_of (covers_key key) h) _ (is_permitted (covers_key key) h at) _ _ false (length (turns (covers_key key) h) + 1) _ refl refl none refl)
+module _ (task count life : ℕ) (holding : Holding) (heard : HeardGrants) (stamps : Stamps) where
+  pub leases_kept : leases_of (state_of task count life holding heard stamps) ≡ holding
+  leases_kept = rw (lease_back task life heard.guard holding.guard, lease_back task life heard.bridge holding.bridge) refl
 
-  -- after a `hear`
-  pub keeps_heard : (grant : Grant) (at : ℕ) (new : Stamps) → IsRestamped h at (with_lease (holding_of h) grant.lease.kind (Some grant.lease)) new
-      → first_of (hear_checks (record { task = task; calls = h }) grant at) ≡ None
-      → IsStateAfter task (Hear grant at ∷ h) life (with_lease (record holding { last = at }) grant.lease.kind (Some grant.lease)) (with_number heard grant.lease.kind grant.number) new
-  keeps_heard grant at new restamps accepted = record {
-    accepted = (accepted, k.accepted);
-    lives = k.lives;
-    holds = rw k.holds (of_kind grant.lease.kind refl);
-    hears = λ kind. numbers grant.lease.kind kind refl;
-    stamped = stamped_next h (Hear grant at) (with_lease (holding_of h) grant.lease.kind (Some grant.lease)) new restamps (hear_accepted (record { task = task; calls = h }) grant at accepted).started served;
-  }
-    where
-      of_kind : (kind : Kind) → grant.lease.kind ≡ kind → with_lease (record (holding_of h) { last = at }) kind (Some grant.lease) ≡ holding_of (Hear grant at ∷ h)
-      of_kind Guard e = rw e refl
-      of_kind Bridge e = rw e refl
+  -- the rule over what is kept is the rule over the state
+  pub seen_kept : (key : ℕ) → holding_seen_from holding key ≡ holding_in (covers_key key) (state_of task count life holding heard stamps)
+  seen_kept key = ap (λ (held : Holding). holding_seen_from held key) (sym leases_kept) ∙ seen_leases key (state_of task count life holding heard stamps)
 
-      served : (key : ℕ) → serves (with_lease (holding_of h) grant.lease.kind (Some grant.lease)) key at ≡ serves (holding_of (Hear grant at ∷ h)) key at
-      served key =
-          serves_at_last (holding_of h) grant.lease.kind (Some grant.lease) key at at
-          ∙ ap (λ (held : Holding). serves held key at) (of_kind grant.lease.kind refl)
-
-      newer : old_number grant.number (greatest_heard grant.lease.kind h) ≡ None
-      newer = (hear_accepted (record { task = task; calls = h }) grant at accepted).newer
-
-      numbers : (granted kind : Kind) → grant.lease.kind ≡ granted
-          → number_of_kind (with_number heard granted grant.number) kind ≡ greatest (if same_kind granted kind then Some grant.number else None) (greatest_heard kind h)
-      numbers Guard Guard e = sym (greatest_above grant.number (greatest_heard Guard h) (rw (sym e) newer))
-      numbers Guard Bridge e = k.hears Bridge
-      numbers Bridge Guard e = k.hears Guard
-      numbers Bridge Bridge e = sym (greatest_above grant.number (greatest_heard Bridge h) (rw (sym e) newer))
-
-  -- after a `release`
-  pub keeps_released : (kind : Kind) (at : ℕ) (new : Stamps) → IsRestamped h at (with_lease (holding_of h) kind None) new → first_of (release_checks h kind at) ≡ None
-      → IsStateAfter task (Release kind at ∷ h) life (with_lease (record holding { last = at }) kind None) heard new
-  keeps_released kind at new restamps accepted = record {
-    accepted = (accepted, k.accepted);
-    lives = k.lives;
-    holds = rw k.holds (of_kind kind);
-    hears = k.hears;
-    stamped = stamped_next h (Release kind at) (with_lease (holding_of h) kind None) new restamps (release_accepted h kind at accepted).started served;
-  }
-    where
-      of_kind : (kind : Kind) → with_lease (record (holding_of h) { last = at }) kind None ≡ holding_of (Release kind at ∷ h)
-      of_kind Guard = refl
-      of_kind Bridge = refl
-
-      served : (key : ℕ) → serves (with_lease (holding_of h) kind None) key at ≡ serves (holding_of (Release kind at ∷ h)) key at
-      served key = serves_at_last (holding_of h) kind None key at at ∙ ap (λ (held : Holding). serves held key at) (of_kind kind)
+  pub permits_kept : (key at : ℕ) → is_allowed (rule (holding_seen_from holding key) at) ≡ permits (state_of task count life holding heard stamps) key at
+  permits_kept key at = ap (λ (seen : SeenHolding). is_allowed (rule seen at)) (seen_kept key)
 
   -- the stamps that a slicelet makes for its next call
-  pub restamped_next : {E : Type 0} (kind : Kind) (lease : Option Lease) (at count : ℕ) (before after : List ℕ) (result : Result Stamps E)
-      → ((key : ℕ) → has before key ≡ is_allowed (rule (holding_seen_from holding key) at)) → ((key : ℕ) → has after key ≡ serves (with_lease holding kind lease) key at) → count ≡ length h + 1
-      → IfOk result (λ s. (key : ℕ) → since s key ≡ restamped (since stamps key) (has before key) (has after key) count) → IfOk result (IsRestamped h at (with_lease (holding_of h) kind lease))
-  restamped_next kind lease at count before after (Err e) permits serve counted is = is
-  restamped_next kind lease at count before after (Ok new) permits serve counted is = λ key.
-      let before_is : has before key ≡ is_permitted (covers_key key) h at = (rw k.holds at (permits key)) ∙ ap (λ (s : SeenHolding). is_allowed (rule s at)) (seen_holding key h) in
-      let after_is : has after key ≡ serves (with_lease (holding_of h) kind lease) key at = rw k.holds at (serve key) in
-      is key ∙ restamped_same _ _ _ _ _ _ _ _ (k.stamped key) before_is after_is counted
+  pub restamped_is : {E : Type 0} (kind : Kind) (lease : Option Lease) (at n : ℕ) (before after : List ℕ) (result : Result Stamps E)
+      → ((key : ℕ) → has before key ≡ is_allowed (rule (holding_seen_from holding key) at)) → ((key : ℕ) → has after key ≡ serves (with_lease holding kind lease) key at) → n ≡ count + 1
+      → IfOk result (λ s. (key : ℕ) → since s key ≡ restamped (since stamps key) (has before key) (has after key) n)
+      → IfOk result (IsRestamped (state_of task count life holding heard stamps) at (with_lease (leases_of (state_of task count life holding heard stamps)) kind lease))
+  restamped_is kind lease at n before after (Err e) permits serve counted is = is
+  restamped_is kind lease at n before after (Ok new) permits serve counted is = λ key inside.
+      is key ∙ restamped_same _ _ _ _ _ _ _ _ (sym (stamp_among_where (since stamps) key inside)) (permits key ∙ permits_kept key at)
+      (serve key ∙ ap (λ (held : Holding). serves (with_lease held kind lease) key at) (sym leases_kept)) counted
 
-  -- after a `hear` of a lease that renews what is held, the stamps stay
-  pub keeps_renewed : (grant : Grant) (at : ℕ) → Renews holding (with_lease holding grant.lease.kind (Some grant.lease)) at → first_of (hear_checks (record { task = task; calls = h }) grant at) ≡ None
-      → IsStateAfter task (Hear grant at ∷ h) life (with_lease (record holding { last = at }) grant.lease.kind (Some grant.lease)) (with_number heard grant.lease.kind grant.number) stamps
-  keeps_renewed grant at renewed accepted = keeps_heard grant at stamps restamps accepted
+  -- a lease that renews what is held leaves the stamps
+  pub renewed_is : (h : List SliceletCall) (kind : Kind) (lease : Option Lease) (at : ℕ) → StandsAfter h (state_of task count life holding heard stamps) → holding.up ≡ true → holding.last ≤ at
+      → Renews holding (with_lease holding kind lease) at
+      → IsRestamped (state_of task count life holding heard stamps) at (with_lease (leases_of (state_of task count life holding heard stamps)) kind lease) stamps
+  renewed_is h kind lease at k started l renews =
+      renewed_stamps h (state_of task count life holding heard stamps) at _ stamps k started l refl
+      (subst (λ (held : Holding). Renews held (with_lease held kind lease) at) (sym leases_kept) renews)
+
+  pub greatest_kept : (kind : Kind) → greatest_in (state_of task count life holding heard stamps) kind ≡ number_in (heard_of_kind heard kind)
+  greatest_kept Guard = refl
+  greatest_kept Bridge = refl
+
+  -- a lease is held of a kind
+  pub holds_kept : (kind : Kind) → is_some (lease_of_kind holding kind) ≡ is_some (held_in (state_of task count life holding heard stamps) kind)
+  holds_kept Guard = by_held holding.guard
     where
-      renews : Renews (holding_of h) (with_lease (holding_of h) grant.lease.kind (Some grant.lease)) at
-      renews = rw k.holds at renewed
-
-      restamps : IsRestamped h at (with_lease (holding_of h) grant.lease.kind (Some grant.lease)) stamps
-      restamps key =
-          let hears = hear_accepted (record { task = task; calls = h }) grant at accepted in
-          let served = serves (holding_of h) key at in
-          let before : is_permitted (covers_key key) h at ≡ served = sym (serves_permitted key h at hears.started hears.in_order) in
-          k.stamped key ∙ stamp_unchanged (turns (covers_key key) h) served (length h + 1) (left_last key h at hears.started hears.in_order (renews.stays key))
-          ∙ sym (restamped_same (stamp_of (covers_key key) h) _ _ _ _ _ (length h + 1) _ refl before (renews.same key) refl)
-
-  -- a held lease has the greatest number heard of its kind
-  pub number_held : (kind : Kind) → is_some (lease_of_kind (holding_of h) kind) ≡ true → greatest_heard kind h ≡ option_map (λ (grant : Grant). grant.number) (held kind h)
-  number_held kind e = by_held (held kind h) refl (of_kind kind e)
+      by_held : (o : Option Lease) → is_some o ≡ is_some (option_map (granted_as task life heard.guard) o)
+      by_held None = refl
+      by_held (Some lease) = refl
+  holds_kept Bridge = by_held holding.bridge
     where
-      of_kind : (kind : Kind) → is_some (lease_of_kind (holding_of h) kind) ≡ true → is_some (option_map (λ (grant : Grant). grant.lease) (held kind h)) ≡ true
-      of_kind Guard e = e
-      of_kind Bridge e = e
+      by_held : (o : Option Lease) → is_some o ≡ is_some (option_map (granted_as task life heard.bridge) o)
+      by_held None = refl
+      by_held (Some lease) = refl
 
-      by_held : (o : Option Grant) → held kind h ≡ o → is_some (option_map (λ (grant : Grant). grant.lease) o) ≡ true
-          → greatest_heard kind h ≡ option_map (λ (grant : Grant). grant.number) o
-      by_held None q e = absurd (cc)
-      by_held (Some grant) q e = ((own_leases task h k.accepted).own kind grant q).greatest
-
-  pub none_held : (kind : Kind) → is_some (lease_of_kind (holding_of h) kind) ≡ false → None ≡ option_map (λ (grant : Grant). grant.number) (held kind h)
-  none_held kind e = by_held (held kind h) (of_kind kind e)
+  -- after a `start`
+  pub started_is : (next at : ℕ)
+      → state_of task (count + 1) next (record { up = true; last = at; guard = None; bridge = None }) (record { guard = None; bridge = None }) []
+      ≡ next_state (state_of task count life holding heard stamps) (Start next at)
+  started_is next at =
+      ap (λ (all : List (Option ℕ)). let s : SliceletState = record (next_state (state_of task count life holding heard stamps) (Start next at)) { stamps = all } in s) (same_stamps _ _ (λ key k. sym (no_stamp key)))
     where
-      of_kind : (kind : Kind) → is_some (lease_of_kind (holding_of h) kind) ≡ false → is_some (option_map (λ (grant : Grant). grant.lease) (held kind h)) ≡ false
-      of_kind Guard e = e
-      of_kind Bridge e = e
+      no_stamp : (key : ℕ) → restamped (stamp_in (state_of task count life holding heard stamps) key) (permits (state_of task count life holding heard stamps) key at)
+          (permits (read_at at (moved_by (state_of task count life holding heard stamps) (Start next at))) key at) (count + 1) ≡ None
+      no_stamp key =
+          let on_time : at ≤ at = omega arith in
+          let none : permits (read_at at (moved_by (state_of task count life holding heard stamps) (Start next at))) key at ≡ false =
+          permits_served (read_at at (moved_by (state_of task count life holding heard stamps) (Start next at))) key at refl on_time in
+          restamped_same (stamp_in (state_of task count life holding heard stamps) key) _ (permits (state_of task count life holding heard stamps) key at) _ _ false (count + 1) _ refl refl none refl
 
-      by_held : (o : Option Grant) → is_some (option_map (λ (grant : Grant). grant.lease) o) ≡ false → None ≡ option_map (λ (grant : Grant). grant.number) o
-      by_held None e = refl
-      by_held (Some grant) e = absurd (cc)
+  -- after a `hear`
+  pub heard_is : (grant : Grant) (at : ℕ) (new : Stamps) → grant.task ≡ task → grant.life ≡ life → holding.up ≡ true
+      → IsRestamped (state_of task count life holding heard stamps) at (with_lease (leases_of (state_of task count life holding heard stamps)) grant.lease.kind (Some grant.lease)) new
+      → state_of task (count + 1) life (with_lease (record holding { last = at }) grant.lease.kind (Some grant.lease))
+      (with_heard heard grant.lease.kind (record { number = grant.number; table_ends = grant.table_ends })) new
+      ≡ next_state (state_of task count life holding heard stamps) (Hear grant at)
+  heard_is grant at new of_task of_life started r = by_kind grant.lease.kind refl r
+    where
+      own : granted_as task life (Some (record { number = grant.number; table_ends = grant.table_ends })) grant.lease ≡ grant
+      own = rw (sym of_task, sym of_life) refl
+
+      left : Kind → SliceletState
+      left kind = read_at at (with_greatest kind grant.number (with_grant kind (Some grant) (state_of task count life holding heard stamps)))
+
+      by_kind : (kind : Kind) → grant.lease.kind ≡ kind
+          → IsRestamped (state_of task count life holding heard stamps) at (with_lease (leases_of (state_of task count life holding heard stamps)) kind (Some grant.lease)) new
+          → state_of task (count + 1) life (with_lease (record holding { last = at }) kind (Some grant.lease)) (with_heard heard kind (record { number = grant.number; table_ends = grant.table_ends })) new
+          ≡ next_state (state_of task count life holding heard stamps) (Hear grant at)
+      by_kind Guard k r =
+          let on_time : at ≤ at = omega arith in
+          ap (λ (g : Grant). let s : SliceletState = record (counted (state_of task count life holding heard stamps) (left Guard) at) { guard = Some g; stamps = stamps_where (since new) } in s) own
+          ∙ ap (λ (all : List (Option ℕ)). let s : SliceletState = record (counted (state_of task count life holding heard stamps) (left Guard) at) { stamps = all } in s)
+          (stamps_left (state_of task count life holding heard stamps) (left Guard) at (with_lease (leases_of (state_of task count life holding heard stamps)) Guard (Some grant.lease)) new r started on_time (λ key. refl))
+          ∙ ap (λ (kind : Kind). counted (state_of task count life holding heard stamps) (left kind) at) (sym k)
+      by_kind Bridge k r =
+          let on_time : at ≤ at = omega arith in
+          ap (λ (g : Grant). let s : SliceletState = record (counted (state_of task count life holding heard stamps) (left Bridge) at) { bridge = Some g; stamps = stamps_where (since new) } in s) own
+          ∙ ap (λ (all : List (Option ℕ)). let s : SliceletState = record (counted (state_of task count life holding heard stamps) (left Bridge) at) { stamps = all } in s)
+          (stamps_left (state_of task count life holding heard stamps) (left Bridge) at (with_lease (leases_of (state_of task count life holding heard stamps)) Bridge (Some grant.lease)) new r started on_time (λ key. refl))
+          ∙ ap (λ (kind : Kind). counted (state_of task count life holding heard stamps) (left kind) at) (sym k)
+
+  -- after a `release`
+  pub released_is : (kind : Kind) (at : ℕ) (new : Stamps) → holding.up ≡ true
+      → IsRestamped (state_of task count life holding heard stamps) at (with_lease (leases_of (state_of task count life holding heard stamps)) kind None) new
+      → state_of task (count + 1) life (with_lease (record holding { last = at }) kind None) heard new
+      ≡ next_state (state_of task count life holding heard stamps) (Release kind at)
+  released_is Guard at new started r =
+      let on_time : at ≤ at = omega arith in
+      ap (λ (all : List (Option ℕ)). let s : SliceletState = record (next_state (state_of task count life holding heard stamps) (Release Guard at)) { stamps = all } in s)
+      (stamps_left (state_of task count life holding heard stamps) (read_at at (moved_by (state_of task count life holding heard stamps) (Release Guard at))) at (with_lease (leases_of (state_of task count life holding heard stamps)) Guard None) new r started on_time (λ key. refl))
+  released_is Bridge at new started r =
+      let on_time : at ≤ at = omega arith in
+      ap (λ (all : List (Option ℕ)). let s : SliceletState = record (next_state (state_of task count life holding heard stamps) (Release Bridge at)) { stamps = all } in s)
+      (stamps_left (state_of task count life holding heard stamps) (read_at at (moved_by (state_of task count life holding heard stamps) (Release Bridge at))) at (with_lease (leases_of (state_of task count life holding heard stamps)) Bridge None) new r started on_time (λ key. refl))
+
+  -- what a `hear` leaves stands after one call more, as its step says
+  pub heard_stands : (h : List SliceletCall) (grant : Grant) (at : ℕ) (new : Stamps) → StandsAfter h (state_of task count life holding heard stamps) → first_of (hear_checks (state_of task count life holding heard stamps) grant at) ≡ None
+      → IsRestamped (state_of task count life holding heard stamps) at (with_lease (leases_of (state_of task count life holding heard stamps)) grant.lease.kind (Some grant.lease)) new
+      → StandsAfter (Hear grant at ∷ h) (state_of task (count + 1) life (with_lease (record holding { last = at }) grant.lease.kind (Some grant.lease))
+      (with_heard heard grant.lease.kind (record { number = grant.number; table_ends = grant.table_ends })) new)
+      × (hear_step (state_of task count life holding heard stamps) grant at ≡ Ok (
+        state_of task (count + 1) life (with_lease (record holding { last = at }) grant.lease.kind (Some grant.lease))
+            (with_heard heard grant.lease.kind (record { number = grant.number; table_ends = grant.table_ends })) new,
+        tt,
+      ))
+  heard_stands h grant at new k e r =
+      let accepted = hear_accepted (state_of task count life holding heard stamps) grant at e in
+      let is = heard_is grant at new accepted.of_task accepted.of_life accepted.started r in
+      (subst (λ (s : SliceletState). StandsAfter (Hear grant at ∷ h) s) (sym is) (leads_on h (state_of task count life holding heard stamps) (Hear grant at) k e), rw e (ap (λ (s : SliceletState). let answer : Result (SliceletState × Unit {0}) SliceletError = Ok (s, tt) in answer) (sym is)))
+
+  -- so does what a `release` leaves
+  pub released_stands : (h : List SliceletCall) (kind : Kind) (at : ℕ) (new : Stamps) (number : ℕ) → StandsAfter h (state_of task count life holding heard stamps) → first_of (release_checks (state_of task count life holding heard stamps) kind at) ≡ None
+      → number ≡ number_of (held_in (state_of task count life holding heard stamps) kind) → IsRestamped (state_of task count life holding heard stamps) at (with_lease (leases_of (state_of task count life holding heard stamps)) kind None) new
+      → StandsAfter (Release kind at ∷ h) (state_of task (count + 1) life (with_lease (record holding { last = at }) kind None) heard new)
+      × (release_step (state_of task count life holding heard stamps) kind at ≡ Ok (state_of task (count + 1) life (with_lease (record holding { last = at }) kind None) heard new, record { task = task; life = life; kind = kind; number = number }))
+  released_stands h kind at new number k e n r =
+      let accepted = release_accepted (state_of task count life holding heard stamps) kind at e in
+      let is = released_is kind at new accepted.started r in (
+        subst (λ (s : SliceletState). StandsAfter (Release kind at ∷ h) s) (sym is) (leads_on h (state_of task count life holding heard stamps) (Release kind at) k e),
+        rw (e, n) (ap (λ (s : SliceletState). let answer : Result (SliceletState × ReleaseNote) SliceletError = Ok (s, note_of (state_of task count life holding heard stamps) kind) in answer) (sym is)),
+      )

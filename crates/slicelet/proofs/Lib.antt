@@ -1,8 +1,10 @@
 pub mod Accepting
+pub mod States
 pub mod OwnLeases
-pub mod Keeping
-pub mod Seeing
 pub mod Stamping
 pub mod Between
 pub mod Allowing
 pub mod Hearing
+pub mod Standing
+pub mod Seeing
+pub mod Keeping

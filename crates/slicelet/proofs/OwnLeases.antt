@@ -15,8 +15,10 @@ use Rattle.slicelet.specs.declared.error.SliceletError.TheVariants.{Old}
 use Rattle.slicelet.specs.declared.call.SliceletCall.{SliceletCall}
 use Rattle.slicelet.specs.declared.call.SliceletCall.TheVariants.{Start, Hear, Release}
 use Rattle.slicelet.specs.Calls.{this_life, life_of, is_about, heard_by, held, greatest_heard}
+use Rattle.slicelet.specs.States.{state_after}
 use Rattle.slicelet.specs.Steps.{start_checks, hear_checks, release_checks, old_number, number_of, note_of}
 use Rattle.slicelet.specs.Accepted.{AreAccepted, notes_sent}
+use Rattle.slicelet.proofs.States.{held_after, greatest_after}
 use Rattle.slicelet.proofs.Accepting.{IsHearAccepted, start_accepted, hear_accepted, release_accepted}
 use Rattle.slicelet.specs.Laws.{IsOwn, IsUpTo, IsSpent, HoldsOwnLeases, IsAbove}
 
@@ -57,32 +59,34 @@ held_number_heard task h kind None q e own = absurd (cc)
 held_number_heard task h kind (Some grant) q e own = rw ((own grant refl).greatest) (omega arith)
 
 -- lives rise
-pub life_rises : (life at : ℕ) (h : List SliceletCall) → first_of (start_checks h life at) ≡ None → life_of h < life
-life_rises life at h e =
-    (start_accepted h life at e).newer
+pub life_rises : (task life at : ℕ) (h : List SliceletCall) → first_of (start_checks (state_after task h) life at) ≡ None → life_of h < life
+life_rises task life at h e = (start_accepted (state_after task h) life at e).newer
 
 module _ (task : ℕ) (h : List SliceletCall) (s : HoldsOwnLeases task h) where
-  own_after_start : (life at : ℕ) → first_of (start_checks h life at) ≡ None → HoldsOwnLeases task (Start life at ∷ h)
+  own_after_start : (life at : ℕ) → first_of (start_checks (state_after task h) life at) ≡ None → HoldsOwnLeases task (Start life at ∷ h)
   own_after_start life at e =
-      let newer : life_of h < life = life_rises life at h e in
+      let newer : life_of h < life = life_rises task life at h e in
       record {
         own = λ kind grant q. absurd (cc);
         spent = all_weaker (IsSpent h) (IsSpent (Start life at ∷ h)) (notes_sent task h)
             (λ note n. let l : note.life ≤ life_of h = n.of_life in record { of_life = omega arith; heard = λ q. absurd (omega (arith, q)); newer = λ q. absurd (omega (arith, q)) }) s.spent;
       }
 
-  own_after_hear : (grant : Grant) (at : ℕ) → first_of (hear_checks (record { task = task; calls = h }) grant at) ≡ None → HoldsOwnLeases task (Hear grant at ∷ h)
+  own_after_hear : (grant : Grant) (at : ℕ) → first_of (hear_checks (state_after task h) grant at) ≡ None → HoldsOwnLeases task (Hear grant at ∷ h)
   own_after_hear grant at e = record { own = λ kind other. own kind other (same_kind grant.lease.kind kind) refl; spent = all_weaker (IsSpent h) (IsSpent (Hear grant at ∷ h)) (notes_sent task h) spent s.spent }
     where
-      accepted : IsHearAccepted (record { task = task; calls = h }) grant at
-      accepted = hear_accepted (record { task = task; calls = h }) grant at e
+      accepted : IsHearAccepted (state_after task h) grant at
+      accepted = hear_accepted (state_after task h) grant at e
+
+      newer : old_number grant.number (greatest_heard grant.lease.kind h) ≡ None
+      newer = rw (greatest_after task h grant.lease.kind) at accepted.newer
 
       its_own : IsOwn task (Hear grant at ∷ h) grant.lease.kind grant
       its_own = record {
         of_task = accepted.of_task;
         of_life = accepted.of_life;
         of_kind = refl;
-        greatest = rw (same_itself grant.lease.kind) (greatest_above grant.number (greatest_heard grant.lease.kind h) accepted.newer);
+        greatest = rw (same_itself grant.lease.kind) (greatest_above grant.number (greatest_heard grant.lease.kind h) newer);
       }
 
       own : (kind : Kind) (other : Grant) (b : Bool) → b ≡ same_kind grant.lease.kind kind
@@ -106,14 +110,14 @@ module _ (task : ℕ) (h : List SliceletCall) (s : HoldsOwnLeases task h) where
           by_test true t q other p =
               let same : grant ≡ other = cc in
               let kinds : grant.lease.kind ≡ note.kind = equal_kinds grant.lease.kind note.kind (sym t) in
-              subst (λ (g : Grant). note.number < g.number) same (below (greatest_heard note.kind h) refl (n.heard q) (rw (sym kinds) accepted.newer))
+              subst (λ (g : Grant). note.number < g.number) same (below (greatest_heard note.kind h) refl (n.heard q) (rw (sym kinds) newer))
             where
               below : (o : Option ℕ) → greatest_heard note.kind h ≡ o → IsUpTo note.number o → old_number grant.number (greatest_heard note.kind h) ≡ None → note.number < grant.number
               below None r u w = absurd u
               below (Some m) r u w = let l : m < grant.number = above_greatest grant.number (Some m) (rw r at w) m refl in omega (arith, u)
           by_test false t q other p = n.newer q other p
 
-  own_after_release : (kind : Kind) (at : ℕ) → first_of (release_checks h kind at) ≡ None → HoldsOwnLeases task (Release kind at ∷ h)
+  own_after_release : (kind : Kind) (at : ℕ) → first_of (release_checks (state_after task h) kind at) ≡ None → HoldsOwnLeases task (Release kind at ∷ h)
   own_after_release kind at e = record {
     own = λ other grant. own other grant (same_kind kind other) refl;
     spent = (its_note, all_weaker (IsSpent h) (IsSpent (Release kind at ∷ h)) (notes_sent task h) spent s.spent);
@@ -129,10 +133,10 @@ module _ (task : ℕ) (h : List SliceletCall) (s : HoldsOwnLeases task h) where
           let o = s.own other grant (not_held other grant b q).1 in
           record { of_task = o.of_task; of_life = o.of_life; of_kind = o.of_kind; greatest = o.greatest }
 
-      its_note : IsSpent (Release kind at ∷ h) (note_of (record { task = task; calls = h }) kind)
+      its_note : IsSpent (Release kind at ∷ h) (note_of (state_after task h) kind)
       its_note = record {
         of_life = omega arith;
-        heard = λ q. held_number_heard task h kind (held kind h) refl (release_accepted h kind at e).is_held (s.own kind);
+        heard = λ q. rw (held_after task h kind) (held_number_heard task h kind (held kind h) refl (rw (held_after task h kind) at (release_accepted (state_after task h) kind at e).is_held) (s.own kind));
         newer = λ q grant p. absurd (let f : same_kind kind kind ≡ false = (not_held kind grant (same_kind kind kind) p).0 in let t = same_itself kind in cc);
       }
 
@@ -149,7 +153,7 @@ pub lives_rise : (task : ℕ) (later h : List SliceletCall) → AreAccepted task
 lives_rise task [] h a = omega arith
 lives_rise task (Start life at ∷ later) h a =
     let before = lives_rise task later h a.1 in
-    let rise = life_rises life at (later ++ h) a.0 in
+    let rise = life_rises task life at (later ++ h) a.0 in
     omega arith
 lives_rise task (Hear grant at ∷ later) h a = lives_rise task later h a.1
 lives_rise task (Release kind at ∷ later) h a = lives_rise task later h a.1
@@ -158,8 +162,11 @@ lives_rise task (Release kind at ∷ later) h a = lives_rise task later h a.1
 pub above_released : (task : ℕ) (grant : Grant) (at : ℕ) (h : List SliceletCall) → AreAccepted task (Hear grant at ∷ h) → AllByRecursion (IsAbove grant) (notes_sent task h)
 above_released task grant at h a = all_weaker (IsSpent h) (IsAbove grant) (notes_sent task h) over (own_leases task h a.1).spent
   where
-    accepted : IsHearAccepted (record { task = task; calls = h }) grant at
-    accepted = hear_accepted (record { task = task; calls = h }) grant at a.0
+    accepted : IsHearAccepted (state_after task h) grant at
+    accepted = hear_accepted (state_after task h) grant at a.0
+
+    newer : old_number grant.number (greatest_heard grant.lease.kind h) ≡ None
+    newer = rw (greatest_after task h grant.lease.kind) at accepted.newer
 
     over : (note : ReleaseNote) → IsSpent h note → IsAbove grant note
     over note n kinds lives =
@@ -168,5 +175,5 @@ above_released task grant at h a = all_weaker (IsSpent h) (IsAbove grant) (notes
         below : (o : Option ℕ) → greatest_heard grant.lease.kind h ≡ o → IsUpTo note.number o → note.number < grant.number
         below None r u = absurd u
         below (Some m) r u =
-            let l : m < grant.number = above_greatest grant.number (Some m) (rw r at accepted.newer) m refl in
+            let l : m < grant.number = above_greatest grant.number (Some m) (rw r at newer) m refl in
             omega (arith, u)

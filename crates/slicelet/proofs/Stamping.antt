@@ -12,7 +12,7 @@ use Rattle.slicelet.specs.declared.call.SliceletCall.{SliceletCall}
 use Rattle.slicelet.specs.Calls.{reading_of, life_of}
 use Rattle.slicelet.specs.Rules.{holding_after, is_permitted}
 use Rattle.slicelet.specs.Continuity.{IsKeptSince, IsContinuous}
-use Rattle.slicelet.specs.inside.Stamping.{turns, stamp_after, stamp_of}
+use Rattle.slicelet.specs.Stamping.{turns, stamp_after, stamp_of}
 
 -- each call after the first n found the key permitted just before it and just after it
 abbrev kept : ℕ → List (Bool × Bool) → Bool

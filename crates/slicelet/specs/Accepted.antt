@@ -1,29 +1,35 @@
--- Lists of accepted calls, newest first, and the notes that they sent.
+-- Lists of accepted calls, newest first, the states after them, and the notes that they sent.
 use Rattle.std.specs.Prelude.{◌≡◌, ℕ, List, [], ◌∷◌, Option, None, ⊤}
 use Rattle.machines.specs.Refusals.{first_of}
 use Rattle.lease_table.specs.declared.values.ReleaseNote.{ReleaseNote}
 use Rattle.slicelet.specs.declared.error.SliceletError.{SliceletError}
 use Rattle.slicelet.specs.declared.call.SliceletCall.{SliceletCall}
 use Rattle.slicelet.specs.declared.call.SliceletCall.TheVariants.{Start, Hear, Release}
-use Rattle.slicelet.specs.Steps.{History, start_checks, hear_checks, release_checks, note_of}
+use Rattle.slicelet.specs.States.{SliceletState, state_after}
+use Rattle.slicelet.specs.Steps.{start_checks, hear_checks, release_checks, note_of}
 
 -- the refusals of a call
-abbrev pub checks_of : History → SliceletCall → List (Option SliceletError)
-checks_of s (Start life at) = start_checks s.calls life at
+abbrev pub checks_of : SliceletState → SliceletCall → List (Option SliceletError)
+checks_of s (Start life at) = start_checks s life at
 checks_of s (Hear grant at) = hear_checks s grant at
-checks_of s (Release kind at) = release_checks s.calls kind at
+checks_of s (Release kind at) = release_checks s kind at
 
 -- each call was accepted after those before it
 abbrev pub AreAccepted : ℕ → List SliceletCall → Type 0
 AreAccepted task [] = ⊤
-AreAccepted task (c ∷ h) = (first_of (checks_of (record { task = task; calls = h }) c) ≡ None) × AreAccepted task h
+AreAccepted task (c ∷ h) = (first_of (checks_of (state_after task h) c) ≡ None) × AreAccepted task h
+
+-- a state is the one after these calls, each of which was accepted after those before it
+pub record StandsAfter (h : List SliceletCall) (s : SliceletState) : Type 0 where
+  pub state : s ≡ state_after s.task h
+  pub accepted : AreAccepted s.task h
 
 -- the notes that releases answered
-abbrev pub notes_after : History → SliceletCall → List ReleaseNote → List ReleaseNote
+abbrev pub notes_after : SliceletState → SliceletCall → List ReleaseNote → List ReleaseNote
 notes_after s (Start life at) notes = notes
 notes_after s (Hear grant at) notes = notes
 notes_after s (Release kind at) notes = note_of s kind ∷ notes
 
 abbrev pub notes_sent : ℕ → List SliceletCall → List ReleaseNote
 notes_sent task [] = []
-notes_sent task (c ∷ h) = notes_after (record { task = task; calls = h }) c (notes_sent task h)
+notes_sent task (c ∷ h) = notes_after (state_after task h) c (notes_sent task h)

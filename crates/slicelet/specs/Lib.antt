@@ -1,5 +1,7 @@
 pub mod Calls
 pub mod Rules
+pub mod Stamping
+pub mod States
 pub mod Steps
 pub mod Accepted
 pub mod Laws

@@ -1,9 +1,11 @@
--- What each call answers and leaves, from what the slicelet heard.
-use Rattle.std.specs.Prelude.{ℕ, ◌==◌, not, nat_lt, nat_le, List, [], ◌∷◌, length, Option, Some, None, is_none, Result}
+-- What each call answers, and what it leaves.
+use Rattle.std.specs.Prelude.{ℕ, ◌+◌, ◌==◌, true, not, nat_lt, nat_le, List, [], ◌∷◌, Option, Some, None, is_none, Result}
 use Rattle.machines.specs.Refusals.{when, answer}
 use Rattle.policy_rules.specs.declared.lease.Kind.{Kind}
+use Rattle.policy_rules.specs.declared.lease.Kind.TheVariants.{Guard, Bridge}
 use Rattle.lease_table.specs.declared.values.Grant.{Grant}
 use Rattle.lease_table.specs.declared.values.ReleaseNote.{ReleaseNote}
+use Rattle.key_handle.specs.Stamps.{restamped}
 use Rattle.slicelet.specs.declared.error.SliceletError.{SliceletError}
 use Rattle.slicelet.specs.declared.error.SliceletError.TheVariants.{NotStarted, OldLife, ClockBack, OtherTask, OtherLife, Old, TooLate, NothingHeld, HistoryFull}
 use Rattle.machines.specs.Answers.{replied}
@@ -13,73 +15,98 @@ use Rattle.slicelet.specs.declared.call.SliceletReply.TheVariants.{Started, Hear
 use Rattle.slicelet.specs.declared.call.SliceletCall.{SliceletCall}
 use Rattle.slicelet.specs.declared.call.SliceletCall.TheVariants.{Start, Hear, Release}
 use Rattle.slicelet.specs.declared.slicelet.TheConstants.{CALLS}
-use Rattle.slicelet.specs.Calls.{is_started, life_of, last_reading, held, greatest_heard}
+use Rattle.slicelet.specs.Calls.{reading_of}
+use Rattle.slicelet.specs.Stamping.{stamps_where}
+use Rattle.slicelet.specs.States.{SliceletState, held_in, greatest_in, stamp_in, permits}
+pub use Rattle.slicelet.specs.States.{opening}
 
--- a slicelet: its task, and its accepted calls, newest first
-pub record History : Type 0 where
-  pub task : ℕ
-  pub calls : List SliceletCall
+-- REFUSALS, IN THEIR ORDER
 
--- a slicelet before its first call
-abbrev pub opening : ℕ → History
-opening task = record { task = task; calls = [] }
+abbrev pub not_started : SliceletState → Option SliceletError
+not_started s = when (not s.up) NotStarted
 
-abbrev pub with_call : History → SliceletCall → History
-with_call s c = record s { calls = c ∷ s.calls }
-
-abbrev pub not_started : List SliceletCall → Option SliceletError
-not_started h = when (not (is_started h)) NotStarted
-
-abbrev pub clock_back : List SliceletCall → ℕ → Option SliceletError
-clock_back h at = when (nat_lt at (last_reading h)) ClockBack
+abbrev pub clock_back : SliceletState → ℕ → Option SliceletError
+clock_back s at = when (nat_lt at s.last) ClockBack
 
 -- a number is not above the greatest heard
 abbrev pub old_number : ℕ → Option ℕ → Option SliceletError
 old_number number None = None
 old_number number (Some greatest) = when (nat_le number greatest) (Old greatest)
 
-abbrev pub history_full : List SliceletCall → Option SliceletError
-history_full h = when (nat_le CALLS (length h)) HistoryFull
+abbrev pub history_full : SliceletState → Option SliceletError
+history_full s = when (nat_le CALLS s.count) HistoryFull
 
--- `start`
-abbrev pub start_checks : List SliceletCall → ℕ → ℕ → List (Option SliceletError)
-start_checks h life at = when (nat_le life (life_of h)) OldLife ∷ clock_back h at ∷ history_full h ∷ []
+abbrev pub start_checks : SliceletState → ℕ → ℕ → List (Option SliceletError)
+start_checks s life at = when (nat_le life s.life) OldLife ∷ clock_back s at ∷ history_full s ∷ []
 
-abbrev pub start_step : History → ℕ → ℕ → Result (History × Unit {0}) SliceletError
-start_step s life at = answer (start_checks s.calls life at) (with_call s (Start life at), tt)
-
--- `hear`
-abbrev pub hear_checks : History → Grant → ℕ → List (Option SliceletError)
+abbrev pub hear_checks : SliceletState → Grant → ℕ → List (Option SliceletError)
 hear_checks s grant at =
-    not_started s.calls ∷ clock_back s.calls at ∷
+    not_started s ∷ clock_back s at ∷
     when (not (grant.task == s.task)) OtherTask ∷
-    when (not (grant.life == life_of s.calls)) OtherLife ∷
-    old_number grant.number (greatest_heard grant.lease.kind s.calls) ∷
-    when (nat_le grant.lease.ends at) TooLate ∷ history_full s.calls ∷ []
+    when (not (grant.life == s.life)) OtherLife ∷
+    old_number grant.number (greatest_in s grant.lease.kind) ∷
+    when (nat_le grant.lease.ends at) TooLate ∷ history_full s ∷ []
 
-abbrev pub hear_step : History → Grant → ℕ → Result (History × Unit {0}) SliceletError
-hear_step s grant at = answer (hear_checks s grant at) (with_call s (Hear grant at), tt)
+abbrev pub release_checks : SliceletState → Kind → ℕ → List (Option SliceletError)
+release_checks s kind at = not_started s ∷ clock_back s at ∷ when (is_none (held_in s kind)) NothingHeld ∷ history_full s ∷ []
 
--- `release`
-abbrev pub release_checks : List SliceletCall → Kind → ℕ → List (Option SliceletError)
-release_checks h kind at = not_started h ∷ clock_back h at ∷ when (is_none (held kind h)) NothingHeld ∷ history_full h ∷ []
+-- WHAT A CALL LEAVES
+
+-- a state with another grant, or none, in the place of that of a kind
+abbrev pub with_grant : Kind → Option Grant → SliceletState → SliceletState
+with_grant Guard grant s = record s { guard = grant }
+with_grant Bridge grant s = record s { bridge = grant }
+
+-- a state with another greatest number of a kind
+abbrev pub with_greatest : Kind → ℕ → SliceletState → SliceletState
+with_greatest Guard number s = record s { guard_number = Some number }
+with_greatest Bridge number s = record s { bridge_number = Some number }
+
+-- the life, the leases and the numbers that a call leaves
+abbrev pub moved_by : SliceletState → SliceletCall → SliceletState
+moved_by s (Start life at) = record s { life = life; up = true; guard = None; bridge = None; guard_number = None; bridge_number = None }
+moved_by s (Hear grant at) = with_greatest grant.lease.kind grant.number (with_grant grant.lease.kind (Some grant) s)
+moved_by s (Release kind at) = with_grant kind None s
+
+-- the state as it was read at a call
+abbrev pub read_at : ℕ → SliceletState → SliceletState
+read_at at s = record s { last = at }
+
+-- a call that found one state and left another one is counted, and stamps each key with the count, unless it keeps its stamp
+abbrev pub counted : SliceletState → SliceletState → ℕ → SliceletState
+counted before after at = record after {
+  count = before.count + 1;
+  stamps = stamps_where (λ key. restamped (stamp_in before key) (permits before key at) (permits after key at) (before.count + 1));
+}
+
+-- the state after an accepted call
+abbrev pub next_state : SliceletState → SliceletCall → SliceletState
+next_state s c = counted s (read_at (reading_of c) (moved_by s c)) (reading_of c)
+
+-- STEPS
+
+abbrev pub start_step : SliceletState → ℕ → ℕ → Result (SliceletState × Unit {0}) SliceletError
+start_step s life at = answer (start_checks s life at) (next_state s (Start life at), tt)
+
+abbrev pub hear_step : SliceletState → Grant → ℕ → Result (SliceletState × Unit {0}) SliceletError
+hear_step s grant at = answer (hear_checks s grant at) (next_state s (Hear grant at), tt)
 
 -- the note of a released lease: its number
 abbrev pub number_of : Option Grant → ℕ
 number_of None = 0
 number_of (Some grant) = grant.number
 
-abbrev pub note_of : History → Kind → ReleaseNote
-note_of s kind = record { task = s.task; life = life_of s.calls; kind = kind; number = number_of (held kind s.calls) }
+abbrev pub note_of : SliceletState → Kind → ReleaseNote
+note_of s kind = record { task = s.task; life = s.life; kind = kind; number = number_of (held_in s kind) }
 
-abbrev pub release_step : History → Kind → ℕ → Result (History × ReleaseNote) SliceletError
-release_step s kind at = answer (release_checks s.calls kind at) (with_call s (Release kind at), note_of s kind)
+abbrev pub release_step : SliceletState → Kind → ℕ → Result (SliceletState × ReleaseNote) SliceletError
+release_step s kind at = answer (release_checks s kind at) (next_state s (Release kind at), note_of s kind)
 
 -- an event is its call, whatever its ticket
-abbrev pub slicelet_step : History → SliceletCall → Result (History × SliceletReply) SliceletError
+abbrev pub slicelet_step : SliceletState → SliceletCall → Result (SliceletState × SliceletReply) SliceletError
 slicelet_step s (Start life at) = replied (λ _. Started) (start_step s life at)
 slicelet_step s (Hear grant at) = replied (λ _. Heard) (hear_step s grant at)
 slicelet_step s (Release kind at) = replied Released (release_step s kind at)
 
-abbrev pub event_step : History → Event SliceletCall → Result (History × SliceletReply) SliceletError
+abbrev pub event_step : SliceletState → Event SliceletCall → Result (SliceletState × SliceletReply) SliceletError
 event_step s event = slicelet_step s event.call

@@ -2,52 +2,69 @@
 
 ghost use Rattle.std.specs.Prelude.{◌≡◌, ℕ, true, Some, None, is_some, IfOk};
 ghost use Rattle.slice_ranges.specs.Sets.{has};
-ghost use Rattle.slicelet.specs.inside.State.{lease_of_kind, with_lease, number_of_kind, with_number};
+ghost use Rattle.slicelet.specs.inside.State.{lease_of_kind, with_lease, heard_of_kind, with_heard, number_in};
 ghost use Rattle.slicelet.specs.inside.Stamping.{serves, Stays, IsRenewed, Renews};
 
+use lease_table::Grant;
 use policy_rules::{Holding, Kind, Lease, live_keys};
 use slice_ranges::Ranges;
 use std::alloc::{AllocError, Global};
 
-/// The greatest number heard of each kind.
+/// What is kept of a grant that was heard, beside its lease.
 #[derive(Clone, Copy)]
-pub struct HeardNumbers {
-    pub guard: Option<u64>,
-    pub bridge: Option<u64>,
+pub struct HeardGrant {
+    pub number: u64,
+    pub table_ends: u64,
 }
 
-impl HeardNumbers {
-    /// No number was heard.
-    pub fn no_numbers() -> Self
+/// The last grant heard of each kind: the one with the greatest number.
+#[derive(Clone, Copy)]
+pub struct HeardGrants {
+    pub guard: Option<HeardGrant>,
+    pub bridge: Option<HeardGrant>,
+}
+
+impl HeardGrants {
+    /// No grant was heard.
+    pub fn no_grants() -> Self
         ensures { result ≡ record { guard = None; bridge = None } }
     {
-        HeardNumbers {
+        HeardGrants {
             guard: None,
             bridge: None,
         }
     }
 
-    /// The number of a kind.
-    pub fn of(&self, kind: Kind) -> Option<u64>
-        ensures { result ≡ number_of_kind self.now kind }
+    /// The number of the last grant of a kind.
+    pub fn number(&self, kind: Kind) -> Option<u64>
+        ensures { result ≡ number_in (heard_of_kind self.now kind) }
     {
-        match kind {
+        let heard = match kind {
             Kind::Guard => self.guard,
             Kind::Bridge => self.bridge,
+        };
+        match heard {
+            Some(grant) => Some(grant.number),
+            None => None,
         }
     }
 
-    /// These numbers with another one of a kind.
-    pub fn with(self, kind: Kind, number: u64) -> Self
-        ensures { result ≡ with_number self kind number }
+    /// These grants with another one of its kind.
+    pub fn with(self, grant: &Grant) -> Self
+        ensures { result ≡ with_heard self grant.now.lease.kind
+            (record { number = grant.now.number; table_ends = grant.now.table_ends }) }
     {
-        match kind {
-            Kind::Guard => HeardNumbers {
-                guard: Some(number),
+        let heard = Some(HeardGrant {
+            number: grant.number,
+            table_ends: grant.table_ends,
+        });
+        match grant.lease.kind {
+            Kind::Guard => HeardGrants {
+                guard: heard,
                 ..self
             },
-            Kind::Bridge => HeardNumbers {
-                bridge: Some(number),
+            Kind::Bridge => HeardGrants {
+                bridge: heard,
                 ..self
             },
         }

@@ -1,18 +1,39 @@
 //! What holds after every list of calls that a slicelet accepted, and what its rule rests on.
 
-ghost use Rattle.std.specs.Prelude.{◌≡◌, ℕ, ◌<◌, ◌≤◌, ◌↔◌, Bool, IsTrue, List, ◌∷◌, ◌++◌, length, Some, Contains};
+ghost use Rattle.std.specs.Prelude.{◌≡◌, ℕ, ◌<◌, ◌≤◌, ◌↔◌, Bool, IsTrue, List, [], ◌∷◌, ◌++◌, length, Some, Ok, Contains};
 ghost use Rattle.std.specs.List.{AllByRecursion};
 ghost use Rattle.policy_rules.specs.declared.lease.Kind.{Kind};
 ghost use Rattle.policy_rules.specs.declared.answer.Verdict.TheVariants.{Allow};
 ghost use Rattle.lease_table.specs.declared.values.Grant.{Grant};
 ghost use Rattle.slicelet.specs.declared.call.SliceletCall.{SliceletCall};
 ghost use Rattle.slicelet.specs.declared.call.SliceletCall.TheVariants.{Start, Hear};
-ghost use Rattle.slicelet.specs.Calls.{life_of, held};
+ghost use Rattle.slicelet.specs.declared.call.SliceletReply.{SliceletReply};
+ghost use Rattle.slicelet.specs.Calls.{life_of, held, greatest_heard};
+ghost use Rattle.slicelet.specs.States.{SliceletState, opening, held_in, greatest_in, rule_in_state};
+ghost use Rattle.slicelet.specs.Steps.{slicelet_step};
+ghost use Rattle.key_hash.specs.declared.TheConstants.{KEYS};
 ghost use Rattle.key_handle.specs.declared.handle.KeyHandle.{KeyHandle};
 ghost use Rattle.slicelet.specs.Rules.{rule_after, is_permitted};
-ghost use Rattle.slicelet.specs.Continuity.{IsContinuous, next_reading};
-ghost use Rattle.slicelet.specs.Accepted.{AreAccepted, notes_sent};
+ghost use Rattle.slicelet.specs.Continuity.{IsContinuous, IsChecked, checked_in, next_reading};
+ghost use Rattle.slicelet.specs.Accepted.{AreAccepted, StandsAfter, notes_sent};
 ghost use Rattle.slicelet.specs.Laws.{HoldsOwnLeases, IsAbove, HasCoveringLease, WasHeard, AgreeOnHeard};
+
+/// What a slicelet knows is what its calls say: before the first call, and after each accepted one,
+/// it is the state after these calls. Its leases, its numbers, the rule and its checks are those of
+/// the calls.
+pub fn state_law()
+    ensures opening { (task : ℕ) → StandsAfter [] (opening task) }
+    ensures next { (calls : List SliceletCall) (state : SliceletState) (call : SliceletCall) (taken : SliceletState × SliceletReply)
+        → StandsAfter calls state → slicelet_step state call ≡ Ok taken → StandsAfter (call ∷ calls) taken.0 }
+    ensures held { (calls : List SliceletCall) (state : SliceletState) (kind : Kind) → StandsAfter calls state
+        → held_in state kind ≡ held kind calls }
+    ensures greatest { (calls : List SliceletCall) (state : SliceletState) (kind : Kind) → StandsAfter calls state
+        → greatest_in state kind ≡ greatest_heard kind calls }
+    ensures rule { (covers : Grant → Bool) (calls : List SliceletCall) (state : SliceletState) (at : ℕ) → StandsAfter calls state
+        → rule_in_state covers state at ≡ rule_after covers calls at }
+    ensures checked { (calls : List SliceletCall) (state : SliceletState) (handle : KeyHandle) (at : ℕ) → handle.key < KEYS → StandsAfter calls state
+        → IsChecked state.task calls handle at (checked_in state handle at) }
+{}
 
 /// A lease that is held was heard in the current life, is of its kind, and has the greatest number
 /// that was heard of it; a note that was sent is of the current life or an earlier one, and in the

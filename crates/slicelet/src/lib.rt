@@ -13,6 +13,7 @@ pub use call::{SliceletCall, SliceletReply};
 pub use error::{SliceletError, Stranger};
 pub use laws::{
     agreement_law, between_law, covering_lease_law, heard_law, held_law, lives_law, released_law,
+    state_law,
 };
 pub use machine::SliceletEvent;
 pub use slicelet::{CALLS, Slicelet};

@@ -1,12 +1,14 @@
 //! The stamps of a life, of which there may be none.
 
-ghost use Rattle.std.specs.Prelude.{◌≡◌, ℕ, Some, IfOk};
+ghost use Rattle.std.specs.Prelude.{◌≡◌, ◌<◌, ℕ, Some, IfOk};
+ghost use Rattle.key_hash.specs.declared.TheConstants.{KEYS};
 ghost use Rattle.slice_ranges.specs.Sets.{has};
 ghost use Rattle.key_handle.specs.Handles.{is_still};
 ghost use Rattle.key_handle.specs.Stamps.{since, restamped};
 ghost use Rattle.slicelet.specs.inside.State.{stamps_in};
 
 use key_handle::{KeyHandle, Stamped};
+use key_hash::SliceKey;
 use slice_ranges::Ranges;
 use std::alloc::{AllocError, Global};
 
@@ -52,4 +54,11 @@ pub fn copy_of(stamps: &Option<Stamped>) -> Result<Option<Stamped>, AllocError>
         Some(stamps) => Ok(Some(stamps.copy()?)),
         None => Ok(None),
     }
+}
+
+/// A key is one of those that have stamps.
+pub fn key_law(key: SliceKey)
+    ensures { key < KEYS }
+{
+    let _ = key.value();
 }

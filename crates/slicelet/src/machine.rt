@@ -13,7 +13,7 @@ use std::alloc::AllocError;
 pub type SliceletEvent = Event<SliceletCall>;
 
 impl Slicelet {
-    /// Makes the call that a value stands for, and answers what it answers: its refusals in their order; want of
+    /// Makes the call that a value stands for, and answers what it answers: its refusals in their order; out of
     /// memory comes last, and changes nothing.
     pub fn call(&mut self, call: &SliceletCall) -> Result<SliceletReply, Trouble<SliceletError>>
         ensures { Takes (slicelet_step self.old call.now) self.old result self.new }

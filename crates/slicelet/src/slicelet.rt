@@ -1,57 +1,64 @@
 //! Slicelets.
 
-ghost use Rattle.std.specs.Prelude.{◌≡◌, ◌+◌, ℕ, None, length, option_map, IfOk, OnOk, MatchBool};
+ghost use Rattle.std.specs.Prelude.{◌≡◌, ◌+◌, ◌^◌, ◌<◌, ℕ, List, None, length, option_map, IfOk, OnOk};
 ghost use Rattle.std.specs.Result.{result_err};
 ghost use Rattle.machines.specs.Refusals.{first_of};
 ghost use Rattle.machines.specs.Answers.{Takes};
-ghost use Rattle.slicelet.specs.Calls.{held};
-ghost use Rattle.slicelet.specs.Rules.{rule_after, covers_key, is_permitted};
-ghost use Rattle.key_handle.specs.Stamps.{since, restamped};
-ghost use Rattle.slicelet.specs.Continuity.{handle_on, held_by, is_strange, IsChecked, IsContinuous};
-ghost use Rattle.slicelet.specs.Accepted.{AreAccepted};
-ghost use Rattle.slicelet.specs.inside.State.{holding_of, with_lease};
-ghost use Rattle.slicelet.specs.inside.Stamping.{stamp_of, serves};
-ghost use Rattle.slicelet.specs.Steps.{opening, not_started, clock_back, history_full, number_of, start_checks, hear_checks, release_checks, start_step, hear_step, release_step};
+ghost use Rattle.slicelet.specs.declared.call.SliceletCall.{SliceletCall};
+ghost use Rattle.slicelet.specs.Calls.{life_of};
+ghost use Rattle.slicelet.specs.Rules.{rule_after, covers_key};
+ghost use Rattle.slicelet.specs.States.{opening, held_in, greatest_in, rule_in_state, permits};
+ghost use Rattle.slicelet.specs.Steps.{not_started, clock_back, history_full, number_of, start_checks, hear_checks, release_checks, start_step, hear_step, release_step};
+ghost use Rattle.slicelet.specs.Accepted.{StandsAfter};
+ghost use Rattle.slicelet.specs.Continuity.{handle_on, held_by, is_strange, is_kept, checked_in, IsChecked};
+ghost use Rattle.slicelet.specs.inside.State.{leases_of, with_lease};
+ghost use Rattle.slicelet.specs.inside.Stamping.{IsRestamped};
 
-use crate::call::SliceletCall;
 use crate::error::{SliceletError, Stranger};
-use crate::heard::{HeardNumbers, holds, live_keys_with, no_leases, put_lease, renews};
-use crate::life_stamps::{copy_of, put_stamps, restamp, still};
+use crate::heard::{HeardGrants, holds, live_keys_with, no_leases, put_lease, renews};
+use crate::life_stamps::{copy_of, key_law, put_stamps, restamp, still};
 use assignment::TaskId;
 use key_handle::{KeyHandle, Stamped};
 use key_hash::SliceKey;
 use lease_table::{Grant, ReleaseNote};
-use machines::{Duplicate, Trouble};
+use machines::Trouble;
 use policy_rules::{Ground, Holding, Kind, Lease, Verdict, permitted, verdict};
 use std::alloc::{AllocError, Global};
 use std::marker::Model;
 
 /// How many calls a slicelet accepts, over all lives.
-pub const CALLS: usize = 65_536;
+pub const CALLS: u64 = 65_536;
 
-/// What a task heard of its leases. Contracts see the task and the calls that were accepted.
+/// What a task knows of its leases.
+///
+/// Contracts see its state (`SliceletState`), which is all that its answers rest on. Memory and the time
+/// of each call depend on the leases held and the keys permitted, not on how many calls were accepted.
 #[derive(Drop)]
 pub struct Slicelet {
+    alloc: Global,
     task: TaskId,
-    calls: Vec<SliceletCall>,
+    count: u64,
     life: u32,
     holding: Holding,
-    heard: HeardNumbers,
+    heard: HeardGrants,
     // None where no call of this life made stamps.
     stamps: Option<Stamped>,
 }
 
 impl Model for Slicelet {
-    ghost use Rattle.slicelet.specs.Steps.{History};
+    ghost use Rattle.slicelet.specs.States.{SliceletState};
 
-    ghost Value = { History };
+    ghost Value = { SliceletState };
 
-    ghost use Rattle.std.specs.Prelude.{reverse};
-    ghost use Rattle.slicelet.specs.inside.State.{IsStateAfter, stamps_in};
+    ghost use Rattle.std.specs.Prelude.{List};
+    ghost use Rattle.slicelet.specs.declared.call.SliceletCall.{SliceletCall};
+    ghost use Rattle.slicelet.specs.Accepted.{StandsAfter};
+    ghost use Rattle.slicelet.specs.inside.State.{state_of, stamps_in};
 
-    ghost view = { λ s. record { task = s.task; calls = reverse s.calls.items } };
+    ghost view = { λ s. state_of s.task s.count s.life s.holding s.heard (stamps_in s.stamps) };
 
-    ghost invariant = { λ s. IsStateAfter s.task (reverse s.calls.items) s.life s.holding s.heard (stamps_in s.stamps) };
+    ghost invariant = { λ s. (calls : List SliceletCall)
+        × StandsAfter calls (state_of s.task s.count s.life s.holding s.heard (stamps_in s.stamps)) };
 }
 
 impl Slicelet {
@@ -63,28 +70,27 @@ impl Slicelet {
         ensures { result ≡ opening task }
     {
         Slicelet {
+            alloc,
             task,
-            calls: Vec::new(alloc),
+            count: 0,
             life: 0,
             holding: no_leases(false, 0),
-            heard: HeardNumbers::no_numbers(),
+            heard: HeardGrants::no_grants(),
             stamps: None,
         }
     }
 
     /// Starts a life of the task at a reading in ticks of its clock. It holds nothing and has heard no number yet.
     ///
-    /// Refused by `OldLife`, `ClockBack` and `HistoryFull`, in this order; want of memory comes last,
-    /// and changes nothing.
+    /// Refused by `OldLife`, `ClockBack` and `HistoryFull`, in this order. It takes no memory.
     pub fn start(&mut self, life: u32, at: u64) -> Result<(), Trouble<SliceletError>>
         ensures { Takes (start_step self.old life at) self.old result self.new }
     {
         self.check_start(life, at).map_err(Trouble::Refused)?;
-        self.calls.reserve(1)?;
-        self.calls.push_reserved(SliceletCall::Start { life, at });
+        self.count += 1;
         self.life = life;
         self.holding = no_leases(true, at);
-        self.heard = HeardNumbers::no_numbers();
+        self.heard = HeardGrants::no_grants();
         self.stamps = None;
         Ok(())
     }
@@ -92,26 +98,21 @@ impl Slicelet {
     /// Hears a grant: its lease takes the place of the one of its kind.
     ///
     /// Refused by `NotStarted`, `ClockBack`, `OtherTask`, `OtherLife`, `Old`, `TooLate` and
-    /// `HistoryFull`, in this order; want of memory comes last, and changes nothing.
+    /// `HistoryFull`, in this order; out of memory comes last, and changes nothing.
     pub fn hear(&mut self, grant: &Grant, at: u64) -> Result<(), Trouble<SliceletError>>
         ensures { Takes (hear_step self.old grant.now at) self.old result self.new }
     {
         self.check_hear(grant, at).map_err(Trouble::Refused)?;
-        let call = SliceletCall::Hear {
-            grant: grant.copy()?,
-            at,
-        };
         let lease = Some(grant.lease.copy()?);
         let stamps = if renews(&self.holding, &grant.lease, at) {
             None
         } else {
             Some(self.restamped(grant.lease.kind, &lease, at)?)
         };
-        self.calls.reserve(1)?;
-        self.calls.push_reserved(call);
+        self.count += 1;
         self.holding.last = at;
         put_lease(&mut self.holding, grant.lease.kind, lease);
-        self.heard = self.heard.with(grant.lease.kind, grant.number);
+        self.heard = self.heard.with(grant);
         if let Some(stamps) = stamps {
             put_stamps(&mut self.stamps, stamps);
         }
@@ -121,15 +122,14 @@ impl Slicelet {
     /// Gives up the lease of a kind, which may have ended, and answers the note of it. The greatest
     /// number heard of the kind stays.
     ///
-    /// Refused by `NotStarted`, `ClockBack`, `NothingHeld` and `HistoryFull`, in this order; want of
+    /// Refused by `NotStarted`, `ClockBack`, `NothingHeld` and `HistoryFull`, in this order; out of
     /// memory comes last, and changes nothing.
     pub fn release(&mut self, kind: Kind, at: u64) -> Result<ReleaseNote, Trouble<SliceletError>>
         ensures { Takes (release_step self.old kind at) self.old result self.new }
     {
         let number = self.check_release(kind, at).map_err(Trouble::Refused)?;
         let stamps = self.restamped(kind, &None, at)?;
-        self.calls.reserve(1)?;
-        self.calls.push_reserved(SliceletCall::Release { kind, at });
+        self.count += 1;
         self.holding.last = at;
         put_lease(&mut self.holding, kind, None);
         self.stamps = Some(stamps);
@@ -144,15 +144,17 @@ impl Slicelet {
     /// Why the release of the lease of a kind is refused, if it is: the refusals of
     /// [`release`](Self::release) in their order.
     pub fn release_refusal(&self, kind: Kind, at: u64) -> Option<SliceletError>
-        ensures { result ≡ first_of (release_checks self.now.calls kind at) }
+        ensures { result ≡ first_of (release_checks self.now kind at) }
     {
         self.check_release(kind, at).err()
     }
 
-    /// Whether the task may serve a key at a reading of its clock, in ticks, by the written rule
-    /// over its calls.
+    /// Whether the task may serve a key at a reading of its clock, in ticks, by the written rule:
+    /// that of what it knows, which is that of every list of calls that lead there.
     pub fn serve(&self, key: SliceKey, at: u64) -> Verdict
-        ensures { result ≡ rule_after (covers_key key) self.now.calls at }
+        ensures state { result ≡ rule_in_state (covers_key key) self.now at }
+        ensures calls { (calls : List SliceletCall) → StandsAfter calls self.now
+            → result ≡ rule_after (covers_key key) calls at }
     {
         verdict(&self.holding, key, at)
     }
@@ -160,15 +162,13 @@ impl Slicelet {
     /// A handle on a key, where the task may serve it at a reading of its clock, in ticks; else the
     /// reason why it may not.
     pub fn hold(&self, key: SliceKey, at: u64) -> Result<KeyHandle, Ground>
-        ensures { result ≡ held_by (rule_after (covers_key key) self.now.calls at) (handle_on key self.now) }
+        ensures state { result ≡ held_by (rule_in_state (covers_key key) self.now at) (handle_on key self.now) }
+        ensures calls { (calls : List SliceletCall) → StandsAfter calls self.now
+            → result ≡ held_by (rule_after (covers_key key) calls at)
+            (record { task = self.now.task; life = life_of calls; key = key; position = length calls }) }
     {
         match self.serve(key, at) {
-            Verdict::Allow { .. } => Ok(KeyHandle::new(
-                self.task,
-                self.life,
-                key,
-                self.calls.len() as u64,
-            )),
+            Verdict::Allow { .. } => Ok(KeyHandle::new(self.task, self.life, key, self.count)),
             Verdict::Deny(why) => Err(why),
         }
     }
@@ -179,17 +179,20 @@ impl Slicelet {
     ///
     /// Refused where the slicelet cannot have given the handle.
     pub fn continuous(&self, handle: &KeyHandle, at: u64) -> Result<bool, Stranger>
-        ensures { IsChecked self.now handle.now at result }
+        ensures state { result ≡ checked_in self.now handle.now at }
+        ensures calls { (calls : List SliceletCall) → StandsAfter calls self.now
+            → IsChecked self.now.task calls handle.now at result }
     {
+        key_law(handle.key);
         if self.is_strange(handle) {
             return Err(Stranger);
         }
         Ok(self.is_continuous(handle, at))
     }
 
-    /// The calls that a slicelet keeps were accepted, one after another.
-    pub fn accepted_law(&self)
-        ensures { AreAccepted self.now.task self.now.calls }
+    /// What a slicelet knows is what some calls leave, each of which was accepted after those before it.
+    pub fn standing_law(&self)
+        ensures { (calls : List SliceletCall) × StandsAfter calls self.now }
     {
         let _ = &self.task;
     }
@@ -199,8 +202,9 @@ impl Slicelet {
         ensures { IfOk result (λ slicelet. slicelet ≡ self.now) }
     {
         Ok(Slicelet {
+            alloc: self.alloc,
             task: self.task,
-            calls: copies(*self.calls.allocator(), self.calls.as_slice())?,
+            count: self.count,
             life: self.life,
             holding: self.holding.copy()?,
             heard: self.heard,
@@ -213,58 +217,55 @@ impl Slicelet {
     {
         handle.task != self.task
             || handle.life > self.life
-            || handle.life == self.life && handle.position > self.calls.len() as u64
+            || handle.life == self.life && handle.position > self.count
     }
 
     fn is_continuous(&self, handle: &KeyHandle, at: u64) -> bool
-        ensures { MatchBool result
-            (IsContinuous (covers_key handle.now.key) self.now.calls handle.now at)
-            (IsContinuous (covers_key handle.now.key) self.now.calls handle.now at → ⊥) }
+        ensures { result ≡ is_kept self.now handle.now at }
     {
+        key_law(handle.key);
         let is_kept = still(handle, self.life, &self.stamps);
         is_kept && self.permits(handle.key, at)
     }
 
     // The stamps after one call more, at which a lease, or none, takes the place of that of a kind.
     fn restamped(&self, kind: Kind, lease: &Option<Lease>, at: u64) -> Result<Stamped, AllocError>
-        ensures { IfOk result (λ s. (key : ℕ) → since s key ≡ restamped (stamp_of (covers_key key) self.now.calls)
-            (is_permitted (covers_key key) self.now.calls at)
-            (serves (with_lease (holding_of self.now.calls) kind lease.now) key at)
-            (length self.now.calls + 1)) }
+        requires { self.now.count + 1 < 2 ^ 64 }
+        ensures { IfOk result
+            (IsRestamped self.now at (with_lease (leases_of self.now) kind lease.now)) }
     {
-        let alloc = *self.calls.allocator();
-        let before = permitted(alloc, &self.holding, at)?;
-        let after = live_keys_with(alloc, &self.holding, kind, lease, at)?;
-        restamp(alloc, &self.stamps, &before, &after, self.count() + 1)
-    }
-
-    // How many calls were accepted.
-    fn count(&self) -> u64
-        ensures { result ≡ length self.now.calls }
-    {
-        self.calls.len() as u64
+        let before = permitted(self.alloc, &self.holding, at)?;
+        let after = live_keys_with(self.alloc, &self.holding, kind, lease, at)?;
+        restamp(self.alloc, &self.stamps, &before, &after, self.count + 1)
     }
 
     // Whether the task may serve a key.
     fn permits(&self, key: SliceKey, at: u64) -> bool
-        ensures { result ≡ is_permitted (covers_key key) self.now.calls at }
+        ensures { result ≡ permits self.now key at }
     {
         matches!(self.serve(key, at), Verdict::Allow { .. })
     }
 
+    // The greatest number heard of a kind.
+    fn greatest_number(&self, kind: Kind) -> Option<u64>
+        ensures { result ≡ greatest_in self.now kind }
+    {
+        self.heard.number(kind)
+    }
+
     // The number of the held lease of a kind: the greatest heard of it.
     fn held_number(&self, kind: Kind) -> Option<u64>
-        ensures { result ≡ option_map (λ grant. grant.number) (held kind self.now.calls) }
+        ensures { result ≡ option_map (λ grant. grant.number) (held_in self.now kind) }
     {
         if holds(&self.holding, kind) {
-            self.heard.of(kind)
+            self.greatest_number(kind)
         } else {
             None
         }
     }
 
     fn check_started(&self) -> Result<(), SliceletError>
-        ensures { result_err result ≡ not_started self.now.calls }
+        ensures { result_err result ≡ not_started self.now }
     {
         if self.holding.up {
             Ok(())
@@ -274,7 +275,7 @@ impl Slicelet {
     }
 
     fn check_reading(&self, at: u64) -> Result<(), SliceletError>
-        ensures { result_err result ≡ clock_back self.now.calls at }
+        ensures { result_err result ≡ clock_back self.now at }
     {
         if at < self.holding.last {
             Err(SliceletError::ClockBack)
@@ -284,9 +285,9 @@ impl Slicelet {
     }
 
     fn check_room(&self) -> Result<(), SliceletError>
-        ensures { result_err result ≡ history_full self.now.calls }
+        ensures { result_err result ≡ history_full self.now }
     {
-        if self.calls.len() >= CALLS {
+        if self.count >= CALLS {
             Err(SliceletError::HistoryFull)
         } else {
             Ok(())
@@ -294,8 +295,8 @@ impl Slicelet {
     }
 
     fn check_start(&self, life: u32, at: u64) -> Result<(), SliceletError>
-        ensures refusal { result_err result ≡ first_of (start_checks self.now.calls life at) }
-        ensures accepted { OnOk result (first_of (start_checks self.now.calls life at) ≡ None) }
+        ensures refusal { result_err result ≡ first_of (start_checks self.now life at) }
+        ensures accepted { OnOk result (first_of (start_checks self.now life at) ≡ None) }
     {
         if life <= self.life {
             return Err(SliceletError::OldLife);
@@ -316,7 +317,7 @@ impl Slicelet {
         if grant.life != self.life {
             return Err(SliceletError::OtherLife);
         }
-        if let Some(heard) = self.heard.of(grant.lease.kind)
+        if let Some(heard) = self.greatest_number(grant.lease.kind)
             && grant.number <= heard
         {
             return Err(SliceletError::Old { heard });
@@ -329,9 +330,9 @@ impl Slicelet {
 
     // The number of the held lease of a kind, where it may be released.
     fn check_release(&self, kind: Kind, at: u64) -> Result<u64, SliceletError>
-        ensures refusal { result_err result ≡ first_of (release_checks self.now.calls kind at) }
-        ensures accepted { OnOk result (first_of (release_checks self.now.calls kind at) ≡ None) }
-        ensures number { IfOk result (λ number. number ≡ number_of (held kind self.now.calls)) }
+        ensures refusal { result_err result ≡ first_of (release_checks self.now kind at) }
+        ensures accepted { OnOk result (first_of (release_checks self.now kind at) ≡ None) }
+        ensures number { IfOk result (λ number. number ≡ number_of (held_in self.now kind)) }
     {
         self.check_started()?;
         self.check_reading(at)?;
@@ -339,14 +340,4 @@ impl Slicelet {
         self.check_room()?;
         Ok(number)
     }
-}
-
-fn copies(alloc: Global, calls: &[SliceletCall]) -> Result<Vec<SliceletCall>, AllocError>
-    ensures { IfOk result (λ copied. copied.items ≡ calls.now) }
-{
-    let mut copied = Vec::with_capacity(alloc, calls.len())?;
-    for call in calls {
-        copied.push(call.copy()?)?;
-    }
-    Ok(copied)
 }

@@ -20,6 +20,8 @@ mod samples;
 #[cfg(test)]
 mod stamps;
 #[cfg(test)]
+mod task_age;
+#[cfg(test)]
 mod task_calls;
 #[cfg(test)]
 mod task_handles;

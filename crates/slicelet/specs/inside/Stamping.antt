@@ -1,32 +1,20 @@
--- The stamp of a key, by the calls.
-use Rattle.std.specs.Prelude.{◌≡◌, ℕ, ◌+◌, ◌≤◌, ◌||◌, Bool, List, [], ◌∷◌, length, Option, Some, None, option_map}
+-- The keys that held leases serve.
+use Rattle.std.specs.Prelude.{◌≡◌, ℕ, ◌+◌, ◌<◌, ◌≤◌, ◌||◌, Bool, Option, Some, option_map}
+use Rattle.key_hash.specs.declared.TheConstants.{KEYS}
 use Rattle.policy_rules.specs.declared.holding.Holding.{Holding}
 use Rattle.policy_rules.specs.declared.lease.Lease.{Lease}
 use Rattle.policy_rules.specs.Leases.{seen_from}
 use Rattle.policy_rules.specs.Rule.{is_serving}
-use Rattle.lease_table.specs.declared.values.Grant.{Grant}
-use Rattle.key_handle.specs.Stamps.{restamped}
-use Rattle.slicelet.specs.declared.call.SliceletCall.{SliceletCall}
-use Rattle.slicelet.specs.Calls.{reading_of}
-use Rattle.slicelet.specs.Rules.{is_permitted}
-
--- of each call, whether the key was permitted at its reading just before it, and whether just after it
-abbrev pub turns : (Grant → Bool) → List SliceletCall → List (Bool × Bool)
-turns covers [] = []
-turns covers (c ∷ h) = (is_permitted covers h (reading_of c), is_permitted covers (c ∷ h) (reading_of c)) ∷ turns covers h
-
--- each call stamps the key with the number of calls, itself included, unless it keeps its stamp
-abbrev pub stamp_after : List (Bool × Bool) → Option ℕ
-stamp_after [] = None
-stamp_after (t ∷ h) = restamped (stamp_after h) t.0 t.1 (length h + 1)
-
--- the stamp of a key after these calls
-abbrev pub stamp_of : (Grant → Bool) → List SliceletCall → Option ℕ
-stamp_of covers h = stamp_after (turns covers h)
+use Rattle.key_handle.specs.Stamps.{Stamps, since, restamped}
+use Rattle.slicelet.specs.States.{SliceletState, stamp_in, permits}
 
 -- a held lease is live at the reading and covers the key
 abbrev pub serves : Holding → ℕ → ℕ → Bool
 serves holding key at = is_serving at (option_map (seen_from key) holding.guard) || is_serving at (option_map (seen_from key) holding.bridge)
+
+-- the stamps of the keys after one call more, at a reading, which leaves these leases
+abbrev pub IsRestamped : SliceletState → ℕ → Holding → Stamps → Type 0
+IsRestamped s at next stamps = (key : ℕ) → key < KEYS → since stamps key ≡ restamped (stamp_in s key) (permits s key at) (serves next key at) (s.count + 1)
 
 -- a lease that is live at a reading, or none, served at each earlier reading what it serves then
 abbrev pub Stays : ℕ → Option Lease → Type 0

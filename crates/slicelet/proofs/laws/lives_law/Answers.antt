@@ -2,7 +2,7 @@ use Rattle.slicelet.proofs.OwnLeases.{life_rises, lives_rise}
 use Rattle.slicelet.proofs.laws.lives_law.Goals as goal
 
 pub returns-clause-start : goal.returns-clause-start
-returns-clause-start c = λ task life at h accepted. life_rises life at h accepted.0
+returns-clause-start c = λ task life at h accepted. life_rises task life at h accepted.0
 
 pub returns-clause-later : goal.returns-clause-later
 returns-clause-later c = λ task later h accepted. lives_rise task later h accepted

@@ -1,11 +1,17 @@
-use Rattle.std.proofs.Common.{◌∙◌, reverse, sym, ap}
-use Rattle.policy_rules.specs.Rule.{SeenHolding, rule, holding_seen_from}
-use Rattle.policy_rules.specs.declared.holding.Holding.{Holding}
-use Rattle.slicelet.proofs.Seeing.{seen_holding}
+use Rattle.std.proofs.Common.{◌∙◌, sym, ap}
+use Rattle.policy_rules.specs.Rule.{SeenHolding, rule}
+use Rattle.slicelet.specs.Rules.{covers_key}
+use Rattle.slicelet.specs.inside.State.{stamps_in}
+use Rattle.slicelet.proofs.Keeping.{seen_kept}
+use Rattle.slicelet.proofs.Standing.{rule_by_calls}
 use Rattle.slicelet.proofs.slicelet.Slicelet.serve.Goals as goal
 
-pub returns : goal.returns
-returns c =
-    let kept = ap (λ (holding : Holding). rule (holding_seen_from holding c.args.key) c.args.at) c.self.invariant.holds in
-    let seen = ap (λ (h : SeenHolding). rule h c.args.at) (seen_holding c.args.key (reverse c.self.inside.calls.items)) in
-    rw (sym c.self.view_is) (c.verdict.ensures ∙ kept ∙ seen)
+pub returns-clause-state : goal.returns-clause-state
+returns-clause-state c =
+    let seen = seen_kept c.self.inside.task c.self.inside.count c.self.inside.life c.self.inside.holding c.self.inside.heard (stamps_in c.self.inside.stamps) c.args.key in
+    rw (sym c.self.view_is) (c.verdict.ensures ∙ ap (λ (h : SeenHolding). rule h c.args.at) seen)
+
+pub returns-clause-calls : goal.returns-clause-calls
+returns-clause-calls c = λ calls stands.
+    let seen = seen_kept c.self.inside.task c.self.inside.count c.self.inside.life c.self.inside.holding c.self.inside.heard (stamps_in c.self.inside.stamps) c.args.key in
+    c.verdict.ensures ∙ ap (λ (h : SeenHolding). rule h c.args.at) seen ∙ rule_by_calls (covers_key c.args.key) calls _ c.args.at (rw (← c.self.view_is) at stands)

@@ -1,8 +1,17 @@
-use Rattle.std.proofs.Common.{rules}
-use Rattle.slicelet.proofs.Keeping.{newest_call, keeps_started}
+use Rattle.std.proofs.Common.{◌≡◌, ◌∷◌, None, sym, subst, rules}
+use Rattle.machines.specs.Refusals.{first_of}
+use Rattle.slicelet.specs.declared.call.SliceletCall.TheVariants.{Start}
+use Rattle.slicelet.specs.States.{SliceletState}
+use Rattle.slicelet.specs.Steps.{start_checks}
+use Rattle.slicelet.specs.Accepted.{StandsAfter}
+use Rattle.slicelet.specs.inside.State.{stamps_in}
+use Rattle.slicelet.proofs.Keeping.{started_is}
+use Rattle.slicelet.proofs.Standing.{leads_on}
 use Rattle.slicelet.proofs.slicelet.Slicelet.start.Goals as goal
 
-pub invariant_of-self-2 : goal.invariant_of-self-2
-invariant_of-self-2 c =
-    let kept = keeps_started _ _ _ _ _ _ c.self.invariant c.args.life c.args.at (search rules) in
-    rw (c.push_reserved.ensures.items, newest_call, c.reserve.ensures.items, c.no_leases.ensures, c.no_numbers-self-inside.ensures) kept
+pub invariant_of-self : goal.invariant_of-self
+invariant_of-self c =
+    let accepted : first_of (start_checks c.args.self.now c.args.life c.args.at) ≡ None = search rules in
+    let next = leads_on c.self.invariant.0 _ (Start c.args.life c.args.at) c.self.invariant.1 (rw (← c.self.view_is) at accepted) in
+    let left = subst (λ (s : SliceletState). StandsAfter (Start c.args.life c.args.at ∷ c.self.invariant.0) s) (sym (started_is c.self.inside.task c.self.inside.count c.self.inside.life c.self.inside.holding c.self.inside.heard (stamps_in c.self.inside.stamps) c.args.life c.args.at)) next in
+    (Start c.args.life c.args.at ∷ c.self.invariant.0, rw (c.no_leases.ensures, c.no_grants-self-inside.ensures) left)

@@ -1,0 +1,128 @@
+-- An accepted step leads from a state after calls to the state after one call more.
+use Rattle.std.proofs.Common.{◌≡◌, ◌∙◌, ℕ, suc, ◌+◌, ◌<◌, Bool, true, false, List, [], ◌∷◌, length, refl, sym, ap, subst, arith}
+use Rattle.std.specs.Prelude.{Option, Some, None, Ok, Err, is_some, option_map, if◌then◌else◌, MatchBool, ◌==◌, ◌&&◌}
+use Rattle.key_hash.specs.declared.TheConstants.{KEYS}
+use Rattle.machines.specs.Refusals.{first_of, unless_refused}
+use Rattle.machines.specs.Answers.{replied}
+use Rattle.policy_rules.specs.declared.lease.Kind.{Kind}
+use Rattle.policy_rules.specs.declared.lease.Kind.TheVariants.{Guard, Bridge}
+use Rattle.lease_table.specs.declared.values.Grant.{Grant}
+use Rattle.key_handle.specs.declared.handle.KeyHandle.{KeyHandle}
+use Rattle.key_handle.specs.Stamps.{restamped}
+use Rattle.key_handle.specs.Handles.{is_up_to}
+use Rattle.slicelet.specs.declared.error.SliceletError.{SliceletError}
+use Rattle.slicelet.specs.declared.call.SliceletReply.{SliceletReply}
+use Rattle.slicelet.specs.declared.call.SliceletReply.TheVariants.{Started, Heard, Released}
+use Rattle.slicelet.specs.declared.call.SliceletCall.{SliceletCall}
+use Rattle.slicelet.specs.declared.call.SliceletCall.TheVariants.{Start, Hear, Release}
+use Rattle.slicelet.specs.Calls.{reading_of, held, greatest_heard}
+use Rattle.slicelet.specs.Rules.{covers_key, rule_after, is_permitted}
+use Rattle.slicelet.specs.Stamping.{stamp_of, stamps_where}
+use Rattle.slicelet.specs.States.{SliceletState, state_after, held_in, greatest_in, stamp_in, rule_in_state}
+use Rattle.slicelet.specs.Steps.{start_checks, hear_checks, release_checks, old_number, with_grant, with_greatest, moved_by, read_at, counted, next_state, note_of, slicelet_step}
+use Rattle.slicelet.specs.Accepted.{checks_of, StandsAfter}
+use Rattle.slicelet.specs.Continuity.{IsContinuous, is_strange, is_kept, checked_in, IsChecked}
+use Rattle.slicelet.proofs.Accepting.{hear_accepted}
+use Rattle.slicelet.proofs.States.{same_stamps, stamp_among_where, held_after, greatest_after}
+use Rattle.slicelet.proofs.Stamping.{length-turns, continuous_as_stamped}
+use Rattle.slicelet.proofs.OwnLeases.{greatest_above, own_leases}
+
+pub restamped_same : (o p : Option ℕ) (b c a d : Bool) (m n : ℕ) → o ≡ p → b ≡ c → a ≡ d → m ≡ n → restamped o b a m ≡ restamped p c d n
+restamped_same o p b c a d m n e f g i = rw (e, f, g, i) refl
+
+-- the state after one call more, where the call is not counted yet
+abbrev uncounted : ℕ → List SliceletCall → SliceletCall → SliceletState
+uncounted task h c = record (state_after task (c ∷ h)) { count = length h; stamps = stamps_where (λ key. stamp_of (covers_key key) h) }
+
+moved_is : (task : ℕ) (h : List SliceletCall) (c : SliceletCall) → first_of (checks_of (state_after task h) c) ≡ None
+    → read_at (reading_of c) (moved_by (state_after task h) c) ≡ uncounted task h c
+moved_is task h (Start life at) e = refl
+moved_is task h (Hear grant at) e = by_kind grant.lease.kind refl (hear_accepted (state_after task h) grant at e).newer
+  where
+    by_kind : (kind : Kind) → grant.lease.kind ≡ kind → old_number grant.number (greatest_in (state_after task h) kind) ≡ None
+        → read_at at (with_greatest kind grant.number (with_grant kind (Some grant) (state_after task h))) ≡ uncounted task h (Hear grant at)
+    by_kind Guard k n = rw (k, greatest_above grant.number (greatest_heard Guard h) n) refl
+    by_kind Bridge k n = rw (k, greatest_above grant.number (greatest_heard Bridge h) n) refl
+moved_is task h (Release kind at) e = by_kind kind
+  where
+    by_kind : (kind : Kind) → read_at at (with_grant kind None (state_after task h)) ≡ uncounted task h (Release kind at)
+    by_kind Guard = refl
+    by_kind Bridge = refl
+
+pub next_after : (task : ℕ) (h : List SliceletCall) (c : SliceletCall) → first_of (checks_of (state_after task h) c) ≡ None
+    → next_state (state_after task h) c ≡ state_after task (c ∷ h)
+next_after task h c e =
+    ap (λ (s : SliceletState). counted (state_after task h) s (reading_of c)) (moved_is task h c e)
+    ∙ ap (λ (stamps : List (Option ℕ)). with_stamps (length h + 1) stamps) stamps_are
+    ∙ ap (λ (n : ℕ). with_stamps n (state_after task (c ∷ h)).stamps) (let one_more : length h + 1 ≡ suc (length h) = omega arith in one_more)
+  where
+    with_stamps : ℕ → List (Option ℕ) → SliceletState
+    with_stamps n stamps = record (state_after task (c ∷ h)) { count = n; stamps = stamps }
+
+    stamps_are : stamps_where (λ key. restamped (stamp_in (state_after task h) key) (is_permitted (covers_key key) h (reading_of c)) (is_permitted (covers_key key) (c ∷ h) (reading_of c)) (length h + 1))
+        ≡ stamps_where (λ key. stamp_of (covers_key key) (c ∷ h))
+    stamps_are = same_stamps _ _ (λ key l. restamped_same _ _ _ _ _ _ _ _
+        (stamp_among_where (λ key. stamp_of (covers_key key) h) key l) refl refl
+        (ap (λ (n : ℕ). n + 1) (sym (length-turns (covers_key key) h))))
+
+pub opens : (task : ℕ) → StandsAfter [] (state_after task [])
+opens task = record { state = refl; accepted = tt }
+
+pub leads_on : (h : List SliceletCall) (s : SliceletState) (c : SliceletCall) → StandsAfter h s → first_of (checks_of s c) ≡ None → StandsAfter (c ∷ h) (next_state s c)
+leads_on h s c k e =
+    let accepted : first_of (checks_of (state_after s.task h) c) ≡ None = subst (λ (x : SliceletState). first_of (checks_of x c) ≡ None) k.state e in
+    let stands : StandsAfter (c ∷ h) (state_after s.task (c ∷ h)) = record { state = refl; accepted = (accepted, k.accepted) } in
+    subst (λ (x : SliceletState). StandsAfter (c ∷ h) (next_state x c)) (sym k.state)
+    (subst (λ (x : SliceletState). StandsAfter (c ∷ h) x) (sym (next_after s.task h c accepted)) stands)
+
+-- a check answers by the calls
+check_after : (task : ℕ) (h : List SliceletCall) (handle : KeyHandle) (at : ℕ) → handle.key < KEYS → IsChecked task h handle at (checked_in (state_after task h) handle at)
+check_after task h handle at l = by_tests (is_strange (state_after task h) handle) (is_kept (state_after task h) handle at) refl kept
+  where
+    kept : MatchBool (is_kept (state_after task h) handle at) (IsContinuous (covers_key handle.key) h handle at) (IsContinuous (covers_key handle.key) h handle at → ⊥)
+    kept = continuous_as_stamped (covers_key handle.key) h handle at _ (stamp_in (state_after task h) handle.key)
+        (handle.life == (state_after task h).life && is_up_to handle.position (stamp_in (state_after task h) handle.key)) (is_permitted (covers_key handle.key) h at)
+        refl (stamp_among_where (λ key. stamp_of (covers_key key) h) handle.key l) refl refl
+
+    by_tests : (strange is : Bool) → is_strange (state_after task h) handle ≡ strange
+        → MatchBool is (IsContinuous (covers_key handle.key) h handle at) (IsContinuous (covers_key handle.key) h handle at → ⊥)
+        → IsChecked task h handle at (if strange then Err (record {}) else Ok is)
+    by_tests true is e k = e
+    by_tests false true e k = (e, k)
+    by_tests false false e k = (e, k)
+
+pub checks_after : (h : List SliceletCall) (s : SliceletState) (handle : KeyHandle) (at : ℕ) → handle.key < KEYS → StandsAfter h s → IsChecked s.task h handle at (checked_in s handle at)
+checks_after h s handle at l k = subst (λ (x : SliceletState). IsChecked s.task h handle at (checked_in x handle at)) (sym k.state) (check_after s.task h handle at l)
+
+-- an accepted step is refused by nothing, and leaves the next state
+taken : {A R : Type 0} (o : Option SliceletError) (name : A → R) (next : SliceletState) (answer : A) (p : SliceletState × R)
+    → replied name (unless_refused {A = SliceletState × A} o (next, answer)) ≡ Ok p → (o ≡ None) × (next ≡ p.0)
+taken {A} {R} None name next answer p e = let same : (next, name answer) ≡ p = cc in (refl, ap (λ (q : SliceletState × R). q.0) same)
+taken (Some refusal) name next answer p e = absurd (cc)
+
+pub accepted_step : (s : SliceletState) (c : SliceletCall) (p : SliceletState × SliceletReply) → slicelet_step s c ≡ Ok p → (first_of (checks_of s c) ≡ None) × (next_state s c ≡ p.0)
+accepted_step s (Start life at) p e = taken (first_of (start_checks s life at)) (λ _. Started) (next_state s (Start life at)) tt p e
+accepted_step s (Hear grant at) p e = taken (first_of (hear_checks s grant at)) (λ _. Heard) (next_state s (Hear grant at)) tt p e
+accepted_step s (Release kind at) p e = taken (first_of (release_checks s kind at)) Released (next_state s (Release kind at)) (note_of s kind) p e
+
+pub steps_on : (h : List SliceletCall) (s : SliceletState) (c : SliceletCall) (p : SliceletState × SliceletReply) → StandsAfter h s → slicelet_step s c ≡ Ok p → StandsAfter (c ∷ h) p.0
+steps_on h s c p k e = let step = accepted_step s c p e in subst (λ (x : SliceletState). StandsAfter (c ∷ h) x) step.1 (leads_on h s c k step.0)
+
+pub held_by_calls : (h : List SliceletCall) (s : SliceletState) (kind : Kind) → StandsAfter h s → held_in s kind ≡ held kind h
+held_by_calls h s kind k = ap (λ (x : SliceletState). held_in x kind) k.state ∙ held_after s.task h kind
+
+pub greatest_by_calls : (h : List SliceletCall) (s : SliceletState) (kind : Kind) → StandsAfter h s → greatest_in s kind ≡ greatest_heard kind h
+greatest_by_calls h s kind k = ap (λ (x : SliceletState). greatest_in x kind) k.state ∙ greatest_after s.task h kind
+
+pub rule_by_calls : (covers : Grant → Bool) (h : List SliceletCall) (s : SliceletState) (at : ℕ) → StandsAfter h s → rule_in_state covers s at ≡ rule_after covers h at
+rule_by_calls covers h s at k = ap (λ (x : SliceletState). rule_in_state covers x at) k.state
+
+-- the number of a held lease is the greatest heard of its kind
+pub number_held : (h : List SliceletCall) (s : SliceletState) → StandsAfter h s → (kind : Kind) → is_some (held_in s kind) ≡ true
+    → greatest_in s kind ≡ option_map (λ (grant : Grant). grant.number) (held_in s kind)
+number_held h s k kind e = by_held (held_in s kind) refl e
+  where
+    by_held : (o : Option Grant) → held_in s kind ≡ o → is_some o ≡ true → greatest_in s kind ≡ option_map (λ (grant : Grant). grant.number) o
+    by_held None q e = absurd (cc)
+    by_held (Some grant) q e =
+        greatest_by_calls h s kind k ∙ ((own_leases s.task h k.accepted).own kind grant (sym (held_by_calls h s kind k) ∙ q)).greatest
