@@ -1,0 +1,177 @@
+-- What one call leads to.
+use Rattle.std.proofs.Common.{◌≡◌, ℕ, Bool, true, false, List, ◌∷◌, refl, sym, ◌∙◌, ap, subst}
+use Rattle.std.specs.Prelude.{Option, Result, Ok, Err, is_ok, ◌==◌, reverse, if◌then◌else◌}
+use Rattle.lease_table.specs.Calls.{AnsweredTableCall, standing_after, grants_sent}
+use Rattle.clerk.specs.Knowledge.{greatest_of}
+use Rattle.cluster.specs.internals.Proposals.{proposals_in}
+use Rattle.machines.specs.declared.machine.Trouble.{Trouble}
+use Rattle.machines.specs.declared.machine.Trouble.TheVariants.{Refused, NoMemory}
+use Rattle.std.specs.List.{list_any}
+use Rattle.indexmap.specs.IndexSet.{contains}
+use Rattle.machines.specs.Answers.{Takes}
+use Rattle.assignment.specs.Slices.{Slicing}
+use Rattle.slicelet.specs.declared.call.SliceletCall.{SliceletCall}
+use Rattle.slicelet.specs.States.{SliceletState, state_after}
+use Rattle.cluster.specs.Jobs.{Job}
+use Rattle.cluster.specs.declared.error.ClusterError.{ClusterError}
+use Rattle.cluster.specs.declared.call.ClusterCall.{ClusterCall}
+use Rattle.cluster.specs.declared.call.ClusterCall.TheVariants as call
+use Rattle.cluster.specs.declared.reply.ClusterReply.{ClusterReply}
+use Rattle.cluster.specs.declared.reply.ClusterReply.TheVariants as reply
+use Rattle.cluster.specs.declared.cluster.Cluster.{Cluster}
+use Rattle.cluster.specs.Pasts.{event, Past, is_accepted, table_calls, task_calls, history, learnt_by, newest_learnt}
+use Rattle.cluster.specs.Deliveries.{notes_made, handles_made, same_note, same_handle}
+use Rattle.cluster.specs.internals.Keys.{Key, key_eq, note_key, handle_key}
+use Rattle.cluster.specs.Replies.{from_machine, reply_to}
+use Rattle.cluster.specs.Runs.{IsReply, IsOutcome}
+use Rattle.cluster.specs.Clusters.{AreActors, Keeps, LeadsTo, IsPlayed}
+use Rattle.cluster.specs.internals.Turns.{told_as}
+use Rattle.cluster.proofs.ActorLists.{actors_same}
+
+-- notes, and handles, are found as before
+abbrev pub SameNoteKeys : Cluster → Cluster → Type 0
+SameNoteKeys old new = (key : Key) → contains key_eq new.note_keys key ≡ contains key_eq old.note_keys key
+
+abbrev pub SameHandleKeys : Cluster → Cluster → Type 0
+SameHandleKeys old new = (key : Key) → contains key_eq new.handle_keys key ≡ contains key_eq old.handle_keys key
+
+-- all of which a past tells is as it was
+pub record IsSame (old new : Cluster) : Type 0 where
+  pub job : new.job ≡ old.job
+  pub table : new.table ≡ old.table
+  pub tasks : new.tasks.items ≡ old.tasks.items
+  pub clerks : new.clerks.items ≡ old.clerks.items
+  pub grants : new.grants.items ≡ old.grants.items
+  pub notes : reverse new.notes.items ≡ reverse old.notes.items
+  pub handles : reverse new.handles.items ≡ reverse old.handles.items
+  pub note_keys : SameNoteKeys old new
+  pub handle_keys : SameHandleKeys old new
+  pub proposals : new.proposals.items ≡ old.proposals.items
+
+-- all but the slicelets and the notes, all but the clerks, and all but the handles
+pub record IsSameBesideTasks (old new : Cluster) : Type 0 where
+  pub job : new.job ≡ old.job
+  pub table : new.table ≡ old.table
+  pub clerks : new.clerks.items ≡ old.clerks.items
+  pub grants : new.grants.items ≡ old.grants.items
+  pub handles : reverse new.handles.items ≡ reverse old.handles.items
+  pub handle_keys : SameHandleKeys old new
+  pub proposals : new.proposals.items ≡ old.proposals.items
+
+pub record IsSameBesideClerks (old new : Cluster) : Type 0 where
+  pub job : new.job ≡ old.job
+  pub table : new.table ≡ old.table
+  pub tasks : new.tasks.items ≡ old.tasks.items
+  pub grants : new.grants.items ≡ old.grants.items
+  pub notes : reverse new.notes.items ≡ reverse old.notes.items
+  pub handles : reverse new.handles.items ≡ reverse old.handles.items
+  pub note_keys : SameNoteKeys old new
+  pub handle_keys : SameHandleKeys old new
+  pub proposals : new.proposals.items ≡ old.proposals.items
+
+pub record IsSameBesideHandles (old new : Cluster) : Type 0 where
+  pub job : new.job ≡ old.job
+  pub table : new.table ≡ old.table
+  pub tasks : new.tasks.items ≡ old.tasks.items
+  pub clerks : new.clerks.items ≡ old.clerks.items
+  pub grants : new.grants.items ≡ old.grants.items
+  pub notes : reverse new.notes.items ≡ reverse old.notes.items
+  pub note_keys : SameNoteKeys old new
+  pub proposals : new.proposals.items ≡ old.proposals.items
+
+pub kept_same : (job : Job) (past : Past) (old new : Cluster) → Keeps job past old → IsSame old new → Keeps job past new
+kept_same job past old new k s = record {
+  run = k.run;
+  within = k.within;
+  same_job = s.job ∙ k.same_job;
+  table = s.table ∙ k.table;
+  tasks = subst (λ (xs : List SliceletState). AreActors (λ n. history n past) job.tasks xs) (sym s.tasks) k.tasks;
+  clerks = subst (λ (xs : List (Option Slicing)). AreActors (λ n. newest_learnt n past) job.clerks xs) (sym s.clerks) k.clerks;
+  grants = s.grants ∙ k.grants;
+  notes = s.notes ∙ k.notes;
+  handles = s.handles ∙ k.handles;
+  note_keys = λ note. s.note_keys (note_key note) ∙ k.note_keys note;
+  handle_keys = λ handle. s.handle_keys (handle_key handle) ∙ k.handle_keys handle;
+  proposals = s.proposals ∙ k.proposals;
+}
+
+-- A REFUSED CALL
+
+either : {A : Type 0} (b : Bool) (x : A) → (if b then x else x) ≡ x
+either true x = refl
+either false x = refl
+
+module _ (past : Past) (why : ClusterError) where
+  refused_table : (c : ClusterCall) → table_calls (event c (reply.Refused why) ∷ past) ≡ table_calls past
+  refused_table (call.Table c) = refl
+  refused_table _ = refl
+
+  refused_task : (task : ℕ) (c : ClusterCall) → task_calls task (event c (reply.Refused why) ∷ past) ≡ task_calls task past
+  refused_task task (call.Task by c) = either (by == task) (task_calls task past)
+  refused_task task _ = refl
+
+  refused_clerk : (clerk : ℕ) (c : ClusterCall) → learnt_by clerk (event c (reply.Refused why) ∷ past) ≡ learnt_by clerk past
+  refused_clerk clerk (call.Clerk by c) = either (by == clerk) (learnt_by clerk past)
+  refused_clerk clerk _ = refl
+
+  refused_notes : (c : ClusterCall) → notes_made (event c (reply.Refused why) ∷ past) ≡ notes_made past
+  refused_notes (call.Task by c) = refl
+  refused_notes _ = refl
+
+  refused_handles : (c : ClusterCall) → handles_made (event c (reply.Refused why) ∷ past) ≡ handles_made past
+  refused_handles (call.Hold by key at) = refl
+  refused_handles _ = refl
+
+-- a call after which each actor was told, and all was made, as before
+pub only_told : (job : Job) (past : Past) (c : ClusterCall) (told : ClusterReply) (cluster : Cluster) → Keeps job past cluster → IsReply job past (event c told)
+    → table_calls (event c told ∷ past) ≡ table_calls past → ((n : ℕ) → task_calls n (event c told ∷ past) ≡ task_calls n past)
+    → ((n : ℕ) → learnt_by n (event c told ∷ past) ≡ learnt_by n past) → notes_made (event c told ∷ past) ≡ notes_made past
+    → handles_made (event c told ∷ past) ≡ handles_made past → Keeps job (event c told ∷ past) cluster
+only_told job past c told cluster k answered table tasks clerks notes handles =
+    let after : Past = event c told ∷ past in
+    record {
+      run = (answered, k.run);
+      within = k.within;
+      same_job = k.same_job;
+      table = k.table ∙ ap (λ (calls : List AnsweredTableCall). standing_after job.policy calls) (sym table);
+      tasks = actors_same (λ n. history n past) (λ n. history n after) job.tasks cluster.tasks.items (λ n. ap (λ (h : List SliceletCall). state_after n h) (sym (tasks n))) k.tasks;
+      clerks = actors_same (λ n. newest_learnt n past) (λ n. newest_learnt n after) job.clerks cluster.clerks.items (λ n. ap greatest_of (sym (clerks n))) k.clerks;
+      grants = k.grants ∙ ap grants_sent (sym table);
+      notes = k.notes ∙ sym notes;
+      handles = k.handles ∙ sym handles;
+      note_keys = λ note. k.note_keys note ∙ ap (list_any (same_note note)) (sym notes);
+      handle_keys = λ handle. k.handle_keys handle ∙ ap (list_any (same_handle handle)) (sym handles);
+      proposals = k.proposals ∙ ap proposals_in (sym table);
+    }
+
+-- it changes nothing
+pub refused_leads : (job : Job) (past : Past) (c : ClusterCall) (why : ClusterError) (cluster : Cluster) → Keeps job past cluster
+    → IsReply job past (event c (reply.Refused why)) → Keeps job (event c (reply.Refused why) ∷ past) cluster
+refused_leads job past c why cluster k answered =
+    only_told job past c (reply.Refused why) cluster k answered (refused_table past why c) (λ n. refused_task past why n c) (λ n. refused_clerk past why n c) (refused_notes past why c)
+    (refused_handles past why c)
+
+-- A CALL OF A MACHINE
+
+module _ {M R E : Type 0} (job : Job) (past : Past) (c : ClusterCall) (refused : E → ClusterError) (name : R → ClusterReply) (step : Result (M × R) E)
+    (is : (kept : Bool) → reply_to job past c kept ≡ from_machine refused name step) (outcome : IsOutcome job past c true) where
+  pub taken : (p : M × R) → step ≡ Ok p → IsReply job past (event c (name p.1))
+  taken p e = (true, outcome, sym (is true ∙ ap (from_machine refused name) e))
+
+  accepted : ((r : R) → is_accepted (name r) ≡ true) → (s : Result (M × R) E) → is_ok s ≡ true → is_accepted (from_machine refused name s) ≡ true
+  accepted each (Ok p) ok = each p.1
+  accepted each (Err why) ok = absurd (let f : false ≡ true = ok in cc)
+
+  pub untaken : (old new : Cluster) (before after : M) (trouble : Trouble E) → LeadsTo job past old → IsSame old new → Takes step before (Err trouble) after
+      → ((r : R) → is_accepted (name r) ≡ true) → IsPlayed job past c (told_as refused name (Err trouble)) new
+  unfolding LeadsTo
+  untaken old new before after (Refused why) k same h each =
+      refused_leads job past c (refused why) new (kept_same job past old new k same) (true, outcome, sym (is true ∙ ap (from_machine refused name) h.0))
+  untaken old new before after NoMemory k same h each =
+      (kept_same job past old new k same, λ kept. subst (λ (r : ClusterReply). is_accepted r ≡ true) (sym (is kept)) (accepted each step h.0))
+
+-- a call that does not come to its machine
+pub stopped : (job : Job) (past : Past) (c : ClusterCall) (why : ClusterError) (cluster : Cluster) → LeadsTo job past cluster
+    → ((kept : Bool) → reply_to job past c kept ≡ reply.Refused why) → IsOutcome job past c true → IsPlayed job past c (Ok (reply.Refused why)) cluster
+unfolding LeadsTo
+stopped job past c why cluster k is outcome = refused_leads job past c why cluster k (true, outcome, sym (is true))

@@ -1,0 +1,85 @@
+-- A call of the table.
+use Rattle.std.proofs.Common.{◌≡◌, true, List, refl, sym, ◌∙◌, ap, subst}
+use Rattle.std.specs.Prelude.{Bool, Option, None, Result, Ok, Err, reverse}
+use Rattle.lease_table.specs.declared.values.ReleaseNote.{ReleaseNote}
+use Rattle.key_handle.specs.declared.handle.KeyHandle.{KeyHandle}
+use Rattle.machines.specs.declared.machine.Trouble.{Trouble}
+use Rattle.indexmap.specs.IndexSet.{contains}
+use Rattle.machines.specs.Answers.{Takes}
+use Rattle.machines.specs.Calls.{LeadsOn}
+use Rattle.assignment.specs.Slices.{Slicing}
+use Rattle.lease_table.specs.declared.call.TableCall.{TableCall}
+use Rattle.lease_table.specs.declared.call.TableReply.{TableReply}
+use Rattle.lease_table.specs.declared.error.TableError.{TableError}
+use Rattle.lease_table.specs.Tables.{Standing}
+use Rattle.lease_table.specs.Calls.{AnsweredTableCall, table_step, standing_after, grants_after, LeadsTo as LeadsTable}
+use Rattle.slicelet.specs.States.{SliceletState}
+use Rattle.std.specs.declared.alloc.AllocError.{AllocError}
+use Rattle.lease_table.specs.Policies.{Terms, is_policy}
+use Rattle.cluster.specs.Jobs.{Job}
+use Rattle.cluster.specs.declared.error.ClusterError.{ClusterError}
+use Rattle.cluster.specs.declared.error.ClusterError.TheVariants as error
+use Rattle.cluster.specs.declared.call.ClusterCall.TheVariants as call
+use Rattle.cluster.specs.declared.reply.ClusterReply.{ClusterReply}
+use Rattle.cluster.specs.declared.reply.ClusterReply.TheVariants as reply
+use Rattle.cluster.specs.declared.cluster.Cluster.{Cluster}
+use Rattle.cluster.specs.Pasts.{Past, table_calls, standing, history, newest_learnt}
+use Rattle.cluster.specs.Deliveries.{table_refusal}
+use Rattle.cluster.specs.Replies.{unless, from_machine, reply_to}
+use Rattle.cluster.specs.Clusters.{AreActors, LeadsTo, IsPlayed}
+use Rattle.cluster.specs.internals.Keys.{key_eq, note_key, handle_key}
+use Rattle.cluster.specs.internals.Proposals.{proposals_with}
+use Rattle.cluster.specs.internals.Turns.{told_as, grants_kept, proposals_kept, IsSameBesideTable}
+use Rattle.cluster.proofs.Playing.{taken, untaken}
+use Rattle.cluster.proofs.Turning.{stays}
+
+module _ (job : Job) (past : Past) (c : TableCall) (old new : Cluster) (came : table_refusal job past c ≡ None)
+    (next : LeadsOn (LeadsTable job.policy) (table_calls past) (standing job.policy past) c (table_step (standing job.policy past) c)) where
+  reply_is : (kept : Bool) → reply_to job past (call.Table c) kept ≡ from_machine error.Table reply.Table (table_step (standing job.policy past) c)
+  reply_is kept = ap (λ (o : Option ClusterError). unless o (from_machine error.Table reply.Table (table_step (standing job.policy past) c))) came
+
+  pub table_played : (answer : Result TableReply (Trouble TableError)) → LeadsTo job past old → Takes (table_step old.table c) old.table answer new.table
+      → new.grants.items ≡ grants_kept answer old.grants.items → new.proposals.items ≡ proposals_kept c answer old.proposals.items → IsSameBesideTable old new
+      → IsPlayed job past (call.Table c) (told_as error.Table reply.Table answer) new
+  unfolding LeadsTo
+  table_played (Ok told) k took grants proposals others =
+      let done : table_step (standing job.policy past) c ≡ Ok (new.table, told) = subst (λ (t : Standing). table_step t c ≡ Ok (new.table, told)) k.table took in
+      record {
+        run = (taken job past (call.Table c) error.Table reply.Table (table_step (standing job.policy past) c) reply_is tt (new.table, told) done, k.run);
+        within = k.within;
+        same_job = others.0 ∙ k.same_job;
+        table = sym (subst (LeadsOn (LeadsTable job.policy) (table_calls past) (standing job.policy past) c) done next);
+        tasks = subst (λ (xs : List SliceletState). AreActors (λ n. history n past) job.tasks xs) (sym others.1) k.tasks;
+        clerks = subst (λ (xs : List (Option Slicing)). AreActors (λ n. newest_learnt n past) job.clerks xs) (sym others.2) k.clerks;
+        grants = grants ∙ ap (grants_after (Ok told)) k.grants;
+        notes = ap (λ (xs : List ReleaseNote). reverse xs) others.3 ∙ k.notes;
+        handles = ap (λ (xs : List KeyHandle). reverse xs) others.4 ∙ k.handles;
+        note_keys = λ note. ap (λ keys. contains key_eq keys (note_key note)) others.5 ∙ k.note_keys note;
+        handle_keys = λ handle. ap (λ keys. contains key_eq keys (handle_key handle)) others.6 ∙ k.handle_keys handle;
+        proposals = proposals ∙ ap (proposals_with c true) k.proposals;
+      }
+  table_played (Err trouble) k took grants proposals others =
+      untaken job past (call.Table c) error.Table reply.Table (table_step (standing job.policy past) c) reply_is tt old new old.table new.table trouble k (record {
+        job = others.0;
+        table = stays (table_step old.table c) old.table new.table trouble took;
+        tasks = others.1;
+        clerks = others.2;
+        grants = grants;
+        notes = ap (λ (xs : List ReleaseNote). reverse xs) others.3;
+        handles = ap (λ (xs : List KeyHandle). reverse xs) others.4;
+        note_keys = λ key. ap (λ keys. contains key_eq keys key) others.5;
+        handle_keys = λ key. ap (λ keys. contains key_eq keys key) others.6;
+        proposals = proposals;
+      }) (subst (λ (t : Standing). Takes (table_step t c) old.table (Err trouble) new.table) k.table took) (λ r. refl)
+
+-- a call that comes to the table, with the law of its steps
+pub table_turn : (job : Job) (past : Past) (c : TableCall) (old new : Cluster) → LeadsTo job past old → table_refusal job past c ≡ None
+    → ((policy : Terms) (calls : List AnsweredTableCall) (asked : TableCall) → is_policy policy ≡ true
+    → LeadsOn (LeadsTable policy) calls (standing_after policy calls) asked (table_step (standing_after policy calls) asked))
+    → (answer : Result TableReply (Trouble TableError)) → Takes (table_step old.table c) old.table answer new.table
+    → new.grants.items ≡ grants_kept answer old.grants.items → new.proposals.items ≡ proposals_kept c answer old.proposals.items → IsSameBesideTable old new → (result : Result ClusterReply AllocError) → result ≡ told_as error.Table reply.Table answer
+    → IsPlayed job past (call.Table c) result new
+unfolding LeadsTo
+table_turn job past c old new k came law answer took grants proposals others result is =
+    subst (λ (r : Result ClusterReply AllocError). IsPlayed job past (call.Table c) r new) (sym is)
+    (table_played job past c old new came (law job.policy (table_calls past) c k.within) answer k took grants proposals others)

@@ -1,0 +1,126 @@
+-- A call of a task.
+use Rattle.std.proofs.Common.{◌≡◌, ℕ, ◌+◌, ◌<◌, Bool, true, false, List, ◌∷◌, length, refl, sym, ◌∙◌, ap, subst, arith}
+use Rattle.std.specs.Prelude.{◌≢◌, ◌==◌, Option, None, Result, Ok, Err, reverse, set, get_or}
+use Rattle.std.proofs.lemmas.Bool.Decides.{nat_tests}
+use Rattle.std.proofs.lemmas.List.{set-get_or}
+use Rattle.machines.specs.declared.machine.Trouble.{Trouble}
+use Rattle.std.specs.List.{list_any}
+use Rattle.indexmap.specs.IndexSet.{contains}
+use Rattle.machines.specs.Answers.{Takes}
+use Rattle.machines.specs.Numbers.{is_within}
+use Rattle.assignment.specs.Slices.{Slicing}
+use Rattle.lease_table.specs.declared.values.ReleaseNote.{ReleaseNote}
+use Rattle.slicelet.specs.declared.call.SliceletCall.{SliceletCall}
+use Rattle.slicelet.specs.declared.call.SliceletReply.{SliceletReply}
+use Rattle.slicelet.specs.declared.call.SliceletReply.TheVariants.{Started, Heard, Released}
+use Rattle.slicelet.specs.declared.error.SliceletError.{SliceletError}
+use Rattle.slicelet.specs.States.{SliceletState, state_after}
+use Rattle.slicelet.specs.Steps.{slicelet_step}
+use Rattle.std.specs.declared.alloc.AllocError.{AllocError}
+use Rattle.cluster.specs.Jobs.{Job}
+use Rattle.cluster.specs.declared.error.ClusterError.{ClusterError}
+use Rattle.cluster.specs.declared.error.ClusterError.TheVariants as error
+use Rattle.cluster.specs.declared.call.ClusterCall.TheVariants as call
+use Rattle.cluster.specs.declared.reply.ClusterReply.{ClusterReply}
+use Rattle.cluster.specs.declared.reply.ClusterReply.TheVariants as reply
+use Rattle.cluster.specs.declared.cluster.Cluster.{Cluster}
+use Rattle.cluster.specs.Pasts.{event, Past, task_calls, history, newest_learnt}
+use Rattle.cluster.specs.Deliveries.{notes_made, note_told, same_note, task_refusal}
+use Rattle.cluster.specs.Replies.{by_actor, unless, from_machine, reply_to}
+use Rattle.cluster.specs.Clusters.{AreActors, LeadsTo, IsPlayed}
+use Rattle.cluster.specs.internals.Keys.{Key, key_eq, note_key, handle_key, kept_after}
+use Rattle.cluster.specs.internals.Turns.{told_as, notes_kept}
+use Rattle.cluster.proofs.ActorLists.{of_job, actor_at, actors_set}
+use Rattle.cluster.proofs.Keying.{note_keys_same}
+use Rattle.cluster.proofs.Playing.{IsSameBesideTasks, taken, untaken}
+use Rattle.cluster.proofs.Turning.{stays}
+use Rattle.cluster.proofs.TaskStates.{next_history}
+
+-- an actor of the job gives its answer
+pub by_own : (number most : ℕ) (answer : ClusterReply) → is_within number most ≡ true → by_actor number most answer ≡ answer
+by_own number most answer e = rw e refl
+
+-- no other actor does
+pub by_none : (number most : ℕ) (answer : ClusterReply) → is_within number most ≡ false → by_actor number most answer ≡ reply.Refused error.NoActor
+by_none number most answer e = rw e refl
+
+-- the task of a place is of the job
+pub inside_job : (job : Job) (past : Past) (task place : ℕ) (cluster : Cluster) → LeadsTo job past cluster → place + 1 ≡ task → place < length cluster.tasks.items
+    → is_within task job.tasks ≡ true
+unfolding LeadsTo
+inside_job job past task place cluster k number within = of_job (λ n. history n past) job.tasks cluster.tasks.items k.tasks place task number within
+
+-- a note that is found was made
+kept_made : (told : SliceletReply) (note : ReleaseNote) (before : Bool) (notes : List ReleaseNote) → before ≡ list_any (same_note note) notes
+    → kept_after (let answer : Result SliceletReply (Trouble SliceletError) = Ok told in answer) (note_key note) before ≡ list_any (same_note note) (note_told (reply.Task told) notes)
+kept_made Started note before notes e = e
+kept_made Heard note before notes e = e
+kept_made (Released made) note before notes e = rw (e, note_keys_same made note) refl
+
+own_next : (past : Past) (task n : ℕ) (c : SliceletCall) (told : SliceletReply) → n ≡ task
+    → state_after n (c ∷ task_calls n past) ≡ history n (event (call.Task task c) (reply.Task told) ∷ past)
+own_next past task n c told same = let test : (task == n) ≡ true = grind (arith, nat_tests) in rw test refl
+
+other_next : (past : Past) (task n : ℕ) (c : SliceletCall) (told : SliceletReply) → n ≢ task
+    → history n past ≡ history n (event (call.Task task c) (reply.Task told) ∷ past)
+other_next past task n c told other = let test : (task == n) ≡ false = grind (arith, nat_tests) in rw test refl
+
+module _ (job : Job) (past : Past) (task place : ℕ) (c : SliceletCall) (old new : Cluster) (number : place + 1 ≡ task) (came : task_refusal past c ≡ None) (k : LeadsTo job past old)
+    (before after : SliceletState) (found : before ≡ get_or old.tasks.items place before) (within : place < length old.tasks.items)
+    (tasks : new.tasks.items ≡ set old.tasks.items place after) (others : IsSameBesideTasks old new) where
+  at_place : before ≡ history task past
+  unfolding LeadsTo
+  at_place = actor_at (λ n. history n past) (λ n. history n past) job.tasks old.tasks.items k.tasks place within before found ∙ ap (λ (n : ℕ). history n past) number
+
+  reply_is : (kept : Bool) → reply_to job past (call.Task task c) kept ≡ from_machine error.Slicelet reply.Task (slicelet_step (history task past) c)
+  reply_is kept =
+      by_own task job.tasks _ (inside_job job past task place old k number within)
+      ∙ ap (λ (o : Option ClusterError). unless o (from_machine error.Slicelet reply.Task (slicelet_step (history task past) c))) came
+
+  pub task_played : (answer : Result SliceletReply (Trouble SliceletError)) → Takes (slicelet_step before c) before answer after
+      → reverse new.notes.items ≡ notes_kept answer (reverse old.notes.items)
+      → ((key : Key) → contains key_eq new.note_keys key ≡ kept_after answer key (contains key_eq old.note_keys key)) → IsPlayed job past (call.Task task c) (told_as error.Slicelet reply.Task answer) new
+  unfolding LeadsTo
+  task_played (Ok told) took notes keys =
+      let later : Past = event (call.Task task c) (reply.Task told) ∷ past in
+      let done : slicelet_step (history task past) c ≡ Ok (after, told) = subst (λ (s : SliceletState). slicelet_step s c ≡ Ok (after, told)) at_place took in
+      let now : after ≡ history (place + 1) later =
+      next_history task (task_calls task past) c (after, told) done ∙ ap (λ (n : ℕ). state_after n (c ∷ task_calls n past)) (sym number) ∙ own_next past task (place + 1) c told number in
+      record {
+        run = (taken job past (call.Task task c) error.Slicelet reply.Task (slicelet_step (history task past) c) reply_is tt (after, told) done, k.run);
+        within = k.within;
+        same_job = others.job ∙ k.same_job;
+        table = others.table ∙ k.table;
+        tasks = subst (λ (xs : List SliceletState). AreActors (λ n. history n later) job.tasks xs) (sym tasks)
+            (actors_set (λ n. history n past) (λ n. history n later) job.tasks old.tasks.items k.tasks place within after now (λ i other. other_next past task (i + 1) c told (λ same. other (omega arith))));
+        clerks = subst (λ (xs : List (Option Slicing)). AreActors (λ n. newest_learnt n past) job.clerks xs) (sym others.clerks) k.clerks;
+        grants = others.grants ∙ k.grants;
+        notes = notes ∙ ap (note_told (reply.Task told)) k.notes;
+        handles = others.handles ∙ k.handles;
+        note_keys = λ note. keys (note_key note) ∙ kept_made told note (contains key_eq old.note_keys (note_key note)) (notes_made past) (k.note_keys note);
+        handle_keys = λ handle. others.handle_keys (handle_key handle) ∙ k.handle_keys handle;
+        proposals = others.proposals ∙ k.proposals;
+      }
+  task_played (Err trouble) took notes keys =
+      untaken job past (call.Task task c) error.Slicelet reply.Task (slicelet_step (history task past) c) reply_is tt old new before after trouble k (record {
+        job = others.job;
+        table = others.table;
+        tasks = tasks ∙ ap (set old.tasks.items place) (stays (slicelet_step before c) before after trouble took ∙ found) ∙ set-get_or old.tasks.items place before;
+        clerks = others.clerks;
+        grants = others.grants;
+        notes = notes;
+        handles = others.handles;
+        note_keys = keys;
+        handle_keys = others.handle_keys;
+        proposals = others.proposals;
+      }) (subst (λ (s : SliceletState). Takes (slicelet_step s c) before (Err trouble) after) at_place took) (λ r. refl)
+
+-- a call that comes to its task
+pub task_turn : (job : Job) (past : Past) (task place : ℕ) (c : SliceletCall) (old new : Cluster) → place + 1 ≡ task → task_refusal past c ≡ None → LeadsTo job past old
+    → (before after : SliceletState) → before ≡ get_or old.tasks.items place before → place < length old.tasks.items
+    → new.tasks.items ≡ set old.tasks.items place after → IsSameBesideTasks old new → (answer : Result SliceletReply (Trouble SliceletError))
+    → Takes (slicelet_step before c) before answer after → reverse new.notes.items ≡ notes_kept answer (reverse old.notes.items)
+    → ((key : Key) → contains key_eq new.note_keys key ≡ kept_after answer key (contains key_eq old.note_keys key)) → (result : Result ClusterReply AllocError) → result ≡ told_as error.Slicelet reply.Task answer → IsPlayed job past (call.Task task c) result new
+task_turn job past task place c old new number came k before after found within tasks others answer took notes keys result is =
+    subst (λ (r : Result ClusterReply AllocError). IsPlayed job past (call.Task task c) r new) (sym is)
+    (task_played job past task place c old new number came k before after found within tasks others answer took notes keys)

@@ -1,0 +1,12 @@
+pub mod Jobs
+pub mod Timing
+pub mod Pasts
+pub mod Deliveries
+pub mod Replies
+pub mod Runs
+pub mod Headline
+pub mod Promises
+pub mod Numbered
+pub mod Clusters
+pub mod internals
+pub mod Timeliness

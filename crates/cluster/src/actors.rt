@@ -1,0 +1,45 @@
+//! Actors and things by their numbers.
+
+ghost use Rattle.std.specs.Prelude.{◌≡◌, ◌+◌, ◌<◌, false, not, length, MatchOption, option_map};
+ghost use Rattle.machines.specs.Numbers.{is_within};
+ghost use Rattle.machines.specs.Refusals.{when};
+ghost use Rattle.cluster.specs.Numbered.{numbered};
+
+use crate::error::ClusterError;
+
+/// The place of the actor of this number.
+pub(crate) fn place_of<A>(number: u64, actors: &[A]) -> Option<usize>
+    ensures { MatchOption result
+        (is_within number (length actors.now) ≡ false)
+        (λ place. (place + 1 ≡ number) × (place < length actors.now)) }
+{
+    if is_within(number, actors.len() as u64) {
+        Some((number - 1) as usize)
+    } else {
+        None
+    }
+}
+
+/// Whether a number is from 1 to the most.
+pub(crate) fn is_within(number: u64, most: u64) -> bool
+    ensures { result ≡ is_within number most }
+{
+    1 <= number && number <= most
+}
+
+/// The thing of this number among those that were made.
+pub(crate) fn numbered<T>(number: u64, made: &[T]) -> Option<&T>
+    ensures { option_map (λ thing. thing.now) result ≡ numbered number made.now }
+{
+    if number == 0 {
+        return None;
+    }
+    made.get((number - 1) as usize)
+}
+
+/// A refusal, unless this holds.
+pub(crate) fn unless(holds: bool, why: ClusterError) -> Option<ClusterError>
+    ensures { result ≡ when (not holds) why }
+{
+    if holds { None } else { Some(why) }
+}

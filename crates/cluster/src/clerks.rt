@@ -1,0 +1,75 @@
+//! Calls of clerks.
+
+ghost use Rattle.std.specs.Prelude.{◌≡◌, ◌∷◌, Ok};
+ghost use Rattle.cluster.specs.Jobs.{Job};
+ghost use Rattle.cluster.specs.declared.call.ClusterCall.TheVariants as asked;
+ghost use Rattle.cluster.specs.declared.error.ClusterError.TheVariants as error;
+ghost use Rattle.cluster.specs.declared.reply.ClusterReply.TheVariants as reply;
+ghost use Rattle.cluster.specs.Pasts.{Past, event};
+ghost use Rattle.cluster.specs.Deliveries.{clerk_refusal};
+ghost use Rattle.cluster.specs.Clusters.{LeadsTo, IsPlayed};
+ghost use Rattle.cluster.specs.internals.Turns.{told_as};
+
+use crate::actors::{place_of, unless};
+use crate::cluster::Cluster;
+use crate::error::ClusterError;
+use crate::reply::ClusterReply;
+use clerk::{ClerkCall, ClerkError, ClerkReply};
+use key_hash::SliceKey;
+use machines::Trouble;
+use std::alloc::AllocError;
+
+// What a clerk answers, as the cluster's reply.
+fn told_by_clerk(
+    answer: Result<ClerkReply, Trouble<ClerkError>>,
+) -> Result<ClusterReply, AllocError>
+    ensures { result ≡ told_as error.Clerk reply.Clerk answer }
+{
+    match answer {
+        Ok(told) => Ok(ClusterReply::Clerk(told)),
+        Err(Trouble::Refused(why)) => Ok(ClusterReply::Refused(ClusterError::Clerk(why))),
+        Err(Trouble::NoMemory) => Err(AllocError),
+    }
+}
+
+impl Cluster {
+    /// Plays a call of a clerk, as [`Cluster::play`] does.
+    pub fn call_clerk(&mut self, clerk: u64, call: &ClerkCall) -> Result<ClusterReply, AllocError>
+        ensures { (job : Job) (past : Past) → LeadsTo job past self.old
+            → IsPlayed job past (asked.Clerk clerk call.now) result self.new }
+    {
+        let Some(place) = place_of(clerk, self.clerks.as_slice()) else {
+            return Ok(ClusterReply::Refused(ClusterError::NoActor));
+        };
+        if let Some(why) = self.clerk_refusal(call) {
+            return Ok(ClusterReply::Refused(why));
+        }
+        told_by_clerk(self.clerks[place].call(call))
+    }
+
+    // Why a call does not come to a clerk of the job.
+    fn clerk_refusal(&self, call: &ClerkCall) -> Option<ClusterError>
+        ensures { (job : Job) (past : Past) → LeadsTo job past self.now → result ≡ clerk_refusal past call.now }
+    {
+        match call {
+            ClerkCall::Learn(assignment) => {
+                unless(self.is_published(assignment), ClusterError::NotSent)
+            }
+            ClerkCall::Forget => None,
+        }
+    }
+
+    /// `look` of a clerk.
+    pub(crate) fn look(&self, clerk: u64, key: SliceKey) -> ClusterReply
+        ensures { (job : Job) (past : Past) → LeadsTo job past self.now
+            → IsPlayed job past (asked.Look clerk key) (Ok result) self.now }
+    {
+        let Some(place) = place_of(clerk, self.clerks.as_slice()) else {
+            return ClusterReply::Refused(ClusterError::NoActor);
+        };
+        match self.clerks[place].look(key) {
+            Ok(found) => ClusterReply::Found(found),
+            Err(_) => ClusterReply::Refused(ClusterError::Unknown),
+        }
+    }
+}

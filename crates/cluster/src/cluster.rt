@@ -1,0 +1,157 @@
+//! The machines of a job.
+
+ghost use Rattle.std.specs.Prelude.{◌≡◌, ℕ, [], ◌∷◌, ◌++◌, true, false, IsTrue, None, IfOk};
+ghost use Rattle.machines.specs.Numbers.{is_within};
+ghost use Rattle.key_handle.specs.declared.handle.KeyHandle.{KeyHandle};
+ghost use Rattle.lease_table.specs.Policies.{is_policy};
+ghost use Rattle.slicelet.specs.Continuity.{is_strange};
+ghost use Rattle.slicelet.specs.States.{opening};
+ghost use Rattle.cluster.specs.Jobs.{Job};
+ghost use Rattle.cluster.specs.declared.call.ClusterCall.TheVariants as asked;
+ghost use Rattle.cluster.specs.declared.reply.ClusterReply.{ClusterReply};
+ghost use Rattle.cluster.specs.Timing.{IsTimely};
+ghost use Rattle.cluster.specs.Pasts.{Past, event, readings, history};
+ghost use Rattle.cluster.specs.Deliveries.{is_given};
+ghost use Rattle.cluster.specs.Runs.{IsRun};
+ghost use Rattle.cluster.specs.Headline.{MayServe, IsOwner, IsWhileHeld};
+ghost use Rattle.cluster.specs.Promises.{IsServedByRule, IsCheckedByHistory};
+ghost use Rattle.cluster.specs.Clusters.{AreActors, LeadsTo, IsPlayed};
+
+use crate::call::ClusterCall;
+use crate::job::Job;
+use crate::keys::Key;
+use crate::laws::{handle_law, interval_law, owner_law, rule_law};
+use crate::reply::ClusterReply;
+use assignment::{Assignment, TaskId};
+use clerk::Clerk;
+use indexmap::IndexSet;
+use key_handle::KeyHandle;
+use lease_table::{Grant, LeaseTable, ReleaseNote, policy_law};
+use slicelet::Slicelet;
+use std::alloc::{AllocError, Global};
+
+/// A job's table, slicelets and clerks, and all that was made so far: grants, notes, handles and
+/// published assignments, each of which may be delivered later, again and in any order.
+#[derive(Drop)]
+pub struct Cluster {
+    pub(crate) alloc: Global,
+    pub(crate) job: Job,
+    pub(crate) table: LeaseTable,
+    pub(crate) tasks: Vec<Slicelet>,
+    pub(crate) clerks: Vec<Clerk>,
+    pub(crate) grants: Vec<Grant>,
+    pub(crate) notes: Vec<ReleaseNote>,
+    pub(crate) handles: Vec<KeyHandle>,
+    // The same notes and handles, by what they say.
+    pub(crate) note_keys: IndexSet<Key>,
+    pub(crate) handle_keys: IndexSet<Key>,
+    pub(crate) proposals: Vec<Assignment>,
+}
+
+fn tasks_of(alloc: Global, job: Job) -> Result<Vec<Slicelet>, AllocError>
+    ensures { IfOk result (λ tasks. AreActors opening job.tasks tasks.items) }
+{
+    let mut tasks = Vec::new(alloc);
+    for place in 0..job.tasks() {
+        tasks.push(Slicelet::new(alloc, TaskId::new(place + 1).unwrap()))?;
+    }
+    Ok(tasks)
+}
+
+fn clerks_of(alloc: Global, job: Job) -> Result<Vec<Clerk>, AllocError>
+    ensures { IfOk result (λ clerks. AreActors (λ n. None) job.clerks clerks.items) }
+{
+    let mut clerks = Vec::new(alloc);
+    for _place in 0..job.clerks() {
+        clerks.push(Clerk::new())?;
+    }
+    Ok(clerks)
+}
+
+impl Cluster {
+    /// A cluster before its first call.
+    #[tactic(auto, unfolding(crate::specs::Clusters::LeadsTo))]
+    pub fn new(alloc: Global, job: Job) -> Result<Self, AllocError>
+        ensures { IfOk result (λ cluster. LeadsTo job [] cluster) }
+    {
+        let policy = job.policy();
+        policy_law(policy);
+        Ok(Cluster {
+            alloc,
+            job,
+            table: LeaseTable::new(alloc, policy),
+            tasks: tasks_of(alloc, job)?,
+            clerks: clerks_of(alloc, job)?,
+            grants: Vec::new(alloc),
+            notes: Vec::new(alloc),
+            handles: Vec::new(alloc),
+            note_keys: IndexSet::new(alloc),
+            handle_keys: IndexSet::new(alloc),
+            proposals: Vec::new(alloc),
+        })
+    }
+
+    /// Plays a call, and answers it by the calls before it.
+    ///
+    /// Out of memory comes last, where the call would not be refused, and changes nothing.
+    pub fn play(&mut self, call: &ClusterCall) -> Result<ClusterReply, AllocError>
+        ensures { (job : Job) (past : Past) → LeadsTo job past self.old → IsPlayed job past call.now result self.new }
+    {
+        match call {
+            ClusterCall::Table(call) => self.call_table(call),
+            ClusterCall::Task { task, call } => self.call_task(*task, call),
+            ClusterCall::Clerk { clerk, call } => self.call_clerk(*clerk, call),
+            ClusterCall::Phase => Ok(self.phase()),
+            ClusterCall::Rows => self.rows(),
+            ClusterCall::Serve { task, key, at } => Ok(self.serve(*task, *key, *at)),
+            ClusterCall::Hold { task, key, at } => self.hold(*task, *key, *at),
+            ClusterCall::Check { task, handle, at } => Ok(self.check(*task, handle, *at)),
+            ClusterCall::Look { clerk, key } => Ok(self.look(*clerk, *key)),
+        }
+    }
+
+    /// A past that leads to a cluster is a run, of a job whose policy is within its limits.
+    #[tactic(auto, unfolding(crate::specs::Clusters::LeadsTo))]
+    pub fn run_law(&self)
+        ensures run { (job : Job) (past : Past) → LeadsTo job past self.now → IsRun job past }
+        ensures within { (job : Job) (past : Past) → LeadsTo job past self.now → is_policy job.policy ≡ true }
+    {}
+
+    /// At every point of what led to this cluster: a `serve` was told what the written rule says of its
+    /// key on the calls that its task accepted; a handle was continuous exactly when no call since took
+    /// its key away; and with timely clocks whoever may serve a key owns it in the committed assignment:
+    /// where a slice has at most one owner, never two tasks.
+    pub fn headline_law(&self)
+        ensures rule { (job : Job) (later past : Past) (task key at : ℕ) (told : ClusterReply)
+            → LeadsTo job (later ++ event (asked.Serve task key at) told ∷ past) self.now
+            → IsServedByRule job past task key at told }
+        ensures handle { (job : Job) (later past : Past) (task : ℕ) (handle : KeyHandle) (at : ℕ) (told : ClusterReply)
+            → LeadsTo job (later ++ event (asked.Check task handle at) told ∷ past) self.now
+            → IsTrue (is_within task job.tasks) → is_given past handle ≡ true
+            → is_strange (history task past) handle ≡ false
+            → IsCheckedByHistory past task handle at told }
+        ensures owner { (job : Job) (later past : Past) (task key : ℕ) → LeadsTo job (later ++ past) self.now
+            → MayServe job past task key → IsOwner past task key }
+        ensures one { (job : Job) (later past : Past) (task other key : ℕ) → LeadsTo job (later ++ past) self.now
+            → job.policy.high ≡ 1 → MayServe job past task key → MayServe job past other key → task ≡ other }
+    {
+        self.run_law();
+        rule_law();
+        handle_law();
+        owner_law();
+    }
+
+    /// As long as the clocks were timely: where a `check` by a task found a handle continuous, the task
+    /// owned its key in the committed assignment at each point from the handle's `hold` to that `check`,
+    /// and where a slice has at most one owner, no other task may serve the key at any of these points.
+    pub fn interval_law(&self)
+        ensures owner { (job : Job) (later run past : Past) (task : ℕ) (handle : KeyHandle) → LeadsTo job (later ++ run) self.now
+            → IsTimely job.policy.skew (readings run) → IsWhileHeld run past task handle → IsOwner past task handle.key }
+        ensures alone { (job : Job) (later run past : Past) (task other : ℕ) (handle : KeyHandle) → LeadsTo job (later ++ run) self.now
+            → job.policy.high ≡ 1 → IsTimely job.policy.skew (readings run) → IsWhileHeld run past task handle
+            → MayServe job past other handle.key → other ≡ task }
+    {
+        self.run_law();
+        interval_law();
+    }
+}

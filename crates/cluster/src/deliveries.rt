@@ -1,0 +1,73 @@
+//! Whether what a call delivers was made.
+
+ghost use Rattle.std.specs.Prelude.{◌≡◌, option_map};
+ghost use Rattle.cluster.specs.Jobs.{Job};
+ghost use Rattle.cluster.specs.Pasts.{Past};
+ghost use Rattle.cluster.specs.Deliveries.{is_given, is_made, is_published, is_sent};
+ghost use Rattle.cluster.specs.Clusters.{LeadsTo};
+ghost use Rattle.cluster.specs.internals.Proposals.{published_of};
+
+use crate::actors::numbered;
+use crate::cluster::Cluster;
+use crate::keys::{handle_key, note_key};
+use assignment::Assignment;
+use key_handle::KeyHandle;
+use lease_table::{Grant, LeaseTable, Phase, ReleaseNote};
+
+// The committed assignment of a generation: that of the proposal of this place.
+pub(crate) fn published<'a>(
+    generation: u64,
+    table: &LeaseTable,
+    proposals: &'a [Assignment],
+) -> Option<&'a Assignment>
+    ensures { option_map (λ slicing. slicing.now) result ≡ published_of generation table.now proposals.now }
+{
+    let (Phase::Steady(committed) | Phase::Bridging(committed, _)) = table.phase();
+    if generation <= committed {
+        numbered(generation, proposals)
+    } else {
+        None
+    }
+}
+
+impl Cluster {
+    /// Whether a grant was sent.
+    pub(crate) fn is_sent(&self, grant: &Grant) -> bool
+        ensures { (job : Job) (past : Past) → LeadsTo job past self.now → result ≡ is_sent past grant.now }
+    {
+        lease_table::numbers_law();
+        match numbered(grant.number, self.grants.as_slice()) {
+            Some(sent) => grant == sent,
+            None => false,
+        }
+    }
+
+    /// Whether a note was made.
+    pub(crate) fn is_made(&self, note: &ReleaseNote) -> bool
+        ensures { (job : Job) (past : Past) → LeadsTo job past self.now → result ≡ is_made past note.now }
+    {
+        self.note_keys.contains(&note_key(note))
+    }
+
+    /// Whether a handle was given.
+    pub(crate) fn is_given(&self, handle: &KeyHandle) -> bool
+        ensures { (job : Job) (past : Past) → LeadsTo job past self.now → result ≡ is_given past handle.now }
+    {
+        self.handle_keys.contains(&handle_key(handle))
+    }
+
+    /// Whether an assignment was published.
+    pub(crate) fn is_published(&self, assignment: &Assignment) -> bool
+        ensures { (job : Job) (past : Past) → LeadsTo job past self.now → result ≡ is_published past assignment.now }
+    {
+        lease_table::generations_law();
+        match published(
+            assignment.generation(),
+            &self.table,
+            self.proposals.as_slice(),
+        ) {
+            Some(known) => assignment == known,
+            None => false,
+        }
+    }
+}

@@ -1,0 +1,93 @@
+//! What a job is made of.
+
+ghost use Rattle.std.specs.Prelude.{◌≡◌, ◌≤◌, ◌&&◌, IfSome, is_some};
+ghost use Rattle.lease_table.specs.Policies.{Terms};
+ghost use Rattle.machines.specs.Numbers.{is_within};
+ghost use Rattle.cluster.specs.Jobs.{Job, job_of};
+
+use assignment::TASKS;
+use lease_table::Policy;
+use std::marker::Model;
+
+/// How many assigners a job has at the most.
+pub const MOST_ASSIGNERS: u64 = 8;
+
+/// How many clerks a job has at the most.
+pub const MOST_CLERKS: u64 = 16;
+
+/// A job: what it is held to, and how many actors of each kind it has.
+#[derive(Clone, Copy, Debug, PartialEq, Eq)]
+pub struct Job {
+    policy: Policy,
+    assigners: u64,
+    tasks: u64,
+    clerks: u64,
+}
+
+impl Model for Job {
+    ghost use Rattle.std.specs.Prelude.{◌≡◌, true, ◌&&◌};
+    ghost use Rattle.machines.specs.Numbers.{is_within};
+    ghost use Rattle.cluster.specs.Jobs.{Job as JobTerms, job_of};
+
+    ghost Value = { JobTerms };
+
+    ghost view = { λ j. job_of j.policy j.assigners j.tasks j.clerks };
+
+    ghost invariant = { λ j. (is_within j.assigners 8 && is_within j.tasks 64 && is_within j.clerks 16) ≡ true };
+
+    ghost inverse = { λ t. record { policy = t.policy; assigners = t.assigners; tasks = t.tasks; clerks = t.clerks } };
+}
+
+impl Job {
+    /// A job of this policy with 1 to 8 assigners, 1 to 64 tasks and 1 to 16 clerks, or `None`.
+    pub fn new(policy: Policy, assigners: u64, tasks: u64, clerks: u64) -> Option<Self>
+        ensures valid { is_some result ≡ (is_within assigners 8 && is_within tasks 64 && is_within clerks 16) }
+        ensures value { IfSome result (λ job. job ≡ job_of policy assigners tasks clerks) }
+    {
+        let within = |number: u64, most: u64| 1 <= number && number <= most;
+        if within(assigners, MOST_ASSIGNERS)
+            && within(tasks, TASKS)
+            && within(clerks, MOST_CLERKS)
+        {
+            Some(Job {
+                policy,
+                assigners,
+                tasks,
+                clerks,
+            })
+        } else {
+            None
+        }
+    }
+
+    /// What the table and its leases are held to.
+    pub fn policy(self) -> Policy
+        ensures { result ≡ self.policy }
+    {
+        self.policy
+    }
+
+    /// How many assigners there are.
+    pub fn assigners(self) -> u64
+        ensures value { result ≡ self.assigners }
+        ensures within { (1 ≤ result) × (result ≤ 8) }
+    {
+        self.assigners
+    }
+
+    /// How many tasks there are.
+    pub fn tasks(self) -> u64
+        ensures value { result ≡ self.tasks }
+        ensures within { (1 ≤ result) × (result ≤ 64) }
+    {
+        self.tasks
+    }
+
+    /// How many clerks there are.
+    pub fn clerks(self) -> u64
+        ensures value { result ≡ self.clerks }
+        ensures within { (1 ≤ result) × (result ≤ 16) }
+    {
+        self.clerks
+    }
+}

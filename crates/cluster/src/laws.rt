@@ -1,0 +1,126 @@
+//! What holds of every run: laws over calls with their replies.
+
+ghost use Rattle.std.specs.Prelude.{◌≡◌, ℕ, ◌<◌, ◌≤◌, ◌++◌, ◌⊎◌, ◌∷◌, true, false, Some, Result, IsTrue, Contains};
+ghost use Rattle.machines.specs.Calls.{answered};
+ghost use Rattle.machines.specs.Numbers.{is_within};
+ghost use Rattle.key_hash.specs.declared.TheConstants.{KEYS};
+ghost use Rattle.policy_rules.specs.declared.lease.Kind.{Kind};
+ghost use Rattle.key_handle.specs.declared.handle.KeyHandle.{KeyHandle};
+ghost use Rattle.lease_table.specs.declared.call.TableCall.TheVariants.{Free};
+ghost use Rattle.lease_table.specs.declared.call.TableReply.{TableReply};
+ghost use Rattle.lease_table.specs.declared.error.TableError.{TableError};
+ghost use Rattle.lease_table.specs.declared.values.Grant.{Grant};
+ghost use Rattle.lease_table.specs.declared.values.ReleaseNote.{ReleaseNote};
+ghost use Rattle.lease_table.specs.Policies.{is_policy};
+ghost use Rattle.lease_table.specs.Calls.{last_reading};
+ghost use Rattle.lease_table.specs.Runs.{IsRun as IsTableRun};
+ghost use Rattle.lease_table.specs.Generations.{assignment_in, newest_generation};
+ghost use Rattle.lease_table.specs.OpenRows.{IsSent};
+ghost use Rattle.slicelet.specs.Calls.{held};
+ghost use Rattle.slicelet.specs.Rules.{covers_key};
+ghost use Rattle.slicelet.specs.Accepted.{AreAccepted};
+ghost use Rattle.slicelet.specs.Continuity.{is_strange};
+ghost use Rattle.slicelet.specs.Laws.{AgreeOnHeard};
+ghost use Rattle.cluster.specs.Jobs.{Job};
+ghost use Rattle.cluster.specs.declared.call.ClusterCall.TheVariants as call;
+ghost use Rattle.cluster.specs.declared.reply.ClusterReply.{ClusterReply};
+ghost use Rattle.cluster.specs.Timing.{IsTimely};
+ghost use Rattle.cluster.specs.Pasts.{Past, event, readings, table_calls, task_calls, history};
+ghost use Rattle.cluster.specs.Deliveries.{notes_made, is_given};
+ghost use Rattle.cluster.specs.Replies.{covers};
+ghost use Rattle.cluster.specs.Runs.{IsRun};
+ghost use Rattle.cluster.specs.Headline.{MayServe, IsOwner, IsWhileHeld};
+ghost use Rattle.cluster.specs.Promises.{IsServedByRule, IsHeldByRule, IsCheckedByHistory, IsNoteOf, WasRead};
+
+/// In every run the calls of the table with its answers are a run of the table, and each task accepts its
+/// calls.
+pub fn told_law()
+    ensures table { (job : Job) (past : Past) → IsRun job past → IsTableRun job.policy (table_calls past) }
+    ensures tasks { (job : Job) (past : Past) (task : ℕ) → IsRun job past → AreAccepted task (task_calls task past) }
+{}
+
+/// Every lease that a task holds was sent, and to this task; every note that was made, or freed, was sent by its task;
+/// and the table's last reading is that of an earlier call, or 0 where it accepted none.
+pub fn sent_law()
+    ensures held { (job : Job) (past : Past) (task : ℕ) (kind : Kind) (grant : Grant) → IsRun job past
+        → held kind (task_calls task past) ≡ Some grant → IsSent (table_calls past) grant }
+    ensures own { (job : Job) (past : Past) (task : ℕ) (kind : Kind) (grant : Grant) → IsRun job past
+        → held kind (task_calls task past) ≡ Some grant → grant.task ≡ task }
+    ensures made { (job : Job) (past : Past) (note : ReleaseNote) → IsRun job past
+        → Contains (notes_made past) note → IsNoteOf past note }
+    ensures freed { (job : Job) (past : Past) (note : ReleaseNote) (at : ℕ) (answer : Result TableReply TableError) → IsRun job past
+        → Contains (table_calls past) (answered (Free note at) answer) → IsNoteOf past note }
+    ensures reading { (past : Past) → (last_reading (table_calls past) ≡ 0) ⊎ WasRead past (last_reading (table_calls past)) }
+{
+    slicelet::held_law();
+}
+
+/// The ranges of each lease that a task heard have a key exactly where the task owns the key in the
+/// generations that the lease is for.
+pub fn covers_law()
+    ensures { (job : Job) (past : Past) (task key : ℕ) → is_policy job.policy ≡ true → IsRun job past → key < KEYS
+        → AgreeOnHeard (covers_key key) (covers past key) (task_calls task past) }
+{
+    lease_table::covers_law();
+}
+
+/// The slices of a generation that is known, committed or proposed, never change.
+pub fn known_generations_law()
+    ensures { (job : Job) (later past : Past) (generation : ℕ) → IsRun job (later ++ past)
+        → generation ≤ newest_generation (table_calls past)
+        → assignment_in generation (table_calls (later ++ past)) ≡ assignment_in generation (table_calls past) }
+{
+    lease_table::assignments_law();
+}
+
+/// A `serve` is told what the written rule says of its key on the calls that its task accepted; a `hold` is
+/// told a handle where the rule allows its key, and else why it does not.
+pub fn rule_law()
+    ensures serve { (job : Job) (past : Past) (task key at : ℕ) (told : ClusterReply)
+        → IsRun job (event (call.Serve task key at) told ∷ past) → IsServedByRule job past task key at told }
+    ensures hold { (job : Job) (past : Past) (task key at : ℕ) (told : ClusterReply)
+        → IsRun job (event (call.Hold task key at) told ∷ past) → IsHeldByRule job past task key at told }
+{}
+
+/// A handle that was given, and that the task can have given, is continuous exactly when no call
+/// since took its key away, and else it is broken.
+pub fn handle_law()
+    ensures { (job : Job) (past : Past) (task : ℕ) (handle : KeyHandle) (at : ℕ) (told : ClusterReply)
+        → IsRun job (event (call.Check task handle at) told ∷ past) → IsTrue (is_within task job.tasks)
+        → is_given past handle ≡ true → is_strange (history task past) handle ≡ false
+        → IsCheckedByHistory past task handle at told }
+{}
+
+/// With timely clocks, whoever may serve a key owns it in the committed assignment: where a slice has
+/// at most one owner, never two tasks. Each point of a run is the end of a run, so this holds at each.
+pub fn owner_law()
+    ensures owner { (job : Job) (past : Past) (task key : ℕ) → is_policy job.policy ≡ true → IsRun job past
+        → MayServe job past task key → IsOwner past task key }
+    ensures one { (job : Job) (past : Past) (task other key : ℕ) → is_policy job.policy ≡ true
+        → job.policy.high ≡ 1 → IsRun job past → MayServe job past task key → MayServe job past other key
+        → task ≡ other }
+{
+    lease_table::leases_law();
+    lease_table::rows_law();
+    lease_table::assignments_law();
+    assignment::one_owner_law();
+    slicelet::held_law();
+    slicelet::covering_lease_law();
+}
+
+/// In a run whose clocks were timely, where a `check` by a task found a handle continuous, the task
+/// owned its key in the committed assignment at each point from the handle's `hold` to that `check`:
+/// where a slice has at most one owner, no other task may serve the key at any of these points.
+pub fn interval_law()
+    ensures owner { (job : Job) (run past : Past) (task : ℕ) (handle : KeyHandle) → is_policy job.policy ≡ true → IsRun job run
+        → IsTimely job.policy.skew (readings run) → IsWhileHeld run past task handle → IsOwner past task handle.key }
+    ensures alone { (job : Job) (run past : Past) (task other : ℕ) (handle : KeyHandle) → is_policy job.policy ≡ true
+        → job.policy.high ≡ 1 → IsRun job run → IsTimely job.policy.skew (readings run)
+        → IsWhileHeld run past task handle → MayServe job past other handle.key → other ≡ task }
+{
+    lease_table::leases_law();
+    slicelet::agreement_law();
+    slicelet::between_law();
+    known_generations_law();
+    owner_law();
+}

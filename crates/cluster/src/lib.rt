@@ -1,0 +1,36 @@
+//! The machines of a job, its table, slicelets and clerks, and what each call of them is answered.
+//!
+//! A call holds what it delivers: a grant, a note, a handle or an assignment itself. Every law here is over
+//! all runs of such calls.
+#![tactic(auto)]
+
+mod actors;
+mod call;
+mod clerks;
+mod cluster;
+mod cluster_copy;
+mod deliveries;
+mod error;
+mod job;
+mod keys;
+mod laws;
+mod numbers;
+mod record;
+mod reply;
+mod table;
+mod tasks;
+mod timeliness;
+mod timing;
+
+pub use crate::cluster::Cluster;
+pub use call::ClusterCall;
+pub use error::ClusterError;
+pub use job::{Job, MOST_ASSIGNERS, MOST_CLERKS};
+pub use laws::{
+    covers_law, handle_law, interval_law, known_generations_law, owner_law, rule_law, sent_law,
+    told_law,
+};
+pub use record::CallRecord;
+pub use reply::ClusterReply;
+pub use timeliness::Timeliness;
+pub use timing::Reading;

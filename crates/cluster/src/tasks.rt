@@ -1,0 +1,208 @@
+//! Calls of tasks.
+
+ghost use Rattle.std.specs.Prelude.{◌≡◌, ◌∷◌, ◌++◌, [], ◌||◌, Ok, IfOk, OnOk, OnErr, reverse};
+ghost use Rattle.machines.specs.Answers.{Takes};
+ghost use Rattle.slicelet.specs.Steps.{release_step, slicelet_step};
+ghost use Rattle.cluster.specs.Jobs.{Job};
+ghost use Rattle.cluster.specs.declared.call.ClusterCall.TheVariants as asked;
+ghost use Rattle.cluster.specs.declared.error.ClusterError.TheVariants as error;
+ghost use Rattle.cluster.specs.declared.reply.ClusterReply.TheVariants as reply;
+ghost use Rattle.cluster.specs.Pasts.{Past, event};
+ghost use Rattle.cluster.specs.Deliveries.{task_refusal};
+ghost use Rattle.cluster.specs.Clusters.{LeadsTo, IsPlayed};
+ghost use Rattle.cluster.specs.internals.Turns.{told_as, notes_kept};
+ghost use Rattle.indexmap.specs.IndexSet.{contains};
+ghost use Rattle.cluster.specs.internals.Keys.{Key as NoteKey, key_eq, note_key, handle_key, kept_after};
+
+use crate::actors::{place_of, unless};
+use crate::cluster::Cluster;
+use crate::error::ClusterError;
+use crate::keys::{Key, handle_key, insert_reserved, note_key};
+use crate::laws::covers_law;
+use crate::reply::ClusterReply;
+use indexmap::IndexSet;
+use key_handle::KeyHandle;
+use key_hash::SliceKey;
+use lease_table::ReleaseNote;
+use machines::Trouble;
+use policy_rules::{Kind, Verdict};
+use slicelet::{Slicelet, SliceletCall, SliceletError, SliceletReply};
+use std::alloc::AllocError;
+
+// What a slicelet answers, as the cluster's reply.
+pub(crate) fn told_by_task(
+    answer: Result<SliceletReply, Trouble<SliceletError>>,
+) -> Result<ClusterReply, AllocError>
+    ensures { result ≡ told_as error.Slicelet reply.Task answer }
+{
+    match answer {
+        Ok(told) => Ok(ClusterReply::Task(told)),
+        Err(Trouble::Refused(why)) => Ok(ClusterReply::Refused(ClusterError::Slicelet(why))),
+        Err(Trouble::NoMemory) => Err(AllocError),
+    }
+}
+
+// Makes a call of a slicelet, and keeps the note of a release.
+fn take(
+    slicelet: &mut Slicelet,
+    notes: &mut Vec<ReleaseNote>,
+    keys: &mut IndexSet<Key>,
+    call: &SliceletCall,
+) -> Result<SliceletReply, Trouble<SliceletError>>
+    ensures step { Takes (slicelet_step slicelet.old call.now) slicelet.old result slicelet.new }
+    ensures notes { reverse notes.new.items ≡ notes_kept result (reverse notes.old.items) }
+    ensures keys { (key : NoteKey) → contains key_eq keys.new key ≡ kept_after result key (contains key_eq keys.old key) }
+{
+    match call {
+        SliceletCall::Start { life, at } => {
+            slicelet.start(*life, *at)?;
+            Ok(SliceletReply::Started)
+        }
+        SliceletCall::Hear { grant, at } => {
+            slicelet.hear(grant, *at)?;
+            Ok(SliceletReply::Heard)
+        }
+        SliceletCall::Release { kind, at } => {
+            Ok(SliceletReply::Released(release(slicelet, notes, keys, *kind, *at)?))
+        }
+    }
+}
+
+#[tactic(auto, using(crate::proofs::Turning::reversed_more))]
+fn release(
+    slicelet: &mut Slicelet,
+    notes: &mut Vec<ReleaseNote>,
+    keys: &mut IndexSet<Key>,
+    kind: Kind,
+    at: u64,
+) -> Result<ReleaseNote, Trouble<SliceletError>>
+    ensures step { Takes (release_step slicelet.old kind at) slicelet.old result slicelet.new }
+    ensures ok { IfOk result (λ note. reverse notes.new.items ≡ note ∷ reverse notes.old.items) }
+    ensures err { OnErr result (notes.new.items ≡ notes.old.items) }
+    ensures keys_ok { IfOk result (λ note. (key : NoteKey) → contains key_eq keys.new key ≡ (key_eq (note_key note) key || contains key_eq keys.old key)) }
+    ensures keys_err { OnErr result ((key : NoteKey) → contains key_eq keys.new key ≡ contains key_eq keys.old key) }
+{
+    if let Some(why) = slicelet.release_refusal(kind, at) {
+        return Err(Trouble::Refused(why));
+    }
+    notes.reserve(1)?;
+    keys.reserve(1)?;
+    let note = slicelet.release(kind, at)?;
+    let key = note_key(&note);
+    let made = note;
+    notes.push_reserved(made);
+    insert_reserved(keys, key);
+    Ok(note)
+}
+
+// Keeps a handle.
+fn keep(
+    handles: &mut Vec<KeyHandle>,
+    keys: &mut IndexSet<Key>,
+    handle: KeyHandle,
+) -> Result<(), AllocError>
+    ensures ok { OnOk result (handles.new.items ≡ handles.old.items ++ handle ∷ []) }
+    ensures err { OnErr result (handles.new.items ≡ handles.old.items) }
+    ensures keys_ok { OnOk result ((key : NoteKey) → contains key_eq keys.new key ≡ (key_eq (handle_key handle) key || contains key_eq keys.old key)) }
+    ensures keys_err { OnErr result ((key : NoteKey) → contains key_eq keys.new key ≡ contains key_eq keys.old key) }
+{
+    handles.reserve(1)?;
+    keys.reserve(1)?;
+    let key = handle_key(&handle);
+    handles.push_reserved(handle);
+    insert_reserved(keys, key);
+    Ok(())
+}
+
+impl Cluster {
+    /// Plays a call of a task, as [`Cluster::play`] does.
+    pub fn call_task(&mut self, task: u64, call: &SliceletCall) -> Result<ClusterReply, AllocError>
+        ensures { (job : Job) (past : Past) → LeadsTo job past self.old
+            → IsPlayed job past (asked.Task task call.now) result self.new }
+    {
+        let Some(place) = place_of(task, self.tasks.as_slice()) else {
+            return Ok(ClusterReply::Refused(ClusterError::NoActor));
+        };
+        if let Some(why) = self.task_refusal(call) {
+            return Ok(ClusterReply::Refused(why));
+        }
+        told_by_task(take(
+            &mut self.tasks[place],
+            &mut self.notes,
+            &mut self.note_keys,
+            call,
+        ))
+    }
+
+    // Why a call does not come to a task of the job.
+    fn task_refusal(&self, call: &SliceletCall) -> Option<ClusterError>
+        ensures { (job : Job) (past : Past) → LeadsTo job past self.now → result ≡ task_refusal past call.now }
+    {
+        match call {
+            SliceletCall::Hear { grant, .. } => unless(self.is_sent(grant), ClusterError::NotSent),
+            _ => None,
+        }
+    }
+
+    /// `serve` of a task.
+    pub(crate) fn serve(&self, task: u64, key: SliceKey, at: u64) -> ClusterReply
+        ensures { (job : Job) (past : Past) → LeadsTo job past self.now
+            → IsPlayed job past (asked.Serve task key at) (Ok result) self.now }
+    {
+        covers_law();
+        slicelet::agreement_law();
+        let Some(place) = place_of(task, self.tasks.as_slice()) else {
+            return ClusterReply::Refused(ClusterError::NoActor);
+        };
+        let _number = key.value();
+        ClusterReply::Verdict(self.tasks[place].serve(key, at))
+    }
+
+    /// `hold` of a task.
+    pub(crate) fn hold(
+        &mut self,
+        task: u64,
+        key: SliceKey,
+        at: u64,
+    ) -> Result<ClusterReply, AllocError>
+        ensures { (job : Job) (past : Past) → LeadsTo job past self.old
+            → IsPlayed job past (asked.Hold task key at) result self.new }
+    {
+        covers_law();
+        slicelet::agreement_law();
+        let Some(place) = place_of(task, self.tasks.as_slice()) else {
+            return Ok(ClusterReply::Refused(ClusterError::NoActor));
+        };
+        let _number = key.value();
+        let handle = match self.tasks[place].hold(key, at) {
+            Ok(handle) => handle,
+            Err(why) => return Ok(ClusterReply::Verdict(Verdict::Deny(why))),
+        };
+        let made = handle;
+        match keep(&mut self.handles, &mut self.handle_keys, made) {
+            Ok(()) => Ok(ClusterReply::Holding(handle)),
+            Err(error) => Err(error),
+        }
+    }
+
+    /// `check` of a task.
+    pub(crate) fn check(&self, task: u64, handle: &KeyHandle, at: u64) -> ClusterReply
+        ensures { (job : Job) (past : Past) → LeadsTo job past self.now
+            → IsPlayed job past (asked.Check task handle.now at) (Ok result) self.now }
+    {
+        covers_law();
+        slicelet::agreement_law();
+        let Some(place) = place_of(task, self.tasks.as_slice()) else {
+            return ClusterReply::Refused(ClusterError::NoActor);
+        };
+        if !self.is_given(handle) {
+            return ClusterReply::Refused(ClusterError::NotSent);
+        }
+        let _key = handle.key.value();
+        match self.tasks[place].continuous(handle, at) {
+            Ok(true) => ClusterReply::Continuous,
+            Ok(false) => ClusterReply::Broken,
+            Err(_) => ClusterReply::Refused(ClusterError::Stranger),
+        }
+    }
+}
