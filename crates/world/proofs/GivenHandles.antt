@@ -9,8 +9,7 @@ use Rattle.policy_rules.specs.declared.answer.Verdict.{Verdict}
 use Rattle.policy_rules.specs.declared.answer.Verdict.TheVariants.{Allow, Deny}
 use Rattle.key_handle.specs.declared.handle.KeyHandle.{KeyHandle}
 use Rattle.machines.specs.Numbers.{is_within}
-use Rattle.slicelet.specs.Steps.{History}
-use Rattle.slicelet.specs.Calls.{life_of}
+use Rattle.slicelet.specs.States.{SliceletState}
 use Rattle.slicelet.specs.Continuity.{handle_on, held_by, is_strange, IsContinuous}
 use Rattle.world.specs.Jobs.{Job}
 use Rattle.world.specs.declared.step.Step.{Step}
@@ -23,7 +22,7 @@ use Rattle.world.specs.Told.{numbered, handle_told, handles_with, handles_made, 
 use Rattle.world.specs.Replies.{is_continuous_in, covers_in, rule_in, history, if_sent, holding, checked}
 use Rattle.world.specs.Runs.{IsReply}
 use Rattle.world.proofs.ActorLists.{get_left, get_last}
-use Rattle.world.proofs.TaskAcceptance.{given_reply}
+use Rattle.world.proofs.Giving.{given_reply}
 
 -- A HANDLE KEEPS ITS NUMBER
 
@@ -95,7 +94,7 @@ checked_continuous true kept e = absurd (cc)
 checked_continuous false true e = (refl, refl)
 checked_continuous false false e = absurd (cc)
 
-check_told : (b : Bool) (s : History) (kept : Bool) (o : Option KeyHandle) (handle : KeyHandle) → o ≡ Some handle
+check_told : (b : Bool) (s : SliceletState) (kept : Bool) (o : Option KeyHandle) (handle : KeyHandle) → o ≡ Some handle
     → reply.Continuous ≡ (if b then if_sent o (λ given. checked (is_strange s given) kept) else reply.Refused refusal.NoActor)
     → (b ≡ true) × (is_strange s handle ≡ false) × (kept ≡ true)
 check_told true s kept None handle made e = absurd (cc)
@@ -106,12 +105,12 @@ check_told true s kept (Some given) handle made e =
 check_told false s kept o handle made e = absurd (cc)
 
 -- a handle that a task can have given is of this task
-familiar_task : (s : History) (handle : KeyHandle) → is_strange s handle ≡ false → handle.task ≡ s.task
+familiar_task : (s : SliceletState) (handle : KeyHandle) → is_strange s handle ≡ false → handle.task ≡ s.task
 familiar_task s handle familiar = by_test (handle.task == s.task) refl familiar
   where
     by_test : (b : Bool) → b ≡ (handle.task == s.task)
-        → (not b || nat_lt (life_of s.calls) handle.life
-        || (handle.life == life_of s.calls && nat_lt (length s.calls) handle.position)) ≡ false
+        → (not b || nat_lt s.life handle.life
+        || (handle.life == s.life && nat_lt s.count handle.position)) ≡ false
         → handle.task ≡ s.task
     by_test true e f = eqb-true handle.task s.task (sym e)
     by_test false e f = absurd (let g : true ≡ false = f in cc)
@@ -121,6 +120,7 @@ module _ (job : Job) (past : Past) (task number at : ℕ) (handle : KeyHandle) w
   pub record IsFound : Type 0 where
     pub inside : is_within task job.tasks ≡ true
     pub own : handle.task ≡ task
+    pub familiar : is_strange (history job task past) handle ≡ false
     pub continuous : IsContinuous (covers_in job past handle.key) (task_calls job.policy task past) handle at
 
   pub check_found : IsNumbered number handle (handles_made past) → IsReply job past (event (step.Check task number at) reply.Continuous) → IsFound
@@ -132,6 +132,7 @@ module _ (job : Job) (past : Past) (task number at : ℕ) (handle : KeyHandle) w
             record {
               inside = told.0;
               own = familiar_task (history job task past) handle told.1;
+              familiar = told.1;
               continuous = (answered.1 told.0 handle made told.1).0 told.2;
             })
         | inr none ↦ absurd (let f : false ≡ true = none.1 in cc)

@@ -1,5 +1,5 @@
 -- The table's last reading is that of an earlier step.
-use Rattle.std.proofs.Common.{◌≡◌, ℕ, Bool, true, false, List, [], ◌∷◌, refl, inl, inr, ◌⊎◌}
+use Rattle.std.proofs.Common.{◌≡◌, ℕ, Bool, true, false, List, [], ◌∷◌, refl, sym, ◌∙◌, ap, inl, inr, ◌⊎◌}
 use Rattle.std.specs.Prelude.{Option, Some, None, is_ok, option_map, if◌then◌else◌}
 use Rattle.machines.specs.Calls.{answer_of}
 use Rattle.lease_table.specs.declared.call.TableCall.{TableCall}
@@ -10,14 +10,15 @@ use Rattle.lease_table.specs.Calls.{AnsweredTableCall, reading_of, reading_after
 use Rattle.lease_table.proofs.Members.{here, there}
 use Rattle.world.specs.declared.step.Step.{Step}
 use Rattle.world.specs.declared.step.Step.TheVariants as step
-use Rattle.world.specs.Pasts.{Event, Past, is_accepted, table_reading}
+use Rattle.cluster.specs.Pasts.{at_table}
+use Rattle.world.specs.Pasts.{Event, Past, is_accepted, reading}
 use Rattle.world.specs.Told.{numbered, notes_made, table_call, with_call, table_calls}
 use Rattle.world.specs.Headline.{WasRead}
 
 -- a step's call of the table is at the step's reading
 IsReadWith : Step → Option TableCall → Type 0
 IsReadWith s None = Unit {0}
-IsReadWith s (Some c) = table_reading s ≡ reading_of c
+IsReadWith s (Some c) = reading s ≡ at_table (reading_of c)
 
 freed_read : (number at : ℕ) (o : Option ReleaseNote) → IsReadWith (step.Free number at) (option_map (λ given. call.Free given at) o)
 unfolding IsReadWith
@@ -52,13 +53,13 @@ unfolding IsReadWith
 read_with policy e past None calls new h = kept_read e past calls h
 read_with policy e past (Some c) calls new h = by_test (is_ok (answer_of (table_step (standing_after policy calls) c)))
   where
-    by_reading : (o : Option ℕ) → table_reading e.step ≡ o → (or_before o (last_reading calls) ≡ 0) ⊎ WasRead (e ∷ past) (or_before o (last_reading calls))
-    by_reading (Some at) read = inr (e, here e past, read)
-    by_reading None read = kept_read e past calls h
+    by_reading : (o : Option ℕ) → o ≡ reading_of c → (or_before o (last_reading calls) ≡ 0) ⊎ WasRead (e ∷ past) (or_before o (last_reading calls))
+    by_reading (Some at) same = inr (e, here e past, new ∙ ap at_table (sym same))
+    by_reading None same = kept_read e past calls h
 
     by_test : (b : Bool) → ((if b then reading_after c (last_reading calls) else last_reading calls) ≡ 0)
         ⊎ WasRead (e ∷ past) (if b then reading_after c (last_reading calls) else last_reading calls)
-    by_test true = by_reading (reading_of c) new
+    by_test true = by_reading (reading_of c) refl
     by_test false = kept_read e past calls h
 
 pub last_read : (policy : Terms) (past : Past) → IsRead past (table_calls policy past)

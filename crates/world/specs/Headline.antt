@@ -9,12 +9,13 @@ use Rattle.lease_table.specs.declared.values.ReleaseNote.{ReleaseNote}
 use Rattle.slicelet.specs.Accepted.{notes_sent}
 use Rattle.key_handle.specs.declared.handle.KeyHandle.{KeyHandle}
 use Rattle.slicelet.specs.Rules.{is_allowed}
+use Rattle.cluster.specs.declared.timing.Reading.TheVariants.{TableClock}
 use Rattle.slicelet.specs.Continuity.{IsContinuous}
 use Rattle.world.specs.Jobs.{Job}
 use Rattle.world.specs.declared.step.Step.TheVariants as step
 use Rattle.world.specs.declared.reply.Reply.{Reply}
 use Rattle.world.specs.declared.reply.Reply.TheVariants as reply
-use Rattle.world.specs.Pasts.{Event, event, Past, steps_of, table_reading, IsTimely}
+use Rattle.world.specs.Pasts.{Event, event, Past, steps_of, reading, IsTimely}
 use Rattle.world.specs.Bounds.{Bounds}
 use Rattle.world.specs.Told.{draft_of, standing, task_calls}
 use Rattle.weighted_move.specs.declared.made.Plan.{Plan}
@@ -87,4 +88,4 @@ IsNoteOf job past note = Contains (notes_sent note.task (task_calls job.policy n
 
 -- a step of the table was at this reading
 abbrev pub WasRead : Past → ℕ → Type 0
-WasRead past at = (e : Event) × Contains past e × (table_reading e.step ≡ Some at)
+WasRead past at = (e : Event) × Contains past e × (reading e.step ≡ TableClock at)

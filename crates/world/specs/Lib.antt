@@ -1,4 +1,3 @@
-pub mod Jobs
 pub mod Bounds
 pub mod Pasts
 pub mod Told
@@ -9,4 +8,4 @@ pub mod Runs
 pub mod Headline
 pub mod Proposals
 pub mod Worlds
-pub mod Latest
+pub use Rattle.cluster.specs.Jobs

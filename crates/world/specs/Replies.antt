@@ -14,7 +14,8 @@ use Rattle.lease_table.specs.Tables.{phase_of}
 use Rattle.lease_table.specs.Generations.{covers_by_owners}
 use Rattle.lease_table.specs.Steps.{take_step, renew_step, propose_step, commit_step, grant_step, free_step}
 use Rattle.key_handle.specs.declared.handle.KeyHandle.{KeyHandle}
-use Rattle.slicelet.specs.Steps.{History, start_step, hear_step, release_step}
+use Rattle.slicelet.specs.States.{SliceletState, state_after}
+use Rattle.slicelet.specs.Steps.{start_step, hear_step, release_step}
 use Rattle.slicelet.specs.Rules.{rule_after}
 use Rattle.slicelet.specs.Continuity.{handle_on, held_by, is_strange}
 use Rattle.clerk.specs.declared.clerk.Found.{Found}
@@ -67,9 +68,9 @@ owners_reply (Some draft) key = reply.Owners (owners_of draft.slices key)
 abbrev pub granted : Grant → Reply
 granted grant = reply.Granted grant.number grant.lease.kind grant.lease.generation grant.table_ends grant.lease.ends
 
--- what a task was told: the calls that it accepted
-abbrev pub history : Job → ℕ → Past → History
-history job task past = record { task = task; calls = task_calls job.policy task past }
+-- what a task knows: what the calls that it accepted leave
+abbrev pub history : Job → ℕ → Past → SliceletState
+history job task past = state_after task (task_calls job.policy task past)
 
 -- what a grant covers: what its task owns in the generations that it is for
 abbrev pub covers_in : Job → Past → ℕ → Grant → Bool

@@ -98,12 +98,7 @@ pub fn owner_law()
         → job.policy.high ≡ 1 → IsRun job past → MayServe job past task key → MayServe job past other key
         → task ≡ other }
 {
-    lease_table::leases_law();
-    lease_table::rows_law();
-    lease_table::assignments_law();
-    assignment::one_owner_law();
-    slicelet::held_law();
-    slicelet::covering_lease_law();
+    cluster::owner_law();
 }
 
 /// In a run whose clocks were timely, where a `check` by a task found a handle continuous, the task
@@ -116,9 +111,5 @@ pub fn interval_law()
         → job.policy.high ≡ 1 → IsRun job run → IsTimely job.policy.skew (steps_of run)
         → IsWhileHeld run past task key → MayServe job past other key → other ≡ task }
 {
-    lease_table::leases_law();
-    slicelet::agreement_law();
-    slicelet::between_law();
-    known_generations_law();
-    owner_law();
+    cluster::interval_law();
 }

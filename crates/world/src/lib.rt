@@ -4,13 +4,11 @@
 mod actors;
 mod clerks;
 mod copies;
-mod job;
 mod judge;
 mod laws;
 mod loads;
 mod plans;
 mod readings;
-mod record;
 mod reply;
 mod step;
 mod table;
@@ -21,7 +19,7 @@ mod world_copy;
 
 pub use crate::world::World;
 pub use actors::numbered;
-pub use job::{Job, MOST_ASSIGNERS, MOST_CLERKS};
+pub use cluster::{Job, MOST_ASSIGNERS, MOST_CLERKS};
 pub use judge::{Question, WrittenLease};
 pub use laws::{
     handle_law, interval_law, known_generations_law, owner_law, planned_law, rule_law, sent_law,
@@ -29,6 +27,5 @@ pub use laws::{
 };
 pub use plans::PlanBounds;
 pub use readings::timely;
-pub use record::{CallRecord, RecordedCall, Told};
 pub use reply::{OwnerList, Refusal, Reply};
 pub use step::Step;

@@ -13,10 +13,10 @@ ghost use Rattle.world.specs.Pasts.{Past};
 ghost use Rattle.world.specs.Worlds.{AreActors, Keeps, Played};
 
 use crate::actors::{of_load, place_of};
-use crate::job::Job;
 use crate::reply::{Refusal, Reply};
 use crate::world::World;
 use assignment::{Listed, TaskId};
+use cluster::Job;
 use key_hash::slice_key;
 use load_ledger::{LoadBook, LoadShare};
 use machines::Trouble;

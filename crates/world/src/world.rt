@@ -4,6 +4,7 @@ ghost use Rattle.std.specs.Prelude.{◌≡◌, ℕ, List, ◌∷◌, ◌++◌, [
 ghost use Rattle.key_handle.specs.declared.handle.KeyHandle.{KeyHandle};
 ghost use Rattle.lease_table.specs.Policies.{is_policy};
 ghost use Rattle.machines.specs.Numbers.{is_within};
+ghost use Rattle.slicelet.specs.States.{opening};
 ghost use Rattle.slicelet.specs.Continuity.{is_strange};
 ghost use Rattle.world.specs.Jobs.{Job};
 ghost use Rattle.assigner.specs.Terms.{Keeping};
@@ -17,7 +18,6 @@ ghost use Rattle.world.specs.Runs.{IsRun, past_after};
 ghost use Rattle.world.specs.Headline.{IsServedByRule, IsCheckedByHistory, MayServe, IsOwner, IsWhileHeld};
 ghost use Rattle.world.specs.Worlds.{AreActors, Keeps, LeadsTo, Played};
 
-use crate::job::Job;
 use crate::judge::judge;
 use crate::laws::{handle_law, interval_law, owner_law, rule_law};
 use crate::loads::shares_of;
@@ -26,6 +26,7 @@ use crate::step::Step;
 use assigner::Assigner;
 use assignment::{Assignment, TaskId};
 use clerk::Clerk;
+use cluster::Job;
 use key_handle::KeyHandle;
 use key_hash::slice_key;
 use lease_table::{Grant, LeaseTable, ReleaseNote, policy_law};
@@ -66,7 +67,7 @@ fn assigners_of(alloc: Global, job: Job) -> Result<Vec<Assigner>, AllocError>
 }
 
 fn tasks_of(alloc: Global, job: Job) -> Result<Vec<Slicelet>, AllocError>
-    ensures { IfOk result (λ tasks. AreActors (λ n. record { task = n; calls = [] }) job.tasks tasks.items) }
+    ensures { IfOk result (λ tasks. AreActors opening job.tasks tasks.items) }
 {
     let mut tasks = Vec::new(alloc);
     for place in 0..job.tasks() {

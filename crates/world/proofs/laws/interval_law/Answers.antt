@@ -1,28 +1,23 @@
-use Rattle.std.proofs.Common.{◌≡◌, true}
-use Rattle.lease_table.specs.Policies.{is_policy}
-use Rattle.world.specs.Jobs.{Job}
-use Rattle.world.specs.Told.{table_calls}
-use Rattle.world.proofs.Sending.{table_run}
-use Rattle.world.proofs.Holding.{HasLaws, serves_between, run_at_point}
+use Rattle.std.proofs.Common.{ℕ, sym, subst}
+use Rattle.cluster.specs.Headline.{MayServe as MayServeKey, IsOwner as OwnsKey}
+use Rattle.world.proofs.Played.{played}
+use Rattle.world.proofs.Matching.{played_matches}
+use Rattle.world.proofs.PlayedTimes.{timely_played}
+use Rattle.world.proofs.PlayedHolds.{may_serve, owns_key, run_at_point, of_key, while_kept}
 use Rattle.world.proofs.laws.interval_law.Goals as goal
-
-laws_below : (c : goal.After-owner_law) (job : Job) → is_policy job.policy ≡ true → HasLaws job
-laws_below c job within = record {
-  between = c.between_law.ensures;
-  agreeing = c.agreement_law.ensures.permitted;
-  keeps = record {
-    known = λ later past generation low. c.known_generations_law.ensures job later past generation low;
-    newest = λ past grant sent.
-        c.leases_law.ensures.generation job.policy (table_calls job.policy past) grant within (table_run job.policy past) sent;
-  };
-}
 
 pub returns-clause-owner : goal.returns-clause-owner
 returns-clause-owner c = λ job run past task key within is_run timely held.
-    c.owner_law.ensures.owner job past task key within (run_at_point job run past task key held is_run)
-    (serves_between job run past task key held (laws_below c job within) is_run timely)
+    let whole = played_matches job run is_run in
+    let kept = while_kept job run past task key held is_run in
+    let own = c.interval_law.ensures.owner job (played job run) (played job past) task held.holds.handle within whole.run (timely_played job job.policy.skew run timely) kept in
+    owns_key job past (played_matches job past (run_at_point job run past task key held is_run)) task key
+    (subst (λ (k : ℕ). OwnsKey (played job past) task k) (of_key job run past task key held is_run) own)
 
 pub returns-clause-alone : goal.returns-clause-alone
 returns-clause-alone c = λ job run past task other key within single is_run timely held may.
-    c.owner_law.ensures.one job past other task key within single (run_at_point job run past task key held is_run) may
-    (serves_between job run past task key held (laws_below c job within) is_run timely)
+    let whole = played_matches job run is_run in
+    let kept = while_kept job run past task key held is_run in
+    let serves = may_serve job past (played_matches job past (run_at_point job run past task key held is_run)) other key may in
+    c.interval_law.ensures.alone job (played job run) (played job past) task other held.holds.handle within single whole.run (timely_played job job.policy.skew run timely) kept
+    (subst (λ (k : ℕ). MayServeKey job (played job past) other k) (sym (of_key job run past task key held is_run)) serves)

@@ -1,7 +1,7 @@
 use Rattle.world.specs.Told.{task_calls}
 use Rattle.world.proofs.TaskAcceptance.{accepted_calls}
 use Rattle.world.proofs.HeldLeases.{held_sent}
-use Rattle.world.proofs.Noting.{made_note_sent, freed_note_sent}
+use Rattle.world.proofs.PlayedNotes.{made_note_sent, freed_note_sent}
 use Rattle.world.proofs.TableReadings.{last_read}
 use Rattle.world.proofs.laws.sent_law.Goals as goal
 

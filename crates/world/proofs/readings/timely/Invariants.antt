@@ -1,7 +1,8 @@
-use Rattle.std.proofs.Common.{take, reverse}
-use Rattle.world.proofs.Timing.{IsLeast}
+use Rattle.std.proofs.Common.{map, take, reverse}
+use Rattle.cluster.specs.Timeliness.{IsTimelinessOf}
+use Rattle.world.specs.Pasts.{reading}
 use Rattle.world.proofs.readings.timely.Given as goal
 
--- the steps so far are timely, and a reading of a task stays so exactly from the least on
+-- the readings of the steps so far were taken
 abbrev pub invariant-loop-step : goal.invariant-loop-step
-invariant-loop-step l = IsLeast l.skew l.least (reverse (take l.step-index l.steps))
+invariant-loop-step l = IsTimelinessOf l.skew (map reading (reverse (take l.step-index l.steps))) l.readings

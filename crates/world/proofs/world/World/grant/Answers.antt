@@ -6,7 +6,7 @@ use Rattle.lease_table.specs.declared.call.TableReply.TheVariants as told
 use Rattle.lease_table.specs.declared.values.Grant.{Grant}
 use Rattle.lease_table.specs.Tables.{Standing}
 use Rattle.lease_table.specs.Steps.{grant_step}
-use Rattle.slicelet.specs.Steps.{History}
+use Rattle.slicelet.specs.States.{SliceletState}
 use Rattle.world.specs.declared.reply.Refusal.TheVariants as refusal
 use Rattle.world.specs.declared.step.Step.TheVariants as step
 use Rattle.world.specs.Told.{table_calls, standing}
@@ -23,14 +23,14 @@ pub returns-in_default : goal.returns-in_default
 returns-in_default c = λ job past k.
     let low : 1 ≤ c.args.task = let e = c.in_ok-place_of.ensures.0 in omega (arith, e) in
     let few : job.tasks ≤ 64 = subst (λ (j : Job). j.tasks ≤ 64) k.same_job (subst (λ (n : ℕ). n ≤ 64) c.tasks-most.ensures.value c.tasks-most.ensures.within.1) in
-    let inside : c.in_ok-place_of.field-0 < job.tasks = subst (λ (n : ℕ). c.in_ok-place_of.field-0 < n) k.tasks.0 (subst (λ (xs : List History). c.in_ok-place_of.field-0 < length xs) c.as_slice.ensures.value c.in_ok-place_of.ensures.1) in
+    let inside : c.in_ok-place_of.field-0 < job.tasks = subst (λ (n : ℕ). c.in_ok-place_of.field-0 < n) k.tasks.0 (subst (λ (xs : List SliceletState). c.in_ok-place_of.field-0 < length xs) c.as_slice.ensures.value c.in_ok-place_of.ensures.1) in
     let high : c.args.task ≤ 64 = let e = c.in_ok-place_of.ensures.0 in omega (arith, e) in
     absurd (let f : false ≡ true = c.in_default.ensures.valid.1 (low, high) in cc)
 
 pub returns-in-Ok : goal.returns-in-Ok
 returns-in-Ok c = λ job past k.
     let calls = table_calls job.policy past in
-    let inside = of_job (λ n. history job n past) job.tasks c.args.self.now.tasks.items k.tasks c.in_ok-place_of.field-0 c.args.task c.in_ok-place_of.ensures.0 (subst (λ (xs : List History). c.in_ok-place_of.field-0 < length xs) c.as_slice.ensures.value c.in_ok-place_of.ensures.1) in
+    let inside = of_job (λ n. history job n past) job.tasks c.args.self.now.tasks.items k.tasks c.in_ok-place_of.field-0 c.args.task c.in_ok-place_of.ensures.0 (subst (λ (xs : List SliceletState). c.in_ok-place_of.field-0 < length xs) c.as_slice.ensures.value c.in_ok-place_of.ensures.1) in
     let task : c.in-Some.of_job ≡ c.args.task = c.in-Some.ensures.value in
     let done = subst (λ (t : Standing). grant_step t c.args.task c.args.life c.args.at ≡ Ok (c.grant.new.self, c.in-Ok.grant)) k.table (subst (λ (n : ℕ). grant_step c.args.self.now.table n c.args.life c.args.at ≡ Ok (c.grant.new.self, c.in-Ok.grant)) task c.in-Ok.ensures) in
     let whole = ap (replied told.Granted) done in
