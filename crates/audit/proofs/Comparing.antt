@@ -6,14 +6,14 @@ use Rattle.std.specs.Cmp.Lexicographic.{pointwise, bytes_decides, nat_list_eq_eq
 use Rattle.std.proofs.lemmas.Bool.{eqb-true, and_parts}
 use Rattle.lease_table.specs.declared.values.Row.{Row}
 use Rattle.clerk.specs.declared.clerk.Found.{Found}
-use Rattle.world.specs.declared.record.Told.{Told}
-use Rattle.world.specs.declared.record.Told.TheVariants as answer
+use Rattle.cluster.specs.declared.reply.ClusterReply.{ClusterReply}
+use Rattle.cluster.specs.declared.reply.ClusterReply.TheVariants as answer
 
-pub same_rows : (r : Bool) (told : Told) (rows other : List Row) → told ≡ answer.Rows other → Decides r (rows ≡ other) → MatchBool r (told ≡ answer.Rows rows) (told ≢ answer.Rows rows)
+pub same_rows : (r : Bool) (told : ClusterReply) (rows other : List Row) → told ≡ answer.Rows other → Decides r (rows ≡ other) → MatchBool r (told ≡ answer.Rows rows) (told ≢ answer.Rows rows)
 same_rows true told rows other is d = let e = d.0 refl in cc
 same_rows false told rows other is d = λ e. let f : rows ≡ other = cc in let t = d.1 f in cc
 
-pub same_found : (r : Bool) (told : Told) (found other : Found) → told ≡ answer.Found other → Decides r (found ≡ other) → MatchBool r (told ≡ answer.Found found) (told ≢ answer.Found found)
+pub same_found : (r : Bool) (told : ClusterReply) (found other : Found) → told ≡ answer.Found other → Decides r (found ≡ other) → MatchBool r (told ≡ answer.Found found) (told ≢ answer.Found found)
 same_found true told found other is d = let e = d.0 refl in cc
 same_found false told found other is d = λ e. let f : found ≡ other = cc in let t = d.1 f in cc
 

@@ -1,15 +1,6 @@
 pub mod Rising
 pub mod Turning
-pub mod Clocking
-pub mod Staging
 pub mod Comparing
+pub mod Replaying
 pub mod Splitting
-pub mod Looking
-pub mod Numbering
-pub mod Knowing
-pub mod Leaving
-pub mod Following
-pub mod TableTimes
-pub mod Serving
-pub mod Telling
-pub mod Holding
+pub mod Answering

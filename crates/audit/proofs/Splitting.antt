@@ -1,73 +1,105 @@
--- Points of runs: there is one at each place, and the machines stand at one stage there.
-use Rattle.std.proofs.Common.{◌≡◌, ℕ, Bool, true, false, List, [], ◌∷◌, ◌++◌, refl, sym, ◌∙◌, ap, subst}
-use Rattle.std.specs.Prelude.{Option, Some, None}
-use Rattle.std.specs.List.{list_any}
-use Rattle.key_handle.specs.declared.handle.KeyHandle.{KeyHandle}
-use Rattle.slicelet.specs.Steps.{History}
-use Rattle.world.specs.Jobs.{Job}
-use Rattle.world.specs.Told.{numbered}
-use Rattle.world.specs.declared.record.RecordedCall.{RecordedCall}
-use Rattle.world.specs.declared.record.RecordedCall.TheVariants as call
-use Rattle.audit.specs.Stages.{Stage, Turned, first_stage, same_handle, IsCheckTurn, IsCheckBy, IsTurn}
-use Rattle.audit.specs.OneRun.{Turn, IsRunFrom, IsOneRun}
-use Rattle.audit.specs.Promised.{IsPoint, IsTurnAt}
+-- A run has one past, and each of its turns is an event of it.
+use Rattle.std.proofs.Common.{◌≡◌, ℕ, Bool, true, false, List, [], ◌∷◌, ◌++◌, reverse, refl, sym, ◌∙◌, ap, subst}
+use Rattle.std.specs.Prelude.{IsTrue, ◌↔◌, if◌then◌else◌}
+use Rattle.std.specs.List.{AllZip}
+use Rattle.std.proofs.lemmas.List.{reverse-append, append_assoc}
+use Rattle.machines.specs.Numbers.{is_within}
+use Rattle.slicelet.specs.Continuity.{is_strange}
+use Rattle.cluster.specs.Jobs.{Job}
+use Rattle.cluster.specs.declared.error.ClusterError.TheVariants as error
+use Rattle.cluster.specs.declared.call.ClusterCall.{ClusterCall}
+use Rattle.cluster.specs.declared.call.ClusterCall.TheVariants as call
+use Rattle.cluster.specs.declared.reply.ClusterReply.{ClusterReply}
+use Rattle.cluster.specs.declared.reply.ClusterReply.TheVariants as reply
+use Rattle.cluster.specs.Pasts.{Event, event, Past, readings, history}
+use Rattle.cluster.specs.Timing.{IsTimely}
+use Rattle.cluster.specs.Deliveries.{is_given}
+use Rattle.cluster.specs.Replies.{checked, reply_to}
+use Rattle.cluster.specs.Runs.{IsOutcome, IsReply, IsRun}
+use Rattle.cluster.proofs.Ruling.{run_before}
+use Rattle.cluster.proofs.LaterPoints.{timely_at_point}
+use Rattle.audit.specs.OneRun.{Turn, Fits, IsEventOf, IsPastOf}
+use Rattle.audit.specs.Points.{IsPoint}
 
--- A check leaves all as it was
-check_turn_keeps : (b : Bool) (stage : Stage) (s : History) (handle : KeyHandle) (at : ℕ) (turned : Turned) → IsCheckTurn b stage s handle at turned → turned.0 ≡ stage
-check_turn_keeps true stage s handle at turned h = ap (λ (x : Turned). x.0) h.2
-check_turn_keeps false stage s handle at turned h = ap (λ (x : Turned). x.0) h
+-- ONE PAST
 
-pub check_keeps : (o : Option History) (stage : Stage) (handle : KeyHandle) (at : ℕ) (turned : Turned) → IsCheckBy o stage handle at turned → turned.0 ≡ stage
-check_keeps None stage handle at turned h = ap (λ (x : Turned). x.0) h
-check_keeps (Some s) stage handle at turned h = check_turn_keeps (list_any (same_handle handle) stage.handles) stage s handle at turned h
+one_outcome : {C : Type 0} (a b : Bool) → IsTrue a ↔ C → IsTrue b ↔ C → a ≡ b
+one_outcome true true p q = refl
+one_outcome false false p q = refl
+one_outcome true false p q = sym (q.1 (p.0 refl))
+one_outcome false true p q = p.1 (q.0 refl)
 
--- a call leaves one stage
-one_left : (job : Job) (stage : Stage) (c : RecordedCall) (turned other : Turned) → IsTurn job stage c turned → IsTurn job stage c other → turned.0 ≡ other.0
-one_left job stage (call.Check task handle at) turned other a b =
-    check_keeps (numbered task stage.tasks) stage handle at turned a ∙ sym (check_keeps (numbered task stage.tasks) stage handle at other b)
-one_left job stage (call.Table c) turned other a b = ap (λ (x : Turned). x.0) (a ∙ sym b)
-one_left job stage (call.Task task c) turned other a b = ap (λ (x : Turned). x.0) (a ∙ sym b)
-one_left job stage (call.Clerk clerk c) turned other a b = ap (λ (x : Turned). x.0) (a ∙ sym b)
-one_left job stage call.Phase turned other a b = ap (λ (x : Turned). x.0) (a ∙ sym b)
-one_left job stage call.Rows turned other a b = ap (λ (x : Turned). x.0) (a ∙ sym b)
-one_left job stage (call.Serve task key at) turned other a b = ap (λ (x : Turned). x.0) (a ∙ sym b)
-one_left job stage (call.Hold task key at) turned other a b = ap (λ (x : Turned). x.0) (a ∙ sym b)
-one_left job stage (call.Look clerk key) turned other a b = ap (λ (x : Turned). x.0) (a ∙ sym b)
+module _ {C : Type 0} (a b : Bool) where
+  one_check : (within given strange : Bool) → (within ≡ true → given ≡ true → strange ≡ false → IsTrue a ↔ C) → (within ≡ true → given ≡ true → strange ≡ false → IsTrue b ↔ C)
+      → (if within then checked given strange a else reply.Refused error.NoActor) ≡ (if within then checked given strange b else reply.Refused error.NoActor)
+  one_check false given strange p q = refl
+  one_check true false strange p q = refl
+  one_check true true true p q = refl
+  one_check true true false p q = ap (checked true false) (one_outcome a b (p refl refl refl) (q refl refl refl))
 
-pub one_stage : (job : Job) (run : List Turn) (stage last other : Stage) → IsRunFrom job stage run last → IsRunFrom job stage run other → last ≡ other
-one_stage job [] stage last other a b = a ∙ sym b
-one_stage job (t ∷ turns) stage last other a b =
-    let same = one_left job stage t.call a.0 b.0 a.1 b.1 in
-    one_stage job turns a.0.0 last other a.3 (subst (λ (s : Stage). IsRunFrom job s turns other) (sym same) b.3)
+one_reply : (job : Job) (past : Past) (c : ClusterCall) (a b : Bool) → IsOutcome job past c a → IsOutcome job past c b → reply_to job past c a ≡ reply_to job past c b
+one_reply job past (call.Check task handle at) a b p q = one_check a b (is_within task job.tasks) (is_given past handle) (is_strange (history task past) handle) p q
+one_reply job past (call.Table c) a b p q = refl
+one_reply job past (call.Task task c) a b p q = refl
+one_reply job past (call.Clerk clerk c) a b p q = refl
+one_reply job past call.Phase a b p q = refl
+one_reply job past call.Rows a b p q = refl
+one_reply job past (call.Serve task key at) a b p q = refl
+one_reply job past (call.Hold task key at) a b p q = refl
+one_reply job past (call.Look clerk key) a b p q = refl
 
--- a run from a stage, up to a point and from there
-pub record IsSplit (job : Job) (stage : Stage) (before later : List Turn) (last : Stage) : Type 0 where
-  pub middle : Stage
-  pub reached : IsRunFrom job stage before middle
-  pub rest : IsRunFrom job middle later last
+one_event : (job : Job) (past : Past) (turn : Turn) (e f : Event) → IsEventOf turn e → IsEventOf turn f → IsReply job past e → IsReply job past f → e ≡ f
+one_event job past turn e f is also p q =
+    let first : IsReply job past (event turn.call e.reply) = subst (λ (c : ClusterCall). IsReply job past (event c e.reply)) is.same_call p in
+    let second : IsReply job past (event turn.call f.reply) = subst (λ (c : ClusterCall). IsReply job past (event c f.reply)) also.same_call q in
+    ap (λ (c : ClusterCall). event c e.reply) (is.same_call ∙ sym also.same_call)
+    ∙ ap (event f.call) (first.2 ∙ one_reply job past turn.call first.0 second.0 first.1 second.1 ∙ sym second.2)
 
-pub split_run : (job : Job) (before later : List Turn) (stage last : Stage) → IsRunFrom job stage (before ++ later) last → IsSplit job stage before later last
-split_run job [] later stage last run = record { middle = stage; reached = refl; rest = run }
-split_run job (t ∷ before) later stage last run =
-    let more = split_run job before later run.0.0 last run.3 in
-    record { middle = more.middle; reached = (run.0, run.1, run.2, more.reached); rest = more.rest }
+pub one_past : (job : Job) (turns : List Turn) (past other : Past) → AllZip IsEventOf turns past → IsRun job past → AllZip IsEventOf turns other → IsRun job other → past ≡ other
+one_past job [] [] [] told run also too = refl
+one_past job [] [] (f ∷ other) told run also too = absurd also
+one_past job [] (e ∷ past) other told run also too = absurd told
+one_past job (t ∷ turns) [] other told run also too = absurd told
+one_past job (t ∷ turns) (e ∷ past) [] told run also too = absurd also
+one_past job (t ∷ turns) (e ∷ past) (f ∷ other) told run also too =
+    let before = one_past job turns past other told.1 run.1 also.1 too.1 in
+    ap (λ (x : Event). x ∷ past) (one_event job past t e f told.0 also.0 run.0 (subst (λ (p : Past). IsReply job p f) (sym before) too.0)) ∙ ap (λ (p : Past). f ∷ p) before
 
-pub point_reached : (job : Job) (before later : List Turn) → IsOneRun job (before ++ later) → (stage : Stage) × IsPoint job (before ++ later) before stage
-point_reached job before later run =
-    let parts = split_run job before later (first_stage job) run.0 run.1 in
-    (parts.middle, record { later = later; whole = refl; reached = parts.reached })
+-- THE EVENT OF A TURN
 
--- a run goes on where it stands
-pub join_runs : (job : Job) (turns more : List Turn) (stage middle last : Stage) → IsRunFrom job stage turns middle → IsRunFrom job middle more last
-    → IsRunFrom job stage (turns ++ more) last
-join_runs job [] more stage middle last first then = subst (λ (s : Stage). IsRunFrom job s more last) first then
-join_runs job (t ∷ turns) more stage middle last first then = (first.0, first.1, first.2, join_runs job turns more first.0.0 middle last first.3 then)
+record IsSplit (past : Past) (turn : Turn) (before : List Turn) : Type 0 where
+  later : Past
+  at : Event
+  earlier : Past
+  whole : past ≡ later ++ at ∷ earlier
+  is : IsEventOf turn at
+  told : AllZip IsEventOf before earlier
 
--- what follows a point of a run is a run from there
-pub run_from_turn : (job : Job) (run before : List Turn) (stage : Stage) (turn : Turn) → IsOneRun job run → (here : IsTurnAt job run before stage turn)
-    → (last : Stage) × IsRunFrom job stage (turn ∷ here.later) last
-run_from_turn job run before stage turn one here =
-    let whole : IsOneRun job (before ++ turn ∷ here.later) = subst (IsOneRun job) here.whole one in
-    let parts = split_run job before (turn ∷ here.later) (first_stage job) whole.0 whole.1 in
-    let same = one_stage job before (first_stage job) parts.middle stage parts.reached here.reached in
-    (whole.0, subst (λ (s : Stage). IsRunFrom job s (turn ∷ here.later) whole.0) same parts.rest)
+split : (later : List Turn) (turn : Turn) (before : List Turn) (past : Past) → AllZip IsEventOf (later ++ turn ∷ before) past → IsSplit past turn before
+split [] turn before [] told = absurd told
+split [] turn before (e ∷ past) told = record { later = []; at = e; earlier = past; whole = refl; is = told.0; told = told.1 }
+split (t ∷ later) turn before [] told = absurd told
+split (t ∷ later) turn before (e ∷ past) told =
+    let rest = split later turn before past told.1 in
+    record { later = e ∷ rest.later; at = rest.at; earlier = rest.earlier; whole = ap (λ (p : Past). e ∷ p) rest.whole; is = rest.is; told = rest.told }
+
+turned : (before later : List Turn) (turn : Turn) → reverse (before ++ turn ∷ later) ≡ reverse later ++ turn ∷ reverse before
+turned before later turn =
+    reverse-append before (turn ∷ later) ∙ ap (λ (ts : List Turn). ts ++ reverse before) (reverse-append (turn ∷ []) later) ∙ append_assoc (reverse later) (turn ∷ []) (reverse before)
+
+pub point_of : (job : Job) (before later : List Turn) (turn : Turn) (past : Past) → IsPastOf (before ++ turn ∷ later) past → IsRun job past
+    → (earlier : Past) × (answer : ClusterReply) × IsPoint job past before turn earlier answer
+point_of job before later turn past told run =
+    let s = split (reverse later) turn (reverse before) past (subst (λ (ts : List Turn). AllZip IsEventOf ts past) (turned before later turn) told) in
+    let whole : past ≡ s.later ++ event turn.call s.at.reply ∷ s.earlier = s.whole ∙ ap (λ (c : ClusterCall). s.later ++ event c s.at.reply ∷ s.earlier) s.is.same_call in (
+      s.earlier,
+      s.at.reply,
+      record {
+        later = s.later;
+        whole = whole;
+        told = s.told;
+        fits = s.is.fits;
+        answered = run_before job s.later (event turn.call s.at.reply ∷ s.earlier) (subst (IsRun job) whole run);
+        clocks = λ timely. timely_at_point job.policy.skew s.later (event turn.call s.at.reply ∷ s.earlier) (subst (λ (p : Past). IsTimely job.policy.skew (readings p)) whole timely);
+      },
+    )

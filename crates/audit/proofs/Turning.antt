@@ -1,20 +1,21 @@
--- Turns of several histories, and runs that grow by one turn.
-use Rattle.std.proofs.Common.{◌≡◌, ℕ, ◌+◌, ◌<◌, ◌==◌, cond, List, [], ◌∷◌, ◌++◌, map, length, get_or, take, drop, sym, refl, ap, ◌∙◌, subst, arith}
-use Rattle.std.specs.Prelude.{Option, Some, None}
-use Rattle.std.proofs.lemmas.List.{map_more, map-append, take-append-drop, append_assoc, append-nil, take_more, length-take-le}
+-- Turns of several histories, and faults of turns in order.
+use Rattle.std.proofs.Common.{◌≡◌, ℕ, ◌+◌, ◌<◌, ◌==◌, cond, List, [], ◌∷◌, ◌++◌, map, length, get_or, take, sym, ap, ◌∙◌, arith}
+use Rattle.std.specs.Prelude.{Option, Some, None, Result, Ok, Err, IfOk}
+use Rattle.std.specs.List.Sorted.{IsPermutation}
+use Rattle.std.proofs.lemmas.List.{append_assoc, append-nil, take_more, length-take-le}
 use Rattle.std.proofs.lemmas.List.Sorted.{sum_by-IsPermutation}
-use Rattle.world.specs.Jobs.{Job}
-use Rattle.world.specs.declared.record.RecordedCall.{RecordedCall}
-use Rattle.world.specs.declared.record.Told.{Told}
+use Rattle.cluster.specs.Jobs.{Job}
+use Rattle.cluster.specs.declared.call.ClusterCall.{ClusterCall}
+use Rattle.cluster.specs.declared.reply.ClusterReply.{ClusterReply}
 use Rattle.audit.specs.declared.finding.Why.{Why}
 use Rattle.audit.specs.declared.finding.Why.TheVariants.{Double, Order, RefusedEntry, OtherReply}
-use Rattle.audit.specs.Stages.{Stage, Turned, first_stage, IsTurn}
+use Rattle.audit.specs.declared.finding.Audit.{Audit}
+use Rattle.audit.specs.declared.finding.Audit.TheVariants.{One, No}
 use Rattle.audit.proofs.Rising.{rises_map, at_most_once}
-use Rattle.std.specs.List.Sorted.{IsPermutation}
-use Rattle.audit.specs.OneRun.{Turn, Entries, Evidence, all_turns, TicketsAreDistinct, HistoriesRise, Rises, entry_turn, turns_from, Fits, IsRunFrom, IsWrong, IsBreak, IsInOrder, IsFault}
+use Rattle.audit.specs.OneRun.{Turn, Entries, Evidence, all_turns, TicketsAreDistinct, HistoriesRise, Rises, entry_turn, turns_from, IsWrong, IsBreak, IsInOrder, IsFault, IsReplayed, IsAudit}
 
 -- one history more
-pub turns_more : {C : Type 0} (name : ℕ → C → RecordedCall) (number : ℕ) (hs : List (Entries C)) (h : Entries C)
+pub turns_more : {C : Type 0} (name : ℕ → C → ClusterCall) (number : ℕ) (hs : List (Entries C)) (h : Entries C)
     → turns_from name number (hs ++ h ∷ []) ≡ turns_from name number hs ++ map (entry_turn (name (number + length hs))) h
 turns_more name number [] h =
     let here : number ≡ number + 0 = omega arith in
@@ -25,7 +26,7 @@ turns_more name number (x ∷ hs) h =
     ∙ sym (append_assoc (map (entry_turn (name number)) x) (turns_from name (number + 1) hs) (map (entry_turn (name (number + length (x ∷ hs)))) h))
 
 -- one history more is added to a list
-pub add_more : {C : Type 0} (name : ℕ → C → RecordedCall) (hs : List (Entries C)) (i : ℕ) (h d : Entries C) (before old new : List Turn) → i < length hs
+pub add_more : {C : Type 0} (name : ℕ → C → ClusterCall) (hs : List (Entries C)) (i : ℕ) (h d : Entries C) (before old new : List Turn) → i < length hs
     → h ≡ get_or hs i d
     → old ≡ before ++ turns_from name 1 (take i hs) → new ≡ old ++ map (entry_turn (name (i + 1))) h → new ≡ before ++ turns_from name 1 (take (i + 1) hs)
 add_more name hs i h d before old new low is was made =
@@ -48,49 +49,27 @@ tickets_distinct f e points each rising ticket =
     let once = at_most_once (λ (t : Turn). t.ticket) ticket (map f points) (rises_map (λ (t : Turn). t.ticket) f points rising) in
     omega (arith, same, once)
 
-module _ (job : Job) where
-  -- one turn more
-  pub run_more : (stage : Stage) (turns : List Turn) (last : Stage) (t : Turn) (turned : Turned) → IsRunFrom job stage turns last → IsTurn job last t.call turned → Fits turned.1 t.told
-      → IsRunFrom job stage (turns ++ t ∷ []) turned.0
-  run_more stage [] last t turned run is fits = (turned, subst (λ (s : Stage). IsTurn job s t.call turned) run is, fits, refl)
-  run_more stage (x ∷ turns) last t turned run is fits = (run.0, run.1, run.2, run_more run.0.0 turns last t turned run.3 is fits)
+-- no reply is wrong by a ticket alone
+not_double : (reply : ClusterReply) (told : Option ClusterReply) → IsWrong Double reply told → ⊥
+not_double reply None wrong = wrong
+not_double reply (Some told) wrong = wrong
 
-  module _ {X : Type 0} (f : X → Turn) (xs : List X) (i : ℕ) (x d : X) (low : i < length xs) (here : x ≡ get_or xs i d) (last : Stage) (turned : Turned) where
-    -- what a replay knows after one point more
-    pub replayed_more : IsRunFrom job (first_stage job) (map f (take i xs)) last → IsTurn job last (f x).call turned → Fits turned.1 (f x).told
-        → IsRunFrom job (first_stage job) (map f (take (i + 1) xs)) turned.0
-    replayed_more run is fits =
-        let e : map f (take (i + 1) xs) ≡ map f (take i xs) ++ f x ∷ [] = map_more f xs i d low ∙ ap (λ (y : X). map f (take i xs) ++ f y ∷ []) (sym here) in
-        subst (λ (turns : List Turn). IsRunFrom job (first_stage job) turns turned.0) (sym e) (run_more (first_stage job) (map f (take i xs)) last (f x) turned run is fits)
+not_order : (reply : ClusterReply) (told : Option ClusterReply) → IsWrong Order reply told → ⊥
+not_order reply None wrong = wrong
+not_order reply (Some told) wrong = wrong
 
-    -- a point that is answered otherwise
-    pub breaks_here : (why : Why) → IsRunFrom job (first_stage job) (map f (take i xs)) last → IsTurn job last (f x).call turned → IsWrong why turned.1 (f x).told
-        → IsBreak job (map f xs) (f x).ticket why
-    breaks_here why run is wrong = record {
-      before = map f (take i xs);
-      turn = f x;
-      later = map f (drop (i + 1) xs);
-      whole = ap (map f) (sym (take-append-drop (i + 1) xs)) ∙ map-append f (take (i + 1) xs) (drop (i + 1) xs)
-          ∙ ap (λ (ts : List Turn). ts ++ map f (drop (i + 1) xs)) (map_more f xs i d low ∙ ap (λ (y : X). map f (take i xs) ++ f y ∷ []) (sym here))
-          ∙ append_assoc (map f (take i xs)) (f x ∷ []) (map f (drop (i + 1) xs));
-      at = refl;
-      last = last;
-      run_before = run;
-      turned = turned;
-      is_turn = is;
-      wrong = wrong;
-    }
+fault_from : (job : Job) (e : Evidence) (run : List Turn) (ticket : ℕ) (why : Why) → IsInOrder e run → IsBreak job run ticket why → IsFault job e ticket why
+fault_from job e run ticket Double order here = absurd (not_double here.reply here.turn.told here.wrong)
+fault_from job e run ticket Order order here = absurd (not_order here.reply here.turn.told here.wrong)
+fault_from job e run ticket RefusedEntry order here = (run, order, here)
+fault_from job e run ticket OtherReply order here = (run, order, here)
 
-  pub fault_from : (e : Evidence) (run : List Turn) (ticket : ℕ) (why : Why) → IsInOrder e run → IsBreak job run ticket why → IsFault job e ticket why
-  fault_from e run ticket Double order here = absurd (not_double here.turn.told here.wrong)
-    where
-      not_double : (o : Option Told) → IsWrong Double here.turned.1 o → ⊥
-      not_double None w = w
-      not_double (Some t) w = w
-  fault_from e run ticket Order order here = absurd (not_order here.turn.told here.wrong)
-    where
-      not_order : (o : Option Told) → IsWrong Order here.turned.1 o → ⊥
-      not_order None w = w
-      not_order (Some t) w = w
-  fault_from e run ticket RefusedEntry order here = (run, order, here)
-  fault_from e run ticket OtherReply order here = (run, order, here)
+audit_from : (job : Job) (e : Evidence) (run : List Turn) (found : Audit) → IsInOrder e run → IsReplayed job run found → IsAudit job e found
+audit_from job e run (One steps timely) order said = (run, order, said)
+audit_from job e run (No ticket why) order said = fault_from job e run ticket why order said
+
+-- what is said of turns in order is said of histories and records
+pub audit_of : {E : Type 0} (job : Job) (e : Evidence) (run : List Turn) (found : Result Audit E) → IsInOrder e run → IfOk found (λ f. IsReplayed job run f)
+    → IfOk found (λ f. IsAudit job e f)
+audit_of job e run (Ok found) order said = audit_from job e run found order said
+audit_of job e run (Err why) order said = said

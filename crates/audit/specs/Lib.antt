@@ -1,6 +1,5 @@
 -- What callers are promised.
-pub mod Stages
 pub mod OneRun
-pub mod Promised
+pub mod Points
 -- What the code is seen as.
 pub mod Shown

@@ -4,9 +4,9 @@ use denote.Ref.{Bor}
 use Rattle.lease_table.specs.declared.call.TableCall.{TableCall}
 use Rattle.slicelet.specs.declared.call.SliceletCall.{SliceletCall}
 use Rattle.clerk.specs.declared.call.ClerkCall.{ClerkCall}
-use Rattle.world.specs.declared.record.RecordedCall.TheVariants as call
-use Rattle.world.specs.declared.record.CallRecord.{CallRecord}
-use Rattle.world.specs.declared.record.Told.{Told}
+use Rattle.cluster.specs.declared.call.ClusterCall.TheVariants as call
+use Rattle.cluster.specs.declared.record.CallRecord.{CallRecord}
+use Rattle.cluster.specs.declared.reply.ClusterReply.{ClusterReply}
 use Rattle.audit.specs.declared.points.Point.{Point}
 use Rattle.audit.specs.declared.points.Point.TheVariants as point
 use Rattle.audit.specs.OneRun.{Entries, Evidence, Turn}
@@ -20,6 +20,6 @@ shown (point.Record r) = record { ticket = r.now.ticket; call = r.now.step; told
 abbrev pub evidence : Entries TableCall → List (Entries SliceletCall) → List (Entries ClerkCall) → List CallRecord → Evidence
 evidence table tasks clerks records = record { table = table; tasks = tasks; clerks = clerks; records = records }
 
-abbrev pub shown_told : Option (Bor Told) → Option Told
+abbrev pub shown_told : Option (Bor ClusterReply) → Option ClusterReply
 shown_told None = None
 shown_told (Some t) = Some t.now

@@ -1,39 +1,36 @@
 //! The audit of histories and records.
 
-ghost use Rattle.std.specs.Prelude.{◌≡◌, ℕ, List, ◌↔◌, true, map, IfOk, MatchBool, MatchOption, reverse};
-ghost use Rattle.std.specs.List.Sorted.{IsPermutation, IsNonDecreasingBy};
-ghost use Rattle.world.specs.Latest.{is_late, least_after};
-ghost use Rattle.lease_table.specs.Calls.{reading_of};
-ghost use Rattle.world.specs.Pasts.{IsTimely, table_reading, task_reading};
-ghost use Rattle.world.specs.declared.record.CallRecord.{CallRecord};
+ghost use Rattle.std.specs.Prelude.{◌≡◌, List, map, IfOk, MatchOption};
+ghost use Rattle.cluster.specs.Jobs.{Job};
+ghost use Rattle.cluster.specs.Pasts.{Past, is_accepted, reading};
+ghost use Rattle.cluster.specs.Clusters.{LeadsTo, IsPlayed};
+ghost use Rattle.cluster.specs.declared.record.CallRecord.{CallRecord};
 ghost use Rattle.audit.specs.Shown.{evidence, shown, shown_told};
-ghost use Rattle.audit.specs.OneRun.{Fits, HistoriesRise, HistoryFalls, IsAudit, IsBreak, IsOneRun, IsTimelyRun, IsWrong, all_turns, clocked, clocked_table, clocked_task, is_refused};
-ghost use Rattle.world.specs.Jobs.{Job};
+ghost use Rattle.audit.specs.OneRun.{Fits, HistoriesRise, HistoryFalls, IsAudit, IsReplayed, IsWrong};
 
 use crate::finding::{Audit, Why};
 use crate::points::{Point, fall, falls, sorted_points, twice};
-use crate::replay::Replay;
 use crate::sameness::is_same;
 use clerk::ClerkEvent;
+use cluster::{CallRecord, Cluster, ClusterReply, Job, Reading, Timeliness};
 use history_lock::History;
-use lease_table::{TableCall, TableEvent};
+use lease_table::TableEvent;
 use slicelet::SliceletEvent;
 use std::alloc::{AllocError, Global};
-use world::{CallRecord, Job, RecordedCall, Told};
 
-fn is_refused(reply: &Told) -> bool
-    ensures { result ≡ is_refused reply.now }
+fn is_accepted(reply: &ClusterReply) -> bool
+    ensures { result ≡ is_accepted reply.now }
 {
-    matches!(reply, Told::Refused(_))
+    !matches!(reply, ClusterReply::Refused(_))
 }
 
 // What is wrong with a reply, by what the caller was told.
-fn judge(reply: &Told, told: Option<&Told>) -> Option<Why>
+fn judge(reply: &ClusterReply, told: Option<&ClusterReply>) -> Option<Why>
     ensures { MatchOption result (Fits reply.now (shown_told told.entry)) (λ why. IsWrong why reply.now (shown_told told.entry)) }
 {
     match told {
         None => {
-            if is_refused(reply) {
+            if !is_accepted(reply) {
                 return Some(Why::RefusedEntry);
             }
         }
@@ -46,24 +43,9 @@ fn judge(reply: &Told, told: Option<&Told>) -> Option<Why>
     None
 }
 
-// The reading of the table's clock at a call of the table, in ticks; a restart reads none.
-fn reading_of(call: &TableCall) -> Option<u64>
-    ensures { result ≡ reading_of call.now }
-{
-    match call {
-        TableCall::JobTake { at, .. }
-        | TableCall::JobRenew { at, .. }
-        | TableCall::Propose { at, .. }
-        | TableCall::Commit { at, .. }
-        | TableCall::Grant { at, .. }
-        | TableCall::Free { at, .. } => Some(*at),
-        TableCall::Restart => None,
-    }
-}
-
 impl<'a> Point<'a> {
     // What the caller was told; of an entry nothing.
-    fn told(&self) -> Option<&'a Told>
+    fn told(&self) -> Option<&'a ClusterReply>
         ensures { shown_told result ≡ (shown self.now).told }
     {
         match self {
@@ -72,84 +54,51 @@ impl<'a> Point<'a> {
         }
     }
 
-    fn table_reading(&self) -> Option<u64>
-        ensures { result ≡ table_reading (clocked (shown self.now).call) }
+    // Whose clock the call read.
+    fn reading(&self) -> Reading
+        ensures { result ≡ reading (shown self.now).call }
     {
         match self {
-            Point::Table(event) => reading_of(&event.call),
-            Point::Record(record) => match &record.step {
-                RecordedCall::Table(call) => reading_of(call),
-                _ => None,
-            },
-            _ => None,
+            Point::Table(event) => Reading::of_table(&event.call),
+            Point::Task(_, event) => Reading::TaskClock(event.call.reading()),
+            Point::Clerk(..) => Reading::NoClock,
+            Point::Record(record) => record.step.reading(),
         }
     }
 
-    fn task_reading(&self) -> Option<u64>
-        ensures { result ≡ task_reading (clocked (shown self.now).call) }
+    // The cluster's reply to the call.
+    fn play(&self, cluster: &mut Cluster) -> Result<ClusterReply, AllocError>
+        ensures { (job : Job) (past : Past) → LeadsTo job past cluster.old
+            → IsPlayed job past (shown self.now).call result cluster.new }
     {
         match self {
-            Point::Task(_, event) => Some(event.call.reading()),
-            Point::Record(record) => match &record.step {
-                RecordedCall::Task { task: _, call } => Some(call.reading()),
-                RecordedCall::Serve { at, .. }
-                | RecordedCall::Hold { at, .. }
-                | RecordedCall::Check { at, .. } => Some(*at),
-                _ => None,
-            },
-            _ => None,
+            Point::Table(event) => cluster.call_table(&event.call),
+            Point::Task(task, event) => cluster.call_task(*task, &event.call),
+            Point::Clerk(clerk, event) => cluster.call_clerk(*clerk, &event.call),
+            Point::Record(record) => cluster.play(&record.step),
         }
     }
 }
 
-// The first point whose call is answered otherwise than it was told.
-fn misfit(alloc: Global, job: Job, points: &[Point]) -> Result<Option<(u64, Why)>, AllocError>
-    ensures { IfOk result (λ found. MatchOption found (IsOneRun job (map shown points.now))
-        (λ f. IsBreak job (map shown points.now) f.0 f.1)) }
+// Plays points in order, up to the first that is answered otherwise than it was told.
+fn replay(alloc: Global, job: Job, points: &[Point]) -> Result<Audit, AllocError>
+    ensures { IfOk result (λ found. IsReplayed job (map shown points.now) found) }
 {
-    let mut replay = Replay::new(alloc, job)?;
+    let mut cluster = Cluster::new(alloc, job)?;
+    let mut timeliness = Timeliness::new(job.policy().skew());
     for point in points {
-        let reply = replay.play(job, point)?;
+        let reply = point.play(&mut cluster)?;
         if let Some(why) = judge(&reply, point.told()) {
-            return Ok(Some((point.ticket(), why)));
+            cluster.run_law();
+            let ticket = point.ticket();
+            return Ok(Audit::No { ticket, why });
         }
+        timeliness.read(point.reading());
     }
-    Ok(None)
-}
-
-// Whether a point's task read its clock below the least reading that is timely.
-fn is_late(point: &Point, least: u64) -> bool
-    ensures { result ≡ is_late (task_reading (clocked (shown point.now).call)) least }
-{
-    match point.task_reading() {
-        Some(at) => at < least,
-        None => false,
-    }
-}
-
-// The least reading of a task that is timely after a point.
-fn least_after(point: &Point, skew: u64, least: u64) -> u64
-    ensures { result ≡ least_after (table_reading (clocked (shown point.now).call)) skew least }
-{
-    match point.table_reading() {
-        Some(at) => least.max(at.saturating_sub(skew)),
-        None => least,
-    }
-}
-
-// Whether clocks were timely at the points.
-fn is_timely(points: &[Point], skew: u64) -> bool
-    ensures { MatchBool result (IsTimely skew (reverse (map (λ p. clocked (shown p).call) points.now)))
-        (IsTimely skew (reverse (map (λ p. clocked (shown p).call) points.now)) → ⊥) }
-{
-    let mut least = 0;
-    for point in points {
-        if is_late(point, least) {
-            return false;
-        }
-        least = least_after(point, skew, least);
-    }
-    true
+    cluster.run_law();
+    let steps = points.len() as u64;
+    let timely = timeliness.is_timely();
+    Ok(Audit::One { steps, timely })
 }
 
 // The ticket of the first entry that does not rise in its history.
@@ -181,8 +130,7 @@ fn first_fall(
 ///
 /// A restart of the table is an entry like others: the replayed table loses its rows there, and an
 /// entry of a commit that it would refuse until its grace is over is a refused one. A restart reads no
-/// clock, and whether clocks were timely does not depend on it. Where memory is refused nothing is
-/// said.
+/// clock, and whether clocks were timely does not depend on it. Out of memory, nothing is said.
 pub fn audit(
     alloc: Global,
     job: &Job,
@@ -206,10 +154,5 @@ pub fn audit(
             why: Why::Order,
         });
     }
-    if let Some((ticket, why)) = misfit(alloc, *job, &points)? {
-        return Ok(Audit::No { ticket, why });
-    }
-    let steps = points.len() as u64;
-    let timely = is_timely(&points, job.policy().skew());
-    Ok(Audit::One { steps, timely })
+    replay(alloc, *job, &points)
 }

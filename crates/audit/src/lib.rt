@@ -5,9 +5,8 @@ mod auditing;
 mod finding;
 mod laws;
 mod points;
-mod replay;
 mod sameness;
 
 pub use auditing::audit;
 pub use finding::{Audit, Why};
-pub use laws::{answers_law, audit_law, interval_law, points_law, told_law};
+pub use laws::{answers_law, points_law, served_law};

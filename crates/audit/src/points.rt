@@ -2,17 +2,17 @@
 
 ghost use Rattle.std.specs.Prelude.{◌≡◌, ℕ, ◌+◌, ◌<◌, ◌++◌, All, length, map, IfOk, MatchOption, slice_index_or};
 ghost use Rattle.std.specs.List.Sorted.{IsPermutation, IsNonDecreasingBy};
-ghost use Rattle.world.specs.declared.record.RecordedCall.TheVariants as call;
+ghost use Rattle.cluster.specs.declared.call.ClusterCall.TheVariants as call;
 ghost use Rattle.audit.specs.OneRun.{all_turns, entry_turn, record_turn, ticket_of, turns_from, Falls, OneFalls, Rises};
 ghost use Rattle.audit.specs.Shown.{evidence, shown};
 
 use clerk::{ClerkCall, ClerkEvent};
+use cluster::CallRecord;
 use history_lock::{Entry, History};
 use lease_table::{TableCall, TableEvent};
 use machines::Event;
 use slicelet::{SliceletCall, SliceletEvent};
 use std::alloc::{AllocError, Global};
-use world::CallRecord;
 
 // An entry or a record.
 #[derive(Clone, Copy)]

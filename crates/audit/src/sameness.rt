@@ -1,15 +1,15 @@
 //! Whether two callers were told the same.
 
 ghost use Rattle.std.specs.Prelude.{◌≡◌, ◌≢◌, MatchBool};
-ghost use Rattle.world.specs.declared.record.Told.TheVariants as answer;
+ghost use Rattle.cluster.specs.declared.reply.ClusterReply.TheVariants as answer;
 
 use assignment::Listed;
 use clerk::{ClerkReply, Found};
+use cluster::{ClusterError, ClusterReply};
 use key_handle::KeyHandle;
 use lease_table::{Phase, Row, TableReply};
 use policy_rules::Verdict;
 use slicelet::SliceletReply;
-use world::{Refusal, Told};
 
 fn is_reply_of_table(reply: &TableReply, other: &TableReply) -> bool
     ensures { MatchBool result (other.now ≡ reply.now) (other.now ≢ reply.now) }
@@ -25,102 +25,102 @@ fn is_reply_of_table(reply: &TableReply, other: &TableReply) -> bool
     }
 }
 
-fn is_table(reply: &TableReply, told: &Told) -> bool
+fn is_table(reply: &TableReply, told: &ClusterReply) -> bool
     ensures { MatchBool result (told.now ≡ answer.Table reply.now) (told.now ≢ answer.Table reply.now) }
 {
     match told {
-        Told::Table(other) => is_reply_of_table(reply, other),
+        ClusterReply::Table(other) => is_reply_of_table(reply, other),
         _ => false,
     }
 }
 
-fn is_task(reply: SliceletReply, told: &Told) -> bool
+fn is_task(reply: SliceletReply, told: &ClusterReply) -> bool
     ensures { MatchBool result (told.now ≡ answer.Task reply) (told.now ≢ answer.Task reply) }
 {
     match told {
-        Told::Task(other) => reply == *other,
+        ClusterReply::Task(other) => reply == *other,
         _ => false,
     }
 }
 
-fn is_clerk(reply: ClerkReply, told: &Told) -> bool
+fn is_clerk(reply: ClerkReply, told: &ClusterReply) -> bool
     ensures { MatchBool result (told.now ≡ answer.Clerk reply) (told.now ≢ answer.Clerk reply) }
 {
     match told {
-        Told::Clerk(other) => reply == *other,
+        ClusterReply::Clerk(other) => reply == *other,
         _ => false,
     }
 }
 
-fn is_phase(phase: Phase, told: &Told) -> bool
+fn is_phase(phase: Phase, told: &ClusterReply) -> bool
     ensures { MatchBool result (told.now ≡ answer.Phase phase) (told.now ≢ answer.Phase phase) }
 {
     match told {
-        Told::Phase(other) => phase == *other,
+        ClusterReply::Phase(other) => phase == *other,
         _ => false,
     }
 }
 
-fn is_rows(rows: &Listed<Row>, told: &Told) -> bool
+fn is_rows(rows: &Listed<Row>, told: &ClusterReply) -> bool
     ensures { MatchBool result (told.now ≡ answer.Rows rows.now) (told.now ≢ answer.Rows rows.now) }
 {
     match told {
-        Told::Rows(other) => rows == other,
+        ClusterReply::Rows(other) => rows == other,
         _ => false,
     }
 }
 
-fn is_verdict(verdict: Verdict, told: &Told) -> bool
+fn is_verdict(verdict: Verdict, told: &ClusterReply) -> bool
     ensures { MatchBool result (told.now ≡ answer.Verdict verdict) (told.now ≢ answer.Verdict verdict) }
 {
     match told {
-        Told::Verdict(other) => verdict == *other,
+        ClusterReply::Verdict(other) => verdict == *other,
         _ => false,
     }
 }
 
-fn is_holding(handle: KeyHandle, told: &Told) -> bool
+fn is_holding(handle: KeyHandle, told: &ClusterReply) -> bool
     ensures { MatchBool result (told.now ≡ answer.Holding handle) (told.now ≢ answer.Holding handle) }
 {
     match told {
-        Told::Holding(other) => handle == *other,
+        ClusterReply::Holding(other) => handle == *other,
         _ => false,
     }
 }
 
-fn is_found(found: &Found, told: &Told) -> bool
+fn is_found(found: &Found, told: &ClusterReply) -> bool
     ensures { MatchBool result (told.now ≡ answer.Found found.now) (told.now ≢ answer.Found found.now) }
 {
     match told {
-        Told::Found(other) => found == other,
+        ClusterReply::Found(other) => found == other,
         _ => false,
     }
 }
 
-fn is_refusal(why: Refusal, told: &Told) -> bool
+fn is_refusal(why: ClusterError, told: &ClusterReply) -> bool
     ensures { MatchBool result (told.now ≡ answer.Refused why) (told.now ≢ answer.Refused why) }
 {
     match told {
-        Told::Refused(other) => why == *other,
+        ClusterReply::Refused(other) => why == *other,
         _ => false,
     }
 }
 
 /// Whether two callers were told the same.
-pub(crate) fn is_same(told: &Told, other: &Told) -> bool
+pub(crate) fn is_same(told: &ClusterReply, other: &ClusterReply) -> bool
     ensures { MatchBool result (other.now ≡ told.now) (other.now ≢ told.now) }
 {
     match told {
-        Told::Table(reply) => is_table(reply, other),
-        Told::Task(reply) => is_task(*reply, other),
-        Told::Clerk(reply) => is_clerk(*reply, other),
-        Told::Phase(phase) => is_phase(*phase, other),
-        Told::Rows(rows) => is_rows(rows, other),
-        Told::Verdict(verdict) => is_verdict(*verdict, other),
-        Told::Holding(handle) => is_holding(*handle, other),
-        Told::Continuous => matches!(other, Told::Continuous),
-        Told::Broken => matches!(other, Told::Broken),
-        Told::Found(found) => is_found(found, other),
-        Told::Refused(why) => is_refusal(*why, other),
+        ClusterReply::Table(reply) => is_table(reply, other),
+        ClusterReply::Task(reply) => is_task(*reply, other),
+        ClusterReply::Clerk(reply) => is_clerk(*reply, other),
+        ClusterReply::Phase(phase) => is_phase(*phase, other),
+        ClusterReply::Rows(rows) => is_rows(rows, other),
+        ClusterReply::Verdict(verdict) => is_verdict(*verdict, other),
+        ClusterReply::Holding(handle) => is_holding(*handle, other),
+        ClusterReply::Continuous => matches!(other, ClusterReply::Continuous),
+        ClusterReply::Broken => matches!(other, ClusterReply::Broken),
+        ClusterReply::Found(found) => is_found(found, other),
+        ClusterReply::Refused(why) => is_refusal(*why, other),
     }
 }

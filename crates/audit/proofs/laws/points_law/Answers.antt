@@ -1,9 +1,9 @@
-use Rattle.audit.specs.Stages.{first_stage}
-use Rattle.audit.proofs.Splitting.{one_stage, point_reached}
+use Rattle.std.proofs.Common.{reverse}
+use Rattle.audit.proofs.Splitting.{one_past, point_of}
 use Rattle.audit.proofs.laws.points_law.Goals as goal
 
-pub returns-clause-reached : goal.returns-clause-reached
-returns-clause-reached c = λ job before later one. point_reached job before later one
-
 pub returns-clause-one : goal.returns-clause-one
-returns-clause-one c = λ job run before stage other a b. one_stage job before (first_stage job) stage other a.reached b.reached
+returns-clause-one c = λ job run past other told first also second. one_past job (reverse run) past other told first also second
+
+pub returns-clause-point : goal.returns-clause-point
+returns-clause-point c = λ job before later turn past told run. point_of job before later turn past told run

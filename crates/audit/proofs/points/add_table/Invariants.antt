@@ -1,5 +1,5 @@
 use Rattle.std.proofs.Common.{◌≡◌, ◌++◌, map, take}
-use Rattle.world.specs.declared.record.RecordedCall.TheVariants as call
+use Rattle.cluster.specs.declared.call.ClusterCall.TheVariants as call
 use Rattle.audit.specs.OneRun.{entry_turn}
 use Rattle.audit.specs.Shown.{shown}
 use Rattle.audit.proofs.points.add_table.Given as goal
