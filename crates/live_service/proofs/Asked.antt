@@ -5,15 +5,17 @@ use Rattle.std.proofs.lemmas.List.Sums.{sum_by-append}
 use Rattle.key_hash.specs.Hash.{slice_key}
 use Rattle.history_lock.specs.Passes.{Lock, PassView}
 use Rattle.tickets.specs.Tickets.{TicketPassView}
-use Rattle.world.specs.declared.record.CallRecord.{CallRecord}
-use Rattle.world.specs.declared.record.RecordedCall.{RecordedCall}
-use Rattle.world.specs.declared.record.RecordedCall.TheVariants.{Check, Clerk, Hold, Look, Phase, Rows, Serve, Table, Task}
-use Rattle.world.specs.declared.record.Told.{Told}
-use Rattle.world.specs.declared.record.Told.TheVariants as told
+use Rattle.cluster.specs.declared.record.CallRecord.{CallRecord}
+use Rattle.cluster.specs.declared.call.ClusterCall.{ClusterCall}
+use Rattle.cluster.specs.declared.call.ClusterCall.TheVariants.{Check, Clerk, Hold, Look, Phase, Rows, Serve, Table, Task}
+use Rattle.cluster.specs.declared.reply.ClusterReply.{ClusterReply}
+use Rattle.cluster.specs.declared.reply.ClusterReply.TheVariants as told
 use Rattle.machines.specs.declared.event.Event.{Event}
 use Rattle.policy_rules.specs.declared.answer.Verdict.{Verdict}
-use Rattle.slicelet.specs.Rules.{rule_after, covers_key}
-use Rattle.slicelet.specs.Steps.{History, event_step}
+use Rattle.slicelet.specs.Rules.{covers_key}
+use Rattle.slicelet.specs.States.{rule_in_state}
+use Rattle.slicelet.specs.Steps.{event_step}
+use Rattle.slicelet.specs.States.{SliceletState}
 use Rattle.slicelet.specs.declared.call.SliceletCall.{SliceletCall}
 use Rattle.live_service.specs.declared.error.Recorded.{Recorded}
 use Rattle.live_service.specs.inside.Crews.{TellsVerdict}
@@ -21,7 +23,7 @@ use Rattle.live_service.specs.Draws.{CanDraw}
 use Rattle.live_service.specs.Calls.{AsksFor, WasSpent}
 use Rattle.live_service.specs.Reports.{asked_key, asked_keys, is_serve, job_keys, serves, task_keys, worker_keys, AreServesFrom}
 
-module _ {M E R F : Type 0} (step : M → E → Result (M × R) F) (lock : Lock M) (old_draws new_draws : TicketPassView) {T : Type 0} (answers : M → ℕ → T → Type 0) (recorded : ℕ → RecordedCall) (told : T → Told) where
+module _ {M E R F : Type 0} (step : M → E → Result (M × R) F) (lock : Lock M) (old_draws new_draws : TicketPassView) {T : Type 0} (answers : M → ℕ → T → Type 0) (recorded : ℕ → ClusterCall) (told : T → ClusterReply) where
   pub asked_drew : (old : PassView M E) (asked : Recorded T) (new : PassView M E) → AsksFor step lock old_draws new_draws answers recorded told old asked new
       → length new_draws.drawn ≡ length old_draws.drawn + 1
   asked_drew old asked new w = ap (λ (p : TicketPassView). length p.drawn) w.0.drawn.adds ∙ length-append old_draws.drawn (asked.call.ticket ∷ [])
@@ -30,8 +32,8 @@ module _ {M E R F : Type 0} (step : M → E → Result (M × R) F) (lock : Lock 
       → asked.call.step ≡ recorded asked.call.ticket
   asked_step old asked new w = w.1.called
 
-pub asked_verdict : (slicelet : Lock History) (old_draws new_draws : TicketPassView) (key : ℕ) (recorded : ℕ → RecordedCall) (old : PassView History (Event SliceletCall)) (asked : Recorded Verdict) (new : PassView History (Event SliceletCall))
-    → AsksFor event_step slicelet old_draws new_draws (λ machine number answer. answer ≡ rule_after (covers_key key) machine.calls number) recorded told.Verdict old asked new
+pub asked_verdict : (slicelet : Lock SliceletState) (old_draws new_draws : TicketPassView) (key : ℕ) (recorded : ℕ → ClusterCall) (old : PassView SliceletState (Event SliceletCall)) (asked : Recorded Verdict) (new : PassView SliceletState (Event SliceletCall))
+    → AsksFor event_step slicelet old_draws new_draws (λ machine number answer. answer ≡ rule_in_state (covers_key key) machine number) recorded told.Verdict old asked new
     → TellsVerdict slicelet old_draws new_draws key old asked.call new
 asked_verdict slicelet old_draws new_draws key recorded old asked new w = (asked.answer, w.1.told, w.0)
 
@@ -49,7 +51,7 @@ pub serves-append : (xs ys : List CallRecord) → serves (xs ++ ys) ≡ serves x
 serves-append xs ys = sum_by-append (λ (entry : CallRecord). cond (is_serve entry.step) 1 0) xs ys
 
 -- each ask is counted
-asked_key_counts : (call : RecordedCall) → length (asked_key call) ≡ cond (is_serve call) 1 0
+asked_key_counts : (call : ClusterCall) → length (asked_key call) ≡ cond (is_serve call) 1 0
 asked_key_counts (Table call) = refl
 asked_key_counts (Task task call) = refl
 asked_key_counts (Clerk clerk call) = refl

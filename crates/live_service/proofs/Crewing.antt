@@ -8,7 +8,8 @@ use Rattle.lease_table.specs.Tables.{Standing}
 use Rattle.history_lock.specs.Passes.{Lock, PassView, IsPassOf, ArePassesOf, new_pass}
 use Rattle.history_lock.specs.Closing.{has_lane}
 use Rattle.history_lock.specs.Histories.{IsLegal}
-use Rattle.slicelet.specs.Steps.{History, event_step, opening}
+use Rattle.slicelet.specs.Steps.{event_step}
+use Rattle.slicelet.specs.States.{SliceletState, opening}
 use Rattle.tickets.specs.Tickets.{TicketView, TicketPassView, DrawsFrom, new_ticket_pass}
 use Rattle.live_service.specs.declared.crew.CrewLeft.{CrewLeft}
 use Rattle.live_service.specs.declared.crew.Gathered.{Gathered}
@@ -61,7 +62,7 @@ pub none_missing : {M E : Type 0} (count lanes : ℕ) (passes : List (PassView M
 none_missing count lanes passes are counted many missing =
     absurd (let f : false ≡ true = never_missing lanes passes are (sym counted ∙ many) missing in cc)
 
-module _ (slicelet : Lock History) (ticket : TicketView) where
+module _ (slicelet : Lock SliceletState) (ticket : TicketView) where
   -- each of the threads of a task has passes of its lock and new ones of the ticket
   pub members_all : (lane : ℕ) (members : List Member) → AreMembersFrom slicelet ticket lane members → All (λ (m : Member). IsPassOf slicelet m.pass × (m.draws ≡ new_ticket_pass ticket)) members
   members_all lane [] are = λ k d below. let b : k < 0 = below in absurd (omega (arith, b))
@@ -96,7 +97,7 @@ module _ (slicelet : Lock History) (ticket : TicketView) where
   }
 
   -- the task's own thread, which asks for no key
-  pub gathered_first : (asks : ℕ) (gathered : Gathered) (pass : PassView History (Event SliceletCall)) (draw : TicketPassView) → IsPassOf slicelet pass → pass.lane ≡ 0 → DrawsFrom ticket draw
+  pub gathered_first : (asks : ℕ) (gathered : Gathered) (pass : PassView SliceletState (Event SliceletCall)) (draw : TicketPassView) → IsPassOf slicelet pass → pass.lane ≡ 0 → DrawsFrom ticket draw
       → serves gathered.records.items ≡ 0 → gathered.passes.items ≡ pass ∷ [] → gathered.draws.items ≡ draw ∷ [] → IsGathered slicelet ticket asks gathered
   gathered_first asks gathered pass draw own lane drawn quiet passes draws =
       let one : vec_len gathered.passes ≡ 1 = gathered.passes.ok.0 ∙ ap length passes in

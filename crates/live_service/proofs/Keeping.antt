@@ -4,7 +4,7 @@ use Rattle.std.specs.Prelude.{Option}
 use Rattle.assignment.specs.Slices.{Slicing}
 use Rattle.history_lock.specs.Passes.{Lock, IsPassOf}
 use Rattle.lease_table.specs.Tables.{Standing}
-use Rattle.slicelet.specs.Steps.{History}
+use Rattle.slicelet.specs.States.{SliceletState}
 use Rattle.tickets.specs.Tickets.{TicketView, DrawsFrom}
 use Rattle.live_service.specs.declared.seat.TableSeat.{TableSeat}
 use Rattle.live_service.specs.declared.task_loop.TaskSeat.{TaskSeat}
@@ -23,7 +23,7 @@ module _ (table : Lock Standing) (ticket : TicketView) where
   keeps_by_own : (a b c : TableSeat) → KeepsSeat table ticket a b → c.pass ≡ b.pass → DrawsFrom ticket c.draws → serves c.notes.records.items ≡ serves b.notes.records.items → KeepsSeat table ticket a c
   keeps_by_own a b c k pass draws served = record { own = rw pass k.own; draws = draws; lane = ap (λ p. p.lane) pass ∙ k.lane; served = served ∙ k.served }
 
-module _ (table : Lock Standing) (slicelet : Lock History) (ticket : TicketView) where
+module _ (table : Lock Standing) (slicelet : Lock SliceletState) (ticket : TicketView) where
   pub task_same : (seat : TaskSeat) → IsTaskSeatOf table slicelet ticket seat → KeepsTaskSeat table slicelet ticket seat seat
   task_same seat is = record { seat = keeps_same table ticket seat.table is.0; own = is.1; lane = refl }
 

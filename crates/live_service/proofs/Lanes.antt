@@ -12,8 +12,8 @@ use Rattle.lease_table.specs.Tables.{Standing}
 use Rattle.lease_table.specs.declared.call.TableCall.{TableCall}
 use Rattle.lease_table.specs.declared.values.Row.{Row}
 use Rattle.tickets.specs.Tickets.{TicketPassView}
-use Rattle.world.specs.declared.record.RecordedCall.{RecordedCall}
-use Rattle.world.specs.declared.record.Told.{Told}
+use Rattle.cluster.specs.declared.call.ClusterCall.{ClusterCall}
+use Rattle.cluster.specs.declared.reply.ClusterReply.{ClusterReply}
 use Rattle.tickets.specs.declared.ticket.Spent.{Spent}
 use Rattle.live_service.specs.declared.error.CallError.{CallError}
 use Rattle.live_service.specs.declared.error.CallError.TheVariants as call_error
@@ -46,7 +46,7 @@ module _ {M E R F : Type 0} (step : M → E → Result (M × R) F) (lock : Lock 
         → new.lane ≡ old.lane
     asks_lane answers old ticket answer new w = shown_lane w.late w.shared.0 new w.shared.2 ∙ waited_lane lock old w.late w.waited
 
-    pub asked_lane : {T : Type 0} (answers : M → ℕ → T → Type 0) (recorded : ℕ → RecordedCall) (told : T → Told) (old : PassView M E) (result : Result (Recorded T) Spent) (new : PassView M E)
+    pub asked_lane : {T : Type 0} (answers : M → ℕ → T → Type 0) (recorded : ℕ → ClusterCall) (told : T → ClusterReply) (old : PassView M E) (result : Result (Recorded T) Spent) (new : PassView M E)
         → CalledToAsk old_draws new_draws (AsksFor step lock old_draws new_draws answers recorded told) old result new → new.lane ≡ old.lane
     asked_lane answers recorded told old (Ok asked) new w = asks_lane answers old asked.call.ticket asked.answer new w.0
     asked_lane answers recorded told old (Err spent) new w = ap lane_of w.same
@@ -55,7 +55,7 @@ module _ {M C R F : Type 0} (step : M → Event C → Result (M × R) F) (lock :
   writes_lane : (old : PassView M (Event C)) (answer : Result R (WriteError F)) (new : PassView M (Event C)) → Writes step lock old_draws new_draws call old answer new → new.lane ≡ old.lane
   writes_lane old answer new w = wrote_lane step lock _ _ w.late answer new w.wrote ∙ waited_lane lock old w.late w.waited
 
-  pub called_lane : {A : Type 0} (recorded : ℕ → RecordedCall) (told : F → Told) (reply_for : A → R) (old : PassView M (Event C)) (result : Result A (CallError F)) (new : PassView M (Event C))
+  pub called_lane : {A : Type 0} (recorded : ℕ → ClusterCall) (told : F → ClusterReply) (reply_for : A → R) (old : PassView M (Event C)) (result : Result A (CallError F)) (new : PassView M (Event C))
       → CalledToWrite step lock old_draws new_draws call recorded told reply_for old result new → new.lane ≡ old.lane
   called_lane recorded told reply_for old (Ok answer) new w = writes_lane old (Ok (reply_for answer)) new w
   called_lane recorded told reply_for old (Err call_error.Spent) new w = ap lane_of w.same

@@ -4,8 +4,8 @@ use Rattle.std.specs.Prelude.{Result, Ok, Err}
 use Rattle.machines.specs.declared.event.Event.{Event}
 use Rattle.history_lock.specs.Passes.{Lock, PassView}
 use Rattle.tickets.specs.Tickets.{TicketPassView}
-use Rattle.world.specs.declared.record.RecordedCall.{RecordedCall}
-use Rattle.world.specs.declared.record.Told.{Told}
+use Rattle.cluster.specs.declared.call.ClusterCall.{ClusterCall}
+use Rattle.cluster.specs.declared.reply.ClusterReply.{ClusterReply}
 use Rattle.live_service.specs.declared.error.CallError.{CallError}
 use Rattle.live_service.specs.declared.error.CallError.TheVariants.{NoMemory}
 use Rattle.live_service.specs.declared.notes.Halt.{Halt}
@@ -14,7 +14,7 @@ use Rattle.live_service.specs.declared.notes.Notes.{Notes}
 use Rattle.live_service.specs.Calls.{CalledToWrite}
 use Rattle.live_service.specs.inside.Notes.{IsNoted, CalledAndNoted}
 
-module _ {M C R F : Type 0} (step : M → Event C → Result (M × R) F) (lock : Lock M) (old_draws new_draws : TicketPassView) (call : ℕ → C) (recorded : ℕ → RecordedCall) (told : F → Told) where
+module _ {M C R F : Type 0} (step : M → Event C → Result (M × R) F) (lock : Lock M) (old_draws new_draws : TicketPassView) (call : ℕ → C) (recorded : ℕ → ClusterCall) (told : F → ClusterReply) where
   pub called_noted : {A : Type 0} (reply_for : A → R) (old : PassView M (Event C)) (old_notes : Notes) (answer : Result A (CallError F)) (result : Result A Halt) (new : PassView M (Event C)) (new_notes : Notes)
       → CalledToWrite step lock old_draws new_draws call recorded told reply_for old answer new → IsNoted answer old_notes result new_notes
       → CalledAndNoted step lock old_draws new_draws call recorded told reply_for old old_notes result new new_notes

@@ -4,8 +4,8 @@ use Rattle.std.specs.Prelude.{Result, Ok, Err, false}
 use Rattle.machines.specs.declared.event.Event.{Event}
 use Rattle.history_lock.specs.Passes.{Lock, PassView}
 use Rattle.tickets.specs.Tickets.{TicketPassView}
-use Rattle.world.specs.declared.record.RecordedCall.{RecordedCall}
-use Rattle.world.specs.declared.record.Told.{Told}
+use Rattle.cluster.specs.declared.call.ClusterCall.{ClusterCall}
+use Rattle.cluster.specs.declared.reply.ClusterReply.{ClusterReply}
 use Rattle.live_service.specs.declared.error.CallError.{CallError}
 use Rattle.live_service.specs.declared.error.CallError.TheVariants.{Spent, HistoryFull, Refused, NoMemory}
 use Rattle.live_service.specs.Calls.{CalledToWrite}
@@ -13,7 +13,7 @@ use Rattle.live_service.specs.Reports.{is_serve}
 use Rattle.live_service.specs.inside.Notes.{RefusesNoServe}
 
 module _ {M C R F : Type 0} (step : M → Event C → Result (M × R) F) (lock : Lock M) (old_draws new_draws : TicketPassView) (call : ℕ → C) where
-  pub called_quiet : {A : Type 0} (recorded : ℕ → RecordedCall) (told : F → Told) (reply_for : A → R) → ((ticket : ℕ) → is_serve (recorded ticket) ≡ false)
+  pub called_quiet : {A : Type 0} (recorded : ℕ → ClusterCall) (told : F → ClusterReply) (reply_for : A → R) → ((ticket : ℕ) → is_serve (recorded ticket) ≡ false)
       → (old : PassView M (Event C)) (result : Result A (CallError F)) (new : PassView M (Event C))
       → CalledToWrite step lock old_draws new_draws call recorded told reply_for old result new → RefusesNoServe result
   called_quiet recorded told reply_for quiet old (Ok answer) new w = tt

@@ -8,7 +8,8 @@ use Rattle.assignment.specs.Slices.{Slicing}
 use Rattle.history_lock.specs.Histories.{IsLegal}
 use Rattle.history_lock.specs.declared.entry.Entry.{Entry}
 use Rattle.machines.specs.declared.event.Event.{Event}
-use Rattle.slicelet.specs.Steps.{event_step, opening}
+use Rattle.slicelet.specs.Steps.{event_step}
+use Rattle.slicelet.specs.States.{opening}
 use Rattle.slicelet.specs.declared.call.SliceletCall.{SliceletCall}
 use Rattle.history_lock.specs.Passes.{Lock, PassView, ArePassesOf, AreNewFrom, new_pass}
 use Rattle.lease_table.specs.Tables.{Standing}

@@ -7,8 +7,8 @@ use Rattle.history_lock.specs.Answers.{HasWaited, Wrote}
 use Rattle.history_lock.specs.declared.error.WriteError.{WriteError}
 use Rattle.history_lock.specs.declared.error.WriteError.TheVariants.{HistoryFull, Refused, NoMemory}
 use Rattle.tickets.specs.Tickets.{TicketPassView, IsDrawn}
-use Rattle.world.specs.declared.record.RecordedCall.{RecordedCall}
-use Rattle.world.specs.declared.record.Told.{Told}
+use Rattle.cluster.specs.declared.call.ClusterCall.{ClusterCall}
+use Rattle.cluster.specs.declared.reply.ClusterReply.{ClusterReply}
 use Rattle.live_service.specs.declared.error.RefusedCall.{RefusedCall}
 use Rattle.live_service.specs.Draws.{CanDraw, DrewFor, IsRefusal}
 use Rattle.live_service.specs.Calls.{Writes, IsRefusedWith}
@@ -62,7 +62,7 @@ module _ {M C R F : Type 0} (step : M → Event C → Result (M × R) F) (lock :
     pub refused_write : (old : PassView M (Event C)) (fault : F) (new : PassView M (Event C))
         → (late : PassView M (Event C)) × HasWaited lock old late × Wrote step lock made unmade late (Err (Refused fault)) new
         → CanDraw old_draws → ((event : Event C) → made event → DrewFor call old_draws event new_draws) → (unmade → new_draws ≡ old_draws)
-        → (entry_of : C → RecordedCall) (told : F → Told) (copied : Event C) (why : RefusedCall F) → ((event : Event C) → made event → copied ≡ event)
+        → (entry_of : C → ClusterCall) (told : F → ClusterReply) (copied : Event C) (why : RefusedCall F) → ((event : Event C) → made event → copied ≡ event)
         → why.fault ≡ fault → why.call.ticket ≡ copied.ticket → why.call.step ≡ entry_of copied.call → why.call.reply ≡ told fault
         → (refusal : F) × IsRefusal (λ ticket. entry_of (call ticket)) told old_draws refusal why new_draws × IsRefusedWith step lock old_draws new_draws call old refusal new
     refused_write old fault new w could on off entry_of told copied why same fault_is ticket_is step_is reply_is =

@@ -8,8 +8,8 @@ use Rattle.history_lock.specs.declared.error.Busy.{Busy}
 use Rattle.history_lock.specs.declared.error.WriteError.{WriteError}
 use Rattle.history_lock.specs.declared.error.WriteError.TheVariants as write_error
 use Rattle.tickets.specs.Tickets.{TicketPassView, IsDrawn}
-use Rattle.world.specs.declared.record.RecordedCall.{RecordedCall}
-use Rattle.world.specs.declared.record.Told.{Told}
+use Rattle.cluster.specs.declared.call.ClusterCall.{ClusterCall}
+use Rattle.cluster.specs.declared.reply.ClusterReply.{ClusterReply}
 use Rattle.tickets.specs.declared.ticket.Spent.{Spent}
 use Rattle.live_service.specs.declared.error.CallError.{CallError}
 use Rattle.live_service.specs.declared.error.CallError.TheVariants as call_error
@@ -41,7 +41,7 @@ module _ {M C R F : Type 0} (step : M → Event C → Result (M × R) F) (lock :
   abbrev pub IsRefusedWith : PassView M (Event C) → F → PassView M (Event C) → Type 0
   IsRefusedWith old fault new = Writes old (Err (write_error.Refused fault)) new
 
-  module _ (recorded : ℕ → RecordedCall) (told : F → Told) where
+  module _ (recorded : ℕ → ClusterCall) (told : F → ClusterReply) where
     -- why a call did not write; where memory is wanting, the machine may have refused the call
     abbrev pub WroteNothing : PassView M (Event C) → CallError F → PassView M (Event C) → Type 0
     WroteNothing old call_error.Spent new = WasSpent old_draws new_draws old new
@@ -70,10 +70,10 @@ module _ {M E R F : Type 0} (step : M → E → Result (M × R) F) (lock : Lock 
     pub shared : Shared step lock (λ machine given. answers machine ticket given) old answer new
 
   -- what is handed out of such a call: the answer, and the record of the call
-  abbrev pub AsksFor : (ℕ → RecordedCall) → (T → Told) → PassView M E → Recorded T → PassView M E → Type 0
+  abbrev pub AsksFor : (ℕ → ClusterCall) → (T → ClusterReply) → PassView M E → Recorded T → PassView M E → Type 0
   AsksFor recorded told old asked new = Asks old asked.call.ticket asked.answer new × IsRecorded recorded (told asked.answer) old_draws asked.call new_draws
 
-  abbrev pub AsksAtOnceFor : (ℕ → RecordedCall) → (T → Told) → PassView M E → Recorded T → PassView M E → Type 0
+  abbrev pub AsksAtOnceFor : (ℕ → ClusterCall) → (T → ClusterReply) → PassView M E → Recorded T → PassView M E → Type 0
   AsksAtOnceFor recorded told old asked new = AsksAtOnce old asked.call.ticket asked.answer new × IsRecorded recorded (told asked.answer) old_draws asked.call new_draws
 
 module _ {M E : Type 0} (old_draws new_draws : TicketPassView) {A : Type 0} (asks : PassView M E → A → PassView M E → Type 0) where

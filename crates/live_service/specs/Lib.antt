@@ -6,3 +6,4 @@ pub mod Objects
 pub mod LiveJobs
 pub mod Reports
 pub mod inside
+pub mod Checks

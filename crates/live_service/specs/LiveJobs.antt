@@ -4,7 +4,7 @@ use Rattle.assignment.specs.Slices.{Slicing}
 use Rattle.assignment.specs.declared.slice.Slice.{Slice}
 use Rattle.lease_table.specs.Policies.{Terms, terms}
 use Rattle.machines.specs.Numbers.{is_within}
-use Rattle.world.specs.Jobs.{Job, job_of}
+use Rattle.cluster.specs.Jobs.{Job, job_of}
 use Rattle.live_service.specs.declared.job.TheConstants.{MOST_TASKS, MOST_WORKERS, MOST_ROUNDS, MOST_ASKS, LONG}
 
 -- how many tasks there are, how many workers a task has, how many generations are to be committed, and how many keys a worker asks for

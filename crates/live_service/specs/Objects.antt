@@ -7,7 +7,8 @@ use Rattle.lease_table.specs.declared.call.TableCall.{TableCall}
 use Rattle.lease_table.specs.declared.call.TableReply.{TableReply}
 use Rattle.lease_table.specs.declared.error.TableError.{TableError}
 use Rattle.lease_table.specs.declared.values.Row.{Row}
-use Rattle.slicelet.specs.Steps.{History, event_step as slicelet_step}
+use Rattle.slicelet.specs.Steps.{event_step as slicelet_step}
+use Rattle.slicelet.specs.States.{SliceletState}
 use Rattle.slicelet.specs.declared.call.SliceletCall.{SliceletCall}
 use Rattle.slicelet.specs.declared.call.SliceletReply.{SliceletReply}
 use Rattle.slicelet.specs.declared.error.SliceletError.{SliceletError}
@@ -19,10 +20,10 @@ use Rattle.machines.specs.declared.event.Event.{Event}
 use Rattle.history_lock.specs.Passes.{Lock, PassView}
 use Rattle.history_lock.specs.Answers.{HasWaited, Shared}
 use Rattle.tickets.specs.Tickets.{TicketPassView}
-use Rattle.world.specs.declared.record.RecordedCall.TheVariants as recorded_call
-use Rattle.world.specs.declared.reply.Refusal.TheVariants as refusal
-use Rattle.world.specs.declared.record.Told.{Told}
-use Rattle.world.specs.declared.record.Told.TheVariants as told
+use Rattle.cluster.specs.declared.call.ClusterCall.TheVariants as recorded_call
+use Rattle.cluster.specs.declared.error.ClusterError.TheVariants as refusal
+use Rattle.cluster.specs.declared.reply.ClusterReply.{ClusterReply}
+use Rattle.cluster.specs.declared.reply.ClusterReply.TheVariants as told
 use Rattle.live_service.specs.declared.error.CallError.{CallError}
 use Rattle.live_service.specs.declared.error.Recorded.{Recorded}
 use Rattle.live_service.specs.declared.error.RowsError.{RowsError}
@@ -39,13 +40,13 @@ numbered_clerk number lock = record { number = number; lock = lock }
 
 -- WHAT CALLERS ARE TOLD
 
-abbrev pub table_told : TableError → Told
+abbrev pub table_told : TableError → ClusterReply
 table_told fault = told.Refused (refusal.Table fault)
 
-abbrev pub slicelet_told : SliceletError → Told
+abbrev pub slicelet_told : SliceletError → ClusterReply
 slicelet_told fault = told.Refused (refusal.Slicelet fault)
 
-abbrev pub clerk_told : ClerkError → Told
+abbrev pub clerk_told : ClerkError → ClusterReply
 clerk_told fault = told.Refused (refusal.Clerk fault)
 
 -- a reply is one of this name
@@ -73,8 +74,8 @@ AskedForCommitted lock old result new =
     (late : PassView Standing (Event TableCall)) × HasWaited lock old late × Shared table_step lock (λ table answer. IfOk answer (λ assignment. assignment ≡ table.committed)) late result new
 
 -- a call that may change a slicelet
-abbrev pub CalledSlicelet : {A : Type 0} → Lock History → TicketPassView → TicketPassView → (ℕ → SliceletCall) → (A → SliceletReply)
-    → PassView History (Event SliceletCall) → Result A (CallError SliceletError) → PassView History (Event SliceletCall) → Type 0
+abbrev pub CalledSlicelet : {A : Type 0} → Lock SliceletState → TicketPassView → TicketPassView → (ℕ → SliceletCall) → (A → SliceletReply)
+    → PassView SliceletState (Event SliceletCall) → Result A (CallError SliceletError) → PassView SliceletState (Event SliceletCall) → Type 0
 CalledSlicelet lock old_draws new_draws call reply_for old result new =
     CalledToWrite slicelet_step lock old_draws new_draws call (λ ticket. recorded_call.Task lock.opened.machine.task (call ticket)) slicelet_told reply_for old result new
 

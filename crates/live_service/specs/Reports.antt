@@ -6,22 +6,23 @@ use Rattle.lease_table.specs.declared.call.TableCall.{TableCall}
 use Rattle.lease_table.specs.declared.call.TableCall.TheVariants.{Commit}
 use Rattle.lease_table.specs.Calls.{event_step as table_step}
 use Rattle.lease_table.specs.Tables.{opening as new_table}
-use Rattle.slicelet.specs.Steps.{event_step as slicelet_step, opening as new_slicelet}
+use Rattle.slicelet.specs.Steps.{event_step as slicelet_step}
+use Rattle.slicelet.specs.States.{opening as new_slicelet}
 use Rattle.slicelet.specs.declared.call.SliceletCall.{SliceletCall}
 use Rattle.clerk.specs.Calls.{event_step as clerk_step}
 use Rattle.machines.specs.declared.event.Event.{Event}
 use Rattle.history_lock.specs.declared.entry.Entry.{Entry}
 use Rattle.history_lock.specs.Histories.{IsLegal}
-use Rattle.world.specs.declared.record.CallRecord.{CallRecord}
+use Rattle.cluster.specs.declared.record.CallRecord.{CallRecord}
 use Rattle.audit.specs.Shown.{evidence}
 use Rattle.audit.specs.OneRun.{IsAudit}
 use Rattle.live_service.specs.LiveJobs.{LiveSizes, live_policy, played_job}
 use Rattle.live_service.specs.declared.report.LiveReport.{LiveReport}
-use Rattle.world.specs.declared.record.RecordedCall.{RecordedCall}
-use Rattle.world.specs.declared.record.RecordedCall.TheVariants.{Serve}
+use Rattle.cluster.specs.declared.call.ClusterCall.{ClusterCall}
+use Rattle.cluster.specs.declared.call.ClusterCall.TheVariants.{Serve}
 
 -- a task was asked for a key
-abbrev pub is_serve : RecordedCall → Bool
+abbrev pub is_serve : ClusterCall → Bool
 is_serve (Serve task key at) = true
 is_serve call = false
 
@@ -44,7 +45,7 @@ AreServesFrom task number [] = Unit {0}
 AreServesFrom task number (entry ∷ entries) = (entry.step ≡ Serve task (slice_key (decimal number)) entry.ticket) × AreServesFrom task (number + 1) entries
 
 -- the key that a task was asked for, with the number of the task
-abbrev pub asked_key : RecordedCall → List (ℕ × ℕ)
+abbrev pub asked_key : ClusterCall → List (ℕ × ℕ)
 asked_key (Serve task key at) = (task, key) ∷ []
 asked_key call = []
 

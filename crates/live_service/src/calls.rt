@@ -1,14 +1,14 @@
 //! Calls of machines, as shared objects make and record them.
 
 ghost use Rattle.std.specs.Prelude.{◌≡◌, ℕ};
-ghost use Rattle.world.specs.declared.record.RecordedCall.{RecordedCall};
-ghost use Rattle.world.specs.declared.record.Told.{Told};
+ghost use Rattle.cluster.specs.declared.call.ClusterCall.{ClusterCall};
+ghost use Rattle.cluster.specs.declared.reply.ClusterReply.{ClusterReply};
 
 use clerk::{ClerkCall, ClerkError};
+use cluster::{ClusterCall, ClusterError, ClusterReply};
 use lease_table::{TableCall, TableError};
 use machines::Duplicate;
 use slicelet::{SliceletCall, SliceletError};
-use world::{RecordedCall, Refusal, Told};
 
 /// The reading of a call before its ticket is drawn.
 pub(crate) const UNREAD: u64 = 0;
@@ -20,29 +20,29 @@ pub(crate) trait SharedCall<Fault>: Duplicate + Drop {
     ghost timed: { ℕ → Self → Self };
 
     // How the call of an actor is recorded.
-    ghost recorded: { ℕ → Self → RecordedCall };
+    ghost recorded: { ℕ → Self → ClusterCall };
 
     // How a refusal is told.
-    ghost told: { Fault → Told };
+    ghost told: { Fault → ClusterReply };
 
     /// The same call at a reading, in ticks.
     fn at_reading(self, at: u64) -> Self
         ensures { result ≡ timed at self };
 
     /// The call of the actor with this number, as it is recorded.
-    fn into_record(self, actor: u64) -> RecordedCall
+    fn into_record(self, actor: u64) -> ClusterCall
         ensures { result ≡ recorded actor self };
 
     /// A refusal of the machine, as its caller is told.
-    fn tell(fault: Fault) -> Told
+    fn tell(fault: Fault) -> ClusterReply
         ensures { result ≡ told fault };
 }
 
 impl SharedCall<TableError> for TableCall {
     ghost use Rattle.live_service.specs.Readings.{table_call_at};
-    ghost use Rattle.world.specs.declared.record.RecordedCall.TheVariants as recorded_call;
-    ghost use Rattle.world.specs.declared.record.Told.TheVariants as telling;
-    ghost use Rattle.world.specs.declared.reply.Refusal.TheVariants as refusal;
+    ghost use Rattle.cluster.specs.declared.call.ClusterCall.TheVariants as recorded_call;
+    ghost use Rattle.cluster.specs.declared.reply.ClusterReply.TheVariants as telling;
+    ghost use Rattle.cluster.specs.declared.error.ClusterError.TheVariants as refusal;
 
     ghost timed = { table_call_at };
 
@@ -70,20 +70,20 @@ impl SharedCall<TableError> for TableCall {
         }
     }
 
-    fn into_record(self, _actor: u64) -> RecordedCall {
-        RecordedCall::Table(self)
+    fn into_record(self, _actor: u64) -> ClusterCall {
+        ClusterCall::Table(self)
     }
 
-    fn tell(fault: TableError) -> Told {
-        Told::Refused(Refusal::Table(fault))
+    fn tell(fault: TableError) -> ClusterReply {
+        ClusterReply::Refused(ClusterError::Table(fault))
     }
 }
 
 impl SharedCall<SliceletError> for SliceletCall {
     ghost use Rattle.live_service.specs.Readings.{slicelet_call_at};
-    ghost use Rattle.world.specs.declared.record.RecordedCall.TheVariants as recorded_call;
-    ghost use Rattle.world.specs.declared.record.Told.TheVariants as telling;
-    ghost use Rattle.world.specs.declared.reply.Refusal.TheVariants as refusal;
+    ghost use Rattle.cluster.specs.declared.call.ClusterCall.TheVariants as recorded_call;
+    ghost use Rattle.cluster.specs.declared.reply.ClusterReply.TheVariants as telling;
+    ghost use Rattle.cluster.specs.declared.error.ClusterError.TheVariants as refusal;
 
     ghost timed = { slicelet_call_at };
 
@@ -99,22 +99,22 @@ impl SharedCall<SliceletError> for SliceletCall {
         }
     }
 
-    fn into_record(self, actor: u64) -> RecordedCall {
-        RecordedCall::Task {
+    fn into_record(self, actor: u64) -> ClusterCall {
+        ClusterCall::Task {
             task: actor,
             call: self,
         }
     }
 
-    fn tell(fault: SliceletError) -> Told {
-        Told::Refused(Refusal::Slicelet(fault))
+    fn tell(fault: SliceletError) -> ClusterReply {
+        ClusterReply::Refused(ClusterError::Slicelet(fault))
     }
 }
 
 impl SharedCall<ClerkError> for ClerkCall {
-    ghost use Rattle.world.specs.declared.record.RecordedCall.TheVariants as recorded_call;
-    ghost use Rattle.world.specs.declared.record.Told.TheVariants as telling;
-    ghost use Rattle.world.specs.declared.reply.Refusal.TheVariants as refusal;
+    ghost use Rattle.cluster.specs.declared.call.ClusterCall.TheVariants as recorded_call;
+    ghost use Rattle.cluster.specs.declared.reply.ClusterReply.TheVariants as telling;
+    ghost use Rattle.cluster.specs.declared.error.ClusterError.TheVariants as refusal;
 
     // A clerk looks at no reading.
     ghost timed = { λ _ call. call };
@@ -127,14 +127,14 @@ impl SharedCall<ClerkError> for ClerkCall {
         self
     }
 
-    fn into_record(self, actor: u64) -> RecordedCall {
-        RecordedCall::Clerk {
+    fn into_record(self, actor: u64) -> ClusterCall {
+        ClusterCall::Clerk {
             clerk: actor,
             call: self,
         }
     }
 
-    fn tell(fault: ClerkError) -> Told {
-        Told::Refused(Refusal::Clerk(fault))
+    fn tell(fault: ClerkError) -> ClusterReply {
+        ClusterReply::Refused(ClusterError::Clerk(fault))
     }
 }

@@ -18,6 +18,7 @@ use crate::shared_table::SharedTable;
 use crate::task_loop::{TaskSeat, see_to_leases};
 use crate::worker::{Member, Worked, work};
 use assignment::TaskId;
+use cluster::CallRecord;
 use history_lock::{Closed, History, MOST_ENTRIES, Pass};
 use lease_table::LeaseTable;
 use slicelet::{Slicelet, SliceletEvent};
@@ -25,7 +26,6 @@ use std::alloc::{AllocError, Global};
 use std::sync::Wait;
 use std::thread::{Threads, join, map_vec};
 use tickets::{Ticket, TicketPass};
-use world::CallRecord;
 
 /// A task of a live run: its slicelet, its pass of the table's lock, and the passes of its threads, of its own
 /// first.

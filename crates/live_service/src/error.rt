@@ -1,8 +1,8 @@
 //! Why calls of shared objects give no reply.
 
+use cluster::CallRecord;
 use history_lock::{Busy, Pass};
 use machines::Machine;
-use world::CallRecord;
 
 /// A refusal of a machine, with the record of the call.
 #[derive(Debug, Drop)]

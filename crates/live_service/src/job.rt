@@ -3,9 +3,9 @@
 ghost use Rattle.std.specs.Prelude.{◌≡◌, ◌≤◌, is_some, IfSome};
 ghost use Rattle.live_service.specs.LiveJobs.{is_live_job, live_policy, live_sizes, played_job};
 
+use cluster::Job;
 use lease_table::Policy;
 use std::marker::Model;
-use world::Job;
 
 /// How many tasks a live run has at the most.
 pub const MOST_TASKS: u64 = 6;

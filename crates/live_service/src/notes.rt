@@ -6,9 +6,9 @@ ghost use Rattle.live_service.specs.inside.Notes.{IsNoted, RefusesNoServe, Tells
 ghost use Rattle.live_service.specs.Reports.{serves};
 
 use crate::error::{CallError, RefusedCall};
+use cluster::CallRecord;
 use std::alloc::{AllocError, AllocFailed, Global};
 use tickets::Spent;
-use world::CallRecord;
 
 /// Why a thread ends early.
 #[derive(Clone, Copy)]

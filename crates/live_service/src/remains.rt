@@ -21,12 +21,12 @@ use crate::shared_clerk::SharedClerk;
 use crate::shared_table::SharedTable;
 use audit::audit;
 use clerk::{Clerk, ClerkEvent};
+use cluster::CallRecord;
 use history_lock::{Closed, History, Pass};
 use lease_table::{LeaseTable, TableEvent};
 use slicelet::SliceletEvent;
 use std::alloc::{AllocError, Global};
 use tickets::{Ticket, TicketPass};
-use world::CallRecord;
 
 /// What all threads leave: passes, the histories of the tasks, and the records of the calls that wrote no entry.
 #[derive(Drop)]

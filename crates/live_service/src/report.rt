@@ -5,10 +5,10 @@ ghost use Rattle.live_service.specs.Reports.{commits, is_commit, is_serve, serve
 
 use audit::Audit;
 use clerk::ClerkEvent;
+use cluster::{CallRecord, ClusterCall};
 use history_lock::{Entry, History};
 use lease_table::{TableCall, TableEvent};
 use slicelet::SliceletEvent;
-use world::{CallRecord, RecordedCall};
 
 /// What the threads of a live run did: the histories of all locks, and the records of all asks and of the writes
 /// that were refused. Looks at the table's phase, rows and committed assignment, by which threads wait, leave no
@@ -50,10 +50,10 @@ pub(crate) fn count_commits(entries: &[Entry<TableEvent>]) -> u64
 }
 
 // Whether a task is asked for a key.
-fn is_asked(step: &RecordedCall) -> bool
+fn is_asked(step: &ClusterCall) -> bool
     ensures { result ≡ is_serve step.now }
 {
-    matches!(step, RecordedCall::Serve { .. })
+    matches!(step, ClusterCall::Serve { .. })
 }
 
 // Whether a proposed assignment is committed.

@@ -9,9 +9,9 @@ ghost use Rattle.history_lock.specs.Closing.{has_lane, IsWhole};
 ghost use Rattle.history_lock.specs.Passes.{AreNewFrom, ArePassesOf, IsPassOf, is_allowed};
 ghost use Rattle.history_lock.specs.declared.error.NewLockError.TheVariants as new_lock_error;
 ghost use Rattle.tickets.specs.Tickets.{DrawsFrom};
-ghost use Rattle.world.specs.declared.record.RecordedCall.TheVariants as recorded_call;
+ghost use Rattle.cluster.specs.declared.call.ClusterCall.TheVariants as recorded_call;
 ghost use Rattle.live_service.specs.Calls.{CalledToAsk, AsksFor};
-ghost use Rattle.audit.specs.Stages.{look_told};
+ghost use Rattle.cluster.specs.Replies.{looked};
 ghost use Rattle.live_service.specs.Objects.{CalledClerk};
 
 use crate::ask::{Ask, read};
@@ -20,13 +20,13 @@ use crate::when::When;
 use crate::write::write;
 use assignment::Assignment;
 use clerk::{Clerk, ClerkCall, ClerkError, ClerkReply, Found, Unknown};
+use cluster::{CallRecord, ClusterCall, ClusterError, ClusterReply};
 use history_lock::{Closed, LaneLock, NewLockError, Pass};
 use key_hash::SliceKey;
 use std::alloc::Global;
 use std::marker::Model;
 use std::sync::Wait;
 use tickets::{Spent, Ticket, TicketPass};
-use world::{CallRecord, RecordedCall, Refusal, Told};
 
 /// A clerk under a lock of its own. Contracts see the lock, and the number by which its calls are
 /// recorded.
@@ -148,15 +148,15 @@ impl SharedClerk {
         ensures own { IsPassOf self.now.lock pass.new }
         ensures draws { DrawsFrom ticket.now draws.new }
         ensures answer { CalledToAsk draws.old draws.new
-            (AsksFor event_step self.now.lock draws.old draws.new (λ clerk _ answer. answer ≡ look_at clerk key) (λ _. recorded_call.Look self.now.number key) look_told)
+            (AsksFor event_step self.now.lock draws.old draws.new (λ clerk _ answer. answer ≡ look_at clerk key) (λ _. recorded_call.Look self.now.number key) looked)
             pass.old result pass.new }
     {
         let (drawn, answer) = read(rt, &self.lock, ticket, pass, draws, &Look { key })?;
         let reply = match &answer {
-            Ok(found) => Told::Found(found.copy()),
-            Err(Unknown) => Told::Refused(Refusal::Unknown),
+            Ok(found) => ClusterReply::Found(found.copy()),
+            Err(Unknown) => ClusterReply::Refused(ClusterError::Unknown),
         };
-        let step = RecordedCall::Look {
+        let step = ClusterCall::Look {
             clerk: self.number,
             key,
         };

@@ -4,17 +4,20 @@ ghost use Rattle.std.specs.Prelude.{◌≡◌, ℕ, ◌<◌, true, false, IfOk, 
 ghost use Rattle.history_lock.specs.Closing.{has_lane, IsWhole};
 ghost use Rattle.history_lock.specs.Passes.{AreNewFrom, ArePassesOf, IsPassOf, is_allowed};
 ghost use Rattle.history_lock.specs.declared.error.NewLockError.TheVariants as new_lock_error;
-ghost use Rattle.slicelet.specs.Continuity.{handle_on, held_by, IsChecked};
-ghost use Rattle.slicelet.specs.Rules.{rule_after, covers_key};
-ghost use Rattle.slicelet.specs.Steps.{event_step, opening};
+ghost use Rattle.slicelet.specs.Continuity.{handle_on, held_by, checked_in};
+ghost use Rattle.slicelet.specs.Rules.{covers_key};
+ghost use Rattle.slicelet.specs.States.{rule_in_state};
+ghost use Rattle.slicelet.specs.Steps.{event_step};
+ghost use Rattle.slicelet.specs.States.{opening};
 ghost use Rattle.slicelet.specs.declared.call.SliceletCall.TheVariants as slicelet_call;
 ghost use Rattle.slicelet.specs.declared.call.SliceletReply.TheVariants as slicelet_reply;
 ghost use Rattle.tickets.specs.Tickets.{DrawsFrom};
-ghost use Rattle.world.specs.declared.record.RecordedCall.TheVariants as recorded_call;
-ghost use Rattle.world.specs.declared.record.Told.TheVariants as told;
+ghost use Rattle.cluster.specs.declared.call.ClusterCall.TheVariants as recorded_call;
+ghost use Rattle.cluster.specs.declared.reply.ClusterReply.TheVariants as told;
 ghost use Rattle.live_service.specs.Readings.{reading_at, slicelet_call_at};
 ghost use Rattle.live_service.specs.Calls.{CalledToAsk, AsksFor, AsksAtOnceFor, TriedToAsk};
-ghost use Rattle.audit.specs.Stages.{check_told, hold_told};
+ghost use Rattle.cluster.specs.Replies.{holding};
+ghost use Rattle.live_service.specs.Checks.{check_told};
 ghost use Rattle.live_service.specs.Objects.{CalledSlicelet};
 
 use crate::ask::{Ask, read, read_gated, try_read};
@@ -25,6 +28,7 @@ use crate::replies::note_of;
 use crate::when::When;
 use crate::write::write;
 use assignment::TaskId;
+use cluster::{CallRecord, ClusterCall, ClusterError, ClusterReply};
 use history_lock::{Closed, LaneLock, NewLockError, Pass};
 use key_handle::KeyHandle;
 use key_hash::SliceKey;
@@ -35,7 +39,6 @@ use std::alloc::Global;
 use std::marker::Model;
 use std::sync::Wait;
 use tickets::{Spent, Ticket, TicketPass};
-use world::{CallRecord, RecordedCall, Refusal, Told};
 
 /// The slicelet of a task under a lock of its own. Contracts see the lock.
 #[derive(Drop)]
@@ -47,9 +50,9 @@ pub struct SharedSlicelet {
 impl Model for SharedSlicelet {
     ghost use Rattle.std.specs.Prelude.{◌≡◌};
     ghost use Rattle.history_lock.specs.Passes.{Lock};
-    ghost use Rattle.slicelet.specs.Steps.{History};
+    ghost use Rattle.slicelet.specs.States.{SliceletState};
 
-    ghost Value = { Lock History };
+    ghost Value = { Lock SliceletState };
 
     ghost view = { λ s. s.lock };
 
@@ -66,10 +69,11 @@ struct AskServe {
 impl Ask<Slicelet> for AskServe {
     type Answer = Verdict;
 
-    ghost use Rattle.slicelet.specs.Rules.{rule_after, covers_key};
+    ghost use Rattle.slicelet.specs.Rules.{covers_key};
+    ghost use Rattle.slicelet.specs.States.{rule_in_state};
     ghost use Rattle.live_service.specs.Readings.{reading_at};
 
-    ghost answers = { λ question slicelet ticket answer. answer ≡ rule_after (covers_key question.key) slicelet.calls (reading_at question.when ticket) };
+    ghost answers = { λ question slicelet ticket answer. answer ≡ rule_in_state (covers_key question.key) slicelet (reading_at question.when ticket) };
 
     fn ask(&self, slicelet: &Slicelet, ticket: u64) -> Verdict {
         slicelet.serve(self.key, self.when.reading(ticket))
@@ -87,10 +91,11 @@ impl Ask<Slicelet> for AskHold {
     type Answer = Result<KeyHandle, Ground>;
 
     ghost use Rattle.slicelet.specs.Continuity.{handle_on, held_by};
-    ghost use Rattle.slicelet.specs.Rules.{rule_after, covers_key};
+    ghost use Rattle.slicelet.specs.Rules.{covers_key};
+    ghost use Rattle.slicelet.specs.States.{rule_in_state};
     ghost use Rattle.live_service.specs.Readings.{reading_at};
 
-    ghost answers = { λ question slicelet ticket answer. answer ≡ held_by (rule_after (covers_key question.key) slicelet.calls (reading_at question.when ticket)) (handle_on question.key slicelet) };
+    ghost answers = { λ question slicelet ticket answer. answer ≡ held_by (rule_in_state (covers_key question.key) slicelet (reading_at question.when ticket)) (handle_on question.key slicelet) };
 
     fn ask(&self, slicelet: &Slicelet, ticket: u64) -> Result<KeyHandle, Ground> {
         slicelet.hold(self.key, self.when.reading(ticket))
@@ -107,10 +112,10 @@ struct AskCheck {
 impl Ask<Slicelet> for AskCheck {
     type Answer = Result<bool, Stranger>;
 
-    ghost use Rattle.slicelet.specs.Continuity.{IsChecked};
+    ghost use Rattle.slicelet.specs.Continuity.{checked_in};
     ghost use Rattle.live_service.specs.Readings.{reading_at};
 
-    ghost answers = { λ question slicelet ticket answer. IsChecked slicelet question.handle (reading_at question.when ticket) answer };
+    ghost answers = { λ question slicelet ticket answer. answer ≡ checked_in slicelet question.handle (reading_at question.when ticket) };
 
     fn ask(&self, slicelet: &Slicelet, ticket: u64) -> Result<bool, Stranger> {
         slicelet.continuous(&self.handle, self.when.reading(ticket))
@@ -232,7 +237,7 @@ impl SharedSlicelet {
         ensures own { IsPassOf self.now pass.new }
         ensures draws { DrawsFrom ticket.now draws.new }
         ensures answer { CalledToAsk draws.old draws.new
-            (AsksFor event_step self.now draws.old draws.new (λ slicelet number answer. answer ≡ rule_after (covers_key key) slicelet.calls (reading_at when number))
+            (AsksFor event_step self.now draws.old draws.new (λ slicelet number answer. answer ≡ rule_in_state (covers_key key) slicelet (reading_at when number))
             (λ number. recorded_call.Serve self.now.opened.machine.task key (reading_at when number)) told.Verdict)
             pass.old result pass.new }
     {
@@ -258,7 +263,7 @@ impl SharedSlicelet {
         ensures own { IsPassOf self.now pass.new }
         ensures draws { DrawsFrom ticket.now draws.new }
         ensures answer { CalledToAsk draws.old draws.new
-            (AsksFor event_step self.now draws.old draws.new (λ slicelet number answer. answer ≡ rule_after (covers_key key) slicelet.calls (reading_at when number))
+            (AsksFor event_step self.now draws.old draws.new (λ slicelet number answer. answer ≡ rule_in_state (covers_key key) slicelet (reading_at when number))
             (λ number. recorded_call.Serve self.now.opened.machine.task key (reading_at when number)) told.Verdict)
             pass.old result pass.new }
     {
@@ -283,7 +288,7 @@ impl SharedSlicelet {
         ensures own { IsPassOf self.now pass.new }
         ensures draws { DrawsFrom ticket.now draws.new }
         ensures answer { TriedToAsk event_step self.now draws.old draws.new
-            (AsksAtOnceFor event_step self.now draws.old draws.new (λ slicelet number answer. answer ≡ rule_after (covers_key key) slicelet.calls (reading_at when number))
+            (AsksAtOnceFor event_step self.now draws.old draws.new (λ slicelet number answer. answer ≡ rule_in_state (covers_key key) slicelet (reading_at when number))
             (λ number. recorded_call.Serve self.now.opened.machine.task key (reading_at when number)) told.Verdict)
             pass.old result pass.new }
     {
@@ -309,20 +314,20 @@ impl SharedSlicelet {
         ensures draws { DrawsFrom ticket.now draws.new }
         ensures answer { CalledToAsk draws.old draws.new
             (AsksFor event_step self.now draws.old draws.new
-            (λ slicelet number answer. answer ≡ held_by (rule_after (covers_key key) slicelet.calls (reading_at when number)) (handle_on key slicelet))
-            (λ number. recorded_call.Hold self.now.opened.machine.task key (reading_at when number)) hold_told)
+            (λ slicelet number answer. answer ≡ held_by (rule_in_state (covers_key key) slicelet (reading_at when number)) (handle_on key slicelet))
+            (λ number. recorded_call.Hold self.now.opened.machine.task key (reading_at when number)) holding)
             pass.old result pass.new }
     {
         let question = AskHold { key, when };
         let (drawn, answer) = read(rt, &self.lock, ticket, pass, draws, &question)?;
-        let step = RecordedCall::Hold {
+        let step = ClusterCall::Hold {
             task: self.task.number(),
             key,
             at: when.reading(drawn),
         };
         let reply = match &answer {
-            Ok(handle) => Told::Holding(*handle),
-            Err(why) => Told::Verdict(Verdict::Deny(*why)),
+            Ok(handle) => ClusterReply::Holding(*handle),
+            Err(why) => ClusterReply::Verdict(Verdict::Deny(*why)),
         };
         let record = CallRecord {
             ticket: drawn,
@@ -352,7 +357,7 @@ impl SharedSlicelet {
         ensures draws { DrawsFrom ticket.now draws.new }
         ensures answer { CalledToAsk draws.old draws.new
             (AsksFor event_step self.now draws.old draws.new
-            (λ slicelet number answer. IsChecked slicelet handle (reading_at when number) answer)
+            (λ slicelet number answer. answer ≡ checked_in slicelet handle (reading_at when number))
             (λ number. recorded_call.Check self.now.opened.machine.task handle (reading_at when number)) check_told)
             pass.old result pass.new }
     {
@@ -392,7 +397,7 @@ impl SharedSlicelet {
         ensures step { result.call.step ≡ recorded_call.Serve self.now.opened.machine.task key (reading_at when drawn) }
         ensures reply { result.call.reply ≡ told.Verdict answer }
     {
-        let step = RecordedCall::Serve {
+        let step = ClusterCall::Serve {
             task: self.task.number(),
             key,
             at: when.reading(drawn),
@@ -400,7 +405,7 @@ impl SharedSlicelet {
         let record = CallRecord {
             ticket: drawn,
             step,
-            reply: Told::Verdict(answer),
+            reply: ClusterReply::Verdict(answer),
         };
         Recorded {
             answer,
@@ -420,15 +425,15 @@ impl SharedSlicelet {
         ensures step { result.call.step ≡ recorded_call.Check self.now.opened.machine.task question.now.handle (reading_at question.now.when drawn) }
         ensures reply { result.call.reply ≡ check_told answer }
     {
-        let step = RecordedCall::Check {
+        let step = ClusterCall::Check {
             task: self.task.number(),
             handle: question.handle,
             at: question.when.reading(drawn),
         };
         let reply = match &answer {
-            Ok(true) => Told::Continuous,
-            Ok(false) => Told::Broken,
-            Err(Stranger) => Told::Refused(Refusal::Stranger),
+            Ok(true) => ClusterReply::Continuous,
+            Ok(false) => ClusterReply::Broken,
+            Err(Stranger) => ClusterReply::Refused(ClusterError::Stranger),
         };
         let record = CallRecord {
             ticket: drawn,

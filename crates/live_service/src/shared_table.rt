@@ -9,8 +9,8 @@ ghost use Rattle.lease_table.specs.Tables.{opening, phase_of};
 ghost use Rattle.lease_table.specs.declared.call.TableCall.TheVariants as table_call;
 ghost use Rattle.lease_table.specs.declared.call.TableReply.TheVariants as table_reply;
 ghost use Rattle.tickets.specs.Tickets.{DrawsFrom};
-ghost use Rattle.world.specs.declared.record.RecordedCall.TheVariants as recorded_call;
-ghost use Rattle.world.specs.declared.record.Told.TheVariants as told;
+ghost use Rattle.cluster.specs.declared.call.ClusterCall.TheVariants as recorded_call;
+ghost use Rattle.cluster.specs.declared.reply.ClusterReply.TheVariants as told;
 ghost use Rattle.live_service.specs.Readings.{reading_at, table_call_at};
 ghost use Rattle.live_service.specs.Calls.{CalledToAsk, AsksFor, IsNoRefusal};
 ghost use Rattle.live_service.specs.Objects.{CalledTable, AskedForRows, AskedForCommitted};
@@ -22,6 +22,7 @@ use crate::replies::{count_of, generation_of, grant_of, lost_of, term_of};
 use crate::when::When;
 use crate::write::write;
 use assignment::{Assignment, Listed, TaskId};
+use cluster::{CallRecord, ClusterCall, ClusterReply};
 use history_lock::{Closed, LaneLock, NewLockError, Pass};
 use lease_table::{
     Grant, JobTerm, LeaseTable, Phase, Policy, ReleaseNote, Row, TableCall, TableError, TableReply,
@@ -31,7 +32,6 @@ use std::alloc::{AllocError, Global};
 use std::marker::Model;
 use std::sync::Wait;
 use tickets::{Spent, Ticket, TicketPass};
-use world::{CallRecord, RecordedCall, Told};
 
 /// A lease table under a lock of its own. Contracts see the lock.
 #[derive(Drop)]
@@ -328,8 +328,8 @@ impl SharedTable {
         let (drawn, answer) = read(rt, &self.lock, ticket, pass, draws, &AskPhase)?;
         let record = CallRecord {
             ticket: drawn,
-            step: RecordedCall::Phase,
-            reply: Told::Phase(answer),
+            step: ClusterCall::Phase,
+            reply: ClusterReply::Phase(answer),
         };
         Ok(Recorded {
             answer,
@@ -364,8 +364,8 @@ impl SharedTable {
         };
         let record = CallRecord {
             ticket: drawn,
-            step: RecordedCall::Rows,
-            reply: Told::Rows(told),
+            step: ClusterCall::Rows,
+            reply: ClusterReply::Rows(told),
         };
         Ok(Recorded {
             answer,

@@ -4,20 +4,20 @@ ghost use Rattle.std.specs.Prelude.{◌≡◌, ◌≤◌, ◌+◌, IfOk, length,
 ghost use Rattle.history_lock.specs.Passes.{IsPassOf};
 ghost use Rattle.key_hash.specs.Hash.{slice_key};
 ghost use Rattle.tickets.specs.Tickets.{DrawsFrom, new_ticket_pass};
-ghost use Rattle.world.specs.declared.record.RecordedCall.TheVariants as recorded_call;
+ghost use Rattle.cluster.specs.declared.call.ClusterCall.TheVariants as recorded_call;
 ghost use Rattle.live_service.specs.Draws.{CanDraw};
 ghost use Rattle.live_service.specs.inside.Crews.{HasWorked, TellsVerdict};
 
 use crate::gate::Gate;
 use crate::shared_slicelet::SharedSlicelet;
 use crate::when::When;
+use cluster::CallRecord;
 use history_lock::Pass;
 use key_hash::{SliceKey, slice_key};
 use slicelet::Slicelet;
 use std::alloc::{AllocError, Global};
 use std::sync::Wait;
 use tickets::{Ticket, TicketPass};
-use world::CallRecord;
 
 /// The passes of a thread of a task, and the number by which it calls the gate. The task's own thread calls none;
 /// it has lane 0 of the task's lock, and the workers the lanes from 1 on.

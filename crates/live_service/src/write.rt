@@ -10,11 +10,11 @@ ghost use Rattle.live_service.specs.Calls.{CalledToWrite};
 use crate::calls::SharedCall;
 use crate::error::{CallError, RefusedCall};
 use crate::when::When;
+use cluster::CallRecord;
 use history_lock::{LaneLock, Pass, WriteError};
 use machines::{Duplicate, Event, Machine};
 use std::sync::Wait;
 use tickets::{Ticket, TicketPass};
-use world::CallRecord;
 
 // The next number of a ticket pass that is not spent.
 pub(crate) fn draw(ticket: &Ticket, draws: &mut TicketPass) -> u64

@@ -2,13 +2,13 @@
 
 use crate::histories::{asked, policy, refused, table_history, task_history};
 use audit::{Audit, Why, audit};
+use cluster::{CallRecord, ClusterReply, Job};
 use history_lock::History;
 use lease_table::TableEvent;
 use policy_rules::{Ground, Kind, Verdict};
 use slicelet::SliceletEvent;
 use std::alloc::Global;
 use std::test::Fail;
-use world::{CallRecord, Job, Told};
 
 pub fn task_histories(alloc: Global, ends: u64) -> Option<Vec<History<SliceletEvent>>> {
     let mut tasks = Vec::new(alloc);
@@ -52,7 +52,7 @@ const SERVED: Verdict = Verdict::Allow {
 
 #[test]
 fn finds_one_run(rt: HostRuntime) -> Result<(), Fail> {
-    let one = found_with(rt.alloc(), asked(6, Told::Verdict(SERVED)));
+    let one = found_with(rt.alloc(), asked(6, ClusterReply::Verdict(SERVED)));
     let wanted = Audit::One {
         steps: 7,
         timely: true,
@@ -63,7 +63,7 @@ fn finds_one_run(rt: HostRuntime) -> Result<(), Fail> {
 
 #[test]
 fn counts_refused_readings_for_timely_clocks(rt: HostRuntime) -> Result<(), Fail> {
-    let records = [refused(6, 100), asked(7, Told::Verdict(SERVED))];
+    let records = [refused(6, 100), asked(7, ClusterReply::Verdict(SERVED))];
     let late = found(rt.alloc(), 1, &[1], [0, 1, 2], 95, &records);
     let wanted = Audit::One {
         steps: 8,
@@ -75,7 +75,7 @@ fn counts_refused_readings_for_timely_clocks(rt: HostRuntime) -> Result<(), Fail
 
 #[test]
 fn finds_a_ticket_twice(rt: HostRuntime) -> Result<(), Fail> {
-    let double = found_with(rt.alloc(), asked(5, Told::Verdict(SERVED)));
+    let double = found_with(rt.alloc(), asked(5, ClusterReply::Verdict(SERVED)));
     let wanted = Audit::No {
         ticket: 5,
         why: Why::Double,
@@ -86,7 +86,7 @@ fn finds_a_ticket_twice(rt: HostRuntime) -> Result<(), Fail> {
 
 #[test]
 fn finds_another_reply(rt: HostRuntime) -> Result<(), Fail> {
-    let denied = Told::Verdict(Verdict::Deny(Ground::NoLease));
+    let denied = ClusterReply::Verdict(Verdict::Deny(Ground::NoLease));
     let other = found_with(rt.alloc(), asked(6, denied));
     let wanted = Audit::No {
         ticket: 6,

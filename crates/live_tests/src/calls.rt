@@ -10,6 +10,7 @@ use crate::objects::{
 use assignment::TaskId;
 use audit::{Audit, audit};
 use clerk::{Clerk, ClerkEvent};
+use cluster::{CallRecord, ClusterReply, Job};
 use history_lock::{History, Pass};
 use key_hash::slice_key;
 use lease_table::{LeaseTable, Phase, Row, TableEvent};
@@ -21,7 +22,6 @@ use std::alloc::Global;
 use std::sync::Wait;
 use std::test::Fail;
 use tickets::{Ticket, TicketPass};
-use world::{CallRecord, Job, Told};
 
 // Assigner 1 takes the job, and proposes and commits generation 1: its term's end, and the generation.
 pub fn commit_first<R: Wait>(
@@ -143,7 +143,7 @@ fn hold_and_check<R: Wait>(
         .check(rt, ticket, pass, draws, handle, When::At(8))
         .ok()
         .ok_or("a draw is left")?;
-    let told = matches!(checked.call.reply, Told::Continuous);
+    let told = matches!(checked.call.reply, ClusterReply::Continuous);
     records.push(checked.call)?;
     Ok((checked.answer == Ok(true), told))
 }

@@ -3,6 +3,7 @@
 use assignment::OwnedSlice;
 use audit::Audit;
 use clerk::{ClerkCall, ClerkEvent};
+use cluster::{CallRecord, ClusterCall};
 use crossbeam_utils::Backoff;
 use crossbeam_utils::atomic::AtomicCell;
 use history_lock::History;
@@ -15,7 +16,6 @@ use std::alloc::Global;
 use std::sync::Wait;
 use std::test::Fail;
 use std::thread::Threads;
-use world::{CallRecord, RecordedCall};
 
 #[test]
 fn reports_what_two_tasks_with_two_workers_did(rt: HostRuntime) -> Result<(), Fail> {
@@ -293,7 +293,7 @@ impl NotingGate {
 
     // Whether a record tells of a noted ask, where each task has so many workers.
     fn has_noted(&self, alloc: Global, workers: u64, record: &CallRecord) -> Result<bool, Fail> {
-        let RecordedCall::Serve { task, key, .. } = &record.step else {
+        let ClusterCall::Serve { task, key, .. } = &record.step else {
             return Ok(false);
         };
         let noted = self

@@ -4,6 +4,7 @@ ghost use Rattle.std.specs.Prelude.{IsSome, IfSome};
 ghost use Rattle.history_lock.specs.Passes.{IsPassOf};
 
 use assignment::{Assignment, Listed, Slice, TaskId};
+use cluster::{CallRecord, ClusterCall, ClusterError, ClusterReply};
 use history_lock::{Closed, History, LaneLock, Pass};
 use key_hash::slice_key;
 use lease_table::{Grant, LeaseTable, Policy, TableCall, TableEvent};
@@ -12,7 +13,6 @@ use policy_rules::{Kind, Lease};
 use slice_ranges::Ranges;
 use slicelet::{Slicelet, SliceletCall, SliceletEvent};
 use std::alloc::{AllocError, Global};
-use world::{CallRecord, RecordedCall, Refusal, Told};
 
 /// Half of the key space.
 const HALF: u64 = 4_611_686_018_427_387_904;
@@ -34,8 +34,8 @@ fn slices_of(alloc: Global, owners: &[u64]) -> Result<Vec<Slice>, AllocError> {
     Ok(slices)
 }
 
-// The first generation of two slices: the lower half is owned by these tasks.
-fn halves(alloc: Global, owners: &[u64]) -> Option<Assignment> {
+/// The first generation of two slices: the lower half is owned by these tasks.
+pub fn halves(alloc: Global, owners: &[u64]) -> Option<Assignment> {
     let slices = slices_of(alloc, owners).ok()?;
     Assignment::build(alloc, 1, &slices).ok()
 }
@@ -138,8 +138,8 @@ pub fn table_history(
     taken.then_some(closed.history)
 }
 
-// Grant 1 of task 1, of a lease on the lower half that ends at this reading.
-fn grant_1(alloc: Global, task: TaskId, ends: u64) -> Option<Grant> {
+/// Grant 1 of task 1, of a lease on the lower half that ends at this reading.
+pub fn grant_1(alloc: Global, task: TaskId, ends: u64) -> Option<Grant> {
     let ranges = Ranges::build(alloc, &[(0, HALF)]).ok()?;
     Some(Grant {
         number: 1,
@@ -183,10 +183,10 @@ pub fn task_history(alloc: Global, ends: u64) -> Option<History<SliceletEvent>> 
 }
 
 /// Task 1 was asked at 7 for a key of the lower half, and told this.
-pub fn asked(ticket: u64, reply: Told) -> CallRecord {
+pub fn asked(ticket: u64, reply: ClusterReply) -> CallRecord {
     CallRecord {
         ticket,
-        step: RecordedCall::Serve {
+        step: ClusterCall::Serve {
             task: 1,
             key: slice_key(b"hello"),
             at: 7,
@@ -200,7 +200,7 @@ pub fn asked(ticket: u64, reply: Told) -> CallRecord {
 pub fn refused(ticket: u64, at: u64) -> CallRecord {
     CallRecord {
         ticket,
-        step: RecordedCall::Table(TableCall::JobTake { assigner: 9, at }),
-        reply: Told::Refused(Refusal::NoActor),
+        step: ClusterCall::Table(TableCall::JobTake { assigner: 9, at }),
+        reply: ClusterReply::Refused(ClusterError::NoActor),
     }
 }

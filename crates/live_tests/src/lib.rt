@@ -12,6 +12,12 @@ mod histories;
 #[cfg(test)]
 mod memory;
 #[cfg(test)]
+mod memory_clerk;
+#[cfg(test)]
+mod memory_table;
+#[cfg(test)]
+mod memory_task;
+#[cfg(test)]
 mod objects;
 #[cfg(test)]
 mod refusals;

@@ -1,18 +1,52 @@
 //! Audits and live runs where memory is refused: each is asked once more, and answers then as with ample
 //! memory.
 
+ghost use Rattle.std.specs.Prelude.{◌≡◌, [], IfOk};
+ghost use Rattle.tickets.specs.Tickets.{DrawsFrom};
+
 use crate::audits::task_histories;
 use crate::histories::{policy, table_history};
 use audit::{Audit, audit};
+use cluster::Job;
 use history_lock::History;
 use lease_table::TableEvent;
 use live_service::{LiveJob, LiveReport, OpenGate, run_live};
+use machines::Duplicate;
 use slicelet::SliceletEvent;
 use std::alloc::{AllocError, Global};
 use std::sync::Wait;
 use std::test::Fail;
 use std::thread::Threads;
-use world::Job;
+use tickets::{Ticket, TicketError, TicketPass};
+
+// An empty vector with room for one pass.
+pub fn room_at_last<T>(alloc: Global) -> Result<Vec<T>, AllocError>
+    ensures { IfOk result (λ room. room.items ≡ []) }
+{
+    match Vec::with_capacity(alloc, 1) {
+        Ok(room) => Ok(room),
+        Err(AllocError) => Vec::with_capacity(alloc, 1),
+    }
+}
+
+fn new_ticket(alloc: Global, draws: u64) -> Result<(Ticket, TicketPass), TicketError>
+    ensures { IfOk result (λ made. DrawsFrom made.0 made.1) }
+{
+    let (ticket, mut passes) = Ticket::new(alloc, 1, draws)?;
+    let pass = passes.pop().ok_or(TicketError::Passes)?;
+    Ok((ticket, pass))
+}
+
+// A ticket of one pass with so many draws, and that pass.
+pub fn ticket_at_last(alloc: Global, draws: u64) -> Result<(Ticket, TicketPass), Fail>
+    ensures { IfOk result (λ made. DrawsFrom made.0 made.1) }
+{
+    match new_ticket(alloc, draws) {
+        Ok(made) => Ok(made),
+        Err(TicketError::NoMemory) => { Ok(new_ticket(alloc, draws).ok().ok_or("a second time")?) }
+        Err(TicketError::Passes) => Err("one pass and some draws".into()),
+    }
+}
 
 fn table_at_last(alloc: Global) -> Result<History<TableEvent>, Fail> {
     let policy = policy(1).ok_or("within the limits")?;
@@ -31,6 +65,13 @@ fn tasks_at_last(alloc: Global) -> Result<Vec<History<SliceletEvent>>, Fail> {
     Ok(made.ok_or("the calls are taken")?)
 }
 
+fn copy_at_last<E: Duplicate + Drop>(history: &History<E>) -> Result<History<E>, AllocError> {
+    match history.copy() {
+        Ok(copied) => Ok(copied),
+        Err(AllocError) => history.copy(),
+    }
+}
+
 fn audit_at_last(
     alloc: Global,
     table: &History<TableEvent>,
@@ -46,7 +87,7 @@ fn audit_at_last(
 
 #[test]
 fn audits_as_before_without_memory(rt: HostRuntime) -> Result<(), Fail> {
-    let table = table_at_last(rt.alloc())?;
+    let table = copy_at_last(&table_at_last(rt.alloc())?)?;
     let tasks = tasks_at_last(rt.alloc())?;
     let wanted = Audit::One {
         steps: 6,

@@ -2,11 +2,11 @@
 
 use crate::objects::{first_assignment, open_all, open_table, open_ticket};
 use clerk::{ClerkCall, ClerkError};
+use cluster::{ClusterCall, ClusterError, ClusterReply};
 use lease_table::{TableCall, TableError};
 use live_service::{CallError, RefusedCall, When};
 use slicelet::{SliceletCall, SliceletError};
 use std::test::Fail;
-use world::{RecordedCall, Refusal, Told};
 
 // The machine's refusal, where that is what a call answered.
 pub fn refused<A: Drop, F: Drop>(answer: Result<A, CallError<F>>) -> Option<RefusedCall<F>> {
@@ -34,13 +34,13 @@ fn records_a_take_while_the_job_is_held(rt: HostRuntime) -> Result<(), Fail> {
     assert!(rt;
         matches!(
             call.step,
-            RecordedCall::Table(TableCall::JobTake { assigner: 2, at: 5 })
+            ClusterCall::Table(TableCall::JobTake { assigner: 2, at: 5 })
         )
     );
     assert!(rt;
         matches!(
             call.reply,
-            Told::Refused(Refusal::Table(TableError::JobHeld { until: 1000 }))
+            ClusterReply::Refused(ClusterError::Table(TableError::JobHeld { until: 1000 }))
         )
     );
     Ok(())
@@ -60,7 +60,7 @@ fn records_a_start_of_a_life_that_was_started(rt: HostRuntime) -> Result<(), Fai
     assert!(rt;
         matches!(
             call.step,
-            RecordedCall::Task {
+            ClusterCall::Task {
                 task: 1,
                 call: SliceletCall::Start { life: 1, at: 4 }
             }
@@ -69,7 +69,7 @@ fn records_a_start_of_a_life_that_was_started(rt: HostRuntime) -> Result<(), Fai
     assert!(rt;
         matches!(
             call.reply,
-            Told::Refused(Refusal::Slicelet(SliceletError::OldLife))
+            ClusterReply::Refused(ClusterError::Slicelet(SliceletError::OldLife))
         )
     );
     Ok(())
@@ -94,7 +94,7 @@ fn records_an_assignment_that_a_clerk_has(rt: HostRuntime) -> Result<(), Fail> {
     assert!(rt;
         matches!(
             call.step,
-            RecordedCall::Clerk {
+            ClusterCall::Clerk {
                 clerk: 1,
                 call: ClerkCall::Learn(_)
             }
@@ -103,7 +103,7 @@ fn records_an_assignment_that_a_clerk_has(rt: HostRuntime) -> Result<(), Fail> {
     assert!(rt;
         matches!(
             call.reply,
-            Told::Refused(Refusal::Clerk(ClerkError::Old { generation: 1 }))
+            ClusterReply::Refused(ClusterError::Clerk(ClerkError::Old { generation: 1 }))
         )
     );
     Ok(())

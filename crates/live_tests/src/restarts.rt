@@ -7,6 +7,7 @@ use crate::calls::commit_first;
 use crate::objects::{close_table, first_task, halves, open_table, open_ticket, policy};
 use crate::refusals::refused;
 use audit::{Audit, audit};
+use cluster::{CallRecord, Job};
 use history_lock::{History, Pass};
 use lease_table::{LeaseTable, TableError, TableEvent};
 use live_service::{RefusedCall, SharedTable, When};
@@ -14,7 +15,6 @@ use std::alloc::Global;
 use std::sync::Wait;
 use std::test::Fail;
 use tickets::{Ticket, TicketPass};
-use world::{CallRecord, Job};
 
 // Task 1 is granted a lease until 105, the table restarts, and generation 2 is proposed: how many rows
 // were lost.

@@ -4,13 +4,15 @@ use Rattle.std.specs.declared.alloc.AllocError.{AllocError}
 use Rattle.history_lock.specs.Histories.{IsLegal}
 use Rattle.history_lock.specs.Passes.{Lock, PassView, IsPassOf, ArePassesOf}
 use Rattle.lease_table.specs.Tables.{Standing}
-use Rattle.slicelet.specs.Steps.{History, event_step, opening}
+use Rattle.slicelet.specs.Steps.{event_step}
+use Rattle.slicelet.specs.States.{SliceletState, opening}
 use Rattle.machines.specs.declared.event.Event.{Event}
-use Rattle.slicelet.specs.Rules.{rule_after, covers_key}
+use Rattle.slicelet.specs.Rules.{covers_key}
+use Rattle.slicelet.specs.States.{rule_in_state}
 use Rattle.slicelet.specs.declared.call.SliceletCall.{SliceletCall}
 use Rattle.tickets.specs.Tickets.{TicketView, TicketPassView, DrawsFrom, new_ticket_pass}
-use Rattle.world.specs.declared.record.CallRecord.{CallRecord}
-use Rattle.world.specs.declared.record.Told.TheVariants as told
+use Rattle.cluster.specs.declared.record.CallRecord.{CallRecord}
+use Rattle.cluster.specs.declared.reply.ClusterReply.TheVariants as told
 use Rattle.policy_rules.specs.declared.answer.Verdict.{Verdict}
 use Rattle.live_service.specs.Calls.{Asks}
 use Rattle.live_service.specs.declared.worker.Member.{Member}
@@ -26,12 +28,12 @@ AreOfLanesFrom lane [] = Unit {0}
 AreOfLanesFrom lane (pass ∷ passes) = (pass.lane ≡ lane) × AreOfLanesFrom (lane + 1) passes
 
 -- the record of a key that a task was asked for tells the verdict of its slicelet, as it was inside the call, at the ticket that the call drew
-abbrev pub TellsVerdict : Lock History → TicketPassView → TicketPassView → ℕ → PassView History (Event SliceletCall) → CallRecord → PassView History (Event SliceletCall) → Type 0
+abbrev pub TellsVerdict : Lock SliceletState → TicketPassView → TicketPassView → ℕ → PassView SliceletState (Event SliceletCall) → CallRecord → PassView SliceletState (Event SliceletCall) → Type 0
 TellsVerdict slicelet old_draws new_draws key old entry new =
     (verdict : Verdict) × (entry.reply ≡ told.Verdict verdict)
-    × Asks event_step slicelet old_draws new_draws (λ (machine : History) number answer. answer ≡ rule_after (covers_key key) machine.calls number) old entry.ticket verdict new
+    × Asks event_step slicelet old_draws new_draws (λ (machine : SliceletState) number answer. answer ≡ rule_in_state (covers_key key) machine number) old entry.ticket verdict new
 
-module _ (slicelet : Lock History) (ticket : TicketView) where
+module _ (slicelet : Lock SliceletState) (ticket : TicketView) where
   -- the passes of a thread are of this lock and lane, and new of this ticket
   pub record IsMember (lane : ℕ) (member : Member) : Type 0 where
     pub own : IsPassOf slicelet member.pass

@@ -3,9 +3,9 @@ use Rattle.std.specs.Prelude.{◌≡◌, ◌⊎◌, ℕ, [], ◌∷◌, ◌++◌
 use Rattle.machines.specs.declared.event.Event.{Event}
 use Rattle.history_lock.specs.Passes.{Lock, PassView}
 use Rattle.tickets.specs.Tickets.{TicketPassView}
-use Rattle.world.specs.declared.record.CallRecord.{CallRecord}
-use Rattle.world.specs.declared.record.RecordedCall.{RecordedCall}
-use Rattle.world.specs.declared.record.Told.{Told}
+use Rattle.cluster.specs.declared.record.CallRecord.{CallRecord}
+use Rattle.cluster.specs.declared.call.ClusterCall.{ClusterCall}
+use Rattle.cluster.specs.declared.reply.ClusterReply.{ClusterReply}
 use Rattle.live_service.specs.declared.error.CallError.{CallError}
 use Rattle.live_service.specs.declared.error.CallError.TheVariants.{Spent, HistoryFull, Refused, NoMemory}
 use Rattle.live_service.specs.declared.notes.Halt.{Halt}
@@ -59,7 +59,7 @@ abbrev pub TellsMemory : {A : Type 0} → Result A Halt → Notes → Type 0
 TellsMemory (Ok value) notes = notes.starved ≡ false
 TellsMemory (Err why) notes = TellsHalt why notes
 
-module _ {M C R F : Type 0} (step : M → Event C → Result (M × R) F) (lock : Lock M) (old_draws new_draws : TicketPassView) (call : ℕ → C) (recorded : ℕ → RecordedCall) (told : F → Told) where
+module _ {M C R F : Type 0} (step : M → Event C → Result (M × R) F) (lock : Lock M) (old_draws new_draws : TicketPassView) (call : ℕ → C) (recorded : ℕ → ClusterCall) (told : F → ClusterReply) where
   -- what a thread answers of a call that may write, and what it notes: an accepted call leaves no record, a refused one its own, and a call that found no memory is answered so
   abbrev pub CalledAndNoted : {A : Type 0} → (A → R) → PassView M (Event C) → Notes → Result A Halt → PassView M (Event C) → Notes → Type 0
   CalledAndNoted reply_for old old_notes (Ok value) new new_notes = Writes step lock old_draws new_draws call old (Ok (reply_for value)) new × (new_notes ≡ old_notes)

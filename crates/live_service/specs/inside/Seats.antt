@@ -2,7 +2,7 @@
 use Rattle.std.specs.Prelude.{◌≡◌, ℕ, Option, Result, Ok, false}
 use Rattle.history_lock.specs.Passes.{Lock, IsPassOf}
 use Rattle.lease_table.specs.Tables.{Standing}
-use Rattle.slicelet.specs.Steps.{History}
+use Rattle.slicelet.specs.States.{SliceletState}
 use Rattle.assignment.specs.Slices.{Slicing}
 use Rattle.tickets.specs.Tickets.{TicketView, TicketPassView, DrawsFrom}
 use Rattle.live_service.specs.declared.seat.TableSeat.{TableSeat}
@@ -23,7 +23,7 @@ use Rattle.slicelet.specs.declared.call.SliceletReply.TheVariants.{Released}
 use Rattle.clerk.specs.Calls.{event_step as clerk_step}
 use Rattle.clerk.specs.declared.call.ClerkCall.{ClerkCall}
 use Rattle.clerk.specs.declared.call.ClerkReply.{ClerkReply}
-use Rattle.world.specs.declared.record.RecordedCall.TheVariants.{Clerk, Table, Task}
+use Rattle.cluster.specs.declared.call.ClusterCall.TheVariants.{Clerk, Table, Task}
 use Rattle.live_service.specs.Calls.{Writes}
 use Rattle.live_service.specs.Objects.{NumberedClerk, clerk_told, slicelet_told, table_told}
 use Rattle.live_service.specs.declared.notes.Halt.{Halt}
@@ -48,7 +48,7 @@ CalledForSeat table call reply_for old result new =
     CalledAndNoted table_step table old.draws new.draws call (λ number. Table (call number)) table_told reply_for old.pass old.notes result new.pass new.notes
 
 -- a call of the slicelet by its task's thread
-abbrev pub CalledForTask : {A : Type 0} → Lock History → (ℕ → SliceletCall) → (A → SliceletReply) → TaskSeat → Result A Halt → TaskSeat → Type 0
+abbrev pub CalledForTask : {A : Type 0} → Lock SliceletState → (ℕ → SliceletCall) → (A → SliceletReply) → TaskSeat → Result A Halt → TaskSeat → Type 0
 CalledForTask slicelet call reply_for old result new =
     CalledAndNoted slicelet_step slicelet old.table.draws new.table.draws call (λ number. Task slicelet.opened.machine.task (call number)) slicelet_told reply_for
     old.own old.table.notes result new.own new.table.notes
@@ -59,14 +59,14 @@ CalledForClerk clerk call reply_for old result new =
     CalledAndNoted clerk_step clerk.lock old.table.draws new.table.draws (λ _. call) (λ _. Clerk clerk.number call) clerk_told reply_for old.own old.table.notes result new.own new.table.notes
 
 -- the lease of a kind was given up, and then the rows that its note closes were freed at the table
-pub record HasFreed (table : Lock Standing) (slicelet : Lock History) (kind : Kind) (old new : TaskSeat) : Type 0 where
+pub record HasFreed (table : Lock Standing) (slicelet : Lock SliceletState) (kind : Kind) (old new : TaskSeat) : Type 0 where
   pub note : ReleaseNote
   pub between : TicketPassView
   pub released : Writes slicelet_step slicelet old.table.draws between (Release kind) old.own (Ok (Released note)) new.own
   pub rows : ℕ
   pub freed : Writes table_step table between new.table.draws (Free note) old.table.pass (Ok (Freed rows)) new.table.pass
 
-module _ (table : Lock Standing) (slicelet : Lock History) (ticket : TicketView) where
+module _ (table : Lock Standing) (slicelet : Lock SliceletState) (ticket : TicketView) where
   abbrev pub IsTaskSeatOf : TaskSeat → Type 0
   IsTaskSeatOf seat = IsSeatOf table ticket seat.table × IsPassOf slicelet seat.own
 

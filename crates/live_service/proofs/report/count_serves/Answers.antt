@@ -2,7 +2,7 @@ use Rattle.std.proofs.Common.{◌∙◌, rules, tests}
 use Rattle.std.proofs.lemmas.Iterator.{YieldsList-from_slice}
 use Rattle.std.proofs.lemmas.Iterator.Consumers.{count_from_yields_List, YieldsList-from_filter}
 use Rattle.std.proofs.lemmas.List.Sums.{length-filter}
-use Rattle.world.specs.declared.record.CallRecord.{CallRecord}
+use Rattle.cluster.specs.declared.record.CallRecord.{CallRecord}
 use Rattle.live_service.specs.Reports.{is_serve}
 use Rattle.live_service.proofs.report.count_serves.Goals as goal
 

@@ -1,7 +1,7 @@
 use Rattle.std.proofs.Common.{◌≡◌, ◌∙◌, ℕ, ◌+◌, List, length, decimal, sym, ap, subst, arith}
 use Rattle.key_hash.specs.Hash.{slice_key}
-use Rattle.world.specs.declared.record.CallRecord.{CallRecord}
-use Rattle.world.specs.declared.record.RecordedCall.TheVariants.{Serve}
+use Rattle.cluster.specs.declared.record.CallRecord.{CallRecord}
+use Rattle.cluster.specs.declared.call.ClusterCall.TheVariants.{Serve}
 use Rattle.live_service.specs.Reports.{AreServesFrom}
 use Rattle.live_service.proofs.Asked.{serves_push}
 use Rattle.live_service.proofs.worker.work.Goals as goal

@@ -1,6 +1,7 @@
 use Rattle.std.proofs.Common.{◌≡◌, ◌∙◌, ℕ, ◌+◌, ap, arith, subst, vec_len}
 use Rattle.history_lock.specs.Histories.{IsLegal}
-use Rattle.slicelet.specs.Steps.{event_step, History}
+use Rattle.slicelet.specs.Steps.{event_step}
+use Rattle.slicelet.specs.States.{SliceletState}
 use Rattle.live_service.specs.inside.Crews.{IsGathered}
 use Rattle.live_service.proofs.Crewing.{has_left}
 use Rattle.live_service.proofs.crew.Crew.run.Goals as goal
@@ -16,7 +17,7 @@ returns g c =
     omega (arith, gathered.many, c.in_ok-seat.ensures.many, c.in_ok-workers.ensures.tail_len, c.requires.crew.many) in
     let all = subst (λ (n : ℕ). IsGathered c.args.self.slicelet c.args.ticket.now n c.in_ok-table.gathered) c.asks.ensures.value gathered.gathered in
     has_left c.args.self.slicelet c.args.ticket.now table c.args.job.workers c.args.job.asks c.args.self.task c.dismiss.result c.in_ok-table.gathered all many
-    (ap (λ (machine : History). machine.task) c.requires.crew.new)
+    (ap (λ (machine : SliceletState). machine.task) c.requires.crew.new)
     (subst (λ machine. IsLegal event_step machine c.dismiss.result.history) c.requires.crew.new left.played)
     (rw same keeps.seat.own)
     (ap (λ p. p.lane) same ∙ (keeps.seat.lane ∙ (ap (λ p. p.lane) c.task_seat-seat.ensures.table ∙ c.requires.crew.of_lane)))
