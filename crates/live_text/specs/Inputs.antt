@@ -1,16 +1,16 @@
 -- What is written for what is read.
-use Rattle.std.specs.Prelude.{◌≡◌, ◌⊎◌, ℕ, List, take, Option, ⊤, Ok, None, IsUtf8}
+use Rattle.std.specs.Prelude.{◌≡◌, ◌⊎◌, ℕ, List, take, Option, ⊤, Ok}
 use Rattle.std.specs.Io.KnownBytes.{Appends, Keeps}
 use Rattle.serde_json.specs.Data.{Data}
-use Rattle.serde_json.specs.Read.{read}
-use Rattle.service.specs.Streams.{ReadsAll}
-use Rattle.service.specs.Service.{IsJson}
+use Rattle.program_io.specs.declared.fault.Fault.{Fault}
+use Rattle.program_io.specs.declared.fault.Fault.TheVariants as fault
+use Rattle.program_io.specs.Json.{IsJson, IsNoJson}
+use Rattle.program_io.specs.Streams.{ReadsAll}
 use Rattle.live_service.specs.LiveJobs.{LiveSizes}
 use Rattle.live_service.specs.Reports.{IsReported}
 use Rattle.live_service.specs.declared.report.LiveReport.{LiveReport}
 use Rattle.audit.specs.declared.finding.Audit.{Audit}
-use Rattle.live_text.specs.declared.fault.LiveFault.{LiveFault}
-use Rattle.live_text.specs.declared.fault.LiveFault.TheVariants as fault
+use Rattle.live_text.specs.declared.fault.InputError.{InputError}
 use Rattle.live_text.specs.Jobs.{live_job_of}
 use Rattle.live_text.specs.Lines.{live_text}
 
@@ -27,11 +27,11 @@ pub record SaysNone (bytes : List ℕ) : Type 0 where
   pub wrong : (job : LiveSizes) → live_job_of value ≡ Ok job → ⊥
 
 abbrev pub IsRefused : List ℕ → Type 0
-IsRefused bytes = (IsUtf8 bytes → read bytes ≡ None) ⊎ SaysNone bytes
+IsRefused bytes = IsNoJson bytes ⊎ SaysNone bytes
 
 -- no job was read, for want of memory or since there is none
-abbrev pub IsUnread : List ℕ → LiveFault → Type 0
-IsUnread bytes fault.Input = IsRefused bytes
+abbrev pub IsUnread : List ℕ → Fault InputError → Type 0
+IsUnread bytes (fault.Input refusal) = IsRefused bytes
 IsUnread bytes fault.Read = ⊥
 IsUnread bytes fault.Write = ⊥
 IsUnread bytes fault.Memory = ⊤
@@ -67,8 +67,8 @@ pub record Refused (before after : Option (List ℕ)) : Type 0 where
   pub reads : ReadsAll before after bytes
   pub why : IsRefused bytes
 
-abbrev pub Failed : Option (List ℕ) → Option (List ℕ) → Option (List ℕ) → Option (List ℕ) → LiveFault → Type 0
-Failed before after held holds fault.Input = Refused before after × Keeps held holds
+abbrev pub Failed : Option (List ℕ) → Option (List ℕ) → Option (List ℕ) → Option (List ℕ) → Fault InputError → Type 0
+Failed before after held holds (fault.Input refusal) = Refused before after × Keeps held holds
 Failed before after held holds fault.Read = Keeps held holds
 Failed before after held holds fault.Write = Cut before after held holds
 Failed before after held holds fault.Memory = Keeps held holds

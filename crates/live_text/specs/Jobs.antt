@@ -1,9 +1,9 @@
 -- What the JSON object of a live run says.
 use Rattle.std.specs.Prelude.{[], ◌∷◌, codes, Result, Ok}
 use Rattle.serde_json.specs.Data.{Data}
-use Rattle.service.specs.declared.fault.WrongForm.{WrongForm}
-use Rattle.service.specs.Reading.{◌>>=◌, ◌>>◌}
-use Rattle.service.specs.Members.{exactly, number_in}
+use Rattle.program_io.specs.declared.fault.WrongForm.{WrongForm}
+use Rattle.program_io.specs.Reading.{◌>>=◌, ◌>>◌}
+use Rattle.program_io.specs.Members.{exactly, number_in}
 use Rattle.live_service.specs.LiveJobs.{LiveSizes, live_sizes}
 
 -- four members and no other, each a number within its limits

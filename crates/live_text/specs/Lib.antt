@@ -1,4 +1,3 @@
-pub mod Faults
 pub mod Jobs
 pub mod Lines
 pub mod Inputs

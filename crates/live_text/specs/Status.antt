@@ -1,10 +1,10 @@
 -- How the program of live runs ends, and the status that it exits with.
 use Rattle.std.specs.Prelude.{◌≡◌, ◌⊎◌, ℕ, List, Option}
-use Rattle.service.specs.Status.{EndsAtArguments}
+use Rattle.program_io.specs.declared.fault.Fault.{Fault}
+use Rattle.program_io.specs.Status.{EndsAtArguments, status_of}
 use Rattle.audit.specs.declared.finding.Audit.{Audit}
 use Rattle.audit.specs.declared.finding.Audit.TheVariants.{One, No}
-use Rattle.live_text.specs.declared.fault.LiveFault.{LiveFault}
-use Rattle.live_text.specs.Faults.{status_of}
+use Rattle.live_text.specs.declared.fault.InputError.{InputError}
 use Rattle.live_text.specs.Inputs.{Answered, Failed}
 
 -- the status for what the audit found: 0 where it is one run, and else 4
@@ -20,7 +20,7 @@ pub record EndsWell (before after held holds : Option (List ℕ)) (code : ℕ) :
 
 -- it was not
 pub record EndsAtFault (before after held holds : Option (List ℕ)) (code : ℕ) : Type 0 where
-  pub why : LiveFault
+  pub why : Fault InputError
   pub status : code ≡ status_of why
   pub failed : Failed before after held holds why
 

@@ -5,10 +5,10 @@ ghost use Rattle.serde_json.specs.View.{view};
 ghost use Rattle.live_text.specs.Jobs.{live_job_of};
 ghost use Rattle.live_text.specs.Inputs.{SaysJob, IsUnread};
 
-use crate::fault::LiveFault;
+use crate::fault::InputError;
 use live_service::{LiveJob, MOST_ASKS, MOST_ROUNDS, MOST_TASKS, MOST_WORKERS};
-use serde_json::{Category, Value};
-use service::{WrongForm, exactly, number_in};
+use program_io::{Fault, Unread, WrongForm, exactly, number_in, value_of};
+use serde_json::Value;
 use std::alloc::Global;
 
 // The job that the value says.
@@ -28,22 +28,17 @@ fn live_job_of(value: &Value) -> Result<LiveJob, WrongForm>
 }
 
 /// The job that the bytes say.
-pub fn parsed(alloc: Global, bytes: &[u8]) -> Result<LiveJob, LiveFault>
+pub fn parsed(alloc: Global, bytes: &[u8]) -> Result<LiveJob, Fault<InputError>>
     ensures ok { IfOk result (SaysJob bytes.now) }
     ensures err { IfErr result (IsUnread bytes.now) }
 {
-    let value = match Value::from_slice(alloc, bytes) {
+    let value = match value_of(alloc, bytes) {
         Ok(value) => value,
-        Err(error) => {
-            return if error.classify() == Category::Memory {
-                Err(LiveFault::Memory)
-            } else {
-                Err(LiveFault::Input)
-            };
-        }
+        Err(Unread::WrongForm) => return Err(Fault::Input(InputError)),
+        Err(Unread::Memory) => return Err(Fault::Memory),
     };
     match live_job_of(&value) {
         Ok(job) => Ok(job),
-        Err(_) => Err(LiveFault::Input),
+        Err(_) => Err(Fault::Input(InputError)),
     }
 }

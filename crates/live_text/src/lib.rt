@@ -7,6 +7,6 @@ mod lines;
 mod program;
 mod run;
 
-pub use fault::{LiveFault, LiveProgramError};
+pub use fault::{InputError, LiveProgramError};
 pub use program::slicer_live;
 pub use run::run_live_text;

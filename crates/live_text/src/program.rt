@@ -8,7 +8,7 @@ use crate::fault::LiveProgramError;
 use crate::run::run_live_text;
 use audit::Audit;
 use live_service::OpenGate;
-use service::has_arguments;
+use program_io::has_arguments;
 use std::env::Env;
 use std::io::{Eprint, Read, Write};
 use std::process::ExitCode;

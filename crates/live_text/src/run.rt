@@ -3,12 +3,12 @@
 ghost use Rattle.std.specs.Prelude.{IfErr, IfOk};
 ghost use Rattle.live_text.specs.Inputs.{Answered, Failed};
 
-use crate::fault::LiveFault;
+use crate::fault::InputError;
 use crate::input::parsed;
 use crate::lines::text_of;
 use audit::Audit;
 use live_service::{Gate, run_live};
-use service::{read_all, write_all};
+use program_io::{Fault, read_all, write_all};
 use std::alloc::Global;
 use std::io::{Read, Write};
 use std::sync::Wait;
@@ -24,7 +24,7 @@ pub fn run_live_text<H: Threads + Wait + Sync, R: Read, W: Write, G: Gate + Sync
     reader: &mut R,
     writer: &mut W,
     gate: &G,
-) -> Result<Audit, LiveFault>
+) -> Result<Audit, Fault<InputError>>
     ensures ok { IfOk result (λ found. Answered (R.remaining reader.old) (R.remaining reader.new)
         (W.contents writer.old) (W.contents writer.new) found) }
     ensures err { IfErr result (Failed (R.remaining reader.old) (R.remaining reader.new)

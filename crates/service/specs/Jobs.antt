@@ -4,9 +4,9 @@ use Rattle.serde_json.specs.Data.{Data}
 use Rattle.lease_table.specs.Policies.{Terms, is_policy, terms}
 use Rattle.machines.specs.Numbers.{is_within}
 use Rattle.world.specs.Jobs.{Job, job_of as job_with}
-use Rattle.service.specs.declared.fault.WrongForm.{WrongForm}
-use Rattle.service.specs.Reading.{◌>>=◌, ◌>>◌, or_else, check}
-use Rattle.service.specs.Members.{wrong, exactly, member_at, number_of, number_at, two_numbers_of}
+use Rattle.program_io.specs.declared.fault.WrongForm.{WrongForm}
+use Rattle.program_io.specs.Reading.{◌>>=◌, ◌>>◌, or_else, check}
+use Rattle.program_io.specs.Members.{wrong, exactly, member_at, number_of, number_at, two_numbers_of}
 
 -- the one member `job` of the line
 unfoldable pub job_member : Data → Result Data WrongForm

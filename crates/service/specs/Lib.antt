@@ -1,11 +1,9 @@
-pub mod Reading
-pub mod Members
+pub mod Keys
 pub mod Jobs
 pub mod Questions
 pub mod Steps
 pub mod Scripts
 pub mod Lines
 pub mod Output
-pub mod Streams
 pub mod Service
 pub mod Status

@@ -6,8 +6,6 @@ use Rattle.assignment.specs.declared.error.AssignmentError.{AssignmentError}
 use Rattle.assignment.specs.declared.error.AssignmentError.TheVariants as assignment
 use Rattle.slice_ranges.specs.declared.error.RangesError.{RangesError}
 use Rattle.slice_ranges.specs.declared.error.RangesError.TheVariants as ranges
-use Rattle.policy_rules.specs.declared.lease.Kind.{Kind}
-use Rattle.policy_rules.specs.declared.lease.Kind.TheVariants.{Guard, Bridge}
 use Rattle.policy_rules.specs.declared.answer.Ground.{Ground}
 use Rattle.policy_rules.specs.declared.answer.Ground.TheVariants as ground
 use Rattle.policy_rules.specs.declared.answer.Verdict.{Verdict}
@@ -28,6 +26,7 @@ use Rattle.weighted_move.specs.declared.error.PlanError.TheVariants as plan
 use Rattle.weighted_move.specs.declared.moves.Move.{Move}
 use Rattle.weighted_move.specs.declared.made.Plan.{Plan}
 use Rattle.assignment.specs.declared.slice.Slice.{Slice}
+use Rattle.wire.specs.LeaseMembers.{kind_word}
 use Rattle.assigner.specs.declared.action.Action.{Action}
 use Rattle.assigner.specs.declared.action.Action.TheVariants as action
 use Rattle.world.specs.declared.reply.Refusal.{Refusal}
@@ -58,11 +57,6 @@ ranges_words ranges.Unsorted = codes "unsorted"
 ranges_words ranges.Empty = codes "empty"
 ranges_words ranges.PastEnd = codes "past-end"
 ranges_words ranges.NoMemory = codes "no-memory"
-
--- the word for a kind of lease
-abbrev pub kind_word : Kind → List ℕ
-kind_word Guard = codes "guard"
-kind_word Bridge = codes "bridge"
 
 -- the words for why a key is not served
 abbrev pub ground_words : Ground → List ℕ

@@ -6,9 +6,11 @@ use Rattle.policy_rules.specs.declared.lease.Kind.TheVariants.{Guard, Bridge}
 use Rattle.policy_rules.specs.Leases.{same_kind}
 use Rattle.world.specs.declared.judge.WrittenLease.{WrittenLease}
 use Rattle.world.specs.declared.judge.Question.{Question}
-use Rattle.service.specs.declared.fault.WrongForm.{WrongForm}
-use Rattle.service.specs.Reading.{◌>>=◌, ◌>>◌, check}
-use Rattle.service.specs.Members.{wrong, exactly, flag_at, number_at, key_at, kind_at, list_at, two_numbers_of}
+use Rattle.program_io.specs.declared.fault.WrongForm.{WrongForm}
+use Rattle.program_io.specs.Reading.{◌>>=◌, ◌>>◌, check}
+use Rattle.program_io.specs.Members.{wrong, exactly, flag_at, number_at, list_at, two_numbers_of}
+use Rattle.wire.specs.LeaseMembers.{kind_at}
+use Rattle.service.specs.Keys.{key_at}
 
 -- a lease: four members and no other; a range is written as `[start, end]`
 unfoldable pub lease_of : Data → Result WrittenLease WrongForm

@@ -3,14 +3,14 @@ use Rattle.std.specs.Prelude.{◌≡◌, ℕ, List, [], ◌∷◌, length, nat_l
 use Rattle.serde_json.specs.Data.{Data}
 use Rattle.world.specs.Jobs.{Job}
 use Rattle.world.specs.declared.step.Step.{Step}
-use Rattle.service.specs.declared.fault.WrongForm.{WrongForm}
+use Rattle.program_io.specs.declared.fault.WrongForm.{WrongForm}
 use Rattle.service.specs.declared.fault.ScriptError.{ScriptError}
 use Rattle.service.specs.declared.fault.ScriptError.TheVariants.{NotArray, NoJob, BadJob, TooManySteps, BadStep}
-use Rattle.service.specs.declared.fault.Fault.{Fault}
-use Rattle.service.specs.declared.fault.Fault.TheVariants as fault
+use Rattle.program_io.specs.declared.fault.Fault.{Fault}
+use Rattle.program_io.specs.declared.fault.Fault.TheVariants as fault
 use Rattle.service.specs.declared.script.Script.{Script}
-use Rattle.service.specs.Reading.{◌>>=◌, ◌>>◌, check, in_turn}
-use Rattle.service.specs.Members.{array_of}
+use Rattle.program_io.specs.Reading.{◌>>=◌, ◌>>◌, check, in_turn}
+use Rattle.program_io.specs.Members.{array_of}
 use Rattle.service.specs.Jobs.{job_member, job_of}
 use Rattle.service.specs.Steps.{step_of}
 
@@ -55,25 +55,25 @@ IsReadOrRefused f (Ok x) read = read ≡ Ok (f x)
 IsReadOrRefused f (Err refusal) read = read ≡ Err refusal
 
 -- what a function that failed says of what is read: nothing, where memory ran out
-abbrev pub FailsWith : {A : Type 0} → Fault → Result A ScriptError → Type 0
-FailsWith (fault.Script refusal) read = read ≡ Err refusal
+abbrev pub FailsWith : {A : Type 0} → Fault ScriptError → Result A ScriptError → Type 0
+FailsWith (fault.Input refusal) read = read ≡ Err refusal
 FailsWith fault.Read read = ⊥
 FailsWith fault.Write read = ⊥
 FailsWith fault.Memory read = ⊤
 
 -- what a function returned is what is read, unless memory ran out
-abbrev pub Answers : {A : Type 0} → Result A Fault → Result A ScriptError → Type 0
+abbrev pub Answers : {A : Type 0} → Result A (Fault ScriptError) → Result A ScriptError → Type 0
 Answers (Ok x) read = read ≡ Ok x
 Answers (Err e) read = FailsWith e read
 
 -- why no script was read of a value: it is refused, or memory ran out where only a step can be refused
-abbrev pub FailsScript : Fault → Data → Type 0
-FailsScript (fault.Script refusal) d = script_of d ≡ Err refusal
+abbrev pub FailsScript : Fault ScriptError → Data → Type 0
+FailsScript (fault.Input refusal) d = script_of d ≡ Err refusal
 FailsScript fault.Read d = ⊥
 FailsScript fault.Write d = ⊥
 FailsScript fault.Memory d = IsTrue (is_ok (head_of d))
 
 -- what a function returned is the script that the value says, unless memory ran out
-abbrev pub AnswersScript : Result Script Fault → Data → Type 0
+abbrev pub AnswersScript : Result Script (Fault ScriptError) → Data → Type 0
 AnswersScript (Ok script) d = script_of d ≡ Ok script
 AnswersScript (Err e) d = FailsScript e d

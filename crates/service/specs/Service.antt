@@ -1,21 +1,16 @@
 -- The main theorem: what is written for what is read.
-use Rattle.std.specs.Prelude.{◌≡◌, ◌⊎◌, ℕ, List, take, Option, Some, None, ⊤, Ok, Err, IsUtf8}
+use Rattle.std.specs.Prelude.{◌≡◌, ◌⊎◌, ℕ, List, take, Option, ⊤, Ok, Err}
 use Rattle.std.specs.Io.KnownBytes.{Appends, Keeps}
 use Rattle.serde_json.specs.Data.{Data}
-use Rattle.serde_json.specs.Read.{read}
-use Rattle.service.specs.declared.fault.Fault.{Fault}
-use Rattle.service.specs.declared.fault.Fault.TheVariants as fault
+use Rattle.program_io.specs.declared.fault.Fault.{Fault}
+use Rattle.program_io.specs.declared.fault.Fault.TheVariants as fault
 use Rattle.service.specs.declared.fault.ScriptError.{ScriptError}
 use Rattle.service.specs.declared.fault.ScriptError.TheVariants.{NotJson}
 use Rattle.service.specs.declared.script.Script.{Script}
 use Rattle.service.specs.Scripts.{script_of}
 use Rattle.service.specs.Output.{IsOutput}
-use Rattle.service.specs.Streams.{ReadsAll}
-
--- the bytes are a text of this JSON value
-pub record IsJson (bytes : List ℕ) (value : Data) : Type 0 where
-  pub utf8 : IsUtf8 bytes
-  pub reads : read bytes ≡ Some value
+use Rattle.program_io.specs.Json.{IsJson, IsNoJson}
+use Rattle.program_io.specs.Streams.{ReadsAll}
 
 -- the bytes say this script
 pub record SaysScript (bytes : List ℕ) (script : Script) : Type 0 where
@@ -31,11 +26,11 @@ pub record SaysFault (bytes : List ℕ) (f : ScriptError) : Type 0 where
 
 -- the bytes are refused for this
 abbrev pub IsRefusedFor : List ℕ → ScriptError → Type 0
-IsRefusedFor bytes f = ((f ≡ NotJson) × (IsUtf8 bytes → read bytes ≡ None)) ⊎ SaysFault bytes f
+IsRefusedFor bytes f = ((f ≡ NotJson) × IsNoJson bytes) ⊎ SaysFault bytes f
 
 -- no script was read, for want of memory or for its fault
-abbrev pub IsUnread : List ℕ → Fault → Type 0
-IsUnread bytes (fault.Script f) = IsRefusedFor bytes f
+abbrev pub IsUnread : List ℕ → Fault ScriptError → Type 0
+IsUnread bytes (fault.Input f) = IsRefusedFor bytes f
 IsUnread bytes fault.Read = ⊥
 IsUnread bytes fault.Write = ⊥
 IsUnread bytes fault.Memory = ⊤
@@ -67,8 +62,8 @@ pub record Refused (before after : Option (List ℕ)) (f : ScriptError) : Type 0
   pub reads : ReadsAll before after bytes
   pub why : IsRefusedFor bytes f
 
-abbrev pub Failed : Option (List ℕ) → Option (List ℕ) → Option (List ℕ) → Option (List ℕ) → Fault → Type 0
-Failed before after held holds (fault.Script f) = Refused before after f × Keeps held holds
+abbrev pub Failed : Option (List ℕ) → Option (List ℕ) → Option (List ℕ) → Option (List ℕ) → Fault ScriptError → Type 0
+Failed before after held holds (fault.Input f) = Refused before after f × Keeps held holds
 Failed before after held holds fault.Read = Keeps held holds
 Failed before after held holds fault.Write = Cut before after held holds
 Failed before after held holds fault.Memory = Keeps held holds

@@ -2,26 +2,20 @@
 use Rattle.std.specs.Prelude.{ℕ, List, [], ◌∷◌, ◌++◌, codes, Result, Ok, Err, if◌then◌else◌}
 use Rattle.std.specs.Str.{bytes_eq}
 use Rattle.serde_json.specs.Data.{Data}
-use Rattle.assignment.specs.declared.slice.Slice.{Slice}
 use Rattle.world.specs.Jobs.{Job}
 use Rattle.world.specs.declared.step.Step.{Step}
 use Rattle.world.specs.declared.step.Step.TheVariants.{Hash, Assign, Owners, Judge, Take, Renew, Propose, Commit, Phase, Rows, Grant, Free, Start, Hear, Release, Serve, Hold, Check, Learn, Look, Forget, Load, Gather, Plan, Next, Restart, Lose}
-use Rattle.service.specs.declared.fault.WrongForm.{WrongForm}
+use Rattle.program_io.specs.declared.fault.WrongForm.{WrongForm}
 use Rattle.machines.specs.Numbers.{is_within}
 use Rattle.assignment.specs.declared.task.TheConstants.{TASKS}
 use Rattle.weighted_move.specs.Owning.{rise_from}
 use Rattle.world.specs.Bounds.{Bounds, bounds, is_bounds}
-use Rattle.service.specs.Reading.{◌>>=◌, ◌>>◌, check}
-use Rattle.service.specs.Members.{wrong, exactly, number_at, number_in, number_of, life_at, flag_at, kind_at, text_at, key_at, pair_of, list_of, list_at}
+use Rattle.program_io.specs.Reading.{◌>>=◌, ◌>>◌, check}
+use Rattle.program_io.specs.Members.{wrong, exactly, number_at, number_in, number_of, flag_at, text_at, list_at}
+use Rattle.wire.specs.Assignments.{slice_of}
+use Rattle.wire.specs.LeaseMembers.{kind_at, life_at}
+use Rattle.service.specs.Keys.{key_at}
 use Rattle.service.specs.Questions.{question_of}
-
--- a slice, written as `[start, [owner, ..]]`
-unfoldable pub slice_of : Data → Result Slice WrongForm
-slice_of d = do
-  pair ← pair_of d
-  start ← number_of pair.0
-  owners ← list_of number_of pair.1
-  Ok (record { start = start; owners = owners })
 
 -- a `hash` has a key
 unfoldable pub hash_step : Data → Result Step WrongForm

@@ -2,12 +2,11 @@
 
 ghost use Rattle.std.specs.Prelude.{◌≡◌};
 ghost use Rattle.serde_json.specs.View.{view};
-ghost use Rattle.service.specs.Members.{IsRead};
+ghost use Rattle.program_io.specs.Members.{IsRead};
 ghost use Rattle.service.specs.Jobs.{job_member, redundancy_of, policy_of, job_of};
 
-use crate::fault::WrongForm;
-use crate::members::{exactly, member_at, number_at, number_of, two_numbers_of};
 use lease_table::Policy;
+use program_io::{WrongForm, exactly, member_at, number_at, number_of, two_numbers_of};
 use serde_json::Value;
 use world::Job;
 

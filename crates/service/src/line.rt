@@ -5,11 +5,12 @@ ghost use Rattle.std.specs.List.{flat_map};
 ghost use Rattle.service.specs.Lines.{hex_16, verdict_words, phase_words, owners_text, row_text, rows_text, next_number, reply_text};
 
 use crate::plan_line::{MovesText, SlicesText};
-use crate::words::{RefusalWords, action_word, kind_word};
+use crate::words::{RefusalWords, action_word};
 use assignment::TaskId;
 use lease_table::{Phase, Row};
 use policy_rules::{Ground, Verdict};
 use std::fmt;
+use wire::kind_word;
 use world::Reply;
 
 /// A number in 16 hexadecimal digits.

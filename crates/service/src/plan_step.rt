@@ -2,18 +2,22 @@
 
 ghost use Rattle.std.specs.Prelude.{◌≡◌};
 ghost use Rattle.serde_json.specs.View.{view};
-ghost use Rattle.service.specs.Reading.{Gives};
+ghost use Rattle.program_io.specs.Reading.{Gives};
 ghost use Rattle.service.specs.Steps.{task_of, tasks_at, bounds_of, plan_step};
 
-use crate::fault::{Unread, WrongForm};
-use crate::members::{Form, exactly, list_at, number_at, number_of};
-use assignment::{Listed, TaskId};
+use assignment::TaskId;
+use program_io::{Form, Number, Unread, WrongForm, exactly, list_at, number_at, number_of};
 use serde_json::Value;
 use std::alloc::Global;
 use weighted_move::TaskSet;
 use world::{PlanBounds, Step};
 
-impl Form for TaskId {
+/// The number of a task that there may be.
+struct TaskForm;
+
+impl Form for TaskForm {
+    type Output = TaskId;
+
     ghost form = { task_of };
 
     #[tactic(auto, unfolding(crate::specs::Steps::task_of))]
@@ -30,7 +34,7 @@ impl Form for TaskId {
 fn tasks_at(alloc: Global, name: &str, value: &Value) -> Result<TaskSet, Unread>
     ensures { Gives result (tasks_at name.now (view value.now)) }
 {
-    let tasks: Listed<TaskId> = list_at(alloc, name, value)?;
+    let tasks = list_at::<TaskForm>(alloc, name, value)?;
     match TaskSet::rising(tasks.as_slice()) {
         Some(tasks) => Ok(tasks),
         None => Err(Unread::WrongForm),
@@ -62,7 +66,7 @@ pub fn plan_step(alloc: Global, step: &Value) -> Result<Step, Unread>
         step,
     )?;
     let tasks = tasks_at(alloc, "tasks", step)?;
-    let loads = list_at(alloc, "loads", step)?;
+    let loads = list_at::<Number>(alloc, "loads", step)?;
     let bounds = bounds_of(step)?;
     Ok(Step::Plan {
         loads,

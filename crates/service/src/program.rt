@@ -5,14 +5,10 @@ ghost use Rattle.service.specs.Status.{Ends};
 
 use crate::fault::ProgramError;
 use crate::run::run_script;
-use std::env::{Env, FillError};
+use program_io::has_arguments;
+use std::env::Env;
 use std::io::{Eprint, Read, Write};
 use std::process::ExitCode;
-
-/// Whether the program was given an argument beside its name.
-pub fn has_arguments(rt: &impl Env) -> bool {
-    !matches!(rt.arg(1, &mut []), Err(FillError::NotPresent))
-}
 
 /// Plays the script of a reader on a writer, and says on the standard error why it is not played.
 ///

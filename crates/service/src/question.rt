@@ -3,18 +3,23 @@
 ghost use Rattle.std.specs.Prelude.{◌≡◌, nat_le, count_by};
 ghost use Rattle.serde_json.specs.View.{view};
 ghost use Rattle.policy_rules.specs.Leases.{same_kind};
-ghost use Rattle.service.specs.Reading.{Gives};
+ghost use Rattle.program_io.specs.Reading.{Gives};
 ghost use Rattle.service.specs.Questions.{lease_of, question_of};
 
-use crate::fault::Unread;
-use crate::members::{Form, exactly, flag_at, key_at, kind_at, list_at, number_at};
-use assignment::Listed;
+use crate::key_member::key_at;
 use policy_rules::Kind;
+use program_io::{Form, TwoNumbers, Unread, exactly, flag_at, list_at, number_at};
 use serde_json::Value;
 use std::alloc::Global;
+use wire::kind_at;
 use world::{Question, WrittenLease};
 
-impl Form for WrittenLease {
+/// A lease, as a `judge` writes it.
+struct LeaseForm;
+
+impl Form for LeaseForm {
+    type Output = WrittenLease;
+
     ghost form = { lease_of };
 
     #[tactic(auto, unfolding(crate::specs::Questions::lease_of))]
@@ -23,7 +28,7 @@ impl Form for WrittenLease {
         Ok(WrittenLease {
             kind: kind_at("kind", value)?,
             generation: number_at("generation", value)?,
-            ranges: list_at(alloc, "ranges", value)?,
+            ranges: list_at::<TwoNumbers>(alloc, "ranges", value)?,
             ends: number_at("ends", value)?,
         })
     }
@@ -44,7 +49,7 @@ pub fn question_of(alloc: Global, step: &Value) -> Result<Question, Unread>
     exactly(&["do", "up", "last", "leases", "key", "at"], step)?;
     let up = flag_at("up", step)?;
     let last = number_at("last", step)?;
-    let leases: Listed<WrittenLease> = list_at(alloc, "leases", step)?;
+    let leases = list_at::<LeaseForm>(alloc, "leases", step)?;
     let key = key_at(alloc, "key", step)?;
     let at = number_at("at", step)?;
     if !has_one_at_most(Kind::Guard, leases.as_slice())

@@ -1,41 +1,25 @@
 //! A script's bytes in, the bytes of its replies out.
 
 ghost use Rattle.std.specs.Prelude.{IfOk, IfErr, OnOk};
-ghost use Rattle.serde_json.specs.View.{view};
-ghost use Rattle.service.specs.Service.{IsJson, SaysScript, IsUnread, Answered, Failed};
+ghost use Rattle.service.specs.Service.{SaysScript, IsUnread, Answered, Failed};
 
-use crate::fault::{Fault, ScriptError};
+use crate::fault::ScriptError;
 use crate::output::output_of;
 use crate::script::{Script, script_of};
-use crate::streams::{read_all, write_all};
-use serde_json::{Category, Value};
+use program_io::{Fault, Unread, read_all, value_of, write_all};
 use std::alloc::Global;
 use std::io::{Read, Write};
 
-// The JSON value that the bytes are.
-fn value_of(alloc: Global, bytes: &[u8]) -> Result<Value, Fault>
-    ensures ok { IfOk result (λ v. IsJson bytes.now (view v)) }
-    ensures err { IfErr result (IsUnread bytes.now) }
-{
-    match Value::from_slice(alloc, bytes) {
-        Ok(value) => Ok(value),
-        Err(error) => {
-            if error.classify() == Category::Memory {
-                Err(Fault::Memory)
-            } else {
-                Err(Fault::Script(ScriptError::NotJson))
-            }
-        }
-    }
-}
-
 // The script that the bytes say.
-fn parsed(alloc: Global, bytes: &[u8]) -> Result<Script, Fault>
+fn parsed(alloc: Global, bytes: &[u8]) -> Result<Script, Fault<ScriptError>>
     ensures ok { IfOk result (SaysScript bytes.now) }
     ensures err { IfErr result (IsUnread bytes.now) }
 {
-    let value = value_of(alloc, bytes)?;
-    script_of(alloc, &value)
+    match value_of(alloc, bytes) {
+        Ok(value) => script_of(alloc, &value),
+        Err(Unread::WrongForm) => Err(Fault::Input(ScriptError::NotJson)),
+        Err(Unread::Memory) => Err(Fault::Memory),
+    }
 }
 
 /// Reads a script to its end, and then writes a line for each of its steps and a last line.
@@ -46,7 +30,7 @@ pub fn run_script<R: Read, W: Write>(
     alloc: Global,
     reader: &mut R,
     writer: &mut W,
-) -> Result<(), Fault>
+) -> Result<(), Fault<ScriptError>>
     ensures ok { OnOk result (Answered (R.remaining reader.old) (R.remaining reader.new)
         (W.contents writer.old) (W.contents writer.new)) }
     ensures err { IfErr result (Failed (R.remaining reader.old) (R.remaining reader.new)
@@ -55,5 +39,6 @@ pub fn run_script<R: Read, W: Write>(
     let bytes = read_all(alloc, reader)?;
     let script = parsed(alloc, bytes.as_slice())?;
     let text = output_of(alloc, &script)?;
-    write_all(writer, text.as_str().as_bytes())
+    write_all(writer, text.as_str().as_bytes())?;
+    Ok(())
 }

@@ -4,11 +4,11 @@ ghost use Rattle.std.specs.Prelude.{map};
 ghost use Rattle.serde_json.specs.View.{view};
 ghost use Rattle.service.specs.Scripts.{IsReadOrRefused, Answers, AnswersScript, head_of, steps_of, script_of};
 
-use crate::fault::{Fault, ScriptError, Unread};
+use crate::fault::ScriptError;
 use crate::job::{job_member, job_of};
-use crate::members::array_of;
 use crate::step::step_of;
 use assignment::Listed;
+use program_io::{Fault, Unread, array_of};
 use serde_json::Value;
 use std::alloc::Global;
 use world::{Job, Step};
@@ -48,14 +48,14 @@ fn head_of(value: &Value) -> Result<(Job, &[Value]), ScriptError>
 
 // The steps that the elements after the job line say, or the first that says none.
 #[tactic(auto, unfolding(crate::specs::Scripts::steps_of))]
-fn steps_of(alloc: Global, job: Job, elements: &[Value]) -> Result<Listed<Step>, Fault>
+fn steps_of(alloc: Global, job: Job, elements: &[Value]) -> Result<Listed<Step>, Fault<ScriptError>>
     ensures { Answers result (steps_of job (map view elements.now)) }
 {
     let mut steps = Listed::new(alloc);
     for (i, element) in elements.iter().enumerate() {
         match step_of(alloc, job, element) {
             Ok(step) => steps.push(step)?,
-            Err(Unread::WrongForm) => return Err(Fault::Script(ScriptError::BadStep(i + 1))),
+            Err(Unread::WrongForm) => return Err(Fault::Input(ScriptError::BadStep(i + 1))),
             Err(Unread::Memory) => return Err(Fault::Memory),
         }
     }
@@ -65,12 +65,12 @@ fn steps_of(alloc: Global, job: Job, elements: &[Value]) -> Result<Listed<Step>,
 /// The script that a JSON value says, or the first fault of it. Only steps take memory: each other
 /// fault is found without any.
 #[tactic(auto, unfolding(crate::specs::Scripts::script_of))]
-pub fn script_of(alloc: Global, value: &Value) -> Result<Script, Fault>
+pub fn script_of(alloc: Global, value: &Value) -> Result<Script, Fault<ScriptError>>
     ensures { AnswersScript result (view value.now) }
 {
     let (job, elements) = match head_of(value) {
         Ok(head) => head,
-        Err(refusal) => return Err(Fault::Script(refusal)),
+        Err(refusal) => return Err(Fault::Input(refusal)),
     };
     let steps = steps_of(alloc, job, elements)?;
     Ok(Script { job, steps })

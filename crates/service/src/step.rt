@@ -2,32 +2,17 @@
 
 ghost use Rattle.std.specs.Prelude.{◌≡◌};
 ghost use Rattle.serde_json.specs.View.{view};
-ghost use Rattle.service.specs.Reading.{Gives};
-ghost use Rattle.service.specs.Steps.{slice_of, hash_step, assign_step, owners_step, step_of};
+ghost use Rattle.program_io.specs.Reading.{Gives};
+ghost use Rattle.service.specs.Steps.{hash_step, assign_step, owners_step, step_of};
 
-use crate::fault::Unread;
-use crate::members::{
-    Form, exactly, key_at, list_at, list_of, number_at, number_of, pair_of, text_at,
-};
+use crate::key_member::key_at;
 use crate::question::question_of;
 use crate::table_steps::step_of_table;
-use assignment::Slice;
+use program_io::{Unread, exactly, list_at, number_at, text_at};
 use serde_json::Value;
 use std::alloc::Global;
+use wire::SliceForm;
 use world::{Job, Step};
-
-impl Form for Slice {
-    ghost form = { slice_of };
-
-    #[tactic(auto, unfolding(crate::specs::Steps::slice_of))]
-    fn read(alloc: Global, value: &Value) -> Result<Slice, Unread> {
-        let (start, owners) = pair_of(value)?;
-        Ok(Slice {
-            start: number_of(start)?,
-            owners: list_of(alloc, owners)?,
-        })
-    }
-}
 
 #[tactic(auto, unfolding(crate::specs::Steps::hash_step))]
 fn hash_step(alloc: Global, step: &Value) -> Result<Step, Unread>
@@ -46,7 +31,7 @@ fn assign_step(alloc: Global, step: &Value) -> Result<Step, Unread>
     exactly(&["do", "generation", "slices"], step)?;
     Ok(Step::Assign {
         generation: number_at("generation", step)?,
-        slices: list_at(alloc, "slices", step)?,
+        slices: list_at::<SliceForm>(alloc, "slices", step)?,
     })
 }
 

@@ -2,14 +2,14 @@
 
 ghost use Rattle.std.specs.Prelude.{◌≡◌, ◌++◌};
 ghost use Rattle.serde_json.specs.View.{view};
-ghost use Rattle.service.specs.Reading.{Gives};
+ghost use Rattle.program_io.specs.Reading.{Gives};
 ghost use Rattle.service.specs.Steps.{take_step, renew_step, propose_step, commit_step, phase_step, rows_step, grant_step, free_step, restart_step, lose_step, read_named, table_kinds, task_kinds, clerk_kinds, load_kinds};
 
-use crate::fault::{Unread, WrongForm};
-use crate::members::{exactly, life_at, list_at, number_at, number_in};
 use crate::task_steps::step_of_task;
+use program_io::{Unread, WrongForm, exactly, list_at, number_at, number_in};
 use serde_json::Value;
 use std::alloc::Global;
+use wire::{SliceForm, life_at};
 use world::{Job, Step};
 
 #[tactic(auto, unfolding(crate::specs::Steps::take_step))]
@@ -42,7 +42,7 @@ fn propose_step(alloc: Global, job: Job, step: &Value) -> Result<Step, Unread>
     Ok(Step::Propose {
         assigner: number_in(1, job.assigners(), "assigner", step)?,
         generation: number_at("generation", step)?,
-        slices: list_at(alloc, "slices", step)?,
+        slices: list_at::<SliceForm>(alloc, "slices", step)?,
         at: number_at("at", step)?,
     })
 }

@@ -2,14 +2,15 @@
 
 ghost use Rattle.std.specs.Prelude.{◌≡◌, ◌++◌};
 ghost use Rattle.serde_json.specs.View.{view};
-ghost use Rattle.service.specs.Reading.{Gives};
+ghost use Rattle.program_io.specs.Reading.{Gives};
 ghost use Rattle.service.specs.Steps.{start_step, hear_step, release_step, serve_step, hold_step, check_step, read_named, task_kinds, clerk_kinds, load_kinds};
 
 use crate::clerk_steps::step_of_clerk;
-use crate::fault::{Unread, WrongForm};
-use crate::members::{exactly, key_at, kind_at, life_at, number_at, number_in};
+use crate::key_member::key_at;
+use program_io::{Unread, WrongForm, exactly, number_at, number_in};
 use serde_json::Value;
 use std::alloc::Global;
+use wire::{kind_at, life_at};
 use world::{Job, Step};
 
 #[tactic(auto, unfolding(crate::specs::Steps::start_step))]

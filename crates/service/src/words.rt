@@ -1,18 +1,18 @@
 //! The words for why a step is refused.
 
 ghost use Rattle.std.specs.Prelude.{◌≡◌, Some};
-ghost use Rattle.service.specs.Lines.{slices_words, ranges_words, kind_word, table_words, slicelet_words, load_words, plan_words, action_word, refusal_words};
+ghost use Rattle.service.specs.Lines.{slices_words, ranges_words, table_words, slicelet_words, load_words, plan_words, action_word, refusal_words};
 
 use assigner::Action;
 use assignment::AssignmentError;
 use clerk::ClerkError;
 use lease_table::TableError;
 use load_ledger::LoadError;
-use policy_rules::Kind;
 use slice_ranges::RangesError;
 use slicelet::SliceletError;
 use std::fmt;
 use weighted_move::PlanError;
+use wire::kind_word;
 use world::Refusal;
 
 // The words for slices that make no assignment. No reply is for want of memory.
@@ -42,16 +42,6 @@ fn ranges_words(error: RangesError) -> &'static str
         RangesError::Empty => "empty",
         RangesError::PastEnd => "past-end",
         RangesError::NoMemory => "no-memory",
-    }
-}
-
-/// The word for a kind of lease.
-pub fn kind_word(kind: Kind) -> &'static str
-    ensures { result.now ≡ kind_word kind }
-{
-    match kind {
-        Kind::Guard => "guard",
-        Kind::Bridge => "bridge",
     }
 }
 

@@ -2,7 +2,7 @@ use Rattle.std.proofs.Common.{◌≡◌, ◌+◌, ◌∙◌, ℕ, map, ap, Err, 
 use Rattle.serde_json.specs.View.{view}
 use Rattle.service.specs.declared.fault.ScriptError.TheVariants.{BadStep}
 use Rattle.service.specs.Scripts.{step_at, steps_of}
-use Rattle.service.proofs.Turns.{starts, goes_on, ends, is_done}
+use Rattle.program_io.proofs.Turns.{starts, goes_on, ends, is_done}
 use Rattle.service.proofs.script.steps_of.Goals as goal
 
 pub loop-i-init : goal.loop-i-init

@@ -1,8 +1,8 @@
 use Rattle.std.proofs.Common.{◌≡◌, ◌+◌, map, drop}
 use Rattle.serde_json.specs.View.{view}
-use Rattle.service.specs.Reading.{in_turn}
+use Rattle.program_io.specs.Reading.{in_turn}
 use Rattle.service.specs.Scripts.{step_at, steps_of}
-use Rattle.service.proofs.Turns.{with_front}
+use Rattle.program_io.proofs.Turns.{with_front}
 use Rattle.service.proofs.script.steps_of.Given as goal
 
 abbrev pub invariant-loop-i : goal.invariant-loop-i

@@ -1,0 +1,5 @@
+pub mod Reading
+pub mod Members
+pub mod Json
+pub mod Streams
+pub mod Status

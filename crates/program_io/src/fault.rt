@@ -1,0 +1,142 @@
+//! Why a program does not answer.
+
+ghost use Rattle.std.specs.Prelude.{◌≡◌};
+ghost use Rattle.program_io.specs.declared.fault.Fault.TheVariants as fault;
+ghost use Rattle.program_io.specs.declared.fault.ReadError.TheVariants as reading;
+ghost use Rattle.program_io.specs.declared.fault.Unread.TheVariants as unread;
+ghost use Rattle.program_io.specs.Status.{fault_of_reading, status_of};
+
+use std::alloc::{AllocError, AllocFailed};
+use std::fmt::Display;
+use thiserror::Error;
+
+/// A JSON value that has not the form that is wanted of it.
+#[derive(Clone, Copy, Debug, PartialEq, Eq)]
+pub struct WrongForm;
+
+/// Why a part of the input was not read.
+#[derive(Drop)]
+pub enum Unread {
+    /// It has not the form that is wanted of it.
+    WrongForm,
+    /// There was no memory for it.
+    Memory,
+}
+
+impl From<WrongForm> for Unread {
+    ghost from_gives = { λ _ e. e ≡ unread.WrongForm };
+
+    fn from(_error: WrongForm) -> Self {
+        Unread::WrongForm
+    }
+}
+
+impl From<AllocError> for Unread {
+    ghost from_gives = { λ _ e. e ≡ unread.Memory };
+
+    fn from(_error: AllocError) -> Self {
+        Unread::Memory
+    }
+}
+
+impl<T: Drop> From<AllocFailed<T>> for Unread {
+    ghost from_gives = { λ _ e. e ≡ unread.Memory };
+
+    fn from(_error: AllocFailed<T>) -> Self {
+        Unread::Memory
+    }
+}
+
+/// Why a reader was not read to its end.
+#[derive(Clone, Copy, Debug, PartialEq, Eq)]
+pub enum ReadError {
+    /// It failed, or did not come to its end.
+    Failed,
+    /// There was no memory for what it gave.
+    Memory,
+}
+
+impl<T: Drop> From<AllocFailed<T>> for ReadError {
+    ghost from_gives = { λ _ e. e ≡ reading.Memory };
+
+    fn from(_error: AllocFailed<T>) -> Self {
+        ReadError::Memory
+    }
+}
+
+impl From<AllocError> for ReadError {
+    ghost from_gives = { λ _ e. e ≡ reading.Memory };
+
+    fn from(_error: AllocError) -> Self {
+        ReadError::Memory
+    }
+}
+
+/// A writer failed, or took no more.
+#[derive(Clone, Copy, Debug, PartialEq, Eq)]
+pub struct WriteError;
+
+/// Why a program did not answer its input.
+#[derive(Clone, Copy, Debug, PartialEq, Eq, Error)]
+#[error_bound(Refusal: Display)]
+pub enum Fault<Refusal> {
+    /// The input is refused.
+    #[error("{0}")]
+    Input(Refusal),
+    /// The reader failed, or did not come to its end.
+    #[error("read fault")]
+    Read,
+    /// The writer failed, or took no more.
+    #[error("write fault")]
+    Write,
+    /// Memory ran out.
+    #[error("out of memory")]
+    Memory,
+}
+
+impl<Refusal> Fault<Refusal> {
+    /// The status that a program exits with at this fault: 2 where the input is refused, and else 3.
+    pub fn status(&self) -> u8
+        ensures { result ≡ status_of self.now }
+    {
+        match self {
+            Fault::Input(_) => 2,
+            Fault::Read | Fault::Write | Fault::Memory => 3,
+        }
+    }
+}
+
+impl<Refusal> From<ReadError> for Fault<Refusal> {
+    ghost from_gives = { λ error f. f ≡ fault_of_reading error };
+
+    fn from(error: ReadError) -> Self {
+        match error {
+            ReadError::Failed => Fault::Read,
+            ReadError::Memory => Fault::Memory,
+        }
+    }
+}
+
+impl<Refusal> From<WriteError> for Fault<Refusal> {
+    ghost from_gives = { λ _ f. f ≡ fault.Write };
+
+    fn from(_error: WriteError) -> Self {
+        Fault::Write
+    }
+}
+
+impl<Refusal> From<AllocError> for Fault<Refusal> {
+    ghost from_gives = { λ _ f. f ≡ fault.Memory };
+
+    fn from(_error: AllocError) -> Self {
+        Fault::Memory
+    }
+}
+
+impl<Refusal, T: Drop> From<AllocFailed<T>> for Fault<Refusal> {
+    ghost from_gives = { λ _ f. f ≡ fault.Memory };
+
+    fn from(_error: AllocFailed<T>) -> Self {
+        Fault::Memory
+    }
+}

@@ -1,0 +1,26 @@
+//! The JSON value that bytes are the text of.
+
+ghost use Rattle.std.specs.Prelude.{IfErr, IfOk};
+ghost use Rattle.serde_json.specs.View.{view};
+ghost use Rattle.program_io.specs.Json.{IsJson, IsUnreadJson};
+
+use crate::fault::Unread;
+use serde_json::{Category, Value};
+use std::alloc::Global;
+
+/// The JSON value that the bytes are the text of.
+pub fn value_of(alloc: Global, bytes: &[u8]) -> Result<Value, Unread>
+    ensures ok { IfOk result (λ v. IsJson bytes.now (view v)) }
+    ensures err { IfErr result (IsUnreadJson bytes.now) }
+{
+    match Value::from_slice(alloc, bytes) {
+        Ok(value) => Ok(value),
+        Err(error) => {
+            if error.classify() == Category::Memory {
+                Err(Unread::Memory)
+            } else {
+                Err(Unread::WrongForm)
+            }
+        }
+    }
+}

@@ -1,0 +1,39 @@
+-- What is written of an assignment is read as the assignment.
+use Rattle.std.proofs.Common.{◌≡◌, ◌≤◌, false, List, None, Ok, refl, arith}
+use Rattle.serde_json.specs.Data.{Data, depth}
+use Rattle.serde_json.specs.Written.{has_float}
+use Rattle.assignment.specs.Slices.{Slicing, refusal_of}
+use Rattle.assignment.specs.declared.slice.Slice.{Slice}
+use Rattle.program_io.specs.Members.{list_at, number_of}
+use Rattle.wire.specs.Assignments.{assignment_data, assignment_of, slice_data, slice_of, slicing_in}
+use Rattle.wire.specs.Messages.{IsWritten}
+use Rattle.wire.specs.Objects.{list_data, number_data}
+use Rattle.wire.proofs.Lists.{items_shallow, items_whole, list_read}
+
+pub slice_read : (slice : Slice) → slice_of (slice_data slice) ≡ Ok slice
+unfolding slice_of
+slice_read slice = rw (list_read number_of number_data (λ n. refl) slice.owners) refl
+
+slice_whole : (slice : Slice) → has_float (slice_data slice) ≡ false
+slice_whole slice = rw (items_whole number_data (λ n. refl) slice.owners) refl
+
+slice_shallow : (slice : Slice) → depth (slice_data slice) ≤ 2
+slice_shallow slice = omega (arith, items_shallow number_data 0 (λ n. omega arith) slice.owners)
+
+pub slices_whole : (slices : List Slice) → has_float (list_data slice_data slices) ≡ false
+slices_whole slices = items_whole slice_data slice_whole slices
+
+pub slices_shallow : (slices : List Slice) → depth (list_data slice_data slices) ≤ 3
+slices_shallow slices = omega (arith, items_shallow slice_data 2 slice_shallow slices)
+
+pub assignment_read : (a : Slicing) → refusal_of a.slices ≡ None → assignment_of (assignment_data a) ≡ Ok a
+unfolding assignment_of slicing_in list_at
+assignment_read a accepted = rw (list_read slice_of slice_data slice_read a.slices, accepted) refl
+
+pub assignment_written : (a : Slicing) (d : Data) → d ≡ assignment_data a → assignment_of (assignment_data a) ≡ Ok a → IsWritten assignment_data assignment_of a d
+assignment_written a d is reads = record {
+  is = is;
+  reads = rw (is, reads) refl;
+  whole = rw (is, slices_whole a.slices) refl;
+  shallow = rw is (omega (arith, slices_shallow a.slices));
+}

@@ -1,0 +1,23 @@
+-- What is written of a handle is read as the handle.
+use Rattle.std.proofs.Common.{◌≡◌, ◌^◌, ◌<◌, ◌≤◌, Ok, refl, arith}
+use Rattle.std.proofs.lemmas.Bool.{lt-ltb}
+use Rattle.serde_json.specs.Data.{Data}
+use Rattle.key_hash.specs.declared.TheConstants.{KEYS}
+use Rattle.assignment.specs.declared.task.TheConstants.{TASKS}
+use Rattle.key_handle.specs.declared.handle.KeyHandle.{KeyHandle}
+use Rattle.wire.specs.Handles.{handle_data, handle_of}
+use Rattle.wire.specs.Messages.{IsWritten}
+use Rattle.wire.specs.Refusals.{or_wrong}
+use Rattle.wire.proofs.Numbers.{is_life, is_task}
+
+pub handle_read : (handle : KeyHandle) → handle.life < 2 ^ 32 → 1 ≤ handle.task → handle.task ≤ TASKS → handle.key < KEYS → handle_of (handle_data handle) ≡ Ok handle
+unfolding handle_of
+handle_read handle life low high key = rw (is_task handle.task TASKS low high, is_life handle.life life, lt-ltb handle.key KEYS key) refl
+
+pub handle_written : (handle : KeyHandle) (d : Data) → d ≡ handle_data handle → handle_of (handle_data handle) ≡ Ok handle → IsWritten handle_data (λ d. or_wrong (handle_of d)) handle d
+handle_written handle d is reads = record {
+  is = is;
+  reads = rw (is, reads) refl;
+  whole = rw is refl;
+  shallow = rw is (omega arith);
+}

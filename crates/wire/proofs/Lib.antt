@@ -1,0 +1,12 @@
+pub mod Numbers
+pub mod Lists
+pub mod Pairs
+pub mod Notes
+pub mod Handles
+pub mod Grants
+pub mod Assignments
+pub mod TableCalls
+pub mod TableReplies
+pub mod TaskCalls
+pub mod ClerkCalls
+pub mod Decoding

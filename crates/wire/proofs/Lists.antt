@@ -1,0 +1,26 @@
+-- What is written of lists is read as the lists, and has no fractions and few levels.
+use Rattle.std.proofs.Common.{◌≡◌, ℕ, suc, ◌≤◌, false, List, [], ◌∷◌, map, Result, Ok, refl, arith}
+use Rattle.serde_json.specs.Data.{Data, depth, items_depth}
+use Rattle.serde_json.specs.View.{items_of}
+use Rattle.serde_json.specs.Written.{has_float, items_have_float}
+use Rattle.program_io.specs.declared.fault.WrongForm.{WrongForm}
+use Rattle.program_io.specs.Reading.{in_turn}
+use Rattle.program_io.specs.Members.{list_of}
+use Rattle.program_io.proofs.Forms.{elements_items}
+use Rattle.wire.specs.Objects.{list_data}
+
+in_turn_read : {A : Type 0} (form : Data → Result A WrongForm) (write : A → Data) → ((x : A) → form (write x) ≡ Ok x) → (n : ℕ) (xs : List A) → in_turn (λ _ d. form d) n (map write xs) ≡ Ok xs
+in_turn_read form write each n [] = refl
+in_turn_read form write each n (x ∷ xs) = rw (each x, in_turn_read form write each (suc n) xs) refl
+
+pub list_read : {A : Type 0} (form : Data → Result A WrongForm) (write : A → Data) → ((x : A) → form (write x) ≡ Ok x) → (xs : List A) → list_of form (list_data write xs) ≡ Ok xs
+unfolding list_of
+list_read form write each xs = rw (elements_items (map write xs)) (in_turn_read form write each 0 xs)
+
+pub items_whole : {A : Type 0} (write : A → Data) → ((x : A) → has_float (write x) ≡ false) → (xs : List A) → items_have_float (items_of (map write xs)) ≡ false
+items_whole write each [] = refl
+items_whole write each (x ∷ xs) = rw (each x) (items_whole write each xs)
+
+pub items_shallow : {A : Type 0} (write : A → Data) (n : ℕ) → ((x : A) → depth (write x) ≤ n) → (xs : List A) → items_depth (items_of (map write xs)) ≤ n
+items_shallow write n each [] = omega arith
+items_shallow write n each (x ∷ xs) = omega (arith, each x, items_shallow write n each xs)

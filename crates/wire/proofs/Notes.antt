@@ -1,0 +1,28 @@
+-- What is written of a note is read as the note.
+use Rattle.std.proofs.Common.{◌≡◌, ◌^◌, ◌<◌, ◌≤◌, Ok, refl, arith}
+use Rattle.policy_rules.specs.declared.lease.Kind.{Kind}
+use Rattle.policy_rules.specs.declared.lease.Kind.TheVariants.{Guard, Bridge}
+use Rattle.assignment.specs.declared.task.TheConstants.{TASKS}
+use Rattle.lease_table.specs.declared.values.ReleaseNote.{ReleaseNote}
+use Rattle.wire.specs.LeaseMembers.{kind_named, kind_word}
+use Rattle.serde_json.specs.Data.{Data}
+use Rattle.wire.specs.Messages.{IsWritten}
+use Rattle.wire.specs.Refusals.{or_wrong}
+use Rattle.wire.specs.Notes.{note_data, note_of}
+use Rattle.wire.proofs.Numbers.{is_life, is_task}
+
+pub kind_read : (kind : Kind) → kind_named (kind_word kind) ≡ Ok kind
+kind_read Guard = refl
+kind_read Bridge = refl
+
+pub note_read : (note : ReleaseNote) → note.life < 2 ^ 32 → 1 ≤ note.task → note.task ≤ TASKS → note_of (note_data note) ≡ Ok note
+unfolding note_of
+note_read note life low high = rw (is_task note.task TASKS low high, is_life note.life life, kind_read note.kind) refl
+
+pub note_written : (note : ReleaseNote) (d : Data) → d ≡ note_data note → note_of (note_data note) ≡ Ok note → IsWritten note_data (λ d. or_wrong (note_of d)) note d
+note_written note d is reads = record {
+  is = is;
+  reads = rw (is, reads) refl;
+  whole = rw is refl;
+  shallow = rw is (omega arith);
+}

@@ -1,0 +1,78 @@
+-- What is written of the calls of a slicelet and their replies is read as these.
+use Rattle.std.proofs.Common.{◌≡◌, ℕ, ◌^◌, ◌<◌, ◌≤◌, false, Ok, refl, arith}
+use Rattle.serde_json.specs.Data.{Data, depth}
+use Rattle.serde_json.specs.Written.{has_float}
+use Rattle.policy_rules.specs.declared.lease.Kind.{Kind}
+use Rattle.lease_table.specs.declared.values.Grant.{Grant}
+use Rattle.lease_table.specs.declared.values.ReleaseNote.{ReleaseNote}
+use Rattle.slicelet.specs.declared.call.SliceletCall.{SliceletCall}
+use Rattle.slicelet.specs.declared.call.SliceletCall.TheVariants.{Start, Hear, Release}
+use Rattle.slicelet.specs.declared.call.SliceletReply.{SliceletReply}
+use Rattle.slicelet.specs.declared.call.SliceletReply.TheVariants.{Started, Heard, Released}
+use Rattle.wire.specs.Grants.{grant_data, grant_of}
+use Rattle.wire.specs.Messages.{IsWritten}
+use Rattle.wire.specs.Notes.{note_data, note_of}
+use Rattle.wire.specs.TaskCalls.{task_call_data, task_call_of, start_of, hear_of, release_of, task_reply_data, task_reply_of, started_of, heard_of, released_of}
+use Rattle.wire.proofs.Grants.{grant_shallow, grant_whole}
+use Rattle.wire.proofs.Notes.{kind_read}
+use Rattle.wire.proofs.Numbers.{is_life}
+
+pub start_read : (life at : ℕ) → life < 2 ^ 32 → task_call_of (task_call_data (Start life at)) ≡ Ok (Start life at)
+unfolding task_call_of start_of
+start_read life at below = rw (is_life life below) refl
+
+pub hear_read : (grant : Grant) (at : ℕ) → grant_of (grant_data grant) ≡ Ok grant → task_call_of (task_call_data (Hear grant at)) ≡ Ok (Hear grant at)
+unfolding task_call_of hear_of
+hear_read grant at read = rw read refl
+
+pub release_read : (kind : Kind) (at : ℕ) → task_call_of (task_call_data (Release kind at)) ≡ Ok (Release kind at)
+unfolding task_call_of release_of
+release_read kind at = rw (kind_read kind) refl
+
+task_call_whole : (call : SliceletCall) → has_float (task_call_data call) ≡ false
+task_call_whole (Start life at) = refl
+task_call_whole (Hear grant at) = rw (grant_whole grant) refl
+task_call_whole (Release kind at) = refl
+
+task_call_shallow : (call : SliceletCall) → depth (task_call_data call) ≤ 4
+task_call_shallow (Start life at) = omega arith
+task_call_shallow (Hear grant at) = omega (arith, grant_shallow grant)
+task_call_shallow (Release kind at) = omega arith
+
+pub task_call_written : (call : SliceletCall) (d : Data) → d ≡ task_call_data call → task_call_of (task_call_data call) ≡ Ok call → IsWritten task_call_data task_call_of call d
+task_call_written call d is reads = record {
+  is = is;
+  reads = rw (is, reads) refl;
+  whole = rw (is, task_call_whole call) refl;
+  shallow = rw is (omega (arith, task_call_shallow call));
+}
+
+pub started_read : task_reply_of (task_reply_data Started) ≡ Ok Started
+unfolding task_reply_of started_of
+started_read = refl
+
+pub heard_read : task_reply_of (task_reply_data Heard) ≡ Ok Heard
+unfolding task_reply_of heard_of
+heard_read = refl
+
+pub released_read : (note : ReleaseNote) → note_of (note_data note) ≡ Ok note → task_reply_of (task_reply_data (Released note)) ≡ Ok (Released note)
+unfolding task_reply_of released_of
+released_read note read = rw read refl
+
+task_reply_whole : (reply : SliceletReply) → has_float (task_reply_data reply) ≡ false
+task_reply_whole Started = refl
+task_reply_whole Heard = refl
+task_reply_whole (Released note) = refl
+
+task_reply_shallow : (reply : SliceletReply) → depth (task_reply_data reply) ≤ 4
+task_reply_shallow Started = omega arith
+task_reply_shallow Heard = omega arith
+task_reply_shallow (Released note) = omega arith
+
+pub task_reply_written : (reply : SliceletReply) (d : Data) → d ≡ task_reply_data reply → task_reply_of (task_reply_data reply) ≡ Ok reply → IsWritten task_reply_data task_reply_of reply d
+task_reply_written reply d is reads = record {
+  is = is;
+  reads = rw (is, reads) refl;
+  whole = rw (is, task_reply_whole reply) refl;
+  shallow = rw is (omega (arith, task_reply_shallow reply));
+}

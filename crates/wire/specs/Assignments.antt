@@ -1,0 +1,49 @@
+-- Assignments as JSON.
+use Rattle.std.specs.Prelude.{ℕ, List, [], ◌∷◌, codes, Option, Some, None, Result, Ok, Err}
+use Rattle.serde_json.specs.Data.{Data, array, item, no_items}
+use Rattle.assignment.specs.Slices.{Slicing, refusal_of}
+use Rattle.assignment.specs.declared.slice.Slice.{Slice}
+use Rattle.assignment.specs.declared.error.AssignmentError.{AssignmentError}
+use Rattle.program_io.specs.declared.fault.WrongForm.{WrongForm}
+use Rattle.program_io.specs.Reading.{◌>>=◌, ◌>>◌}
+use Rattle.program_io.specs.Members.{exactly, list_at, list_of, number_at, number_of, pair_of}
+use Rattle.wire.specs.declared.fault.Refusal.{Refusal}
+use Rattle.wire.specs.declared.fault.Refusal.TheVariants.{Slices}
+use Rattle.wire.specs.Objects.{list_data, number_data, object_data}
+use Rattle.wire.specs.Refusals.{or_wrong}
+
+-- `[START,[OWNER,..]]`
+abbrev pub slice_data : Slice → Data
+slice_data slice = array (item (number_data slice.start) (item (list_data number_data slice.owners) no_items))
+
+-- `{"generation":G,"slices":[[START,[OWNER,..]],..]}`
+abbrev pub assignment_data : Slicing → Data
+assignment_data a = object_data
+    ((codes "generation", number_data a.generation) ∷
+    (codes "slices", list_data slice_data a.slices) ∷ [])
+
+-- a slice, written as `[start, [owner, ..]]`
+unfoldable pub slice_of : Data → Result Slice WrongForm
+slice_of d = do
+  pair ← pair_of d
+  start ← number_of pair.0
+  owners ← list_of number_of pair.1
+  Ok (record { start = start; owners = owners })
+
+-- the assignment of a generation that has these slices, unless they are refused
+abbrev pub slicing_of : ℕ → List Slice → Option AssignmentError → Result Slicing Refusal
+slicing_of generation slices None = Ok (record { generation = generation; slices = slices })
+slicing_of generation slices (Some why) = Err (Slices why)
+
+-- the members `generation` and `slices` of an object, as an assignment
+unfoldable pub slicing_in : Data → Result Slicing Refusal
+slicing_in d = do
+  generation ← or_wrong (number_at (codes "generation") d)
+  slices ← or_wrong (list_at slice_of (codes "slices") d)
+  slicing_of generation slices (refusal_of slices)
+
+-- an assignment has a generation and slices
+unfoldable pub assignment_of : Data → Result Slicing Refusal
+assignment_of d = do
+  or_wrong (exactly (codes "generation" ∷ codes "slices" ∷ []) d)
+  slicing_in d

@@ -1,0 +1,74 @@
+-- Calls of a clerk and their replies as JSON.
+use Rattle.std.specs.Prelude.{List, [], ◌∷◌, codes, Result, Ok, ℕ}
+use Rattle.serde_json.specs.Data.{Data, string}
+use Rattle.clerk.specs.declared.call.ClerkCall.{ClerkCall}
+use Rattle.clerk.specs.declared.call.ClerkCall.TheVariants.{Learn, Forget}
+use Rattle.clerk.specs.declared.call.ClerkReply.{ClerkReply}
+use Rattle.clerk.specs.declared.call.ClerkReply.TheVariants.{Learnt, Forgotten}
+use Rattle.program_io.specs.Reading.{◌>>=◌, ◌>>◌}
+use Rattle.program_io.specs.Members.{exactly, text_at}
+use Rattle.wire.specs.declared.fault.Refusal.{Refusal}
+use Rattle.wire.specs.Assignments.{slice_data, slicing_in}
+use Rattle.wire.specs.Objects.{list_data, number_data, object_data}
+use Rattle.wire.specs.Refusals.{or_wrong}
+use Rattle.wire.specs.TableCalls.{read_named}
+
+-- a call is written as the step of a script, with an assignment in place of its generation
+abbrev pub clerk_call_data : ClerkCall → Data
+clerk_call_data (Learn slicing) = object_data
+    ((codes "do", string (codes "learn")) ∷ (codes "generation", number_data slicing.generation) ∷ (codes "slices", list_data slice_data slicing.slices) ∷ [])
+clerk_call_data Forget = object_data ((codes "do", string (codes "forget")) ∷ [])
+
+-- a `learn` has an assignment
+unfoldable pub learn_of : Data → Result ClerkCall Refusal
+learn_of d = do
+  or_wrong (exactly (codes "do" ∷ codes "generation" ∷ codes "slices" ∷ []) d)
+  slicing ← slicing_in d
+  Ok (Learn slicing)
+
+-- a `forget` has nothing more
+unfoldable pub forget_of : Data → Result ClerkCall Refusal
+forget_of d = do
+  or_wrong (exactly (codes "do" ∷ []) d)
+  Ok Forget
+
+-- the calls of a clerk, each by its name and its reader
+abbrev pub clerk_call_kinds : List (List ℕ × (Data → Result ClerkCall Refusal))
+clerk_call_kinds =
+    (codes "learn", learn_of) ∷
+    (codes "forget", forget_of) ∷ []
+
+-- a call, named by its member `do`
+unfoldable pub clerk_call_of : Data → Result ClerkCall Refusal
+clerk_call_of d = do
+  name ← or_wrong (text_at (codes "do") d)
+  read_named clerk_call_kinds name d
+
+-- a reply is named by the first word of its line in a script
+abbrev pub clerk_reply_data : ClerkReply → Data
+clerk_reply_data Learnt = object_data ((codes "reply", string (codes "learnt")) ∷ [])
+clerk_reply_data Forgotten = object_data ((codes "reply", string (codes "forgotten")) ∷ [])
+
+-- a `learnt` has nothing more
+unfoldable pub learnt_of : Data → Result ClerkReply Refusal
+learnt_of d = do
+  or_wrong (exactly (codes "reply" ∷ []) d)
+  Ok Learnt
+
+-- a `forgotten` has nothing more
+unfoldable pub forgotten_of : Data → Result ClerkReply Refusal
+forgotten_of d = do
+  or_wrong (exactly (codes "reply" ∷ []) d)
+  Ok Forgotten
+
+-- the replies of a clerk, each by its name and its reader
+abbrev pub clerk_reply_kinds : List (List ℕ × (Data → Result ClerkReply Refusal))
+clerk_reply_kinds =
+    (codes "learnt", learnt_of) ∷
+    (codes "forgotten", forgotten_of) ∷ []
+
+-- a reply, named by its member `reply`
+unfoldable pub clerk_reply_of : Data → Result ClerkReply Refusal
+clerk_reply_of d = do
+  name ← or_wrong (text_at (codes "reply") d)
+  read_named clerk_reply_kinds name d

@@ -1,0 +1,13 @@
+pub mod Refusals
+pub mod Objects
+pub mod LeaseMembers
+pub mod Notes
+pub mod Handles
+pub mod Ranges
+pub mod Grants
+pub mod Assignments
+pub mod TableCalls
+pub mod TableReplies
+pub mod TaskCalls
+pub mod ClerkCalls
+pub mod Messages

@@ -1,0 +1,34 @@
+-- What is read as a value of a type, or why it is refused.
+use Rattle.std.specs.Prelude.{◌≡◌, ⊤, Result, Ok, Err}
+use Rattle.program_io.specs.declared.fault.WrongForm.{WrongForm}
+use Rattle.program_io.specs.declared.fault.Unread.{Unread}
+use Rattle.program_io.specs.declared.fault.Unread.TheVariants as unread
+use Rattle.wire.specs.declared.fault.DecodeError.{DecodeError}
+use Rattle.wire.specs.declared.fault.DecodeError.TheVariants as failed
+use Rattle.wire.specs.declared.fault.Refusal.{Refusal}
+use Rattle.wire.specs.declared.fault.Refusal.TheVariants as refusal
+
+-- what is read, or the refusal for its form
+abbrev pub or_wrong : {A : Type 0} → Result A WrongForm → Result A Refusal
+or_wrong (Ok x) = Ok x
+or_wrong (Err e) = Err refusal.WrongForm
+
+-- why nothing is decoded where a part was not read
+abbrev pub failure_of : Unread → DecodeError
+failure_of unread.WrongForm = failed.Refused refusal.WrongForm
+failure_of unread.Memory = failed.NoMemory
+
+-- what a function that failed says of what is read: nothing, where memory ran out
+abbrev pub FailsAs : {A : Type 0} → DecodeError → Result A Refusal → Type 0
+FailsAs (failed.Refused why) read = read ≡ Err why
+FailsAs failed.NoMemory read = ⊤
+
+-- what a function returned is what is read, unless memory ran out
+abbrev pub Gives : {A : Type 0} → Result A DecodeError → Result A Refusal → Type 0
+Gives (Ok x) read = read ≡ Ok x
+Gives (Err e) read = FailsAs e read
+
+-- what a function returned, seen by f, is what is read
+abbrev pub IsRead : {X A : Type 0} → (X → A) → Result X Refusal → Result A Refusal → Type 0
+IsRead f (Ok x) read = read ≡ Ok (f x)
+IsRead f (Err e) read = read ≡ Err e

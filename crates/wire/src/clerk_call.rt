@@ -1,0 +1,153 @@
+//! Calls of a clerk and their replies as bytes.
+
+ghost use Rattle.std.specs.Prelude.{◌≡◌, IfOk, Ok, codes};
+ghost use Rattle.serde_json.specs.View.{view};
+ghost use Rattle.wire.specs.Refusals.{Gives};
+ghost use Rattle.wire.specs.ClerkCalls.{clerk_call_data, clerk_call_of, clerk_reply_data, clerk_reply_of, forget_of, forgotten_of, learn_of, learnt_of};
+
+use crate::fault::{DecodeError, Refusal};
+use crate::message::Wire;
+use crate::slicing::{assignment_in, slices_json};
+use clerk::{ClerkCall, ClerkReply};
+use program_io::{exactly, text_at};
+use serde_json::{Value, json};
+use std::alloc::{AllocError, Global};
+
+// The call as JSON.
+fn clerk_call_json(alloc: Global, call: &ClerkCall) -> Result<Value, AllocError>
+    ensures { IfOk result (λ v. view v ≡ clerk_call_data call.now) }
+{
+    match call {
+        ClerkCall::Learn(assignment) => {
+            let slices = slices_json(alloc, assignment.slices())?;
+            json!(in alloc; {
+                "do": "learn",
+                "generation": assignment.generation(),
+                "slices": slices
+            })
+        }
+        ClerkCall::Forget => json!(in alloc; {"do": "forget"}),
+    }
+}
+
+#[tactic(auto, unfolding(crate::specs::ClerkCalls::learn_of))]
+fn learn_of(alloc: Global, value: &Value) -> Result<ClerkCall, DecodeError>
+    ensures { Gives result (learn_of (view value.now)) }
+{
+    exactly(&["do", "generation", "slices"], value)?;
+    let assignment = assignment_in(alloc, value)?;
+    Ok(ClerkCall::Learn(assignment))
+}
+
+#[tactic(auto, unfolding(crate::specs::ClerkCalls::forget_of))]
+fn forget_of(value: &Value) -> Result<ClerkCall, Refusal>
+    ensures { result ≡ forget_of (view value.now) }
+{
+    exactly(&["do"], value)?;
+    Ok(ClerkCall::Forget)
+}
+
+// The call that JSON says.
+#[tactic(auto, unfolding(crate::specs::ClerkCalls::clerk_call_of))]
+fn clerk_call_of(alloc: Global, value: &Value) -> Result<ClerkCall, DecodeError>
+    ensures { Gives result (clerk_call_of (view value.now)) }
+{
+    match text_at("do", value)? {
+        "learn" => learn_of(alloc, value),
+        "forget" => Ok(forget_of(value)?),
+        _ => Err(DecodeError::Refused(Refusal::WrongForm)),
+    }
+}
+
+// What is written of a call is read as the call.
+fn clerk_call_law(call: &ClerkCall)
+    ensures { clerk_call_of (clerk_call_data call.now) ≡ Ok call.now }
+{
+    match call {
+        ClerkCall::Learn(assignment) => {
+            let _slices = assignment.slices();
+        }
+        ClerkCall::Forget => {}
+    }
+}
+
+impl Wire for ClerkCall {
+    ghost name = { codes "clerk-call" };
+
+    ghost data_of = { clerk_call_data };
+
+    ghost form = { clerk_call_of };
+
+    fn name() -> &'static str {
+        "clerk-call"
+    }
+
+    #[tactic(auto, using(crate::proofs::ClerkCalls::clerk_call_written))]
+    fn to_json(&self, alloc: Global) -> Result<Value, AllocError> {
+        clerk_call_law(self);
+        clerk_call_json(alloc, self)
+    }
+
+    fn of_json(alloc: Global, value: &Value) -> Result<ClerkCall, DecodeError> {
+        clerk_call_of(alloc, value)
+    }
+}
+
+// The reply as JSON.
+fn clerk_reply_json(alloc: Global, reply: &ClerkReply) -> Result<Value, AllocError>
+    ensures { IfOk result (λ v. view v ≡ clerk_reply_data reply.now) }
+{
+    match reply {
+        ClerkReply::Learnt => json!(in alloc; {"reply": "learnt"}),
+        ClerkReply::Forgotten => json!(in alloc; {"reply": "forgotten"}),
+    }
+}
+
+#[tactic(auto, unfolding(crate::specs::ClerkCalls::learnt_of))]
+fn learnt_of(value: &Value) -> Result<ClerkReply, Refusal>
+    ensures { result ≡ learnt_of (view value.now) }
+{
+    exactly(&["reply"], value)?;
+    Ok(ClerkReply::Learnt)
+}
+
+#[tactic(auto, unfolding(crate::specs::ClerkCalls::forgotten_of))]
+fn forgotten_of(value: &Value) -> Result<ClerkReply, Refusal>
+    ensures { result ≡ forgotten_of (view value.now) }
+{
+    exactly(&["reply"], value)?;
+    Ok(ClerkReply::Forgotten)
+}
+
+// The reply that JSON says.
+#[tactic(auto, unfolding(crate::specs::ClerkCalls::clerk_reply_of))]
+fn clerk_reply_of(value: &Value) -> Result<ClerkReply, Refusal>
+    ensures { result ≡ clerk_reply_of (view value.now) }
+{
+    match text_at("reply", value)? {
+        "learnt" => learnt_of(value),
+        "forgotten" => forgotten_of(value),
+        _ => Err(Refusal::WrongForm),
+    }
+}
+
+impl Wire for ClerkReply {
+    ghost name = { codes "clerk-reply" };
+
+    ghost data_of = { clerk_reply_data };
+
+    ghost form = { clerk_reply_of };
+
+    fn name() -> &'static str {
+        "clerk-reply"
+    }
+
+    #[tactic(auto, using(crate::proofs::ClerkCalls::clerk_reply_written))]
+    fn to_json(&self, alloc: Global) -> Result<Value, AllocError> {
+        clerk_reply_json(alloc, self)
+    }
+
+    fn of_json(_alloc: Global, value: &Value) -> Result<ClerkReply, DecodeError> {
+        Ok(clerk_reply_of(value)?)
+    }
+}

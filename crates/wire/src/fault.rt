@@ -1,0 +1,97 @@
+//! Why bytes are not decoded.
+
+ghost use Rattle.std.specs.Prelude.{◌≡◌};
+ghost use Rattle.wire.specs.declared.fault.DecodeError.TheVariants as failed;
+ghost use Rattle.wire.specs.declared.fault.Refusal.TheVariants as refusal;
+ghost use Rattle.wire.specs.Refusals.{failure_of};
+
+use assignment::AssignmentError;
+use program_io::{Unread, WrongForm};
+use slice_ranges::RangesError;
+use std::alloc::{AllocError, AllocFailed};
+use thiserror::Error;
+
+/// Why bytes are no message of a type. The version is looked at first, then the type, then the value.
+#[derive(Clone, Copy, Debug, PartialEq, Eq, Error)]
+pub enum Refusal {
+    /// The bytes are the text of no JSON value.
+    #[error("not JSON")]
+    NotJson,
+    /// The message has this version, which is not read here.
+    #[error("version {0}")]
+    Version(u64),
+    /// The value is of another type.
+    #[error("another type")]
+    OtherType,
+    /// A member is missing, is not known, or has not the form that is wanted of it.
+    #[error("wrong form")]
+    WrongForm,
+    /// The slices make no assignment, for this reason.
+    #[error("slices: {0:?}")]
+    Slices(AssignmentError),
+    /// The pairs make no set of keys, for this reason.
+    #[error("ranges: {0:?}")]
+    Ranges(RangesError),
+}
+
+/// Why bytes are not decoded.
+#[derive(Clone, Copy, Debug, PartialEq, Eq, Error)]
+pub enum DecodeError {
+    /// They are no message of the type.
+    #[error("{0}")]
+    Refused(Refusal),
+    /// There was no memory for the value.
+    #[error("out of memory")]
+    NoMemory,
+}
+
+impl From<WrongForm> for DecodeError {
+    ghost from_gives = { λ _ e. e ≡ failed.Refused refusal.WrongForm };
+
+    fn from(_error: WrongForm) -> Self {
+        DecodeError::Refused(Refusal::WrongForm)
+    }
+}
+
+impl From<Unread> for DecodeError {
+    ghost from_gives = { λ error e. e ≡ failure_of error };
+
+    fn from(error: Unread) -> Self {
+        match error {
+            Unread::WrongForm => DecodeError::Refused(Refusal::WrongForm),
+            Unread::Memory => DecodeError::NoMemory,
+        }
+    }
+}
+
+impl From<Refusal> for DecodeError {
+    ghost from_gives = { λ error e. e ≡ failed.Refused error };
+
+    fn from(error: Refusal) -> Self {
+        DecodeError::Refused(error)
+    }
+}
+
+impl From<WrongForm> for Refusal {
+    ghost from_gives = { λ _ e. e ≡ refusal.WrongForm };
+
+    fn from(_error: WrongForm) -> Self {
+        Refusal::WrongForm
+    }
+}
+
+impl From<AllocError> for DecodeError {
+    ghost from_gives = { λ _ e. e ≡ failed.NoMemory };
+
+    fn from(_error: AllocError) -> Self {
+        DecodeError::NoMemory
+    }
+}
+
+impl<T: Drop> From<AllocFailed<T>> for DecodeError {
+    ghost from_gives = { λ _ e. e ≡ failed.NoMemory };
+
+    fn from(_error: AllocFailed<T>) -> Self {
+        DecodeError::NoMemory
+    }
+}

@@ -1,0 +1,105 @@
+//! Grants as bytes.
+
+ghost use Rattle.std.specs.Prelude.{◌≡◌, IfOk, Ok, codes};
+ghost use Rattle.serde_json.specs.View.{view};
+ghost use Rattle.wire.specs.Grants.{grant_data, grant_of};
+ghost use Rattle.wire.specs.Refusals.{Gives};
+
+use crate::fault::DecodeError;
+use crate::lease_members::{kind_at, kind_word, life_at, task_at};
+use crate::message::Wire;
+use crate::ranges::{ranges_json, ranges_of};
+use lease_table::Grant;
+use policy_rules::Lease;
+use program_io::{exactly, member_at, number_at};
+use serde_json::{Value, json};
+use std::alloc::{AllocError, Global};
+
+/// The grant as JSON.
+pub fn grant_json(alloc: Global, grant: &Grant) -> Result<Value, AllocError>
+    ensures { IfOk result (λ v. view v ≡ grant_data grant.now) }
+{
+    let ranges = ranges_json(alloc, &grant.lease.ranges)?;
+    json!(in alloc; {
+        "ends": grant.lease.ends,
+        "generation": grant.lease.generation,
+        "kind": kind_word(grant.lease.kind),
+        "life": grant.life,
+        "number": grant.number,
+        "ranges": ranges,
+        "task": grant.task.number(),
+        "until": grant.table_ends
+    })
+}
+
+/// The grant that JSON says.
+#[tactic(auto, unfolding(crate::specs::Grants::grant_of))]
+pub fn grant_of(alloc: Global, value: &Value) -> Result<Grant, DecodeError>
+    ensures { Gives result (grant_of (view value.now)) }
+{
+    exactly(
+        &[
+            "ends",
+            "generation",
+            "kind",
+            "life",
+            "number",
+            "ranges",
+            "task",
+            "until",
+        ],
+        value,
+    )?;
+    let number = number_at("number", value)?;
+    let task = task_at("task", value)?;
+    let life = life_at("life", value)?;
+    let kind = kind_at("kind", value)?;
+    let generation = number_at("generation", value)?;
+    let ends = number_at("ends", value)?;
+    let table_ends = number_at("until", value)?;
+    let ranges = ranges_of(alloc, member_at("ranges", value)?)?;
+    Ok(Grant {
+        number,
+        task,
+        life,
+        lease: Lease {
+            kind,
+            generation,
+            ranges,
+            ends,
+        },
+        table_ends,
+    })
+}
+
+/// What is written of a grant is read as the grant.
+#[tactic(auto, using(crate::proofs::Grants::grant_read))]
+pub fn grant_law(grant: &Grant)
+    ensures { grant_of (grant_data grant.now) ≡ Ok grant.now }
+{
+    let _life = grant.life;
+    let _task = grant.task.number();
+    let _boundaries = grant.lease.ranges.boundaries();
+}
+
+impl Wire for Grant {
+    ghost name = { codes "grant" };
+
+    ghost data_of = { grant_data };
+
+    ghost form = { grant_of };
+
+    fn name() -> &'static str {
+        "grant"
+    }
+
+    #[tactic(auto, using(crate::proofs::Grants::grant_written))]
+    fn to_json(&self, alloc: Global) -> Result<Value, AllocError> {
+        grant_law(self);
+        grant_json(alloc, self)
+    }
+
+    fn of_json(alloc: Global, value: &Value) -> Result<Grant, DecodeError> {
+        grant_of(alloc, value)
+    }
+}

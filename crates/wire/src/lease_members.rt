@@ -1,0 +1,56 @@
+//! What the members of leases and their calls say, each by one call.
+
+ghost use Rattle.std.specs.Prelude.{◌≡◌};
+ghost use Rattle.serde_json.specs.View.{view};
+ghost use Rattle.wire.specs.LeaseMembers.{kind_word, kind_at, life_at, task_at};
+
+use assignment::TaskId;
+use policy_rules::Kind;
+use program_io::{WrongForm, number_at, text_at};
+use serde_json::Value;
+
+/// How many lives there are.
+const LIVES: u64 = 1 << 32;
+
+/// The word for a kind of lease.
+pub fn kind_word(kind: Kind) -> &'static str
+    ensures { result.now ≡ kind_word kind }
+{
+    match kind {
+        Kind::Guard => "guard",
+        Kind::Bridge => "bridge",
+    }
+}
+
+/// The member of this name, as a kind of lease.
+pub fn kind_at(name: &str, value: &Value) -> Result<Kind, WrongForm>
+    ensures { result ≡ kind_at name.now (view value.now) }
+{
+    match text_at(name, value)? {
+        "guard" => Ok(Kind::Guard),
+        "bridge" => Ok(Kind::Bridge),
+        _ => Err(WrongForm),
+    }
+}
+
+/// The member of this name, as the number of a life.
+pub fn life_at(name: &str, value: &Value) -> Result<u32, WrongForm>
+    ensures { result ≡ life_at name.now (view value.now) }
+{
+    let life = number_at(name, value)?;
+    if life < LIVES {
+        Ok(life as u32)
+    } else {
+        Err(WrongForm)
+    }
+}
+
+/// The member of this name, as a task that there may be.
+pub fn task_at(name: &str, value: &Value) -> Result<TaskId, WrongForm>
+    ensures { result ≡ task_at name.now (view value.now) }
+{
+    match TaskId::new(number_at(name, value)?) {
+        Some(task) => Ok(task),
+        None => Err(WrongForm),
+    }
+}

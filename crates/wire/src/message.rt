@@ -1,0 +1,90 @@
+//! Messages: a value of a type as bytes.
+
+ghost use Rattle.std.specs.Prelude.{◌≡◌, ℕ, List, Result, IfErr, IfOk};
+ghost use Rattle.serde_json.specs.Data.{Data};
+ghost use Rattle.serde_json.specs.View.{view};
+ghost use Rattle.wire.specs.declared.fault.Refusal.{Refusal};
+ghost use Rattle.wire.specs.Refusals.{Gives, IsRead};
+ghost use Rattle.wire.specs.Messages.{IsDecodedAs, IsMessage, IsUndecoded, IsWritten, content_of, message_data, message_text};
+
+use crate::fault::{DecodeError, Refusal};
+use program_io::{Unread, exactly, member_at, number_at, text_at, value_of};
+use serde_json::{Value, json};
+use std::alloc::{AllocError, Global};
+
+/// The version of the messages that are written and read here.
+pub const VERSION: u64 = 1;
+
+/// A value that travels as bytes.
+pub trait Wire: Drop {
+    // The name of its type.
+    ghost name: { List ℕ };
+
+    // What a value is written as, and what is read as a value.
+    ghost data_of: { Self → Data };
+
+    ghost form: { Data → Result Self Refusal };
+
+    /// The name of its type in a message.
+    fn name() -> &'static str
+        ensures { result.now ≡ name };
+
+    /// The value as JSON.
+    fn to_json(&self, alloc: Global) -> Result<Value, AllocError>
+        ensures { IfOk result (λ v. IsWritten data_of form self.now (view v)) };
+
+    /// The value that JSON says.
+    fn of_json(alloc: Global, value: &Value) -> Result<Self, DecodeError>
+    where
+        Self: Sized,
+        ensures { Gives result (form (view value.now)) };
+}
+
+// The value of a type in a message.
+fn message_json(alloc: Global, name: &str, value: Value) -> Result<Value, AllocError>
+    ensures { IfOk result (λ v. view v ≡ message_data name.now (view value)) }
+{
+    json!(in alloc; {"type": name, "value": value, "version": VERSION})
+}
+
+// What a message of the type of this name has as its value.
+#[tactic(auto, unfolding(crate::specs::Messages::content_of))]
+fn content_of<'v>(name: &str, message: &'v Value) -> Result<&'v Value, Refusal>
+    ensures { IsRead (λ v. view v.now) result (content_of name.now (view message.now)) }
+{
+    let version = number_at("version", message)?;
+    if version != VERSION {
+        return Err(Refusal::Version(version));
+    }
+    exactly(&["type", "value", "version"], message)?;
+    if text_at("type", message)? != name {
+        return Err(Refusal::OtherType);
+    }
+    Ok(member_at("value", message)?)
+}
+
+/// The bytes of a value, as a message of its type.
+pub fn encode<T: Wire>(alloc: Global, value: &T) -> Result<Vec<u8>, AllocError>
+    ensures text { IfOk result (λ bytes. bytes.items ≡ message_text T.name (T.data_of value.now)) }
+    ensures reads { IfOk result (λ bytes. IsMessage T.name T.form bytes.items value.now) }
+{
+    let message = message_json(alloc, T::name(), value.to_json(alloc)?)?;
+    message.to_vec(alloc)
+}
+
+/// The value that a message of its type says, or why the bytes are no such message.
+///
+/// What is decoded from the bytes of a value is that value, unless memory runs out.
+pub fn decode<T: Wire>(alloc: Global, bytes: &[u8]) -> Result<T, DecodeError>
+    ensures ok { IfOk result (IsMessage T.name T.form bytes.now) }
+    ensures err { IfErr result (IsUndecoded T.name T.form bytes.now) }
+    ensures same { (value : T) → IsMessage T.name T.form bytes.now value → IsDecodedAs value result }
+{
+    let message = match value_of(alloc, bytes) {
+        Ok(message) => message,
+        Err(Unread::WrongForm) => return Err(DecodeError::Refused(Refusal::NotJson)),
+        Err(Unread::Memory) => return Err(DecodeError::NoMemory),
+    };
+    let value = content_of(T::name(), &message)?;
+    T::of_json(alloc, value)
+}

@@ -1,0 +1,71 @@
+//! Release notes as bytes.
+
+ghost use Rattle.std.specs.Prelude.{◌≡◌, IfOk, Ok, codes};
+ghost use Rattle.serde_json.specs.View.{view};
+ghost use Rattle.wire.specs.Notes.{note_data, note_of};
+ghost use Rattle.wire.specs.Refusals.{or_wrong};
+
+use crate::fault::DecodeError;
+use crate::lease_members::{kind_at, kind_word, life_at, task_at};
+use crate::message::Wire;
+use lease_table::ReleaseNote;
+use program_io::{WrongForm, exactly, number_at};
+use serde_json::{Value, json};
+use std::alloc::{AllocError, Global};
+
+/// The note as JSON.
+pub fn note_json(alloc: Global, note: &ReleaseNote) -> Result<Value, AllocError>
+    ensures { IfOk result (λ v. view v ≡ note_data note.now) }
+{
+    json!(in alloc; {
+        "kind": kind_word(note.kind),
+        "life": note.life,
+        "number": note.number,
+        "task": note.task.number()
+    })
+}
+
+/// The note that JSON says.
+#[tactic(auto, unfolding(crate::specs::Notes::note_of))]
+pub fn note_of(value: &Value) -> Result<ReleaseNote, WrongForm>
+    ensures { result ≡ note_of (view value.now) }
+{
+    exactly(&["kind", "life", "number", "task"], value)?;
+    Ok(ReleaseNote {
+        task: task_at("task", value)?,
+        life: life_at("life", value)?,
+        kind: kind_at("kind", value)?,
+        number: number_at("number", value)?,
+    })
+}
+
+/// What is written of a note is read as the note.
+#[tactic(auto, using(crate::proofs::Notes::note_read))]
+pub fn note_law(note: &ReleaseNote)
+    ensures { note_of (note_data note.now) ≡ Ok note.now }
+{
+    let _life = note.life;
+    let _task = note.task.number();
+}
+
+impl Wire for ReleaseNote {
+    ghost name = { codes "note" };
+
+    ghost data_of = { note_data };
+
+    ghost form = { λ d. or_wrong (note_of d) };
+
+    fn name() -> &'static str {
+        "note"
+    }
+
+    #[tactic(auto, using(crate::proofs::Notes::note_written))]
+    fn to_json(&self, alloc: Global) -> Result<Value, AllocError> {
+        note_law(self);
+        note_json(alloc, self)
+    }
+
+    fn of_json(_alloc: Global, value: &Value) -> Result<ReleaseNote, DecodeError> {
+        Ok(note_of(value)?)
+    }
+}

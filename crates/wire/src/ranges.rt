@@ -1,0 +1,41 @@
+//! Sets of slice keys as JSON.
+
+ghost use Rattle.std.specs.Prelude.{◌≡◌, IfOk};
+ghost use Rattle.serde_json.specs.View.{view};
+ghost use Rattle.wire.specs.Ranges.{ranges_data, ranges_of};
+ghost use Rattle.wire.specs.Refusals.{Gives};
+
+use crate::fault::{DecodeError, Refusal};
+use program_io::{TwoNumbers, list_of};
+use serde_json::{Value, json};
+use slice_ranges::{Ranges, RangesError};
+use std::alloc::{AllocError, Global};
+
+/// The set as pairs of a start and an end.
+pub fn ranges_json(alloc: Global, ranges: &Ranges) -> Result<Value, AllocError>
+    ensures { IfOk result (λ v. view v ≡ ranges_data ranges.now) }
+{
+    let mut pairs = Vec::new(alloc);
+    let mut rest = ranges.boundaries();
+    'pairs: while let [start, end, later @ ..] = rest {
+        pairs.push(json!(in alloc; [*start, *end])?)?;
+        rest = later;
+    }
+    Ok(Value::Array(pairs))
+}
+
+/// The set that an array of pairs says.
+#[tactic(auto, unfolding(crate::specs::Ranges::ranges_of))]
+pub fn ranges_of(alloc: Global, value: &Value) -> Result<Ranges, DecodeError>
+    ensures { Gives result (ranges_of (view value.now)) }
+{
+    let pairs = list_of::<TwoNumbers>(alloc, value)?;
+    match Ranges::build(alloc, pairs.as_slice()) {
+        Ok(ranges) => {
+            let _boundaries = ranges.boundaries();
+            Ok(ranges)
+        }
+        Err(RangesError::NoMemory) => Err(DecodeError::NoMemory),
+        Err(error) => Err(DecodeError::Refused(Refusal::Ranges(error))),
+    }
+}

@@ -1,0 +1,199 @@
+//! Calls of a slicelet and their replies as bytes.
+
+ghost use Rattle.std.specs.Prelude.{◌≡◌, IfOk, Ok, codes};
+ghost use Rattle.serde_json.specs.View.{view};
+ghost use Rattle.wire.specs.Refusals.{Gives};
+ghost use Rattle.wire.specs.TaskCalls.{hear_of, heard_of, release_of, released_of, start_of, started_of, task_call_data, task_call_of, task_reply_data, task_reply_of};
+
+use crate::fault::{DecodeError, Refusal};
+use crate::grant::{grant_json, grant_law, grant_of};
+use crate::lease_members::{kind_at, kind_word, life_at};
+use crate::message::Wire;
+use crate::note::{note_json, note_law, note_of};
+use program_io::{exactly, member_at, number_at, text_at};
+use serde_json::{Value, json};
+use slicelet::{SliceletCall, SliceletReply};
+use std::alloc::{AllocError, Global};
+
+// The call as JSON.
+fn task_call_json(alloc: Global, call: &SliceletCall) -> Result<Value, AllocError>
+    ensures { IfOk result (λ v. view v ≡ task_call_data call.now) }
+{
+    match call {
+        SliceletCall::Start { life, at } => {
+            json!(in alloc; {"at": *at, "do": "start", "life": *life})
+        }
+        SliceletCall::Hear { grant, at } => {
+            let grant = grant_json(alloc, grant)?;
+            json!(in alloc; {"at": *at, "do": "hear", "grant": grant})
+        }
+        SliceletCall::Release { kind, at } => {
+            json!(in alloc; {"at": *at, "do": "release", "kind": kind_word(*kind)})
+        }
+    }
+}
+
+#[tactic(auto, unfolding(crate::specs::TaskCalls::start_of))]
+fn start_of(value: &Value) -> Result<SliceletCall, Refusal>
+    ensures { result ≡ start_of (view value.now) }
+{
+    exactly(&["do", "life", "at"], value)?;
+    Ok(SliceletCall::Start {
+        life: life_at("life", value)?,
+        at: number_at("at", value)?,
+    })
+}
+
+#[tactic(auto, unfolding(crate::specs::TaskCalls::hear_of))]
+fn hear_of(alloc: Global, value: &Value) -> Result<SliceletCall, DecodeError>
+    ensures { Gives result (hear_of (view value.now)) }
+{
+    exactly(&["do", "grant", "at"], value)?;
+    let at = number_at("at", value)?;
+    let grant = grant_of(alloc, member_at("grant", value)?)?;
+    Ok(SliceletCall::Hear { grant, at })
+}
+
+#[tactic(auto, unfolding(crate::specs::TaskCalls::release_of))]
+fn release_of(value: &Value) -> Result<SliceletCall, Refusal>
+    ensures { result ≡ release_of (view value.now) }
+{
+    exactly(&["do", "kind", "at"], value)?;
+    Ok(SliceletCall::Release {
+        kind: kind_at("kind", value)?,
+        at: number_at("at", value)?,
+    })
+}
+
+// The call that JSON says.
+#[tactic(auto, unfolding(crate::specs::TaskCalls::task_call_of))]
+fn task_call_of(alloc: Global, value: &Value) -> Result<SliceletCall, DecodeError>
+    ensures { Gives result (task_call_of (view value.now)) }
+{
+    match text_at("do", value)? {
+        "start" => Ok(start_of(value)?),
+        "hear" => hear_of(alloc, value),
+        "release" => Ok(release_of(value)?),
+        _ => Err(DecodeError::Refused(Refusal::WrongForm)),
+    }
+}
+
+// What is written of a call is read as the call.
+fn task_call_law(call: &SliceletCall)
+    ensures { task_call_of (task_call_data call.now) ≡ Ok call.now }
+{
+    match call {
+        SliceletCall::Start { life, .. } => {
+            let _life = *life;
+        }
+        SliceletCall::Hear { grant, .. } => grant_law(grant),
+        SliceletCall::Release { .. } => {}
+    }
+}
+
+impl Wire for SliceletCall {
+    ghost name = { codes "task-call" };
+
+    ghost data_of = { task_call_data };
+
+    ghost form = { task_call_of };
+
+    fn name() -> &'static str {
+        "task-call"
+    }
+
+    #[tactic(auto, using(crate::proofs::TaskCalls::task_call_written))]
+    fn to_json(&self, alloc: Global) -> Result<Value, AllocError> {
+        task_call_law(self);
+        task_call_json(alloc, self)
+    }
+
+    fn of_json(alloc: Global, value: &Value) -> Result<SliceletCall, DecodeError> {
+        task_call_of(alloc, value)
+    }
+}
+
+// The reply as JSON.
+fn task_reply_json(alloc: Global, reply: &SliceletReply) -> Result<Value, AllocError>
+    ensures { IfOk result (λ v. view v ≡ task_reply_data reply.now) }
+{
+    match reply {
+        SliceletReply::Started => json!(in alloc; {"reply": "started"}),
+        SliceletReply::Heard => json!(in alloc; {"reply": "heard"}),
+        SliceletReply::Released(note) => {
+            let note = note_json(alloc, note)?;
+            json!(in alloc; {"note": note, "reply": "released"})
+        }
+    }
+}
+
+#[tactic(auto, unfolding(crate::specs::TaskCalls::started_of))]
+fn started_of(value: &Value) -> Result<SliceletReply, Refusal>
+    ensures { result ≡ started_of (view value.now) }
+{
+    exactly(&["reply"], value)?;
+    Ok(SliceletReply::Started)
+}
+
+#[tactic(auto, unfolding(crate::specs::TaskCalls::heard_of))]
+fn heard_of(value: &Value) -> Result<SliceletReply, Refusal>
+    ensures { result ≡ heard_of (view value.now) }
+{
+    exactly(&["reply"], value)?;
+    Ok(SliceletReply::Heard)
+}
+
+#[tactic(auto, unfolding(crate::specs::TaskCalls::released_of))]
+fn released_of(value: &Value) -> Result<SliceletReply, Refusal>
+    ensures { result ≡ released_of (view value.now) }
+{
+    exactly(&["reply", "note"], value)?;
+    let note = note_of(member_at("note", value)?)?;
+    Ok(SliceletReply::Released(note))
+}
+
+// The reply that JSON says.
+#[tactic(auto, unfolding(crate::specs::TaskCalls::task_reply_of))]
+fn task_reply_of(value: &Value) -> Result<SliceletReply, Refusal>
+    ensures { result ≡ task_reply_of (view value.now) }
+{
+    match text_at("reply", value)? {
+        "started" => started_of(value),
+        "heard" => heard_of(value),
+        "released" => released_of(value),
+        _ => Err(Refusal::WrongForm),
+    }
+}
+
+// What is written of a reply is read as the reply.
+fn task_reply_law(reply: &SliceletReply)
+    ensures { task_reply_of (task_reply_data reply.now) ≡ Ok reply.now }
+{
+    match reply {
+        SliceletReply::Released(note) => note_law(note),
+        SliceletReply::Started => {}
+        SliceletReply::Heard => {}
+    }
+}
+
+impl Wire for SliceletReply {
+    ghost name = { codes "task-reply" };
+
+    ghost data_of = { task_reply_data };
+
+    ghost form = { task_reply_of };
+
+    fn name() -> &'static str {
+        "task-reply"
+    }
+
+    #[tactic(auto, using(crate::proofs::TaskCalls::task_reply_written))]
+    fn to_json(&self, alloc: Global) -> Result<Value, AllocError> {
+        task_reply_law(self);
+        task_reply_json(alloc, self)
+    }
+
+    fn of_json(_alloc: Global, value: &Value) -> Result<SliceletReply, DecodeError> {
+        Ok(task_reply_of(value)?)
+    }
+}
