@@ -61,14 +61,14 @@ pub struct NoFault;
 impl<'a> Machine for Reluctant<'a> {
     type Event = u16;
 
-    type Reply = u16;
+    type Reply = u64;
 
     type Fault = NoFault;
 
     ghost step = { λ machine event. Ok (record machine { last = event }, machine.last) };
 
-    fn apply(&mut self, event: &u16) -> Result<u16, Trouble<NoFault>> {
-        let before = self.last;
+    fn apply(&mut self, event: &u16) -> Result<u64, Trouble<NoFault>> {
+        let before = u64::from(self.last);
         self.last = *event;
         Ok(before)
     }

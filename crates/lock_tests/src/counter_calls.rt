@@ -2,62 +2,17 @@
 
 ghost use Rattle.history_lock.specs.Passes.{IsPassOf};
 
-use crate::counter::{Counter, Reluctant, TooLarge};
+use crate::counter::{Counter, Reluctant};
 use crate::locks::{
-    TwoLanes, close_with, close_with_both, is_out_of_range, last_pass, new_lock, two_lanes,
+    TwoLanes, close_with, close_with_both, has_entries, is_out_of_range, last_pass, new_lock,
+    two_lanes,
 };
-use history_lock::{Busy, Closed, Holder, LaneLock, LockError, Pass, WriteError};
+use crate::outcomes::{Outcome, try_write, write, written};
+use history_lock::{Busy, Closed, Holder, LaneLock, NewLockError, Pass};
 use std::alloc::Global;
 use std::sync::Wait;
 use std::sync::atomic::AtomicU64;
 use std::test::Fail;
-
-// What a write came to.
-#[derive(Clone, Copy, Debug, PartialEq, Eq)]
-enum Outcome {
-    Reply(u64),
-    Refused,
-    Full,
-    NoMemory,
-    Busy(Busy),
-}
-
-fn refusal(error: &WriteError<TooLarge>) -> Outcome {
-    match error {
-        WriteError::HistoryFull => Outcome::Full,
-        WriteError::Refused(TooLarge) => Outcome::Refused,
-        WriteError::NoMemory => Outcome::NoMemory,
-    }
-}
-
-fn written(answer: &Result<u64, WriteError<TooLarge>>) -> Outcome {
-    match answer {
-        Ok(reply) => Outcome::Reply(*reply),
-        Err(error) => refusal(error),
-    }
-}
-
-fn tried(answer: &Result<u64, LockError<TooLarge>>) -> Outcome {
-    match answer {
-        Ok(reply) => Outcome::Reply(*reply),
-        Err(LockError::Busy(busy)) => Outcome::Busy(*busy),
-        Err(LockError::Write(error)) => refusal(error),
-    }
-}
-
-fn write<R: Wait>(rt: &R, lock: &LaneLock<Counter>, pass: &mut Pass<Counter>, more: u16) -> Outcome
-    requires { IsPassOf lock.now pass.old }
-    ensures { IsPassOf lock.now pass.new }
-{
-    written(&lock.write(rt, pass, &mut || more))
-}
-
-fn try_write(lock: &LaneLock<Counter>, pass: &mut Pass<Counter>, more: u16) -> Outcome
-    requires { IsPassOf lock.now pass.old }
-    ensures { IsPassOf lock.now pass.new }
-{
-    tried(&lock.try_write(pass, &mut || more))
-}
 
 fn try_shared(lock: &LaneLock<Counter>, pass: &mut Pass<Counter>) -> Result<u64, Busy>
     requires { IsPassOf lock.now pass.old }
@@ -110,12 +65,17 @@ fn answers_in_the_order_of_the_calls(rt: HostRuntime) -> Result<(), Fail> {
     ];
     assert_eq!(rt; outcomes, wanted);
     assert_eq!(rt; closed.machine.count, 12);
-    let lanes_and_events = closed
-        .history
-        .entries()
-        .iter()
-        .map(|entry| (entry.lane, entry.event));
-    assert!(rt; lanes_and_events.eq([(0, 5), (1, 7)]));
+    assert!(rt; has_entries(&closed.history, &[(0, 5), (1, 7)]));
+    Ok(())
+}
+
+#[test]
+fn copies_what_a_closed_lock_leaves(rt: HostRuntime) -> Result<(), Fail> {
+    let (_, closed) = writes_and_end(&rt, rt.alloc())?;
+    let copied = closed.copy()?;
+    drop(closed);
+    assert_eq!(rt; copied.machine.count, 12);
+    assert!(rt; has_entries(&copied.history, &[(0, 5), (1, 7)]));
     Ok(())
 }
 
@@ -247,24 +207,32 @@ fn refuses_lanes_and_limits_out_of_range(rt: HostRuntime) {
     }
 }
 
+fn reluctant<'a>(copies: &'a AtomicU64, refused: u64) -> Reluctant<'a> {
+    Reluctant {
+        last: 0,
+        copies,
+        refused,
+    }
+}
+
 fn write_once<'a, R: Wait>(
     rt: &R,
     lock: &LaneLock<Reluctant<'a>>,
     pass: &mut Pass<Reluctant<'a>>,
     event: u16,
-) -> Option<u16>
+) -> Outcome
     requires { IsPassOf lock.now pass.old }
     ensures { IsPassOf lock.now pass.new }
 {
-    lock.write(rt, pass, &mut || event).ok()
+    written(&lock.write(rt, pass, &mut || event))
 }
 
-// The replies to three writes: each is the event before, or none where there was no memory.
+// What three writes come to: each reply is the event before.
 fn replies<'a, R: Wait>(
     rt: &R,
     lock: &LaneLock<Reluctant<'a>>,
     pass: &mut Pass<Reluctant<'a>>,
-) -> [Option<u16>; 3]
+) -> [Outcome; 3]
     requires { IsPassOf lock.now pass.old }
     ensures { IsPassOf lock.now pass.new }
 {
@@ -274,42 +242,62 @@ fn replies<'a, R: Wait>(
     [first, second, third]
 }
 
-// The replies to the pass of the last lane, and what the lock leaves.
+// What writes by the pass of the last lane come to, and what the lock leaves.
 fn replies_and_end<'a, R: Wait>(
     rt: &R,
     alloc: Global,
     machine: Reluctant<'a>,
     lanes: u64,
-) -> Result<([Option<u16>; 3], Closed<Reluctant<'a>>), Fail> {
+) -> Result<([Outcome; 3], Closed<Reluctant<'a>>), Fail> {
     let (lock, mut passes) = new_lock(alloc, machine, lanes, 3)?;
     let mut pass = last_pass(&lock, &mut passes)?;
     let replies = replies(rt, &lock, &mut pass);
     Ok((replies, close_with(lock, passes, pass)?))
 }
 
+// The writes where the first, the second or the third finds no memory, or none of them.
+const FIRST: [Outcome; 3] = [Outcome::NoMemory, Outcome::Reply(0), Outcome::Reply(11)];
+
+const SECOND: [Outcome; 3] = [Outcome::Reply(0), Outcome::NoMemory, Outcome::Reply(10)];
+
+const THIRD: [Outcome; 3] = [Outcome::Reply(0), Outcome::Reply(10), Outcome::NoMemory];
+
+const ALL: [Outcome; 3] = [Outcome::Reply(0), Outcome::Reply(10), Outcome::Reply(11)];
+
+// Lanes, the number of the copy that is refused, what the writes come to, and the events in the history. Of two lanes
+// the first has a copy from the start, and each write makes one for itself and one for the first.
+const CASES: &[(u64, u64, [Outcome; 3], &[u16])] = &[
+    (1, 0, FIRST, &[11, 12]),
+    (1, 1, SECOND, &[10, 12]),
+    (1, 2, THIRD, &[10, 11]),
+    (1, 3, ALL, &[10, 11, 12]),
+    (2, 1, FIRST, &[11, 12]),
+    (2, 2, FIRST, &[11, 12]),
+    (2, 3, SECOND, &[10, 12]),
+    (2, 4, SECOND, &[10, 12]),
+    (2, 5, THIRD, &[10, 11]),
+    (2, 6, THIRD, &[10, 11]),
+    (2, 7, ALL, &[10, 11, 12]),
+];
+
 #[test]
 fn a_refused_copy_adds_nothing(rt: HostRuntime) -> Result<(), Fail> {
-    // Of two lanes the first has a copy from the start, and each write makes one for itself and one for the first.
-    let cases = [
-        (1, 0, [None, Some(0), Some(11)], [11, 12]),
-        (1, 1, [Some(0), None, Some(10)], [10, 12]),
-        (1, 2, [Some(0), Some(10), None], [10, 11]),
-        (2, 1, [None, Some(0), Some(11)], [11, 12]),
-        (2, 2, [None, Some(0), Some(11)], [11, 12]),
-        (2, 3, [Some(0), None, Some(10)], [10, 12]),
-        (2, 6, [Some(0), Some(10), None], [10, 11]),
-    ];
-    for (lanes, refused, answers, events) in cases {
+    for (lanes, refused, answers, events) in CASES {
         let copies = AtomicU64::new(0);
-        let machine = Reluctant {
-            last: 0,
-            copies: &copies,
-            refused,
-        };
-        let (replies, closed) = replies_and_end(&rt, rt.alloc(), machine, lanes)?;
+        let machine = reluctant(&copies, *refused);
+        let (replies, closed) = replies_and_end(&rt, rt.alloc(), machine, *lanes)?;
         let written = closed.history.entries().iter().map(|entry| entry.event);
-        let as_wanted = replies == answers && written.eq(events);
+        let as_wanted = replies == *answers && written.eq(events.iter().copied());
         assert!(rt; as_wanted, "{lanes} lanes, copy {refused}");
     }
+    Ok(())
+}
+
+#[test]
+fn opens_no_lock_where_a_lane_gets_no_copy(rt: HostRuntime) -> Result<(), Fail> {
+    let copies = AtomicU64::new(0);
+    let first = LaneLock::new(rt.alloc(), reluctant(&copies, 0), 2, 3);
+    assert!(rt; matches!(first, Err(NewLockError::NoMemory)));
+    assert!(rt; LaneLock::new(rt.alloc(), reluctant(&copies, 0), 2, 3).is_ok());
     Ok(())
 }

@@ -4,10 +4,11 @@
 ghost use Rattle.std.specs.Prelude.{IfOk};
 ghost use Rattle.history_lock.specs.Passes.{IsPassOf, ArePassesOf};
 
-use crate::counter::{Counter, TooLarge};
-use crate::locks::{TwoLanes, close_all, close_too_early, last_pass};
-use history_lock::{Closed, LaneLock, LockError, NewLockError, Pass, WriteError};
-use std::alloc::Global;
+use crate::counter::Counter;
+use crate::locks::{TwoLanes, close_all, close_too_early, has_entries, last_pass};
+use crate::outcomes::{Outcome, try_write, write};
+use history_lock::{Closed, LaneLock, NewLockError, Pass};
+use std::alloc::{AllocError, Global};
 use std::sync::Wait;
 use std::test::Fail;
 use tickets::{Ticket, TicketError, TicketPass};
@@ -48,71 +49,44 @@ fn count(lock: &LaneLock<Counter>, pass: &mut Pass<Counter>) -> Option<u64>
         .ok()
 }
 
-fn write<R: Wait>(
-    rt: &R,
-    lock: &LaneLock<Counter>,
-    pass: &mut Pass<Counter>,
-    more: u16,
-) -> Result<u64, WriteError<TooLarge>>
-    requires { IsPassOf lock.now pass.old }
-    ensures { IsPassOf lock.now pass.new }
-{
-    lock.write(rt, pass, &mut || more)
-}
-
-fn try_write(
-    lock: &LaneLock<Counter>,
-    pass: &mut Pass<Counter>,
-    more: u16,
-) -> Result<u64, LockError<TooLarge>>
-    requires { IsPassOf lock.now pass.old }
-    ensures { IsPassOf lock.now pass.new }
-{
-    lock.try_write(pass, &mut || more)
-}
-
 // Writes, a second time where there was no memory, which left the count that the pass reads as it was.
 fn written_at_last<R: Wait>(
     rt: &R,
     lock: &LaneLock<Counter>,
     pass: &mut Pass<Counter>,
     more: u16,
-) -> Option<u64>
+) -> Outcome
     requires { IsPassOf lock.now pass.old }
     ensures { IsPassOf lock.now pass.new }
 {
     let before = count(lock, pass);
     let first = write(rt, lock, pass, more);
     match first {
-        Err(WriteError::NoMemory) if count(lock, pass) == before => write(
-            rt, lock, pass, more,
-        ).ok(),
-        answer => answer.ok(),
+        Outcome::NoMemory if count(lock, pass) == before => write(rt, lock, pass, more),
+        answer => answer,
     }
 }
 
 // The same without waiting.
-fn tried_at_last(lock: &LaneLock<Counter>, pass: &mut Pass<Counter>, more: u16) -> Option<u64>
+fn tried_at_last(lock: &LaneLock<Counter>, pass: &mut Pass<Counter>, more: u16) -> Outcome
     requires { IsPassOf lock.now pass.old }
     ensures { IsPassOf lock.now pass.new }
 {
     let before = count(lock, pass);
     let first = try_write(lock, pass, more);
     match first {
-        Err(LockError::Write(WriteError::NoMemory)) if count(lock, pass) == before => {
-            try_write(lock, pass, more).ok()
-        }
-        answer => answer.ok(),
+        Outcome::NoMemory if count(lock, pass) == before => try_write(lock, pass, more),
+        answer => answer,
     }
 }
 
-// The replies to writes of both lanes, and the counts that they read then.
-fn replies<R: Wait>(
+// What writes of both lanes come to, and the counts that they read then.
+fn outcomes<R: Wait>(
     rt: &R,
     lock: &LaneLock<Counter>,
     p0: &mut Pass<Counter>,
     p1: &mut Pass<Counter>,
-) -> [Option<u64>; 5]
+) -> ([Outcome; 3], [Option<u64>; 2])
     requires first { IsPassOf lock.now p0.old }
     requires second { IsPassOf lock.now p1.old }
     ensures first { IsPassOf lock.now p0.new }
@@ -122,7 +96,7 @@ fn replies<R: Wait>(
     let second = tried_at_last(lock, p1, 7);
     let third = written_at_last(rt, lock, p1, 1);
     let count_0 = count(lock, p0);
-    [first, second, third, count_0, count(lock, p1)]
+    ([first, second, third], [count_0, count(lock, p1)])
 }
 
 // What the lock leaves, after it was to close without the pass of lane 1, and handed all back.
@@ -142,28 +116,35 @@ fn close_at_last(
     close_all(lock, passes)
 }
 
-fn replies_and_end<R: Wait>(
+fn copy_at_last(closed: &Closed<Counter>) -> Result<Closed<Counter>, AllocError> {
+    match closed.copy() {
+        Ok(copied) => Ok(copied),
+        Err(AllocError) => closed.copy(),
+    }
+}
+
+// The same, and a copy of what the lock leaves.
+fn outcomes_and_end<R: Wait>(
     rt: &R,
     alloc: Global,
-) -> Result<([Option<u64>; 5], Closed<Counter>), Fail> {
+) -> Result<([Outcome; 3], [Option<u64>; 2], Closed<Counter>), Fail> {
     let TwoLanes {
         lock,
         others,
         mut p0,
         mut p1,
     } = lanes_at_last(alloc)?;
-    let replies = replies(rt, &lock, &mut p0, &mut p1);
-    Ok((replies, close_at_last(lock, others, p0, p1)?))
+    let (outcomes, counts) = outcomes(rt, &lock, &mut p0, &mut p1);
+    let closed = close_at_last(lock, others, p0, p1)?;
+    Ok((outcomes, counts, copy_at_last(&closed)?))
 }
 
 #[test]
 fn writes_as_before_without_memory(rt: HostRuntime) -> Result<(), Fail> {
-    let (replies, closed) = replies_and_end(&rt, rt.alloc())?;
-    let wanted = [Some(5), Some(12), Some(13), Some(13), Some(13)];
-    assert_eq!(rt; replies, wanted);
-    let entries = closed.history.entries().iter();
-    let entries = entries.map(|entry| (entry.lane, entry.event));
-    assert!(rt; entries.eq([(0, 5), (1, 7), (1, 1)]));
+    let (outcomes, counts, closed) = outcomes_and_end(&rt, rt.alloc())?;
+    let wanted = [Outcome::Reply(5), Outcome::Reply(12), Outcome::Reply(13)];
+    assert_eq!(rt; (outcomes, counts), (wanted, [Some(13), Some(13)]));
+    assert!(rt; has_entries(&closed.history, &[(0, 5), (1, 7), (1, 1)]));
     assert_eq!(rt; closed.machine.count, 13);
     Ok(())
 }

@@ -14,6 +14,8 @@ mod counter_threads;
 #[cfg(test)]
 mod locks;
 #[cfg(test)]
+mod outcomes;
+#[cfg(test)]
 mod ticket_draws;
 #[cfg(test)]
 mod ticket_threads;

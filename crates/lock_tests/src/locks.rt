@@ -118,3 +118,11 @@ pub fn entries_of<E>(history: &History<E>, lane: u64) -> u64 {
     let entries = history.entries().iter();
     entries.filter(|entry| entry.lane == lane).count() as u64
 }
+
+// Whether a history has just these entries: the lane and the event of each.
+pub fn has_entries(history: &History<u16>, wanted: &[(u64, u16)]) -> bool {
+    let entries = history.entries().iter();
+    entries
+        .map(|entry| (entry.lane, entry.event))
+        .eq(wanted.iter().copied())
+}

@@ -1,6 +1,7 @@
 //! What a script is answered.
 
-use service::{Fault, ProgramError, ScriptError, run_script};
+use program_io::Fault;
+use service::{ProgramError, ScriptError, run_script};
 use std::alloc::Global;
 use std::test::Fail;
 
@@ -8,7 +9,7 @@ const JOB: &str =
     "{\"job\":{\"redundancy\":1,\"skew\":10,\"guard\":100,\"bridge\":100,\"job\":1000,\"numbers\":1000,\"assigners\":2,\"tasks\":2,\"clerks\":2}}";
 
 /// What a script gives: why it is not answered, or nothing, and the bytes that are written.
-fn outcome(alloc: Global, script: &str) -> (Result<(), Fault>, Vec<u8>) {
+fn outcome(alloc: Global, script: &str) -> (Result<(), Fault<ScriptError>>, Vec<u8>) {
     let mut reader = script.as_bytes();
     let mut written = Vec::new(alloc);
     let answer = run_script(alloc, &mut reader, &mut written);
@@ -86,7 +87,7 @@ fn refuses_malformed_steps(rt: HostRuntime) -> Result<(), Fail> {
         let script = format!(in rt.alloc(); "[{JOB},{{\"do\":\"phase\"}},{step}]")?;
         let (answer, written) = outcome(rt.alloc(), script.as_str());
         let refusal = ScriptError::BadStep(2);
-        assert_eq!(rt; answer, Err(Fault::Script(refusal)), "at {step}");
+        assert_eq!(rt; answer, Err(Fault::Input(refusal)), "at {step}");
         assert!(rt; written.is_empty());
     }
     Ok(())
@@ -189,7 +190,7 @@ fn refuses_jobs_beyond_their_limits(rt: HostRuntime) -> Result<(), Fail> {
         let script = format!(in rt.alloc(); "[{{\"job\":{job}}},5]")?;
         let (answer, written) = outcome(rt.alloc(), script.as_str());
         let refusal = ScriptError::BadJob;
-        assert_eq!(rt; answer, Err(Fault::Script(refusal)), "at {job}");
+        assert_eq!(rt; answer, Err(Fault::Input(refusal)), "at {job}");
         assert!(rt; written.is_empty());
     }
     Ok(())
@@ -197,7 +198,7 @@ fn refuses_jobs_beyond_their_limits(rt: HostRuntime) -> Result<(), Fail> {
 
 #[test]
 fn says_why_nothing_is_written(rt: HostRuntime) -> Result<(), Fail> {
-    let refused = |refusal: ScriptError| ProgramError::Fault(Fault::Script(refusal));
+    let refused = |refusal: ScriptError| ProgramError::Fault(Fault::Input(refusal));
     let cases = [
         (ProgramError::Arguments, "slicer_run: no arguments taken"),
         (ProgramError::Fault(Fault::Read), "slicer_run: read fault"),

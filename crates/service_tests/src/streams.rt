@@ -1,6 +1,7 @@
 //! Readers and writers that fail, give a byte at a time, or have no end.
 
-use service::{Fault, run_script};
+use program_io::Fault;
+use service::{ScriptError, run_script};
 use std::alloc::Global;
 use std::io;
 use std::io::{Read, Write};
@@ -91,7 +92,7 @@ fn stops_where_the_writer_takes_no_more(rt: HostRuntime) -> Result<(), Fail> {
         };
         let answer = run_script(rt.alloc(), &mut SCRIPT.as_bytes(), &mut writer);
         assert_eq!(rt; answer, Err(Fault::Write), "where it fails: {fails}");
-        assert_eq!(rt; Fault::Write.status(), 3);
+        assert_eq!(rt; Fault::<ScriptError>::Write.status(), 3);
         assert_eq!(rt; writer.taken.as_slice(), b"key 1".as_slice());
     }
     Ok(())
@@ -156,7 +157,7 @@ fn reads_the_bridge_story_a_byte_at_a_time(rt: HostRuntime) -> Result<(), Fail> 
 }
 
 /// What the story is answered, with room for its text, and whether nothing is written where memory is refused.
-fn story_at_last(alloc: Global, written: &mut Vec<u8>) -> Result<(), Fault> {
+fn story_at_last(alloc: Global, written: &mut Vec<u8>) -> Result<(), Fault<ScriptError>> {
     match run_script(alloc, &mut STORY.as_bytes(), written) {
         Err(Fault::Memory) if written.is_empty() => {
             run_script(alloc, &mut STORY.as_bytes(), written)

@@ -1,0 +1,141 @@
+//! Why messages are refused.
+
+use assignment::{Assignment, AssignmentError};
+use key_handle::KeyHandle;
+use lease_table::{Grant, ReleaseNote, TableCall, TableReply};
+use slice_ranges::RangesError;
+use std::alloc::Global;
+use std::test::Fail;
+use wire::{DecodeError, Refusal, Wire, decode};
+
+// Why the text is not read as a value of the type.
+fn refusal_of<T: Wire>(alloc: Global, text: &str) -> Option<Refusal> {
+    let read: Result<T, DecodeError> = decode(alloc, text.as_bytes());
+    match read {
+        Err(DecodeError::Refused(refusal)) => Some(refusal),
+        Ok(_) | Err(DecodeError::NoMemory) => None,
+    }
+}
+
+const NOTES: &[(&str, Refusal)] = &[
+    ("", Refusal::NotJson),
+    (r#"{"type":"note","version":1"#, Refusal::NotJson),
+    ("[]", Refusal::WrongForm),
+    (r#"{"type":"note"}"#, Refusal::WrongForm),
+    (
+        r#"{"type":"note","value":{"kind":"guard","life":1,"number":7,"task":2},"version":2}"#,
+        Refusal::Version(2),
+    ),
+    (r#"{"version":0,"lease":[]}"#, Refusal::Version(0)),
+    (
+        r#"{"type":"note","value":{"kind":"guard","life":1,"number":7,"task":2},"version":"1"}"#,
+        Refusal::WrongForm,
+    ),
+    (
+        r#"{"type":"note","value":{"kind":"guard","life":1,"number":7,"task":2},"version":1,"more":1}"#,
+        Refusal::WrongForm,
+    ),
+    (
+        r#"{"type":"grant","value":{"kind":"guard","life":1,"number":7,"task":2},"version":1}"#,
+        Refusal::OtherType,
+    ),
+    (
+        r#"{"type":"note","value":{"kind":"guard","life":1,"number":7,"task":2,"more":1},"version":1}"#,
+        Refusal::WrongForm,
+    ),
+    (
+        r#"{"type":"note","value":{"kind":"guard","life":1,"number":7},"version":1}"#,
+        Refusal::WrongForm,
+    ),
+    (
+        r#"{"type":"note","value":{"kind":"lease","life":1,"number":7,"task":2},"version":1}"#,
+        Refusal::WrongForm,
+    ),
+    (
+        r#"{"type":"note","value":{"kind":"guard","life":4294967296,"number":7,"task":2},"version":1}"#,
+        Refusal::WrongForm,
+    ),
+    (
+        r#"{"type":"note","value":{"kind":"guard","life":1,"number":7,"task":65},"version":1}"#,
+        Refusal::WrongForm,
+    ),
+    (
+        r#"{"type":"note","value":{"kind":"guard","life":1,"number":-7,"task":2},"version":1}"#,
+        Refusal::WrongForm,
+    ),
+];
+
+#[test]
+fn refuses_notes(rt: HostRuntime) -> Result<(), Fail> {
+    for (text, why) in NOTES {
+        assert_eq!(rt;
+            refusal_of::<ReleaseNote>(rt.alloc(), text),
+            Some(*why),
+            "{text}"
+        );
+    }
+    Ok(())
+}
+
+const GRANTS: &[(&str, Refusal)] = &[
+    ("[[5,9],[0,2]]", Refusal::Ranges(RangesError::Unsorted)),
+    ("[[5,5]]", Refusal::Ranges(RangesError::Empty)),
+    (
+        "[[0,9223372036854775809]]",
+        Refusal::Ranges(RangesError::PastEnd),
+    ),
+    ("[[0,1,2]]", Refusal::WrongForm),
+    ("[0,1]", Refusal::WrongForm),
+];
+
+#[test]
+fn refuses_ranges(rt: HostRuntime) -> Result<(), Fail> {
+    for (ranges, why) in GRANTS {
+        let text = format!(in rt.alloc();
+            "{{\"type\":\"grant\",\"value\":{{\"ends\":95,\"generation\":3,\"kind\":\"bridge\",\"life\":1,\"number\":7,\"ranges\":{ranges},\"task\":64,\"until\":105}},\"version\":1}}"
+        )?;
+        let refusal = refusal_of::<Grant>(rt.alloc(), text.as_str());
+        assert_eq!(rt; refusal, Some(*why), "{ranges}");
+    }
+    Ok(())
+}
+
+const ASSIGNMENTS: &[(&str, Refusal)] = &[
+    ("[]", Refusal::Slices(AssignmentError::NoSlices)),
+    ("[[1,[1]]]", Refusal::Slices(AssignmentError::FirstNotZero)),
+    ("[[0,[]]]", Refusal::Slices(AssignmentError::NoOwner)),
+    ("[[0,[1,1]]]", Refusal::Slices(AssignmentError::OwnerTwice)),
+    ("[[0,[65]]]", Refusal::Slices(AssignmentError::BadTask)),
+    ("[[0,1]]", Refusal::WrongForm),
+];
+
+#[test]
+fn refuses_slices(rt: HostRuntime) -> Result<(), Fail> {
+    for (slices, why) in ASSIGNMENTS {
+        let text = format!(in rt.alloc();
+            "{{\"type\":\"assignment\",\"value\":{{\"generation\":3,\"slices\":{slices}}},\"version\":1}}"
+        )?;
+        let refusal = refusal_of::<Assignment>(rt.alloc(), text.as_str());
+        assert_eq!(rt; refusal, Some(*why), "{slices}");
+    }
+    Ok(())
+}
+
+#[test]
+fn refuses_calls_replies_and_handles(rt: HostRuntime) -> Result<(), Fail> {
+    let call = r#"{"type":"table-call","value":{"do":"restart"},"version":1}"#;
+    let refusal = refusal_of::<TableCall>(rt.alloc(), call);
+    assert_eq!(rt; refusal, Some(Refusal::WrongForm));
+    let call = r#"{"type":"table-call","value":{"do":"lose","at":1},"version":1}"#;
+    let refusal = refusal_of::<TableCall>(rt.alloc(), call);
+    assert_eq!(rt; refusal, Some(Refusal::WrongForm));
+    let reply =
+        r#"{"type":"table-reply","value":{"reply":"committed","generation":1.5},"version":1}"#;
+    let refusal = refusal_of::<TableReply>(rt.alloc(), reply);
+    assert_eq!(rt; refusal, Some(Refusal::WrongForm));
+    let handle =
+        r#"{"type":"handle","value":{"life":5,"position":12,"slice_key":9223372036854775808,"task":1},"version":1}"#;
+    let refusal = refusal_of::<KeyHandle>(rt.alloc(), handle);
+    assert_eq!(rt; refusal, Some(Refusal::WrongForm));
+    Ok(())
+}
