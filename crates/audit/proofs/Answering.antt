@@ -6,7 +6,7 @@ use Rattle.policy_rules.specs.declared.answer.Ground.{Ground}
 use Rattle.policy_rules.specs.declared.answer.Verdict.{Verdict}
 use Rattle.policy_rules.specs.declared.answer.Verdict.TheVariants.{Allow, Deny}
 use Rattle.policy_rules.specs.declared.lease.Kind.{Kind}
-use Rattle.key_handle.specs.declared.handle.KeyHandle.{KeyHandle}
+use Rattle.slicelet.specs.declared.handle.KeyHandle.{KeyHandle}
 use Rattle.slicelet.specs.Rules.{is_allowed}
 use Rattle.slicelet.specs.Continuity.{IsContinuous, handle_on, held_by, is_strange}
 use Rattle.cluster.specs.Jobs.{Job}

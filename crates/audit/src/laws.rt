@@ -6,7 +6,7 @@ ghost use Rattle.policy_rules.specs.declared.answer.Ground.{Ground};
 ghost use Rattle.policy_rules.specs.declared.answer.Verdict.{Verdict};
 ghost use Rattle.policy_rules.specs.declared.answer.Verdict.TheVariants.{Allow, Deny};
 ghost use Rattle.policy_rules.specs.declared.lease.Kind.{Kind};
-ghost use Rattle.key_handle.specs.declared.handle.KeyHandle.{KeyHandle};
+ghost use Rattle.slicelet.specs.declared.handle.KeyHandle.{KeyHandle};
 ghost use Rattle.slicelet.specs.Continuity.{IsContinuous, handle_on, held_by};
 ghost use Rattle.cluster.specs.Jobs.{Job};
 ghost use Rattle.cluster.specs.declared.call.ClusterCall.TheVariants as call;

@@ -6,10 +6,9 @@ ghost use Rattle.cluster.specs.declared.reply.ClusterReply.TheVariants as answer
 use assignment::Listed;
 use clerk::{ClerkReply, Found};
 use cluster::{ClusterError, ClusterReply};
-use key_handle::KeyHandle;
+use slicelet::{KeyHandle, SliceletReply};
 use lease_table::{Phase, Row, TableReply};
 use policy_rules::Verdict;
-use slicelet::SliceletReply;
 
 fn is_reply_of_table(reply: &TableReply, other: &TableReply) -> bool
     ensures { MatchBool result (other.now ≡ reply.now) (other.now ≢ reply.now) }

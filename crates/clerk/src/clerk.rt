@@ -7,8 +7,8 @@ ghost use Rattle.clerk.specs.Steps.{learn_step, look_at};
 use crate::error::{ClerkError, Unknown};
 use arrayvec::ArrayVec;
 use assignment::{Assignment, Owners};
-use key_hash::SliceKey;
 use machines::Trouble;
+use slice_ranges::SliceKey;
 use std::alloc::AllocError;
 use std::marker::Model;
 

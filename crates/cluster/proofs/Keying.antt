@@ -7,7 +7,7 @@ use Rattle.policy_rules.specs.declared.lease.Kind.{Kind}
 use Rattle.policy_rules.specs.declared.lease.Kind.TheVariants.{Guard, Bridge}
 use Rattle.policy_rules.specs.Leases.{same_kind}
 use Rattle.lease_table.specs.declared.values.ReleaseNote.{ReleaseNote}
-use Rattle.key_handle.specs.declared.handle.KeyHandle.{KeyHandle}
+use Rattle.slicelet.specs.declared.handle.KeyHandle.{KeyHandle}
 use Rattle.cluster.specs.Deliveries.{same_note, same_handle}
 use Rattle.cluster.specs.internals.Keys.{Key, key_eq, kind_number, note_key, handle_key}
 

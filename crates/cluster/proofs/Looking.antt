@@ -7,7 +7,7 @@ use Rattle.machines.specs.Numbers.{is_within}
 use Rattle.policy_rules.specs.declared.answer.Ground.{Ground}
 use Rattle.policy_rules.specs.declared.answer.Verdict.{Verdict}
 use Rattle.assignment.specs.Slices.{Slicing}
-use Rattle.key_handle.specs.declared.handle.KeyHandle.{KeyHandle}
+use Rattle.slicelet.specs.declared.handle.KeyHandle.{KeyHandle}
 use Rattle.slicelet.specs.declared.error.Stranger.{Stranger}
 use Rattle.slicelet.specs.States.{SliceletState, rule_in_state}
 use Rattle.slicelet.specs.Accepted.{StandsAfter}

@@ -1,7 +1,7 @@
 -- What a `serve`, a `hold` and a `check` are answered, and that the ends of a run are runs.
 use Rattle.std.proofs.Common.{◌≡◌, ℕ, Bool, true, false, [], ◌∷◌, ◌++◌, refl, ◌∙◌, ap}
 use Rattle.std.specs.Prelude.{IsTrue, ◌↔◌, if◌then◌else◌}
-use Rattle.key_handle.specs.declared.handle.KeyHandle.{KeyHandle}
+use Rattle.slicelet.specs.declared.handle.KeyHandle.{KeyHandle}
 use Rattle.machines.specs.Numbers.{is_within}
 use Rattle.slicelet.specs.Continuity.{handle_on, held_by, IsContinuous, is_strange}
 use Rattle.cluster.specs.Jobs.{Job}

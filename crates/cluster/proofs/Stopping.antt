@@ -4,7 +4,7 @@ use Rattle.std.specs.Prelude.{Option, Some, Ok}
 use Rattle.machines.specs.Numbers.{is_within}
 use Rattle.lease_table.specs.declared.call.TableCall.{TableCall}
 use Rattle.lease_table.specs.Calls.{table_step}
-use Rattle.key_handle.specs.declared.handle.KeyHandle.{KeyHandle}
+use Rattle.slicelet.specs.declared.handle.KeyHandle.{KeyHandle}
 use Rattle.slicelet.specs.declared.call.SliceletCall.{SliceletCall}
 use Rattle.slicelet.specs.Steps.{slicelet_step}
 use Rattle.slicelet.specs.Continuity.{is_strange}

@@ -2,7 +2,7 @@
 use Rattle.std.proofs.Common.{◌≡◌, true, List, refl, sym, ◌∙◌, ap, subst}
 use Rattle.std.specs.Prelude.{Bool, Option, None, Result, Ok, Err, reverse}
 use Rattle.lease_table.specs.declared.values.ReleaseNote.{ReleaseNote}
-use Rattle.key_handle.specs.declared.handle.KeyHandle.{KeyHandle}
+use Rattle.slicelet.specs.declared.handle.KeyHandle.{KeyHandle}
 use Rattle.machines.specs.declared.machine.Trouble.{Trouble}
 use Rattle.indexmap.specs.IndexSet.{contains}
 use Rattle.machines.specs.Answers.{Takes}

@@ -4,7 +4,7 @@ use Rattle.std.specs.declared.alloc.AllocError.{AllocError}
 use Rattle.lease_table.specs.Policies.{is_policy}
 use Rattle.indexmap.specs.IndexSet.{contains}
 use Rattle.lease_table.specs.declared.values.ReleaseNote.{ReleaseNote}
-use Rattle.key_handle.specs.declared.handle.KeyHandle.{KeyHandle}
+use Rattle.slicelet.specs.declared.handle.KeyHandle.{KeyHandle}
 use Rattle.cluster.specs.Jobs.{Job}
 use Rattle.cluster.specs.declared.call.ClusterCall.{ClusterCall}
 use Rattle.cluster.specs.declared.reply.ClusterReply.{ClusterReply}

@@ -2,7 +2,7 @@
 use Rattle.std.specs.Prelude.{◌≡◌, ℕ, IsTrue, Contains, ◌↔◌}
 use Rattle.machines.specs.Numbers.{is_within}
 use Rattle.lease_table.specs.declared.values.ReleaseNote.{ReleaseNote}
-use Rattle.key_handle.specs.declared.handle.KeyHandle.{KeyHandle}
+use Rattle.slicelet.specs.declared.handle.KeyHandle.{KeyHandle}
 use Rattle.slicelet.specs.Accepted.{notes_sent}
 use Rattle.slicelet.specs.Continuity.{IsContinuous, handle_on, held_by}
 use Rattle.cluster.specs.Jobs.{Job}

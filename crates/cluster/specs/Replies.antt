@@ -8,7 +8,7 @@ use Rattle.lease_table.specs.declared.values.Grant.{Grant}
 use Rattle.lease_table.specs.Tables.{phase_of}
 use Rattle.lease_table.specs.Calls.{table_step}
 use Rattle.lease_table.specs.Generations.{covers_by_owners}
-use Rattle.key_handle.specs.declared.handle.KeyHandle.{KeyHandle}
+use Rattle.slicelet.specs.declared.handle.KeyHandle.{KeyHandle}
 use Rattle.slicelet.specs.Steps.{slicelet_step}
 use Rattle.slicelet.specs.Rules.{rule_after}
 use Rattle.slicelet.specs.Continuity.{handle_on, held_by, is_strange}

@@ -15,7 +15,7 @@ use crate::cluster::Cluster;
 use crate::error::ClusterError;
 use crate::reply::ClusterReply;
 use clerk::{ClerkCall, ClerkError, ClerkReply};
-use key_hash::SliceKey;
+use slice_ranges::SliceKey;
 use machines::Trouble;
 use std::alloc::AllocError;
 

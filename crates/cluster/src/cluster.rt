@@ -2,7 +2,7 @@
 
 ghost use Rattle.std.specs.Prelude.{◌≡◌, ℕ, [], ◌∷◌, ◌++◌, true, false, IsTrue, None, IfOk};
 ghost use Rattle.machines.specs.Numbers.{is_within};
-ghost use Rattle.key_handle.specs.declared.handle.KeyHandle.{KeyHandle};
+ghost use Rattle.slicelet.specs.declared.handle.KeyHandle.{KeyHandle};
 ghost use Rattle.lease_table.specs.Policies.{is_policy};
 ghost use Rattle.slicelet.specs.Continuity.{is_strange};
 ghost use Rattle.slicelet.specs.States.{opening};
@@ -25,9 +25,8 @@ use crate::reply::ClusterReply;
 use assignment::{Assignment, TaskId};
 use clerk::Clerk;
 use indexmap::IndexSet;
-use key_handle::KeyHandle;
+use slicelet::{KeyHandle, Slicelet};
 use lease_table::{Grant, LeaseTable, ReleaseNote, policy_law};
-use slicelet::Slicelet;
 use std::alloc::{AllocError, Global};
 
 /// A job's table, slicelets and clerks, and all that was made so far: grants, notes, handles and

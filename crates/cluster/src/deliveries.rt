@@ -11,7 +11,7 @@ use crate::actors::numbered;
 use crate::cluster::Cluster;
 use crate::keys::{handle_key, note_key};
 use assignment::Assignment;
-use key_handle::KeyHandle;
+use slicelet::KeyHandle;
 use lease_table::{Grant, LeaseTable, Phase, ReleaseNote};
 
 // The committed assignment of a generation: that of the proposal of this place.

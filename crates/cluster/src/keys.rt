@@ -5,7 +5,7 @@ ghost use Rattle.indexmap.specs.IndexSet.{contains, spare};
 ghost use Rattle.cluster.specs.internals.Keys.{Key, key_eq, note_key, handle_key};
 
 use indexmap::IndexSet;
-use key_handle::KeyHandle;
+use slicelet::KeyHandle;
 use lease_table::ReleaseNote;
 use policy_rules::Kind;
 

@@ -3,9 +3,9 @@
 ghost use Rattle.std.specs.Prelude.{◌≡◌, ℕ, ◌<◌, ◌≤◌, ◌++◌, ◌⊎◌, ◌∷◌, true, false, Some, Result, IsTrue, Contains};
 ghost use Rattle.machines.specs.Calls.{answered};
 ghost use Rattle.machines.specs.Numbers.{is_within};
-ghost use Rattle.key_hash.specs.declared.TheConstants.{KEYS};
+ghost use Rattle.slice_ranges.specs.declared.key.TheConstants.{KEYS};
 ghost use Rattle.policy_rules.specs.declared.lease.Kind.{Kind};
-ghost use Rattle.key_handle.specs.declared.handle.KeyHandle.{KeyHandle};
+ghost use Rattle.slicelet.specs.declared.handle.KeyHandle.{KeyHandle};
 ghost use Rattle.lease_table.specs.declared.call.TableCall.TheVariants.{Free};
 ghost use Rattle.lease_table.specs.declared.call.TableReply.{TableReply};
 ghost use Rattle.lease_table.specs.declared.error.TableError.{TableError};

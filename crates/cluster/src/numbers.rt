@@ -21,10 +21,9 @@ use crate::error::ClusterError;
 use crate::reply::ClusterReply;
 use crate::tasks::told_by_task;
 use assignment::Assignment;
-use key_handle::KeyHandle;
+use slicelet::{KeyHandle, Slicelet, SliceletError, SliceletReply};
 use lease_table::{Grant, ReleaseNote};
 use machines::Trouble;
-use slicelet::{Slicelet, SliceletError, SliceletReply};
 use std::alloc::AllocError;
 
 impl Cluster {

@@ -5,11 +5,10 @@ ghost use Rattle.std.specs.Prelude.{◌≡◌, IfOk};
 use crate::error::ClusterError;
 use assignment::Listed;
 use clerk::{ClerkReply, Found};
-use key_handle::KeyHandle;
+use slicelet::{KeyHandle, SliceletReply};
 use lease_table::{Phase, Row, TableReply};
 use machines::Duplicate;
 use policy_rules::Verdict;
-use slicelet::SliceletReply;
 use std::alloc::AllocError;
 
 /// What the caller is told.

@@ -14,7 +14,7 @@ use Rattle.history_lock.specs.declared.view.View.{View}
 use Rattle.history_lock.specs.declared.view.Book.{Book}
 use Rattle.history_lock.specs.Histories.{IsLegal, StartsWith}
 use Rattle.history_lock.specs.Rule.{IsBook, IsTaken, mine_of, view_after_claim, view_after_return}
-use Rattle.history_lock.specs.Inside.Seats.{IsRefusedClaim, IsHolding, AreOut, HaveBooks, HasClaimed, IsTurned, AreCopies, IsBlank}
+use Rattle.history_lock.specs.internals.Seats.{IsRefusedClaim, IsHolding, AreOut, HaveBooks, HasClaimed, IsTurned, AreCopies, IsBlank}
 use Rattle.history_lock.proofs.Histories.{starts_itself, starts_through}
 
 module _ {M E R F : Type 0} (step : M → E → Result (M × R) F) (opened : Opened M) where

@@ -12,8 +12,8 @@ use Rattle.history_lock.specs.declared.view.GatheredPass.{GatheredPass}
 use Rattle.history_lock.specs.declared.view.View.{View}
 use Rattle.history_lock.specs.declared.view.Book.{Book}
 use Rattle.history_lock.specs.Rule.{spot, LockState, HasLane, KnowsRole, KnowsPasses, Knows, HasOneHistory}
-use Rattle.history_lock.specs.Inside.Views.{first_view, spent_view, role_after, dealt_role, dealer_after, dealt_view, news_view, view_after_meeting, lane_of, view_after_gathering}
-use Rattle.history_lock.specs.Inside.Seats.{IsBlank}
+use Rattle.history_lock.specs.internals.Views.{first_view, spent_view, role_after, dealt_role, dealer_after, dealt_view, news_view, view_after_meeting, lane_of, view_after_gathering}
+use Rattle.history_lock.specs.internals.Seats.{IsBlank}
 use Rattle.history_lock.proofs.Lists.{update, update_here, update_else, each_set, at_end}
 use Rattle.history_lock.proofs.Keeps.{holds_none}
 

@@ -18,7 +18,7 @@ use Rattle.history_lock.specs.Histories.{replay, of_lane, StartsWith}
 use Rattle.history_lock.specs.Passes.{Lock, PassView}
 use Rattle.history_lock.specs.Rule.{spot, HasLane, KnowsRole, KnowsPasses, HasOneHistory}
 use Rattle.history_lock.specs.Closing.{has_lane, Agrees, IsWhole}
-use Rattle.history_lock.specs.Inside.Gathering.{gathered_pass, gathered_pass_of, IsGathered, IsEnd}
+use Rattle.history_lock.specs.internals.Gathering.{gathered_pass, gathered_pass_of, IsGathered, IsEnd}
 
 module _ {E : Type 0} (log : List (Entry E)) (next dealer : ℕ) (owner : ℕ → ℕ) (id : ℕ) where
   owner_of_gathered : (n : ℕ) (gs : List (GatheredPass E)) → KnowsPasses log next dealer owner id gs → IsGathered n gs → owner n ≡ id

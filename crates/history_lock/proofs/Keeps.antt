@@ -17,7 +17,7 @@ use Rattle.history_lock.specs.declared.view.View.{View}
 use Rattle.history_lock.specs.declared.view.Book.{Book}
 use Rattle.history_lock.specs.Histories.{replay, of_lane, GrowsBy}
 use Rattle.history_lock.specs.Rule.{spot, LockState, SeatState, IsWordOf, HasLane, KnowsRole, KnowsPasses, Holds, Knows, IsBook, IsAway, HasOneHistory, mine_of, view_after_claim, view_after_refusal, view_after_write, view_after_return, IsHeldByAnother, Claims, ClaimsOwn, ClaimsNext, Publishes, GivesBack}
-use Rattle.history_lock.specs.Inside.Seats.{IsHolding}
+use Rattle.history_lock.specs.internals.Seats.{IsHolding}
 use Rattle.history_lock.proofs.Histories.{starts_itself, starts_through}
 use Rattle.history_lock.proofs.Lists.{update, update_here, update_else, inside, each_set}
 

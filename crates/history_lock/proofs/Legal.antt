@@ -4,7 +4,7 @@ use Rattle.history_lock.specs.declared.view.Opened.{Opened}
 use Rattle.history_lock.specs.declared.view.View.{View}
 use Rattle.history_lock.specs.Histories.{replay, IsLegal}
 use Rattle.history_lock.specs.declared.entry.Entry.{Entry}
-use Rattle.history_lock.specs.Inside.Seats.{SeesLegal}
+use Rattle.history_lock.specs.internals.Seats.{SeesLegal}
 
 module _ {M E R F : Type 0} (step : M → E → Result (M × R) F) where
   same_opened : (a b : Opened M) → Some a ≡ Some b → a ≡ b

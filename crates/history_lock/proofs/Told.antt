@@ -17,8 +17,8 @@ use Rattle.history_lock.specs.Histories.{replay, entry, StartsWith, GrowsBy}
 use Rattle.history_lock.specs.Passes.{lock_at, pass_view}
 use Rattle.history_lock.specs.Rule.{IsBook, holder_of, mine_of}
 use Rattle.history_lock.specs.Answers.{IsHeldByOther, IsShown, IsWritten, Wrote}
-use Rattle.history_lock.specs.Inside.Seats.{IsRefusedClaim}
-use Rattle.history_lock.specs.Inside.Turns.{IsTurn, Stays}
+use Rattle.history_lock.specs.internals.Seats.{IsRefusedClaim}
+use Rattle.history_lock.specs.internals.Turns.{IsTurn, Stays}
 use Rattle.history_lock.proofs.Histories.{of_lane_snoc, grows_snoc, replay_snoc}
 
 -- a pass is seen as its place shows it

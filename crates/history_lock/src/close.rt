@@ -2,9 +2,9 @@
 
 ghost use Rattle.std.specs.Prelude.{◌≡◌, ◌⊎◌, ℕ, ◌<◌, [], ◌∷◌, true, false, IfOk, OnOk, IfErr, MatchBool, map};
 ghost use Rattle.history_lock.specs.Passes.{ArePassesOf};
-ghost use Rattle.history_lock.specs.Inside.Seats.{IsTaking};
+ghost use Rattle.history_lock.specs.internals.Seats.{IsTaking};
 ghost use Rattle.history_lock.specs.Closing.{has_lane, IsWhole};
-ghost use Rattle.history_lock.specs.Inside.Gathering.{AreAt, IsGathered, IsEnd, gathered_pass, gathered_pass_of};
+ghost use Rattle.history_lock.specs.internals.Gathering.{AreAt, IsGathered, IsEnd, gathered_pass, gathered_pass_of};
 
 use crate::entry::{History, history_of};
 use crate::pass::{LaneLock, Pass};

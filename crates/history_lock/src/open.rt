@@ -4,8 +4,8 @@ ghost use Rattle.std.specs.Prelude.{◌≡◌, ◌+◌, ◌<◌, ◌≤◌, [], 
 ghost use Rattle.history_lock.specs.declared.error.NewLockError.TheVariants as new_lock_error;
 ghost use Rattle.history_lock.specs.Passes.{lock_at, new_pass, AreNewFrom, is_allowed};
 ghost use Rattle.history_lock.specs.Rule.{spot};
-ghost use Rattle.history_lock.specs.Inside.Views.{first_view};
-ghost use Rattle.history_lock.specs.Inside.Seats.{IsDealing, IsBlank};
+ghost use Rattle.history_lock.specs.internals.Views.{first_view};
+ghost use Rattle.history_lock.specs.internals.Seats.{IsDealing, IsBlank};
 
 use crate::error::NewLockError;
 use crate::pass::{LaneLock, Pass};

@@ -21,7 +21,7 @@ pub struct LaneLock<M: Machine> {
 
 impl<M: Machine> Model for LaneLock<M> {
     ghost use Rattle.history_lock.specs.Passes.{Lock, lock_at};
-    ghost use Rattle.history_lock.specs.Inside.Seats.{IsOfLanes};
+    ghost use Rattle.history_lock.specs.internals.Seats.{IsOfLanes};
 
     ghost Value = { Lock M };
 
@@ -42,7 +42,7 @@ pub struct Pass<M: Machine> {
 
 impl<M: Machine> Model for Pass<M> {
     ghost use Rattle.history_lock.specs.Passes.{PassView, pass_view};
-    ghost use Rattle.history_lock.specs.Inside.Seats.{IsResting, SeesLegal};
+    ghost use Rattle.history_lock.specs.internals.Seats.{IsResting, SeesLegal};
 
     ghost Value = { PassView M M.Event };
 

@@ -26,7 +26,7 @@ pub struct Lanes;
 impl<M: Machine> TableRule<Option<Book<M, M::Event>>, View<M, M::Event>, Snapshot<Opened<M>>>
     for Lanes {
     ghost use Rattle.history_lock.specs.Rule.{HasOneHistory};
-    ghost use Rattle.history_lock.specs.Inside.Views.{first_view};
+    ghost use Rattle.history_lock.specs.internals.Views.{first_view};
 
     ghost holds = { λ key. HasOneHistory M.step key.value };
 
@@ -73,7 +73,7 @@ impl<M: Machine> Play<Option<Book<M, M::Event>>, View<M, M::Event>> for GiveBack
 pub struct Deal;
 
 impl<M: Machine> Split<View<M, M::Event>> for Deal {
-    ghost use Rattle.history_lock.specs.Inside.Views.{dealer_after, dealt_view};
+    ghost use Rattle.history_lock.specs.internals.Views.{dealer_after, dealt_view};
 
     ghost left = { dealer_after };
 
@@ -84,7 +84,7 @@ impl<M: Machine> Split<View<M, M::Event>> for Deal {
 pub struct Tell;
 
 impl<M: Machine> Split<View<M, M::Event>> for Tell {
-    ghost use Rattle.history_lock.specs.Inside.Views.{news_view};
+    ghost use Rattle.history_lock.specs.internals.Views.{news_view};
 
     ghost left = { λ v. v };
 
@@ -95,7 +95,7 @@ impl<M: Machine> Split<View<M, M::Event>> for Tell {
 pub struct Meet;
 
 impl<M: Machine> Join<View<M, M::Event>> for Meet {
-    ghost use Rattle.history_lock.specs.Inside.Views.{view_after_meeting, spent_view};
+    ghost use Rattle.history_lock.specs.internals.Views.{view_after_meeting, spent_view};
 
     ghost both = { view_after_meeting };
 
@@ -106,7 +106,7 @@ impl<M: Machine> Join<View<M, M::Event>> for Meet {
 pub struct Gather;
 
 impl<M: Machine> Join<View<M, M::Event>> for Gather {
-    ghost use Rattle.history_lock.specs.Inside.Views.{view_after_gathering, spent_view};
+    ghost use Rattle.history_lock.specs.internals.Views.{view_after_gathering, spent_view};
 
     ghost both = { view_after_gathering };
 

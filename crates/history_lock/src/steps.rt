@@ -8,7 +8,7 @@ ghost use Rattle.history_lock.specs.declared.view.Role.TheVariants.{Lane};
 ghost use Rattle.history_lock.specs.Histories.{replay, GrowsBy};
 ghost use Rattle.history_lock.specs.Rule.{spot, IsBook, IsTaken, view_after_claim, view_after_write, view_after_return, refused_claim};
 ghost use Rattle.history_lock.specs.Answers.{IsWriterAt};
-ghost use Rattle.history_lock.specs.Inside.Seats.{IsRefusedClaim, IsHolding, HaveBooks, HasClaimed, IsTurned};
+ghost use Rattle.history_lock.specs.internals.Seats.{IsRefusedClaim, IsHolding, HaveBooks, HasClaimed, IsTurned};
 ghost use Rattle.history_lock.specs.declared.open.TheConstants.{MOST_LANES};
 
 use crate::error::{Busy, Holder};

@@ -6,8 +6,8 @@ ghost use Rattle.history_lock.specs.Histories.{replay};
 ghost use Rattle.history_lock.specs.Rule.{spot, view_after_return};
 ghost use Rattle.history_lock.specs.Passes.{lock_at, pass_view};
 ghost use Rattle.history_lock.specs.Answers.{Wrote, Shared, IsTurnedAway, TriedToShare, TriedToMeet, IsWriterAt};
-ghost use Rattle.history_lock.specs.Inside.Turns.{IsTurn, only_reply};
-ghost use Rattle.history_lock.specs.Inside.Seats.{IsResting, SeesLegal, IsTable, AreOut, AreCopies};
+ghost use Rattle.history_lock.specs.internals.Turns.{IsTurn, only_reply};
+ghost use Rattle.history_lock.specs.internals.Seats.{IsResting, SeesLegal, IsTable, AreOut, AreCopies};
 ghost use Rattle.history_lock.specs.declared.open.TheConstants.{MOST_LANES};
 
 use crate::entry::Entry;

@@ -27,7 +27,7 @@ ghost use Rattle.lease_table.specs.JobTerms.{takes_in, number_passed, HoldsJob, 
 
 use crate::policy::Policy;
 use crate::table::READINGS;
-use key_hash::KEYS;
+use slice_ranges::KEYS;
 
 /// A policy is within its limits.
 pub fn policy_law(policy: Policy)

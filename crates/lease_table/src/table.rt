@@ -46,7 +46,7 @@ impl Model for LeaseTable {
     ghost Value = { Standing };
 
     ghost use Rattle.lease_table.specs.Rows.{running_rows};
-    ghost use Rattle.lease_table.specs.Inside.Numbers.{IsInRange};
+    ghost use Rattle.lease_table.specs.internals.Numbers.{IsInRange};
 
     ghost view = { λ t. record {
       policy = t.policy;

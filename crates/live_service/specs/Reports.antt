@@ -1,7 +1,7 @@
 -- What live runs report.
 use Rattle.std.specs.Prelude.{◌≡◌, ℕ, zero, suc, ◌+◌, ◌*◌, Bool, true, false, List, [], ◌∷◌, ◌++◌, None, decimal, vec_len}
 use Rattle.std.specs.List.{AllByRecursion, count_by}
-use Rattle.key_hash.specs.Hash.{slice_key}
+use Rattle.slice_ranges.specs.Hash.{slice_key}
 use Rattle.lease_table.specs.declared.call.TableCall.{TableCall}
 use Rattle.lease_table.specs.declared.call.TableCall.TheVariants.{Commit}
 use Rattle.lease_table.specs.Calls.{event_step as table_step}

@@ -22,7 +22,7 @@ use assignment::Assignment;
 use clerk::{Clerk, ClerkCall, ClerkError, ClerkReply, Found, Unknown};
 use cluster::{CallRecord, ClusterCall, ClusterError, ClusterReply};
 use history_lock::{Closed, LaneLock, NewLockError, Pass};
-use key_hash::SliceKey;
+use slice_ranges::SliceKey;
 use std::alloc::Global;
 use std::marker::Model;
 use std::sync::Wait;

@@ -2,7 +2,7 @@
 
 ghost use Rattle.std.specs.Prelude.{◌≡◌, ◌≤◌, ◌+◌, IfOk, length, decimal};
 ghost use Rattle.history_lock.specs.Passes.{IsPassOf};
-ghost use Rattle.key_hash.specs.Hash.{slice_key};
+ghost use Rattle.slice_ranges.specs.Hash.{slice_key};
 ghost use Rattle.tickets.specs.Tickets.{DrawsFrom, new_ticket_pass};
 ghost use Rattle.cluster.specs.declared.call.ClusterCall.TheVariants as recorded_call;
 ghost use Rattle.live_service.specs.Draws.{CanDraw};
@@ -13,7 +13,7 @@ use crate::shared_slicelet::SharedSlicelet;
 use crate::when::When;
 use cluster::CallRecord;
 use history_lock::Pass;
-use key_hash::{SliceKey, slice_key};
+use slice_ranges::{SliceKey, slice_key};
 use slicelet::Slicelet;
 use std::alloc::{AllocError, Global};
 use std::sync::Wait;

@@ -12,7 +12,7 @@ use audit::{Audit, audit};
 use clerk::{Clerk, ClerkEvent};
 use cluster::{CallRecord, ClusterReply, Job};
 use history_lock::{History, Pass};
-use key_hash::slice_key;
+use slice_ranges::slice_key;
 use lease_table::{LeaseTable, Phase, Row, TableEvent};
 use live_service::{SharedClerk, SharedSlicelet, SharedTable, When};
 use machines::Event;

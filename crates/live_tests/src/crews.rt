@@ -7,7 +7,7 @@ use cluster::{CallRecord, ClusterCall};
 use crossbeam_utils::Backoff;
 use crossbeam_utils::atomic::AtomicCell;
 use history_lock::History;
-use key_hash::slice_key;
+use slice_ranges::slice_key;
 use lease_table::TableCall;
 use live_service::{Gate, LiveJob, LiveReport, OpenGate, run_live};
 use policy_rules::Kind;

@@ -8,7 +8,7 @@ use crate::histories::halves;
 use crate::memory::{room_at_last, ticket_at_last};
 use clerk::{Clerk, ClerkError};
 use history_lock::{NewLockError, Pass};
-use key_hash::slice_key;
+use slice_ranges::slice_key;
 use live_service::{CallError, RefusedCall, SharedClerk};
 use std::alloc::Global;
 use std::marker::Model;

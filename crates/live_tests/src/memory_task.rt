@@ -9,7 +9,7 @@ use crate::memory::{room_at_last, ticket_at_last};
 use crate::objects::first_task;
 use assignment::TaskId;
 use history_lock::{NewLockError, Pass};
-use key_hash::slice_key;
+use slice_ranges::slice_key;
 use live_service::{CallError, Recorded, RefusedCall, SharedSlicelet, When};
 use policy_rules::{Ground, Kind, Verdict};
 use slicelet::{Slicelet, SliceletError};

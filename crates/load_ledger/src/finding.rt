@@ -6,7 +6,7 @@ ghost use Rattle.assignment.specs.Slices.{refusal_of};
 ghost use Rattle.load_ledger.specs.Loads.{is_in};
 
 use assignment::OwnedSlice;
-use key_hash::SliceKey;
+use slice_ranges::SliceKey;
 
 /// The place of the slice that a key is in.
 pub fn place_of(slices: &[OwnedSlice], key: SliceKey) -> usize

@@ -6,7 +6,7 @@ ghost use Rattle.load_ledger.specs.Shares.{add_step, share_total, total_weight};
 
 use crate::error::LoadError;
 use assignment::TaskId;
-use key_hash::SliceKey;
+use slice_ranges::SliceKey;
 use machines::{Duplicate, Trouble};
 use std::alloc::{AllocError, Global};
 use std::marker::Model;

@@ -1,4 +1,4 @@
-use key_hash::{SliceKey, slice_key};
+use slice_ranges::{SliceKey, slice_key};
 
 // The digests are those of `sha256sum`, each with its first eight bytes shifted right by one bit.
 #[test]

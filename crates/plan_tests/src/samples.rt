@@ -1,7 +1,7 @@
 //! What the tests speak of, and plans in words.
 
 use assignment::{Assignment, Listed, Slice, TaskId};
-use key_hash::{SliceKey, slice_key};
+use slice_ranges::{SliceKey, slice_key};
 use load_ledger::{LoadBook, LoadShare};
 use std::alloc::{AllocError, Global};
 use std::test::Fail;

@@ -5,8 +5,7 @@ ghost use Rattle.std.specs.Bool.{IsTrue};
 ghost use Rattle.std.specs.Cmp.{partial_equiv_from_equiv};
 ghost use Rattle.slice_ranges.specs.Sets.{has};
 
-use key_hash::SliceKey;
-use slice_ranges::Ranges;
+use slice_ranges::{Ranges, SliceKey};
 use std::alloc::AllocError;
 
 /// What a lease is for.

@@ -7,7 +7,7 @@ ghost use Rattle.policy_rules.specs.Rule.{rule, holding_seen_from, serving_gener
 use crate::answer::{Ground, Verdict};
 use crate::holding::Holding;
 use crate::lease::{Kind, Lease};
-use key_hash::SliceKey;
+use slice_ranges::SliceKey;
 
 /// Whether a task that holds this may serve a key at a reading of its clock, in ticks.
 ///

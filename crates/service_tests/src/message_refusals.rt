@@ -1,7 +1,7 @@
 //! Why messages are refused.
 
 use assignment::{Assignment, AssignmentError};
-use key_handle::KeyHandle;
+use slicelet::KeyHandle;
 use lease_table::{Grant, ReleaseNote, TableCall, TableReply};
 use slice_ranges::RangesError;
 use std::alloc::Global;

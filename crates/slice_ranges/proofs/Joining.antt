@@ -2,10 +2,10 @@
 use Rattle.std.proofs.Common.{◌≡◌, ℕ, ◌+◌, ◌<◌, ◌≤◌, Bool, true, false, List, [], ◌∷◌, ◌++◌, None, refl, sym, ◌∙◌, inl, inr, ◌⊎◌, arith}
 use Rattle.std.specs.Prelude.{nat_lt, nat_le}
 use Rattle.std.proofs.lemmas.Bool.{lt-ltb, le-ltb, le-leb, lt-leb, cases_lt, ltb-false, leb-false}
-use Rattle.key_hash.specs.declared.TheConstants.{KEYS}
+use Rattle.slice_ranges.specs.declared.key.TheConstants.{KEYS}
 use Rattle.slice_ranges.specs.declared.error.RangesError.TheVariants.{Unsorted, Empty, PastEnd}
 use Rattle.slice_ranges.specs.Sets.{has, IsRanges, covered, or_else, refusal_from}
-use Rattle.slice_ranges.specs.Internals.Turns.{IsTurned}
+use Rattle.slice_ranges.specs.internals.Turns.{IsTurned}
 use Rattle.slice_ranges.proofs.Boundaries.{rises_below}
 use Rattle.machines.specs.Refusals.{when, first_of}
 use Rattle.slice_ranges.proofs.Writing.{IsMade, writing_turn}

@@ -1,7 +1,7 @@
 -- What writing the boundaries of levels keeps.
 use Rattle.std.proofs.Common.{◌≡◌, ℕ, ◌+◌, ◌<◌, ◌≤◌, Bool, true, false, not, List, [], ◌∷◌, ◌++◌, refl, sym, ap, ◌∙◌, inl, inr, ◌⊎◌, arith}
 use Rattle.std.proofs.lemmas.Bool.{lt-ltb, le-ltb, cases_lt}
-use Rattle.key_hash.specs.declared.TheConstants.{KEYS}
+use Rattle.slice_ranges.specs.declared.key.TheConstants.{KEYS}
 use Rattle.slice_ranges.specs.Sets.{has, IsRanges}
 use Rattle.slice_ranges.specs.Levels.{Levels, value_after, LevelsRise}
 use Rattle.slice_ranges.proofs.Boundaries.{rises_below, rises_push, inside_push_below, inside_push_above}

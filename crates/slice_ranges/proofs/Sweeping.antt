@@ -2,12 +2,12 @@
 use Rattle.std.proofs.Common.{◌≡◌, ℕ, ◌+◌, ◌<◌, ◌≤◌, Bool, true, false, not, List, [], ◌∷◌, ◌++◌, refl, sym, ◌∙◌, inl, inr, arith}
 use Rattle.std.proofs.lemmas.Bool.{le-ltb, cases_lt}
 use mathlib.Core.Bool.{beq}
-use Rattle.key_hash.specs.declared.TheConstants.{KEYS}
+use Rattle.slice_ranges.specs.declared.key.TheConstants.{KEYS}
 use Rattle.slice_ranges.specs.declared.sweep.Operation.{Operation}
 use Rattle.slice_ranges.specs.declared.sweep.Operation.TheVariants.{Both, Either, Without}
 use Rattle.slice_ranges.specs.Sets.{inside_after, has, Rises, IsRanges}
 use Rattle.slice_ranges.specs.Passing.{StartsAt, Heads, IsNext, IsPast}
-use Rattle.slice_ranges.specs.Internals.Sweeps.{apply}
+use Rattle.slice_ranges.specs.internals.Sweeps.{apply}
 use Rattle.slice_ranges.proofs.Boundaries.{inside_below, rises_starts, rises_below, rises_bounds}
 use Rattle.slice_ranges.proofs.Writing.{IsMade, writing_same, writing_turn}
 

@@ -1,7 +1,7 @@
 -- Equal sets have equal boundaries.
 use Rattle.std.proofs.Common.{◌≡◌, ℕ, ◌+◌, ◌<◌, ◌≤◌, Bool, true, false, not, List, [], ◌∷◌, refl, sym, ◌∙◌, inl, inr, arith}
 use Rattle.std.proofs.lemmas.Bool.{le-ltb, cases_lt, cases_order}
-use Rattle.key_hash.specs.declared.TheConstants.{KEYS}
+use Rattle.slice_ranges.specs.declared.key.TheConstants.{KEYS}
 use Rattle.slice_ranges.specs.Sets.{inside_after, has, Rises, IsRanges}
 use Rattle.slice_ranges.proofs.Boundaries.{inside_below, rises_starts, rises_bounds}
 

@@ -1,6 +1,6 @@
+pub mod Hash
 pub mod Sets
 pub mod Levels
 pub mod Passing
-pub mod Internals
-pub use Rattle.key_hash.specs.Hash
+pub mod internals
 pub use Rattle.machines.specs.Refusals

@@ -1,7 +1,7 @@
 -- A set of slice keys as its boundaries: the keys where membership turns, in rising order.
 use Rattle.std.specs.Prelude.{◌≡◌, ℕ, zero, suc, ◌+◌, ◌≤◌, Bool, true, false, not, ◌&&◌, List, [], ◌∷◌, if◌then◌else◌, nat_lt, nat_le, Option, Some, None}
 use Rattle.std.specs.List.{list_any}
-use Rattle.key_hash.specs.declared.TheConstants.{KEYS}
+use Rattle.slice_ranges.specs.declared.key.TheConstants.{KEYS}
 use Rattle.slice_ranges.specs.declared.error.RangesError.{RangesError}
 use Rattle.slice_ranges.specs.declared.error.RangesError.TheVariants.{Unsorted, Empty, PastEnd}
 use Rattle.machines.specs.Refusals.{when, first_of}

@@ -4,7 +4,7 @@ ghost use Rattle.std.specs.Prelude.{◌≡◌, ℕ, ◌<◌, false, IfOk};
 ghost use Rattle.slice_ranges.specs.Sets.{has, IsRanges};
 ghost use Rattle.slice_ranges.specs.Levels.{value_after, LevelsRise};
 
-use key_hash::KEYS;
+use crate::key::KEYS;
 use std::alloc::{AllocError, Global};
 
 /// The keys where levels turn.

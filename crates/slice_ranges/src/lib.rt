@@ -1,12 +1,14 @@
-//! Sets of slice keys.
+//! Slice keys, and sets of them.
 #![tactic(auto)]
 
 mod error;
+mod key;
 mod levels;
 mod pairs;
 mod ranges;
 mod sweep;
 
 pub use error::RangesError;
+pub use key::{KEYS, SliceKey, slice_key};
 pub use ranges::{Ranges, keys_where_law};
 pub use sweep::{boundaries_above, next_boundary};

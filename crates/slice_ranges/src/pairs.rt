@@ -3,10 +3,10 @@
 ghost use Rattle.std.specs.Prelude.{◌≡◌, ℕ, None, IfOk, OnOk};
 ghost use Rattle.std.specs.Result.{result_err};
 ghost use Rattle.slice_ranges.specs.Sets.{covered, refusal_of, has, IsRanges};
-ghost use Rattle.slice_ranges.specs.Internals.Turns.{IsTurned};
+ghost use Rattle.slice_ranges.specs.internals.Turns.{IsTurned};
 
 use crate::error::RangesError;
-use key_hash::KEYS;
+use crate::key::KEYS;
 use std::alloc::{AllocError, Global};
 
 /// Why pairs make no set, if they make none.

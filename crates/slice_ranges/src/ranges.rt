@@ -8,13 +8,13 @@ ghost use Rattle.std.proofs.lemmas.Cmp.{nat_list_eq_equiv};
 ghost use Rattle.slice_ranges.specs.declared.error.RangesError.TheVariants as refused;
 ghost use Rattle.slice_ranges.specs.Sets.{covered, refusal_of, has, count, keys_where, IsRanges};
 ghost use Rattle.slice_ranges.specs.Levels.{value_after, LevelsRise};
-ghost use Rattle.slice_ranges.specs.Internals.Sweeps.{apply};
+ghost use Rattle.slice_ranges.specs.internals.Sweeps.{apply};
 
 use crate::error::RangesError;
+use crate::key::{KEYS, SliceKey};
 use crate::levels::boundaries_of_levels;
 use crate::pairs::{boundaries_of_pairs, check};
 use crate::sweep::{Operation, sweep};
-use key_hash::{KEYS, SliceKey};
 use std::alloc::{AllocError, Global};
 use std::marker::Model;
 

@@ -3,7 +3,7 @@
 ghost use Rattle.std.specs.Prelude.{◌≡◌, ℕ, Some, None, [], IfOk};
 ghost use Rattle.slice_ranges.specs.Sets.{has, IsRanges};
 ghost use Rattle.slice_ranges.specs.Passing.{IsNext, IsPast};
-ghost use Rattle.slice_ranges.specs.Internals.Sweeps.{apply};
+ghost use Rattle.slice_ranges.specs.internals.Sweeps.{apply};
 
 use std::alloc::{AllocError, Global};
 

@@ -8,7 +8,7 @@ use Rattle.policy_rules.specs.declared.lease.Kind.TheVariants.{Guard, Bridge}
 use Rattle.policy_rules.specs.Leases.{SeenLease, same_kind}
 use Rattle.policy_rules.specs.Rule.{SeenHolding, rule}
 use Rattle.lease_table.specs.declared.values.Grant.{Grant}
-use Rattle.key_handle.specs.declared.handle.KeyHandle.{KeyHandle}
+use Rattle.slicelet.specs.declared.handle.KeyHandle.{KeyHandle}
 use Rattle.slicelet.specs.declared.call.SliceletCall.{SliceletCall}
 use Rattle.slicelet.specs.declared.call.SliceletCall.TheVariants.{Start, Hear, Release}
 use Rattle.slicelet.specs.Calls.{this_life, is_about, heard_by, held, is_started, last_reading, reading_of}

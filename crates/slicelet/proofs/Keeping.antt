@@ -8,7 +8,7 @@ use Rattle.policy_rules.specs.declared.lease.Kind.TheVariants.{Guard, Bridge}
 use Rattle.policy_rules.specs.declared.holding.Holding.{Holding}
 use Rattle.policy_rules.specs.declared.lease.Lease.{Lease}
 use Rattle.policy_rules.specs.Rule.{SeenHolding, holding_seen_from, rule, is_allowed}
-use Rattle.key_handle.specs.Stamps.{Stamps, since, restamped}
+use Rattle.slicelet.specs.Stamps.{Stamps, since, restamped}
 use Rattle.lease_table.specs.declared.values.Grant.{Grant}
 use Rattle.lease_table.specs.declared.values.ReleaseNote.{ReleaseNote}
 use Rattle.slicelet.specs.declared.error.SliceletError.{SliceletError}
@@ -22,8 +22,8 @@ use Rattle.slicelet.specs.Stamping.{turns, stamp_of, stamps_where}
 use Rattle.slicelet.specs.States.{SliceletState, state_after, held_in, greatest_in, stamp_in, holding_in, permits}
 use Rattle.slicelet.specs.Steps.{hear_checks, release_checks, hear_step, release_step, number_of, note_of, with_grant, with_greatest, moved_by, read_at, counted, next_state}
 use Rattle.slicelet.specs.Accepted.{StandsAfter}
-use Rattle.slicelet.specs.inside.State.{lease_of_kind, with_lease, heard_of_kind, with_heard, number_in, granted_as, leases_of, state_of}
-use Rattle.slicelet.specs.inside.Stamping.{serves, IsRestamped, Renews}
+use Rattle.slicelet.specs.internals.State.{lease_of_kind, with_lease, heard_of_kind, with_heard, number_in, granted_as, leases_of, state_of}
+use Rattle.slicelet.specs.internals.Stamping.{serves, IsRestamped, Renews}
 use Rattle.slicelet.proofs.Seeing.{seen_leases, permits_served}
 use Rattle.slicelet.proofs.States.{same_stamps, stamp_among_where}
 use Rattle.slicelet.proofs.Stamping.{after_last, stamp_unchanged}

@@ -8,3 +8,6 @@ pub mod Hearing
 pub mod Standing
 pub mod Seeing
 pub mod Keeping
+pub mod Searching
+pub mod StampWriting
+pub mod Restamping

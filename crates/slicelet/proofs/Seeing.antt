@@ -7,8 +7,8 @@ use Rattle.policy_rules.proofs.Permitting.{permitted_live}
 use Rattle.lease_table.specs.declared.values.Grant.{Grant}
 use Rattle.slicelet.specs.Rules.{seen_by, covers_key}
 use Rattle.slicelet.specs.States.{SliceletState, holding_in, permits}
-use Rattle.slicelet.specs.inside.State.{leases_of}
-use Rattle.slicelet.specs.inside.Stamping.{serves}
+use Rattle.slicelet.specs.internals.State.{leases_of}
+use Rattle.slicelet.specs.internals.Stamping.{serves}
 
 seen_lease : (key : ℕ) (held : Option Grant) → option_map (seen_from key) (option_map (λ (grant : Grant). grant.lease) held) ≡ option_map (seen_by (covers_key key)) held
 seen_lease key None = refl

@@ -5,9 +5,9 @@ use Rattle.std.proofs.lemmas.Bool.Decides.{nat_tests}
 use Rattle.std.specs.Prelude.{Option, Some, None, IsTrue, ◌==◌, ◌&&◌, nat_le, if◌then◌else◌, MatchBool}
 use Rattle.policy_rules.proofs.Permitting.{permitted_down, permitted_at_last}
 use Rattle.lease_table.specs.declared.values.Grant.{Grant}
-use Rattle.key_handle.specs.declared.handle.KeyHandle.{KeyHandle}
-use Rattle.key_handle.specs.Stamps.{restamped}
-use Rattle.key_handle.specs.Handles.{is_up_to}
+use Rattle.slicelet.specs.declared.handle.KeyHandle.{KeyHandle}
+use Rattle.slicelet.specs.Stamps.{restamped}
+use Rattle.slicelet.specs.Handles.{is_up_to}
 use Rattle.slicelet.specs.declared.call.SliceletCall.{SliceletCall}
 use Rattle.slicelet.specs.Calls.{reading_of, life_of}
 use Rattle.slicelet.specs.Rules.{holding_after, is_permitted}

@@ -1,15 +1,15 @@
 -- An accepted step leads from a state after calls to the state after one call more.
 use Rattle.std.proofs.Common.{◌≡◌, ◌∙◌, ℕ, suc, ◌+◌, ◌<◌, Bool, true, false, List, [], ◌∷◌, length, refl, sym, ap, subst, arith}
 use Rattle.std.specs.Prelude.{Option, Some, None, Ok, Err, is_some, option_map, if◌then◌else◌, MatchBool, ◌==◌, ◌&&◌}
-use Rattle.key_hash.specs.declared.TheConstants.{KEYS}
+use Rattle.slice_ranges.specs.declared.key.TheConstants.{KEYS}
 use Rattle.machines.specs.Refusals.{first_of, unless_refused}
 use Rattle.machines.specs.Answers.{replied}
 use Rattle.policy_rules.specs.declared.lease.Kind.{Kind}
 use Rattle.policy_rules.specs.declared.lease.Kind.TheVariants.{Guard, Bridge}
 use Rattle.lease_table.specs.declared.values.Grant.{Grant}
-use Rattle.key_handle.specs.declared.handle.KeyHandle.{KeyHandle}
-use Rattle.key_handle.specs.Stamps.{restamped}
-use Rattle.key_handle.specs.Handles.{is_up_to}
+use Rattle.slicelet.specs.declared.handle.KeyHandle.{KeyHandle}
+use Rattle.slicelet.specs.Stamps.{restamped}
+use Rattle.slicelet.specs.Handles.{is_up_to}
 use Rattle.slicelet.specs.declared.error.SliceletError.{SliceletError}
 use Rattle.slicelet.specs.declared.call.SliceletReply.{SliceletReply}
 use Rattle.slicelet.specs.declared.call.SliceletReply.TheVariants.{Started, Heard, Released}

@@ -1,7 +1,7 @@
 -- States after calls.
 use Rattle.std.proofs.Common.{◌≡◌, ◌∙◌, ℕ, zero, suc, ◌+◌, ◌<◌, ◌≤◌, List, ◌∷◌, refl, ap, arith}
 use Rattle.std.specs.Prelude.{Option, None, slice_index_or}
-use Rattle.key_hash.specs.declared.TheConstants.{KEYS}
+use Rattle.slice_ranges.specs.declared.key.TheConstants.{KEYS}
 use Rattle.policy_rules.specs.declared.lease.Kind.{Kind}
 use Rattle.policy_rules.specs.declared.lease.Kind.TheVariants.{Guard, Bridge}
 use Rattle.slicelet.specs.declared.call.SliceletCall.{SliceletCall}

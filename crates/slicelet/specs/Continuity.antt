@@ -4,8 +4,8 @@ use Rattle.policy_rules.specs.declared.answer.Ground.{Ground}
 use Rattle.policy_rules.specs.declared.answer.Verdict.{Verdict}
 use Rattle.policy_rules.specs.declared.answer.Verdict.TheVariants.{Allow, Deny}
 use Rattle.lease_table.specs.declared.values.Grant.{Grant}
-use Rattle.key_handle.specs.declared.handle.KeyHandle.{KeyHandle}
-use Rattle.key_handle.specs.Handles.{is_up_to}
+use Rattle.slicelet.specs.declared.handle.KeyHandle.{KeyHandle}
+use Rattle.slicelet.specs.Handles.{is_up_to}
 use Rattle.slicelet.specs.declared.error.Stranger.{Stranger}
 use Rattle.slicelet.specs.declared.call.SliceletCall.{SliceletCall}
 use Rattle.slicelet.specs.Calls.{reading_of, life_of}

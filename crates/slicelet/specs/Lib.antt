@@ -1,13 +1,16 @@
 pub mod Calls
 pub mod Rules
 pub mod Stamping
+pub mod Stamps
+pub mod Handles
 pub mod States
 pub mod Steps
 pub mod Accepted
 pub mod Laws
 pub mod Continuity
-pub mod inside
+pub mod internals
 pub use Rattle.machines.specs.Refusals
 pub use Rattle.slice_ranges.specs.Sets
+pub use Rattle.slice_ranges.specs.Levels
 pub use Rattle.policy_rules.specs.Leases
 pub use Rattle.policy_rules.specs.Rule

@@ -1,8 +1,8 @@
 -- The stamp of a key: the call since which it has been permitted.
 use Rattle.std.specs.Prelude.{ℕ, zero, suc, ◌+◌, Bool, List, [], ◌∷◌, length, Option, None, slice_index_or}
-use Rattle.key_hash.specs.declared.TheConstants.{KEYS}
+use Rattle.slice_ranges.specs.declared.key.TheConstants.{KEYS}
 use Rattle.lease_table.specs.declared.values.Grant.{Grant}
-use Rattle.key_handle.specs.Stamps.{restamped}
+use Rattle.slicelet.specs.Stamps.{restamped}
 use Rattle.slicelet.specs.declared.call.SliceletCall.{SliceletCall}
 use Rattle.slicelet.specs.Calls.{reading_of}
 use Rattle.slicelet.specs.Rules.{is_permitted}

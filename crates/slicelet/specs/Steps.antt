@@ -5,7 +5,7 @@ use Rattle.policy_rules.specs.declared.lease.Kind.{Kind}
 use Rattle.policy_rules.specs.declared.lease.Kind.TheVariants.{Guard, Bridge}
 use Rattle.lease_table.specs.declared.values.Grant.{Grant}
 use Rattle.lease_table.specs.declared.values.ReleaseNote.{ReleaseNote}
-use Rattle.key_handle.specs.Stamps.{restamped}
+use Rattle.slicelet.specs.Stamps.{restamped}
 use Rattle.slicelet.specs.declared.error.SliceletError.{SliceletError}
 use Rattle.slicelet.specs.declared.error.SliceletError.TheVariants.{NotStarted, OldLife, ClockBack, OtherTask, OtherLife, Old, TooLate, NothingHeld, HistoryFull}
 use Rattle.machines.specs.Answers.{replied}

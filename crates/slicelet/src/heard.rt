@@ -2,8 +2,8 @@
 
 ghost use Rattle.std.specs.Prelude.{◌≡◌, ℕ, true, Some, None, is_some, IfOk};
 ghost use Rattle.slice_ranges.specs.Sets.{has};
-ghost use Rattle.slicelet.specs.inside.State.{lease_of_kind, with_lease, heard_of_kind, with_heard, number_in};
-ghost use Rattle.slicelet.specs.inside.Stamping.{serves, Stays, IsRenewed, Renews};
+ghost use Rattle.slicelet.specs.internals.State.{lease_of_kind, with_lease, heard_of_kind, with_heard, number_in};
+ghost use Rattle.slicelet.specs.internals.Stamping.{serves, Stays, IsRenewed, Renews};
 
 use lease_table::Grant;
 use policy_rules::{Holding, Kind, Lease, live_keys};

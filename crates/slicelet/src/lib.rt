@@ -1,19 +1,25 @@
-//! Slicelets: whether a task may serve a key, by the leases that it heard of.
+//! Slicelets: whether a task may serve a key, by the leases that it heard of, and whether it was held
+//! without a break since a handle was taken.
 #![tactic(auto)]
 
 mod call;
 mod error;
+mod handle;
 mod heard;
 mod laws;
 mod life_stamps;
 mod machine;
 mod slicelet;
+mod stamped;
+mod sweep;
 
 pub use call::{SliceletCall, SliceletReply};
 pub use error::{SliceletError, Stranger};
+pub use handle::KeyHandle;
 pub use laws::{
     agreement_law, between_law, covering_lease_law, heard_law, held_law, lives_law, released_law,
     state_law,
 };
 pub use machine::SliceletEvent;
 pub use slicelet::{CALLS, Slicelet};
+pub use stamped::Stamped;

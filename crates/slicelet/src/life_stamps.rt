@@ -1,15 +1,15 @@
 //! The stamps of a life, of which there may be none.
 
 ghost use Rattle.std.specs.Prelude.{◌≡◌, ◌<◌, ℕ, Some, IfOk};
-ghost use Rattle.key_hash.specs.declared.TheConstants.{KEYS};
+ghost use Rattle.slice_ranges.specs.declared.key.TheConstants.{KEYS};
 ghost use Rattle.slice_ranges.specs.Sets.{has};
-ghost use Rattle.key_handle.specs.Handles.{is_still};
-ghost use Rattle.key_handle.specs.Stamps.{since, restamped};
-ghost use Rattle.slicelet.specs.inside.State.{stamps_in};
+ghost use Rattle.slicelet.specs.Handles.{is_still};
+ghost use Rattle.slicelet.specs.Stamps.{since, restamped};
+ghost use Rattle.slicelet.specs.internals.State.{stamps_in};
 
-use key_handle::{KeyHandle, Stamped};
-use key_hash::SliceKey;
-use slice_ranges::Ranges;
+use crate::handle::KeyHandle;
+use crate::stamped::Stamped;
+use slice_ranges::{Ranges, SliceKey};
 use std::alloc::{AllocError, Global};
 
 /// The stamps with another one at the keys of `after` that keep none.

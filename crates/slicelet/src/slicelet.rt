@@ -11,18 +11,19 @@ ghost use Rattle.slicelet.specs.States.{opening, held_in, greatest_in, rule_in_s
 ghost use Rattle.slicelet.specs.Steps.{not_started, clock_back, history_full, number_of, start_checks, hear_checks, release_checks, start_step, hear_step, release_step};
 ghost use Rattle.slicelet.specs.Accepted.{StandsAfter};
 ghost use Rattle.slicelet.specs.Continuity.{handle_on, held_by, is_strange, is_kept, checked_in, IsChecked};
-ghost use Rattle.slicelet.specs.inside.State.{leases_of, with_lease};
-ghost use Rattle.slicelet.specs.inside.Stamping.{IsRestamped};
+ghost use Rattle.slicelet.specs.internals.State.{leases_of, with_lease};
+ghost use Rattle.slicelet.specs.internals.Stamping.{IsRestamped};
 
 use crate::error::{SliceletError, Stranger};
+use crate::handle::KeyHandle;
 use crate::heard::{HeardGrants, holds, live_keys_with, no_leases, put_lease, renews};
 use crate::life_stamps::{copy_of, key_law, put_stamps, restamp, still};
+use crate::stamped::Stamped;
 use assignment::TaskId;
-use key_handle::{KeyHandle, Stamped};
-use key_hash::SliceKey;
 use lease_table::{Grant, ReleaseNote};
 use machines::Trouble;
 use policy_rules::{Ground, Holding, Kind, Lease, Verdict, permitted, verdict};
+use slice_ranges::SliceKey;
 use std::alloc::{AllocError, Global};
 use std::marker::Model;
 
@@ -53,7 +54,7 @@ impl Model for Slicelet {
     ghost use Rattle.std.specs.Prelude.{List};
     ghost use Rattle.slicelet.specs.declared.call.SliceletCall.{SliceletCall};
     ghost use Rattle.slicelet.specs.Accepted.{StandsAfter};
-    ghost use Rattle.slicelet.specs.inside.State.{state_of, stamps_in};
+    ghost use Rattle.slicelet.specs.internals.State.{state_of, stamps_in};
 
     ghost view = { λ s. state_of s.task s.count s.life s.holding s.heard (stamps_in s.stamps) };
 

@@ -3,7 +3,7 @@
 use crate::samples::{HALF, again, assignment_of};
 use assignment::Assignment;
 use clerk::{Clerk, ClerkCall, ClerkError, ClerkEvent, ClerkReply, Unknown};
-use key_hash::{SliceKey, slice_key};
+use slice_ranges::{SliceKey, slice_key};
 use machines::{Machine, Trouble};
 use std::alloc::Global;
 use std::test::Fail;

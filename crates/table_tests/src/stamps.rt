@@ -1,9 +1,8 @@
 //! Sets of keys with stamps.
 
 use crate::samples::{again, task_of};
-use key_handle::{KeyHandle, Stamped};
-use key_hash::SliceKey;
-use slice_ranges::{Ranges, RangesError};
+use slicelet::{KeyHandle, Stamped};
+use slice_ranges::{Ranges, RangesError, SliceKey};
 use std::alloc::Global;
 use std::test::Fail;
 

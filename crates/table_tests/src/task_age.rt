@@ -1,10 +1,9 @@
 //! A slicelet after many calls.
 
 use crate::task_samples::{allow, copy_of, grant_of, hear, release, serve, slicelet_of, start};
-use key_handle::KeyHandle;
-use key_hash::SliceKey;
+use slicelet::{KeyHandle, Slicelet, Stranger};
+use slice_ranges::SliceKey;
 use policy_rules::{Kind, Verdict};
-use slicelet::{Slicelet, Stranger};
 use std::alloc::Global;
 use std::test::Fail;
 

@@ -5,7 +5,7 @@ use crate::task_samples::{
     abc, allow, base_of, copy_of, grant_of, hear, hello, refusal, release, serve, slicelet_of,
     start,
 };
-use key_hash::SliceKey;
+use slice_ranges::SliceKey;
 use lease_table::{Grant, ReleaseNote};
 use policy_rules::{Ground, Kind, Verdict};
 use slicelet::{Slicelet, SliceletError};

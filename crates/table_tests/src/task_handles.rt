@@ -6,11 +6,10 @@ use crate::task_samples::{
     start, whole_of,
 };
 use assignment::{Assignment, TaskId};
-use key_handle::KeyHandle;
-use key_hash::SliceKey;
+use slicelet::{KeyHandle, Slicelet, Stranger};
+use slice_ranges::SliceKey;
 use lease_table::{Grant, LeaseTable};
 use policy_rules::{Ground, Kind, Verdict};
-use slicelet::{Slicelet, Stranger};
 use std::alloc::Global;
 use std::test::Fail;
 

@@ -3,7 +3,7 @@
 
 use crate::samples::again;
 use crate::task_samples::{allow, copy_of, grant_of, hear, release, serve, slicelet_of, start};
-use key_hash::SliceKey;
+use slice_ranges::SliceKey;
 use lease_table::Grant;
 use machines::Trouble;
 use policy_rules::{Ground, Kind, Verdict};

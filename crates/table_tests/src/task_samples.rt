@@ -2,11 +2,10 @@
 
 use crate::samples::{HALF, assignment_of, task_of};
 use assignment::Assignment;
-use key_hash::{SliceKey, slice_key};
+use slice_ranges::{Ranges, RangesError, SliceKey, slice_key};
 use lease_table::{Grant, LeaseTable, Policy, ReleaseNote, TableError};
 use machines::Trouble;
 use policy_rules::{Kind, Lease, Verdict};
-use slice_ranges::{Ranges, RangesError};
 use slicelet::{Slicelet, SliceletCall, SliceletError, SliceletEvent};
 use std::alloc::{AllocError, Global};
 use std::test::Fail;

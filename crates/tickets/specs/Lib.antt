@@ -1,3 +1,3 @@
 pub mod Tickets
 pub mod TicketRule
-pub mod inside
+pub mod internals

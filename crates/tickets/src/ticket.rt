@@ -5,7 +5,7 @@ ghost use Rattle.std.specs.Prelude.{IfOk, OnOk, IfErr, IsErr};
 ghost use mathlib.Core.Logic.{◌↔◌};
 ghost use Rattle.tickets.specs.declared.ticket.TicketError.TheVariants as ticket_error;
 ghost use Rattle.tickets.specs.TicketRule.{first_share};
-ghost use Rattle.tickets.specs.inside.TicketSeats.{IsDealing, IsWhole, ticket_at};
+ghost use Rattle.tickets.specs.internals.TicketSeats.{IsDealing, IsWhole, ticket_at};
 ghost use Rattle.tickets.specs.Tickets.{DrawsFrom, DrewEachBelow, IsDrawn, is_allowed, new_ticket_pass};
 
 use crate::ticket_rule::{
@@ -31,7 +31,7 @@ pub struct Ticket {
 
 impl Model for Ticket {
     ghost use Rattle.tickets.specs.Tickets.{TicketView};
-    ghost use Rattle.tickets.specs.inside.TicketSeats.{IsOfOneWord, ticket_at};
+    ghost use Rattle.tickets.specs.internals.TicketSeats.{IsOfOneWord, ticket_at};
 
     ghost Value = { TicketView };
 
@@ -51,7 +51,7 @@ pub struct TicketPass {
 
 impl Model for TicketPass {
     ghost use Rattle.tickets.specs.Tickets.{TicketPassView};
-    ghost use Rattle.tickets.specs.inside.TicketSeats.{IsResting, pass_at};
+    ghost use Rattle.tickets.specs.internals.TicketSeats.{IsResting, pass_at};
 
     ghost Value = { TicketPassView };
 

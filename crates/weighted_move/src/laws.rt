@@ -1,7 +1,7 @@
 //! What holds of every plan.
 
 ghost use Rattle.std.specs.Prelude.{◌≡◌, ◌<◌, ◌+◌, ◌-◌, ◌↔◌, ℕ, min, max, length, List, Some, None, All};
-ghost use Rattle.key_hash.specs.declared.TheConstants.{KEYS};
+ghost use Rattle.slice_ranges.specs.declared.key.TheConstants.{KEYS};
 ghost use Rattle.assignment.specs.declared.slice.Slice.{Slice};
 ghost use Rattle.assignment.specs.Slices.{refusal_of};
 ghost use Rattle.assignment.specs.Owners.{owners_of};

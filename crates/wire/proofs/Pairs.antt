@@ -1,7 +1,7 @@
 -- The pairs of a set are the set again.
 use Rattle.std.proofs.Common.{◌≡◌, ℕ, ◌+◌, ◌≤◌, false, List, [], ◌∷◌, None, Ok, refl, sym, ◌∙◌, inl, inr, arith}
 use Rattle.std.proofs.lemmas.Bool.{lt-ltb, le-ltb, le-leb, lt-leb, cases_lt}
-use Rattle.key_hash.specs.declared.TheConstants.{KEYS}
+use Rattle.slice_ranges.specs.declared.key.TheConstants.{KEYS}
 use Rattle.slice_ranges.specs.Sets.{covered, has, IsRanges, keys_where, refusal_from, refusal_of, Rises}
 use Rattle.slice_ranges.proofs.Boundaries.{inside_below, rises_bounds, rises_starts}
 use Rattle.slice_ranges.proofs.KeysWhere.{is_where}

@@ -1,8 +1,8 @@
 -- Handles on keys as JSON.
 use Rattle.std.specs.Prelude.{ℕ, List, [], ◌∷◌, codes, nat_lt, Result, Ok}
 use Rattle.serde_json.specs.Data.{Data}
-use Rattle.key_hash.specs.declared.TheConstants.{KEYS}
-use Rattle.key_handle.specs.declared.handle.KeyHandle.{KeyHandle}
+use Rattle.slice_ranges.specs.declared.key.TheConstants.{KEYS}
+use Rattle.slicelet.specs.declared.handle.KeyHandle.{KeyHandle}
 use Rattle.program_io.specs.declared.fault.WrongForm.{WrongForm}
 use Rattle.program_io.specs.Reading.{◌>>=◌, ◌>>◌, check}
 use Rattle.program_io.specs.Members.{wrong, exactly, number_at}

@@ -4,10 +4,10 @@ use Rattle.std.proofs.Common.{refl, sym, ◌∙◌, subst, inl, inr, arith, eqb-
 use Rattle.std.specs.Prelude.{Option, Some, None, ◌==◌, nat_lt, slice_get, if◌then◌else◌}
 use Rattle.std.proofs.lemmas.Bool.Decides.{nat_tests}
 use Rattle.std.proofs.lemmas.Option.{slice_get_within}
-use Rattle.key_hash.specs.Hash.{slice_key}
+use Rattle.slice_ranges.specs.Hash.{slice_key}
 use Rattle.policy_rules.specs.declared.answer.Verdict.{Verdict}
 use Rattle.policy_rules.specs.declared.answer.Verdict.TheVariants.{Allow, Deny}
-use Rattle.key_handle.specs.declared.handle.KeyHandle.{KeyHandle}
+use Rattle.slicelet.specs.declared.handle.KeyHandle.{KeyHandle}
 use Rattle.machines.specs.Numbers.{is_within}
 use Rattle.slicelet.specs.States.{SliceletState}
 use Rattle.slicelet.specs.Continuity.{handle_on, held_by, is_strange, IsContinuous}

@@ -27,8 +27,8 @@ use Rattle.lease_table.specs.Equality.{grant_eq, grant_equivalence}
 use Rattle.lease_table.specs.Tables.{Standing}
 use Rattle.lease_table.specs.Steps.{take_step, renew_step, propose_step, commit_step, grant_step, free_step}
 use Rattle.lease_table.specs.Calls.{AnsweredTableCall, standing_after, grants_sent, table_step}
-use Rattle.key_hash.specs.Hash.{slice_key}
-use Rattle.key_handle.specs.declared.handle.KeyHandle.{KeyHandle}
+use Rattle.slice_ranges.specs.Hash.{slice_key}
+use Rattle.slicelet.specs.declared.handle.KeyHandle.{KeyHandle}
 use Rattle.slicelet.specs.declared.call.SliceletCall.{SliceletCall}
 use Rattle.slicelet.specs.declared.call.SliceletCall.TheVariants.{Start, Hear, Release}
 use Rattle.slicelet.specs.declared.call.SliceletReply.{SliceletReply}

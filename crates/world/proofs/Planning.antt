@@ -2,7 +2,7 @@
 use Rattle.std.proofs.Common.{◌≡◌, ℕ, Bool, List, true, false, ◌&&◌, refl, sym, ◌∙◌, ap, subst, inl, inr}
 use Rattle.std.specs.Prelude.{Option, Some, None, Err, nat_le, unwrap_or}
 use Rattle.std.proofs.lemmas.Bool.{and_parts}
-use Rattle.key_hash.specs.declared.TheConstants.{KEYS}
+use Rattle.slice_ranges.specs.declared.key.TheConstants.{KEYS}
 use Rattle.assignment.specs.declared.slice.TheConstants.{MOST_OWNERS}
 use Rattle.assignment.specs.declared.assignment.TheConstants.{MOST_SLICES}
 use Rattle.lease_table.specs.Policies.{Terms, is_policy}

@@ -1,8 +1,8 @@
 -- Who may serve by the steps may serve by the calls of the machines, and a point between a `hold` and a `check` stands between their calls.
 use Rattle.std.proofs.Common.{◌≡◌, ℕ, Bool, true, false, List, [], ◌∷◌, ◌++◌, refl, sym, ◌∙◌, ap, subst}
 use Rattle.std.specs.Prelude.{Option, Some, None, if◌then◌else◌}
-use Rattle.key_hash.specs.Hash.{slice_key}
-use Rattle.key_handle.specs.declared.handle.KeyHandle.{KeyHandle}
+use Rattle.slice_ranges.specs.Hash.{slice_key}
+use Rattle.slicelet.specs.declared.handle.KeyHandle.{KeyHandle}
 use Rattle.machines.specs.Numbers.{is_within}
 use Rattle.policy_rules.specs.declared.answer.Verdict.{Verdict}
 use Rattle.assignment.specs.Owners.{owns}

@@ -1,8 +1,8 @@
 -- What a `serve` and a `check` are answered, and that the ends of a run are runs.
 use Rattle.std.proofs.Common.{◌≡◌, ℕ, Bool, true, false, List, [], ◌∷◌, ◌++◌, refl, ◌∙◌, ap, inl, inr}
 use Rattle.std.specs.Prelude.{Option, Some, None, IsTrue, ◌↔◌, if◌then◌else◌}
-use Rattle.key_hash.specs.Hash.{slice_key}
-use Rattle.key_handle.specs.declared.handle.KeyHandle.{KeyHandle}
+use Rattle.slice_ranges.specs.Hash.{slice_key}
+use Rattle.slicelet.specs.declared.handle.KeyHandle.{KeyHandle}
 use Rattle.machines.specs.Numbers.{is_within}
 use Rattle.slicelet.specs.Continuity.{IsContinuous, is_strange}
 use Rattle.world.specs.Jobs.{Job}

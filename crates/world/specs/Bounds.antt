@@ -1,6 +1,6 @@
 -- What a `plan` step holds its plan to.
 use Rattle.std.specs.Prelude.{ℕ, Bool, ◌&&◌, nat_le}
-use Rattle.key_hash.specs.declared.TheConstants.{KEYS}
+use Rattle.slice_ranges.specs.declared.key.TheConstants.{KEYS}
 use Rattle.assignment.specs.declared.assignment.TheConstants.{MOST_SLICES}
 use Rattle.weighted_move.specs.Policies.{Limits, limits}
 use Rattle.machines.specs.Numbers.{is_within}

@@ -1,13 +1,13 @@
 -- What holds of every run, in the words of whoever runs a service.
 use Rattle.std.specs.Prelude.{◌≡◌, ℕ, Bool, false, IsTrue, List, ◌∷◌, ◌++◌, Some, None, Contains, ◌↔◌}
-use Rattle.key_hash.specs.Hash.{slice_key}
+use Rattle.slice_ranges.specs.Hash.{slice_key}
 use Rattle.assignment.specs.Slices.{Slicing, refusal_of}
 use Rattle.assignment.specs.Owners.{owns}
 use Rattle.machines.specs.Numbers.{is_within}
 use Rattle.lease_table.specs.Tables.{slices_of}
 use Rattle.lease_table.specs.declared.values.ReleaseNote.{ReleaseNote}
 use Rattle.slicelet.specs.Accepted.{notes_sent}
-use Rattle.key_handle.specs.declared.handle.KeyHandle.{KeyHandle}
+use Rattle.slicelet.specs.declared.handle.KeyHandle.{KeyHandle}
 use Rattle.slicelet.specs.Rules.{is_allowed}
 use Rattle.cluster.specs.declared.timing.Reading.TheVariants.{TableClock}
 use Rattle.slicelet.specs.Continuity.{IsContinuous}

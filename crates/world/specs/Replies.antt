@@ -1,7 +1,7 @@
 -- What each step is answered, by the steps before it.
 use Rattle.std.specs.Prelude.{ℕ, ◌+◌, Bool, true, false, List, [], length, map, Option, Some, None, Result, Ok, Err, if◌then◌else◌}
 use Rattle.std.specs.List.{range_with_len}
-use Rattle.key_hash.specs.Hash.{slice_key}
+use Rattle.slice_ranges.specs.Hash.{slice_key}
 use Rattle.assignment.specs.declared.error.AssignmentError.{AssignmentError}
 use Rattle.assignment.specs.Slices.{Slicing, refusal_of}
 use Rattle.assignment.specs.Owners.{owners_of}
@@ -13,7 +13,7 @@ use Rattle.machines.specs.Numbers.{is_within}
 use Rattle.lease_table.specs.Tables.{phase_of}
 use Rattle.lease_table.specs.Generations.{covers_by_owners}
 use Rattle.lease_table.specs.Steps.{take_step, renew_step, propose_step, commit_step, grant_step, free_step}
-use Rattle.key_handle.specs.declared.handle.KeyHandle.{KeyHandle}
+use Rattle.slicelet.specs.declared.handle.KeyHandle.{KeyHandle}
 use Rattle.slicelet.specs.States.{SliceletState, state_after}
 use Rattle.slicelet.specs.Steps.{start_step, hear_step, release_step}
 use Rattle.slicelet.specs.Rules.{rule_after}

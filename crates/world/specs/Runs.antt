@@ -1,7 +1,7 @@
 -- Runs: each step is answered by the steps before it.
 use Rattle.std.specs.Prelude.{◌≡◌, ℕ, Bool, true, false, IsTrue, List, [], ◌∷◌, Some, None, ⊤, ◌⊎◌, ◌↔◌}
 use Rattle.assignment.specs.Slices.{Slicing}
-use Rattle.key_handle.specs.declared.handle.KeyHandle.{KeyHandle}
+use Rattle.slicelet.specs.declared.handle.KeyHandle.{KeyHandle}
 use Rattle.machines.specs.Numbers.{is_within}
 use Rattle.slicelet.specs.Continuity.{IsContinuous, is_strange}
 use Rattle.weighted_move.specs.declared.made.Plan.{Plan}

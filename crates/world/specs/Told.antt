@@ -12,11 +12,11 @@ use Rattle.lease_table.specs.Policies.{Terms}
 use Rattle.lease_table.specs.Tables.{Standing, last_number}
 use Rattle.lease_table.specs.Calls.{AnsweredTableCall, standing_after, table_step, grants_sent}
 use Rattle.lease_table.specs.Generations.{published_in}
-use Rattle.key_hash.specs.Hash.{slice_key}
+use Rattle.slice_ranges.specs.Hash.{slice_key}
 use Rattle.load_ledger.specs.declared.share.LoadRecord.{LoadRecord}
 use Rattle.load_ledger.specs.Shares.{Share}
 use Rattle.assigner.specs.Terms.{adopted_term}
-use Rattle.key_handle.specs.declared.handle.KeyHandle.{KeyHandle}
+use Rattle.slicelet.specs.declared.handle.KeyHandle.{KeyHandle}
 use Rattle.slicelet.specs.declared.call.SliceletCall.{SliceletCall}
 use Rattle.slicelet.specs.declared.call.SliceletCall.TheVariants.{Start, Hear, Release}
 use Rattle.clerk.specs.declared.call.ClerkCall.{ClerkCall}

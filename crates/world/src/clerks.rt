@@ -11,7 +11,7 @@ use crate::actors::{numbered, of_clerk, place_of};
 use crate::reply::{Refusal, Reply};
 use crate::world::World;
 use assignment::Assignment;
-use key_hash::slice_key;
+use slice_ranges::slice_key;
 use lease_table::{LeaseTable, Phase};
 use machines::Trouble;
 

@@ -6,10 +6,9 @@ ghost use Rattle.world.specs.Judging.{leases_refusal, judge_reply, trouble_of, I
 
 use crate::reply::{Refusal, Reply};
 use assignment::Listed;
-use key_hash::SliceKey;
+use slice_ranges::{Ranges, RangesError, SliceKey};
 use machines::Trouble;
 use policy_rules::{Holding, Kind, Lease, verdict};
-use slice_ranges::{Ranges, RangesError};
 use std::alloc::Global;
 
 /// A lease as a script writes it.

@@ -3,7 +3,7 @@
 ghost use Rattle.std.specs.Prelude.{◌≡◌, ℕ, ◌≤◌, ◌++◌, ◌⊎◌, List, ◌∷◌, true, false, Some, Result, IsTrue, Contains};
 ghost use Rattle.machines.specs.Calls.{answered};
 ghost use Rattle.policy_rules.specs.declared.lease.Kind.{Kind};
-ghost use Rattle.key_handle.specs.declared.handle.KeyHandle.{KeyHandle};
+ghost use Rattle.slicelet.specs.declared.handle.KeyHandle.{KeyHandle};
 ghost use Rattle.lease_table.specs.declared.call.TableCall.TheVariants as call;
 ghost use Rattle.lease_table.specs.declared.call.TableReply.{TableReply};
 ghost use Rattle.lease_table.specs.declared.error.TableError.{TableError};

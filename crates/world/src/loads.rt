@@ -17,7 +17,7 @@ use crate::reply::{Refusal, Reply};
 use crate::world::World;
 use assignment::{Listed, TaskId};
 use cluster::Job;
-use key_hash::slice_key;
+use slice_ranges::slice_key;
 use load_ledger::{LoadBook, LoadShare};
 use machines::Trouble;
 use std::alloc::{AllocError, Global};

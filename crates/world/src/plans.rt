@@ -11,7 +11,7 @@ ghost use Rattle.world.specs.Worlds.{Keeps, Played};
 use crate::reply::{Refusal, Reply};
 use crate::world::World;
 use assignment::MOST_SLICES;
-use key_hash::KEYS;
+use slice_ranges::KEYS;
 use lease_table::{Policy, policy_law};
 use machines::Trouble;
 use std::marker::Model;

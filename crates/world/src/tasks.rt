@@ -9,7 +9,7 @@ ghost use Rattle.world.specs.Worlds.{Keeps, Played};
 use crate::actors::{numbered, of_slicelet, place_of};
 use crate::reply::{Refusal, Reply};
 use crate::world::World;
-use key_hash::slice_key;
+use slice_ranges::slice_key;
 use machines::Trouble;
 use policy_rules::{Kind, Verdict};
 

@@ -10,7 +10,7 @@ ghost use Rattle.world.specs.Worlds.{Keeps, Played};
 use crate::reply::{OwnerList, Refusal, Reply};
 use crate::world::World;
 use assignment::{Assignment, AssignmentError, Slice};
-use key_hash::slice_key;
+use slice_ranges::slice_key;
 use machines::Trouble;
 
 impl World {

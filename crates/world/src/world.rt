@@ -1,7 +1,7 @@
 //! The step machine.
 
 ghost use Rattle.std.specs.Prelude.{◌≡◌, ℕ, List, ◌∷◌, ◌++◌, [], true, false, IsTrue, None, Some, length, IfOk, OnErr};
-ghost use Rattle.key_handle.specs.declared.handle.KeyHandle.{KeyHandle};
+ghost use Rattle.slicelet.specs.declared.handle.KeyHandle.{KeyHandle};
 ghost use Rattle.lease_table.specs.Policies.{is_policy};
 ghost use Rattle.machines.specs.Numbers.{is_within};
 ghost use Rattle.slicelet.specs.States.{opening};
@@ -27,12 +27,11 @@ use assigner::Assigner;
 use assignment::{Assignment, TaskId};
 use clerk::Clerk;
 use cluster::Job;
-use key_handle::KeyHandle;
-use key_hash::slice_key;
+use slicelet::{KeyHandle, Slicelet};
+use slice_ranges::slice_key;
 use lease_table::{Grant, LeaseTable, ReleaseNote, policy_law};
 use load_ledger::{LoadBook, LoadShare};
 use machines::Trouble;
-use slicelet::Slicelet;
 use std::alloc::{AllocError, Global};
 
 /// Every actor of a job, and everything that was made so far: grants, notes, handles and committed

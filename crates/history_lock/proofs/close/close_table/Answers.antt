@@ -3,7 +3,7 @@ use mathlib.Core.Option.{some-injective}
 use lib.ListN.{get_elem?}
 use Rattle.std.specs.Option.{IsSome}
 use Rattle.std.specs.Mem.Slots.{slots_counts}
-use Rattle.history_lock.specs.Inside.Gathering.{IsEnd}
+use Rattle.history_lock.specs.internals.Gathering.{IsEnd}
 use Rattle.history_lock.proofs.Ends.{ends}
 use Rattle.history_lock.proofs.close.close_table.Goals as goal
 

@@ -1,5 +1,5 @@
 use Rattle.std.proofs.Common.{◌-◌, ◌<◌}
-use Rattle.history_lock.specs.Inside.Seats.{IsBlank}
+use Rattle.history_lock.specs.internals.Seats.{IsBlank}
 use Rattle.history_lock.proofs.open.blank.Given as goal
 
 abbrev pub invariant-loop-done : goal.invariant-loop-done

@@ -1,8 +1,8 @@
 use Rattle.std.proofs.Common.{◌≡◌, replicate, sym, subst}
 use Rattle.atomic_table.specs.Table.{opening}
 use Rattle.history_lock.specs.Rule.{spot, HasOneHistory}
-use Rattle.history_lock.specs.Inside.Views.{first_view}
-use Rattle.history_lock.specs.Inside.Seats.{IsBlank}
+use Rattle.history_lock.specs.internals.Views.{first_view}
+use Rattle.history_lock.specs.internals.Seats.{IsBlank}
 use Rattle.history_lock.proofs.Deals.{starts}
 use Rattle.history_lock.proofs.open.new_table.Goals as goal
 

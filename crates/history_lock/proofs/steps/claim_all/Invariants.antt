@@ -1,5 +1,5 @@
 use Rattle.std.proofs.Common.{◌≡◌, ◌+◌}
-use Rattle.history_lock.specs.Inside.Seats.{HasClaimed}
+use Rattle.history_lock.specs.internals.Seats.{HasClaimed}
 use Rattle.history_lock.proofs.steps.claim_all.Given as goal
 
 abbrev pub invariant-loop-next : goal.invariant-loop-next

@@ -2,7 +2,7 @@ use Rattle.std.proofs.Common.{rules, arith, refl, ap, ◌∙◌, ◌-◌, sym, s
 use mathlib.Core.Option.{none}
 use Rattle.atomic_table.specs.Table.{rest, Allows, step as one_step}
 use Rattle.history_lock.specs.Rule.{spot, HasOneHistory, GivesBack, view_after_return}
-use Rattle.history_lock.specs.Inside.Seats.{IsHolding, HaveBooks}
+use Rattle.history_lock.specs.internals.Seats.{IsHolding, HaveBooks}
 use Rattle.history_lock.proofs.Keeps.{gives_back}
 use Rattle.history_lock.proofs.Claimed.{one_back}
 use Rattle.history_lock.proofs.steps.give_all_back.Goals as goal

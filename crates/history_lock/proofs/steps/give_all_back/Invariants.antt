@@ -1,6 +1,6 @@
 use Rattle.std.proofs.Common.{◌≡◌, ◌≤◌}
 use Rattle.history_lock.specs.Rule.{view_after_return}
-use Rattle.history_lock.specs.Inside.Seats.{IsHolding, HaveBooks}
+use Rattle.history_lock.specs.internals.Seats.{IsHolding, HaveBooks}
 use Rattle.history_lock.proofs.steps.give_all_back.Given as goal
 
 abbrev pub invariant-loop-left : goal.invariant-loop-left

@@ -1,5 +1,5 @@
 use Rattle.std.proofs.Common.{arith, ◌≡◌, ◌+◌, suc, sym, subst}
-use Rattle.history_lock.specs.Inside.Seats.{AreCopies}
+use Rattle.history_lock.specs.internals.Seats.{AreCopies}
 use Rattle.history_lock.proofs.Claimed.{copies_snoc}
 use Rattle.history_lock.proofs.turn.copies.Goals as goal
 

@@ -1,4 +1,4 @@
-use Rattle.history_lock.specs.Inside.Seats.{AreCopies}
+use Rattle.history_lock.specs.internals.Seats.{AreCopies}
 use Rattle.history_lock.proofs.turn.copies.Given as goal
 
 abbrev pub invariant-loop-done : goal.invariant-loop-done

@@ -2,7 +2,7 @@ use Rattle.std.proofs.Common.{rules, arith, ◌≡◌, suc, ◌∷◌, length, S
 use Rattle.atomic_table.specs.Table.{rest}
 use Rattle.history_lock.specs.Histories.{replay}
 use Rattle.history_lock.specs.Rule.{view_after_return}
-use Rattle.history_lock.specs.Inside.Seats.{AreOut, AreCopies}
+use Rattle.history_lock.specs.internals.Seats.{AreOut, AreCopies}
 use Rattle.history_lock.proofs.Claimed.{copies_last, copies_long, length_snoc}
 use Rattle.history_lock.proofs.turn.spread.Goals as goal
 

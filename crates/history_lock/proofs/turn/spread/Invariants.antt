@@ -1,7 +1,7 @@
 use Rattle.std.proofs.Common.{◌≡◌, ◌≤◌, length, Some, vec_len}
 use Rattle.history_lock.specs.Histories.{replay}
 use Rattle.history_lock.specs.Rule.{view_after_return}
-use Rattle.history_lock.specs.Inside.Seats.{AreOut, AreCopies}
+use Rattle.history_lock.specs.internals.Seats.{AreOut, AreCopies}
 use Rattle.history_lock.proofs.turn.spread.Given as goal
 
 abbrev pub invariant-loop-machine : goal.invariant-loop-machine

@@ -2,7 +2,7 @@ use Rattle.std.proofs.Common.{rules, arith, ◌-◌, ap, sym, ◌∙◌, subst}
 use Rattle.atomic_table.specs.Table.{rest}
 use Rattle.history_lock.specs.Histories.{GrowsBy}
 use Rattle.history_lock.specs.Rule.{view_after_return, view_after_write}
-use Rattle.history_lock.specs.Inside.Seats.{AreOut}
+use Rattle.history_lock.specs.internals.Seats.{AreOut}
 use Rattle.history_lock.proofs.Claimed.{are_out}
 use Rattle.history_lock.proofs.Legal.{legal_after}
 use Rattle.history_lock.proofs.Told.{held_by_other, is_not_written, new_legal, new_grows, is_written}

@@ -1,5 +1,5 @@
 use Rattle.std.proofs.Common.{◌≡◌, ◌∙◌, ℕ, ◌+◌, List, length, decimal, sym, ap, subst, arith}
-use Rattle.key_hash.specs.Hash.{slice_key}
+use Rattle.slice_ranges.specs.Hash.{slice_key}
 use Rattle.cluster.specs.declared.record.CallRecord.{CallRecord}
 use Rattle.cluster.specs.declared.call.ClusterCall.TheVariants.{Serve}
 use Rattle.live_service.specs.Reports.{AreServesFrom}

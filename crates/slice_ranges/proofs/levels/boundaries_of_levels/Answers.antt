@@ -1,6 +1,6 @@
 use Rattle.std.proofs.Common.{◌≡◌, ◌+◌, ◌<◌, ◌++◌, ◌∷◌, [], ◌⊎◌, true, false, length, get_or, refl, inl, inr, arith, add-one, drop-cons}
 use Rattle.std.proofs.lemmas.List.{drop_all}
-use Rattle.key_hash.specs.declared.TheConstants.{KEYS}
+use Rattle.slice_ranges.specs.declared.key.TheConstants.{KEYS}
 use Rattle.slice_ranges.proofs.Sweeping.{same_flag, other_flag}
 use Rattle.slice_ranges.proofs.LevelWriting.{level_same, level_turn, levels_end}
 use Rattle.slice_ranges.proofs.levels.boundaries_of_levels.Goals as goal

@@ -1,6 +1,6 @@
 use Rattle.std.proofs.Common.{ℕ, ◌+◌, length}
-use Rattle.key_hash.specs.declared.TheConstants.{KEYS}
-use Rattle.slice_ranges.specs.Internals.Sweeps.{apply}
+use Rattle.slice_ranges.specs.declared.key.TheConstants.{KEYS}
+use Rattle.slice_ranges.specs.internals.Sweeps.{apply}
 use Rattle.slice_ranges.proofs.Sweeping.{IsSweep}
 use Rattle.slice_ranges.proofs.sweep.sweep.Given as goal
 

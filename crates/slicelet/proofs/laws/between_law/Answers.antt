@@ -1,7 +1,7 @@
 use Rattle.std.proofs.Common.{◌≡◌, ℕ, ◌+◌, Bool, List, [], ◌∷◌, ◌++◌, length, refl, arith, length-append}
 use Rattle.std.specs.Prelude.{IsTrue}
 use Rattle.lease_table.specs.declared.values.Grant.{Grant}
-use Rattle.key_handle.specs.declared.handle.KeyHandle.{KeyHandle}
+use Rattle.slicelet.specs.declared.handle.KeyHandle.{KeyHandle}
 use Rattle.slicelet.specs.declared.call.SliceletCall.{SliceletCall}
 use Rattle.slicelet.specs.Rules.{is_permitted}
 use Rattle.slicelet.specs.Continuity.{IsContinuous, next_reading}

@@ -1,6 +1,6 @@
 use Rattle.std.proofs.Common.{◌≡◌, ◌+◌, All, vec_len}
 use Rattle.tickets.specs.Tickets.{new_ticket_pass}
-use Rattle.tickets.specs.inside.TicketSeats.{IsDealing, ticket_at}
+use Rattle.tickets.specs.internals.TicketSeats.{IsDealing, ticket_at}
 use Rattle.tickets.proofs.ticket.deal.Given as goal
 
 abbrev pub invariant-loop : goal.invariant-loop

@@ -1,4 +1,4 @@
-use Rattle.key_hash.specs.Hash.{slice_key}
+use Rattle.slice_ranges.specs.Hash.{slice_key}
 use Rattle.world.proofs.Played.{played}
 use Rattle.world.proofs.Matching.{played_matches}
 use Rattle.world.proofs.PlayedHolds.{may_serve, owns_key}

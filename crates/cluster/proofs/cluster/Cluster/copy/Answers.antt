@@ -1,7 +1,7 @@
 use Rattle.std.proofs.Common.{List, refl, ◌∙◌, ap}
 use Rattle.std.specs.Prelude.{reverse}
 use Rattle.lease_table.specs.declared.values.ReleaseNote.{ReleaseNote}
-use Rattle.key_handle.specs.declared.handle.KeyHandle.{KeyHandle}
+use Rattle.slicelet.specs.declared.handle.KeyHandle.{KeyHandle}
 use Rattle.std.specs.List.{list_any}
 use Rattle.cluster.specs.internals.Keys.{key_eq}
 use Rattle.cluster.specs.Clusters.{LeadsTo}

@@ -1,7 +1,7 @@
 use Rattle.std.proofs.Common.{List, sym, ◌∙◌, ap}
 use Rattle.std.specs.Prelude.{reverse}
 use Rattle.std.proofs.lemmas.List.{reverse-reverse}
-use Rattle.key_handle.specs.declared.handle.KeyHandle.{KeyHandle}
+use Rattle.slicelet.specs.declared.handle.KeyHandle.{KeyHandle}
 use Rattle.cluster.specs.Numbered.{numbered}
 use Rattle.cluster.specs.Clusters.{LeadsTo}
 use Rattle.cluster.proofs.cluster.Cluster.handle.Goals as goal

@@ -1,7 +1,7 @@
 use Rattle.std.proofs.Common.{◌≡◌, ℕ, ◌<◌, ◌^◌, true, List, [], ◌∷◌, ◌++◌, length, subst, refl, sym, ap}
 use Rattle.std.specs.Prelude.{false, Ok, Err, reverse}
 use Rattle.machines.specs.Numbers.{is_within}
-use Rattle.key_handle.specs.declared.handle.KeyHandle.{KeyHandle}
+use Rattle.slicelet.specs.declared.handle.KeyHandle.{KeyHandle}
 use Rattle.policy_rules.specs.declared.answer.Verdict.TheVariants.{Deny}
 use Rattle.slicelet.specs.Rules.{covers_key}
 use Rattle.slicelet.specs.States.{SliceletState}

@@ -1,5 +1,5 @@
 use Rattle.std.proofs.Common.{◌∙◌, sym}
-use Rattle.slicelet.specs.inside.State.{stamps_in}
+use Rattle.slicelet.specs.internals.State.{stamps_in}
 use Rattle.slicelet.proofs.Keeping.{greatest_kept}
 use Rattle.slicelet.proofs.slicelet.Slicelet.greatest_number.Goals as goal
 

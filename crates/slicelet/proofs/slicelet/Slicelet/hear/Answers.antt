@@ -3,7 +3,7 @@ use Rattle.machines.specs.Refusals.{first_of}
 use Rattle.slicelet.specs.declared.call.SliceletCall.TheVariants.{Hear}
 use Rattle.slicelet.specs.States.{SliceletState}
 use Rattle.slicelet.specs.Steps.{hear_checks, hear_step}
-use Rattle.slicelet.specs.inside.State.{state_of, stamps_in}
+use Rattle.slicelet.specs.internals.State.{state_of, stamps_in}
 use Rattle.slicelet.proofs.Accepting.{hear_accepted, hear_counts}
 use Rattle.slicelet.proofs.Keeping.{heard_stands, renewed_is}
 use Rattle.slicelet.proofs.slicelet.Slicelet.hear.Goals.{then-renews, else-renews+in_ok-restamped}

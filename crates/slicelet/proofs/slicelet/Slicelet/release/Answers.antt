@@ -3,7 +3,7 @@ use Rattle.machines.specs.Refusals.{first_of}
 use Rattle.slicelet.specs.declared.call.SliceletCall.TheVariants.{Release}
 use Rattle.slicelet.specs.States.{SliceletState, held_in}
 use Rattle.slicelet.specs.Steps.{release_checks, release_step, number_of}
-use Rattle.slicelet.specs.inside.State.{state_of, stamps_in}
+use Rattle.slicelet.specs.internals.State.{state_of, stamps_in}
 use Rattle.slicelet.proofs.Accepting.{release_counts}
 use Rattle.slicelet.proofs.Keeping.{released_stands}
 use Rattle.slicelet.proofs.slicelet.Slicelet.release.Goals as goal

@@ -1,5 +1,5 @@
 use Rattle.std.proofs.Common.{refl, sym}
-use Rattle.slicelet.specs.inside.State.{stamps_in}
+use Rattle.slicelet.specs.internals.State.{stamps_in}
 use Rattle.slicelet.proofs.Keeping.{restamped_is}
 use Rattle.slicelet.proofs.slicelet.Slicelet.restamped.Goals as goal
 

@@ -1,7 +1,7 @@
 use Rattle.std.proofs.Common.{◌∙◌, sym, ap}
 use Rattle.policy_rules.specs.Rule.{SeenHolding, rule}
 use Rattle.slicelet.specs.Rules.{covers_key}
-use Rattle.slicelet.specs.inside.State.{stamps_in}
+use Rattle.slicelet.specs.internals.State.{stamps_in}
 use Rattle.slicelet.proofs.Keeping.{seen_kept}
 use Rattle.slicelet.proofs.Standing.{rule_by_calls}
 use Rattle.slicelet.proofs.slicelet.Slicelet.serve.Goals as goal

@@ -4,7 +4,7 @@ use Rattle.slicelet.specs.declared.call.SliceletCall.TheVariants.{Start}
 use Rattle.slicelet.specs.States.{SliceletState}
 use Rattle.slicelet.specs.Steps.{start_checks}
 use Rattle.slicelet.specs.Accepted.{StandsAfter}
-use Rattle.slicelet.specs.inside.State.{stamps_in}
+use Rattle.slicelet.specs.internals.State.{stamps_in}
 use Rattle.slicelet.proofs.Keeping.{started_is}
 use Rattle.slicelet.proofs.Standing.{leads_on}
 use Rattle.slicelet.proofs.slicelet.Slicelet.start.Goals as goal

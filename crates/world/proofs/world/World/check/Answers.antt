@@ -11,7 +11,7 @@ use Rattle.world.proofs.TaskAcceptance.{task_stands}
 use Rattle.world.proofs.Sending.{table_run}
 use Rattle.world.proofs.Tying.{agree}
 use Rattle.std.specs.Prelude.{Bool}
-use Rattle.key_handle.specs.declared.handle.KeyHandle.{KeyHandle}
+use Rattle.slicelet.specs.declared.handle.KeyHandle.{KeyHandle}
 use Rattle.slicelet.specs.Continuity.{IsChecked, is_strange}
 use Rattle.world.specs.Told.{handles_made}
 use Rattle.world.proofs.Checking.{kept_reply, broken_reply, stranger_reply}

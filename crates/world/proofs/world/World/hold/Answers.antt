@@ -1,5 +1,5 @@
 use Rattle.std.proofs.Common.{◌≡◌, ℕ, ◌+◌, ◌<◌, ◌^◌, List, ◌∷◌, ◌++◌, length, refl, sym, ap, subst, ◌∙◌}
-use Rattle.key_hash.specs.Hash.{slice_key}
+use Rattle.slice_ranges.specs.Hash.{slice_key}
 use Rattle.policy_rules.specs.declared.answer.Verdict.TheVariants.{Deny}
 use Rattle.slicelet.specs.States.{SliceletState, rule_in_state}
 use Rattle.slicelet.specs.Rules.{covers_key}
@@ -13,7 +13,7 @@ use Rattle.world.proofs.Keeping.{moved}
 use Rattle.world.proofs.Sending.{table_run}
 use Rattle.world.proofs.Tying.{agree}
 use Rattle.std.proofs.Common.{[], length-append}
-use Rattle.key_handle.specs.declared.handle.KeyHandle.{KeyHandle}
+use Rattle.slicelet.specs.declared.handle.KeyHandle.{KeyHandle}
 use Rattle.slicelet.specs.Continuity.{handle_on, held_by}
 use Rattle.world.specs.Pasts.{event}
 use Rattle.world.specs.Told.{handles_made}

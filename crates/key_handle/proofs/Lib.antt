@@ -1,3 +1,0 @@
-pub mod Searching
-pub mod Writing
-pub mod Stamping

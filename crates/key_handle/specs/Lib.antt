@@ -1,5 +1,0 @@
-pub mod Stamps
-pub mod Handles
-pub mod Internals
-pub use Rattle.slice_ranges.specs.Sets
-pub use Rattle.slice_ranges.specs.Levels

@@ -1,0 +1,31 @@
+-- The keys that held leases serve.
+use Rattle.std.specs.Prelude.{◌≡◌, ℕ, ◌+◌, ◌<◌, ◌≤◌, ◌||◌, Bool, Option, Some, option_map}
+use Rattle.slice_ranges.specs.declared.key.TheConstants.{KEYS}
+use Rattle.policy_rules.specs.declared.holding.Holding.{Holding}
+use Rattle.policy_rules.specs.declared.lease.Lease.{Lease}
+use Rattle.policy_rules.specs.Leases.{seen_from}
+use Rattle.policy_rules.specs.Rule.{is_serving}
+use Rattle.slicelet.specs.Stamps.{Stamps, since, restamped}
+use Rattle.slicelet.specs.States.{SliceletState, stamp_in, permits}
+
+-- a held lease is live at the reading and covers the key
+abbrev pub serves : Holding → ℕ → ℕ → Bool
+serves holding key at = is_serving at (option_map (seen_from key) holding.guard) || is_serving at (option_map (seen_from key) holding.bridge)
+
+-- the stamps of the keys after one call more, at a reading, which leaves these leases
+abbrev pub IsRestamped : SliceletState → ℕ → Holding → Stamps → Type 0
+IsRestamped s at next stamps = (key : ℕ) → key < KEYS → since stamps key ≡ restamped (stamp_in s key) (permits s key at) (serves next key at) (s.count + 1)
+
+-- a lease that is live at a reading, or none, served at each earlier reading what it serves then
+abbrev pub Stays : ℕ → Option Lease → Type 0
+Stays at held = (key earlier : ℕ) → earlier ≤ at → is_serving earlier (option_map (seen_from key) held) ≡ is_serving at (option_map (seen_from key) held)
+
+-- a lease serves at a reading what the held one does, and has served
+pub record IsRenewed (at : ℕ) (held : Option Lease) (lease : Lease) : Type 0 where
+  pub same : (key : ℕ) → is_serving at (Some (seen_from key lease)) ≡ is_serving at (option_map (seen_from key) held)
+  pub stays : Stays at held
+
+-- a task may serve at a reading what it might before, and might at each earlier one
+pub record Renews (holding : Holding) (next : Holding) (at : ℕ) : Type 0 where
+  pub same : (key : ℕ) → serves next key at ≡ serves holding key at
+  pub stays : (key earlier : ℕ) → earlier ≤ at → serves holding key earlier ≡ serves holding key at
