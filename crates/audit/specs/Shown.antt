@@ -11,11 +11,11 @@ use Rattle.audit.specs.declared.points.Point.{Point}
 use Rattle.audit.specs.declared.points.Point.TheVariants as point
 use Rattle.audit.specs.OneRun.{Entries, Evidence, Turn}
 
-abbrev pub shown : Point → Turn
-shown (point.Table e) = record { ticket = e.now.ticket; call = call.Table e.now.call; told = None }
-shown (point.Task task e) = record { ticket = e.now.ticket; call = call.Task task e.now.call; told = None }
-shown (point.Clerk clerk e) = record { ticket = e.now.ticket; call = call.Clerk clerk e.now.call; told = None }
-shown (point.Record r) = record { ticket = r.now.ticket; call = r.now.step; told = Some r.now.reply }
+abbrev pub turn_of : Point → Turn
+turn_of (point.Table e) = record { ticket = e.now.ticket; call = call.Table e.now.call; told = None }
+turn_of (point.Task task e) = record { ticket = e.now.ticket; call = call.Task task e.now.call; told = None }
+turn_of (point.Clerk clerk e) = record { ticket = e.now.ticket; call = call.Clerk clerk e.now.call; told = None }
+turn_of (point.Record r) = record { ticket = r.now.ticket; call = r.now.step; told = Some r.now.reply }
 
 abbrev pub evidence : Entries TableCall → List (Entries SliceletCall) → List (Entries ClerkCall) → List CallRecord → Evidence
 evidence table tasks clerks records = record { table = table; tasks = tasks; clerks = clerks; records = records }

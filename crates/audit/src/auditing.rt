@@ -5,7 +5,7 @@ ghost use Rattle.cluster.specs.Jobs.{Job};
 ghost use Rattle.cluster.specs.Pasts.{Past, is_accepted, reading};
 ghost use Rattle.cluster.specs.Clusters.{LeadsTo, IsPlayed};
 ghost use Rattle.cluster.specs.declared.record.CallRecord.{CallRecord};
-ghost use Rattle.audit.specs.Shown.{evidence, shown, shown_told};
+ghost use Rattle.audit.specs.Shown.{evidence, turn_of, shown_told};
 ghost use Rattle.audit.specs.OneRun.{Fits, HistoriesRise, HistoryFalls, IsAudit, IsReplayed, IsWrong};
 
 use crate::finding::{Audit, Why};
@@ -46,7 +46,7 @@ fn judge(reply: &ClusterReply, told: Option<&ClusterReply>) -> Option<Why>
 impl<'a> Point<'a> {
     // What the caller was told; of an entry nothing.
     fn told(&self) -> Option<&'a ClusterReply>
-        ensures { shown_told result ≡ (shown self.now).told }
+        ensures { shown_told result ≡ (turn_of self.now).told }
     {
         match self {
             Point::Record(record) => Some(&record.reply),
@@ -56,7 +56,7 @@ impl<'a> Point<'a> {
 
     // Whose clock the call read.
     fn reading(&self) -> Reading
-        ensures { result ≡ reading (shown self.now).call }
+        ensures { result ≡ reading (turn_of self.now).call }
     {
         match self {
             Point::Table(event) => Reading::of_table(&event.call),
@@ -69,7 +69,7 @@ impl<'a> Point<'a> {
     // The cluster's reply to the call.
     fn play(&self, cluster: &mut Cluster) -> Result<ClusterReply, AllocError>
         ensures { (job : Job) (past : Past) → LeadsTo job past cluster.old
-            → IsPlayed job past (shown self.now).call result cluster.new }
+            → IsPlayed job past (turn_of self.now).call result cluster.new }
     {
         match self {
             Point::Table(event) => cluster.call_table(&event.call),
@@ -82,7 +82,7 @@ impl<'a> Point<'a> {
 
 // Plays points in order, up to the first that is answered otherwise than it was told.
 fn replay(alloc: Global, job: Job, points: &[Point]) -> Result<Audit, AllocError>
-    ensures { IfOk result (λ found. IsReplayed job (map shown points.now) found) }
+    ensures { IfOk result (λ found. IsReplayed job (map turn_of points.now) found) }
 {
     let mut cluster = Cluster::new(alloc, job)?;
     let mut timeliness = Timeliness::new(job.policy().skew());

@@ -4,7 +4,7 @@ ghost use Rattle.std.specs.Prelude.{◌≡◌, ℕ, ◌+◌, ◌<◌, ◌++◌, 
 ghost use Rattle.std.specs.List.Sorted.{IsPermutation, IsNonDecreasingBy};
 ghost use Rattle.cluster.specs.declared.call.ClusterCall.TheVariants as call;
 ghost use Rattle.audit.specs.OneRun.{all_turns, entry_turn, record_turn, ticket_of, turns_from, Falls, OneFalls, Rises};
-ghost use Rattle.audit.specs.Shown.{evidence, shown};
+ghost use Rattle.audit.specs.Shown.{evidence, turn_of};
 
 use clerk::{ClerkCall, ClerkEvent};
 use cluster::CallRecord;
@@ -25,7 +25,7 @@ pub(crate) enum Point<'a> {
 
 impl<'a> Point<'a> {
     pub(crate) fn ticket(&self) -> u64
-        ensures { result ≡ (shown self.now).ticket }
+        ensures { result ≡ (turn_of self.now).ticket }
     {
         match self {
             Point::Table(event) => event.ticket,
@@ -40,8 +40,8 @@ fn add_table<'a>(
     points: &mut Vec<Point<'a>>,
     entries: &'a [Entry<TableEvent>],
 ) -> Result<(), AllocError>
-    ensures { IfOk result (λ _. map shown points.new.items
-        ≡ map shown points.old.items ++ map (entry_turn call.Table) entries.now) }
+    ensures { IfOk result (λ _. map turn_of points.new.items
+        ≡ map turn_of points.old.items ++ map (entry_turn call.Table) entries.now) }
 {
     for entry in entries {
         points.push(Point::Table(&entry.event))?;
@@ -54,8 +54,8 @@ fn add_task<'a>(
     task: u64,
     entries: &'a [Entry<SliceletEvent>],
 ) -> Result<(), AllocError>
-    ensures { IfOk result (λ _. map shown points.new.items
-        ≡ map shown points.old.items ++ map (entry_turn (call.Task task)) entries.now) }
+    ensures { IfOk result (λ _. map turn_of points.new.items
+        ≡ map turn_of points.old.items ++ map (entry_turn (call.Task task)) entries.now) }
 {
     for entry in entries {
         points.push(Point::Task(task, &entry.event))?;
@@ -68,8 +68,8 @@ fn add_clerk<'a>(
     clerk: u64,
     entries: &'a [Entry<ClerkEvent>],
 ) -> Result<(), AllocError>
-    ensures { IfOk result (λ _. map shown points.new.items
-        ≡ map shown points.old.items ++ map (entry_turn (call.Clerk clerk)) entries.now) }
+    ensures { IfOk result (λ _. map turn_of points.new.items
+        ≡ map turn_of points.old.items ++ map (entry_turn (call.Clerk clerk)) entries.now) }
 {
     for entry in entries {
         points.push(Point::Clerk(clerk, &entry.event))?;
@@ -81,8 +81,8 @@ fn add_tasks<'a>(
     points: &mut Vec<Point<'a>>,
     histories: &'a [History<SliceletEvent>],
 ) -> Result<(), AllocError>
-    ensures { IfOk result (λ _. map shown points.new.items
-        ≡ map shown points.old.items ++ turns_from call.Task 1 histories.now) }
+    ensures { IfOk result (λ _. map turn_of points.new.items
+        ≡ map turn_of points.old.items ++ turns_from call.Task 1 histories.now) }
 {
     for place in 0..histories.len() {
         add_task(points, place as u64 + 1, histories[place].entries())?;
@@ -94,8 +94,8 @@ fn add_clerks<'a>(
     points: &mut Vec<Point<'a>>,
     histories: &'a [History<ClerkEvent>],
 ) -> Result<(), AllocError>
-    ensures { IfOk result (λ _. map shown points.new.items
-        ≡ map shown points.old.items ++ turns_from call.Clerk 1 histories.now) }
+    ensures { IfOk result (λ _. map turn_of points.new.items
+        ≡ map turn_of points.old.items ++ turns_from call.Clerk 1 histories.now) }
 {
     for place in 0..histories.len() {
         add_clerk(points, place as u64 + 1, histories[place].entries())?;
@@ -104,8 +104,8 @@ fn add_clerks<'a>(
 }
 
 fn add_records<'a>(points: &mut Vec<Point<'a>>, records: &'a [CallRecord]) -> Result<(), AllocError>
-    ensures { IfOk result (λ _. map shown points.new.items
-        ≡ map shown points.old.items ++ map record_turn records.now) }
+    ensures { IfOk result (λ _. map turn_of points.new.items
+        ≡ map turn_of points.old.items ++ map record_turn records.now) }
 {
     for record in records {
         points.push(Point::Record(record))?;
@@ -121,7 +121,7 @@ fn points_of<'a>(
     clerks: &'a [History<ClerkEvent>],
     records: &'a [CallRecord],
 ) -> Result<Vec<Point<'a>>, AllocError>
-    ensures { IfOk result (λ points. map shown points.items
+    ensures { IfOk result (λ points. map turn_of points.items
         ≡ all_turns (evidence table.now tasks.now clerks.now records.now)) }
 {
     let mut points = Vec::new(alloc);
@@ -135,7 +135,7 @@ fn points_of<'a>(
 // By ticket.
 fn sort(points: &mut Vec<Point>)
     ensures same { IsPermutation points.old.items points.new.items }
-    ensures order { IsNonDecreasingBy (λ p. (shown p).ticket) points.new.items }
+    ensures order { IsNonDecreasingBy (λ p. (turn_of p).ticket) points.new.items }
 {
     points.sort_unstable_by_key(|point| point.ticket());
 }
@@ -150,7 +150,7 @@ pub(crate) fn sorted_points<'a>(
 ) -> Result<Vec<Point<'a>>, AllocError>
     ensures each { IfOk result (λ points. IsPermutation
         (all_turns (evidence table.now tasks.now clerks.now records.now)) (map shown points.items)) }
-    ensures order { IfOk result (λ points. IsNonDecreasingBy (λ p. (shown p).ticket) points.items) }
+    ensures order { IfOk result (λ points. IsNonDecreasingBy (λ p. (turn_of p).ticket) points.items) }
 {
     let mut points = points_of(alloc, table, tasks, clerks, records)?;
     sort(&mut points);
@@ -159,10 +159,10 @@ pub(crate) fn sorted_points<'a>(
 
 // A ticket that stands twice, of sorted points.
 pub(crate) fn twice(points: &[Point]) -> Option<u64>
-    requires { IsNonDecreasingBy (λ p. (shown p).ticket) points.now }
-    ensures { MatchOption result (Rises (λ p. (shown p).ticket) points.now)
+    requires { IsNonDecreasingBy (λ p. (turn_of p).ticket) points.now }
+    ensures { MatchOption result (Rises (λ p. (turn_of p).ticket) points.now)
         (λ ticket. (k : ℕ) × (k + 1 < length points.now) × ((d : _)
-        → ((shown (slice_index_or points.now k d)).ticket ≡ ticket) × ((shown (slice_index_or points.now (k + 1) d)).ticket ≡ ticket))) }
+        → ((turn_of (slice_index_or points.now k d)).ticket ≡ ticket) × ((turn_of (slice_index_or points.now (k + 1) d)).ticket ≡ ticket))) }
 {
     for i in 1..points.len() {
         let before = points[i - 1].ticket();

@@ -14,7 +14,7 @@ use Rattle.clerk.specs.declared.call.ClerkReply.{ClerkReply}
 use Rattle.clerk.specs.declared.call.ClerkReply.TheVariants.{Learnt, Forgotten}
 use Rattle.clerk.specs.declared.error.ClerkError.{ClerkError}
 use Rattle.clerk.specs.declared.error.ClerkError.TheVariants.{Old}
-use Rattle.machines.specs.Answers.{Answers, replied}
+use Rattle.machines.specs.Answers.{Answers, with_named_reply}
 use Rattle.machines.specs.Calls.{LeadsOn}
 use Rattle.clerk.specs.Calls.{AnsweredClerkCall, LeadsTo, clerk_step}
 use Rattle.clerk.specs.Knowledge.{IsGreatest, accepted_since_forget, accepted_with, greater, greatest_of}
@@ -65,7 +65,7 @@ first_after_learn slicing None state reply (s ∷ slicings) first e = absurd (cc
 first_after_learn slicing (Some last) state reply slicings first e = by_test (nat_le slicing.generation last.generation) refl e
   where
     by_test : (b : Bool) → b ≡ nat_le slicing.generation last.generation
-        → (let left : Option Slicing × Unit {0} = (Some slicing, tt) in let named : Unit {0} → ClerkReply = λ _. Learnt in replied named (unless_refused (first_of (when b (Old last.generation) ∷ [])) left)) ≡ Ok (state, reply) → IsFirst (slicing ∷ slicings) state
+        → (let left : Option Slicing × Unit {0} = (Some slicing, tt) in let named : Unit {0} → ClerkReply = λ _. Learnt in with_named_reply named (unless_refused (first_of (when b (Old last.generation) ∷ [])) left)) ≡ Ok (state, reply) → IsFirst (slicing ∷ slicings) state
     by_test true test e = absurd (cc)
     by_test false test e = (left_is (Ok (Some slicing, Learnt)) state reply e, all_below last slicings slicing.generation first (grind (arith, nat_tests)))
 

@@ -8,12 +8,12 @@ use Rattle.clerk.specs.declared.call.ClerkReply.TheVariants.{Learnt, Forgotten}
 use Rattle.clerk.specs.declared.error.ClerkError.{ClerkError}
 use Rattle.machines.specs.declared.event.Event.{Event}
 use Rattle.machines.specs.Calls.{AnsweredCall}
-use Rattle.machines.specs.Answers.{Answers, replied}
+use Rattle.machines.specs.Answers.{Answers, with_named_reply}
 use Rattle.clerk.specs.Steps.{learn_step}
 
 -- what a call answers and leaves, by its step
 abbrev pub clerk_step : Option Slicing → ClerkCall → Result (Option Slicing × ClerkReply) ClerkError
-clerk_step state (Learn slicing) = replied (λ _. Learnt) (learn_step state slicing)
+clerk_step state (Learn slicing) = with_named_reply (λ _. Learnt) (learn_step state slicing)
 clerk_step state Forget = Ok (None, Forgotten)
 
 -- an event is its call, whatever its ticket

@@ -1,7 +1,7 @@
 -- What one more event adds to what each actor accepted, and to the notes.
 use Rattle.std.proofs.Common.{◌≡◌, ℕ, Bool, true, false, List, ◌∷◌, refl, sym, ◌∙◌, ap, inl, inr, ◌⊎◌, eqb-true}
 use Rattle.std.specs.Prelude.{◌==◌, Ok, if◌then◌else◌}
-use Rattle.machines.specs.Calls.{answered}
+use Rattle.machines.specs.Calls.{answered_call}
 use Rattle.lease_table.specs.declared.call.TableCall.{TableCall}
 use Rattle.lease_table.specs.declared.call.TableReply.{TableReply}
 use Rattle.lease_table.specs.declared.values.ReleaseNote.{ReleaseNote}
@@ -19,7 +19,7 @@ pub record AddsTableCall (past : Past) (e : Event) : Type 0 where
   pub made : TableCall
   pub told : TableReply
   pub is : e ≡ event (call.Table made) (reply.Table told)
-  pub added : table_calls (e ∷ past) ≡ answered made (Ok told) ∷ table_calls past
+  pub added : table_calls (e ∷ past) ≡ answered_call made (Ok told) ∷ table_calls past
 
 abbrev AddsToTable : Past → Event → Type 0
 AddsToTable past e = (table_calls (e ∷ past) ≡ table_calls past) ⊎ AddsTableCall past e

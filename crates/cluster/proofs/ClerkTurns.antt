@@ -4,7 +4,7 @@ use Rattle.std.specs.Prelude.{◌≢◌, ◌==◌, nat_le, nat_lt, Option, Some,
 use Rattle.std.proofs.lemmas.Bool.Decides.{nat_tests}
 use Rattle.std.proofs.lemmas.List.{set-get_or}
 use Rattle.machines.specs.declared.machine.Trouble.{Trouble}
-use Rattle.machines.specs.Answers.{Takes, replied}
+use Rattle.machines.specs.Answers.{Takes, with_named_reply}
 use Rattle.machines.specs.Refusals.{when, first_of, unless_refused}
 use Rattle.machines.specs.Numbers.{is_within}
 use Rattle.assignment.specs.Slices.{Slicing}
@@ -46,7 +46,7 @@ learnt_greatest slicing (Some kept) new told e = by_test (nat_le slicing.generat
     left = (Some slicing, tt)
 
     by_test : (b : Bool) → b ≡ nat_le slicing.generation kept.generation
-        → replied (λ _. Learnt) (unless_refused (first_of (when b (Old kept.generation) ∷ [])) left) ≡ Ok (new, told) → new ≡ Some (if nat_lt slicing.generation kept.generation then kept else slicing)
+        → with_named_reply (λ _. Learnt) (unless_refused (first_of (when b (Old kept.generation) ∷ [])) left) ≡ Ok (new, told) → new ≡ Some (if nat_lt slicing.generation kept.generation then kept else slicing)
     by_test true t e = absurd (cc)
     by_test false t e =
         let above : nat_lt slicing.generation kept.generation ≡ false = grind (arith, nat_tests) in

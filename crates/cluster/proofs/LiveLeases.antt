@@ -4,7 +4,7 @@ use Rattle.std.specs.Prelude.{Option, Some, None, ◌==◌, nat_le, Contains, Re
 use Rattle.std.proofs.lemmas.Bool.Decides.{nat_tests}
 use Rattle.std.proofs.lemmas.List.Elements.{Contains-append_right}
 use Rattle.std.proofs.lemmas.Bool.{and_parts}
-use Rattle.machines.specs.Calls.{answered}
+use Rattle.machines.specs.Calls.{answered_call}
 use Rattle.policy_rules.specs.declared.lease.Kind.{Kind}
 use Rattle.policy_rules.specs.declared.lease.Kind.TheVariants.{Guard, Bridge}
 use Rattle.policy_rules.specs.declared.answer.Verdict.{Verdict}
@@ -27,7 +27,7 @@ use Rattle.lease_table.specs.OpenRows.{IsSent, IsFreed, IsOut}
 use Rattle.lease_table.proofs.Members.{here}
 use Rattle.slicelet.specs.declared.call.SliceletCall.{SliceletCall}
 use Rattle.slicelet.proofs.OwnLeases.{equal_kinds}
-use Rattle.slicelet.specs.Calls.{held}
+use Rattle.slicelet.specs.Calls.{held_grant}
 use Rattle.slicelet.specs.Rules.{rule_after, is_allowed}
 use Rattle.slicelet.specs.Accepted.{notes_sent}
 use Rattle.slicelet.specs.Laws.{IsSpent, HoldsOwnLeases, HasCoveringLease}
@@ -43,7 +43,7 @@ pub record TableFacts (skew : ℕ) (calls : List AnsweredTableCall) : Type 0 whe
 
 -- NO NOTE CLOSES THE ROW OF A HELD LEASE
 
-newer_than_its_notes : (task : ℕ) (h : List SliceletCall) (kind : Kind) (grant : Grant) (note : ReleaseNote) → HoldsOwnLeases task h → held kind h ≡ Some grant
+newer_than_its_notes : (task : ℕ) (h : List SliceletCall) (kind : Kind) (grant : Grant) (note : ReleaseNote) → HoldsOwnLeases task h → held_grant kind h ≡ Some grant
     → closes note (row_of grant) ≡ true → Contains (notes_sent task h) note → ⊥
 newer_than_its_notes task h kind grant note own is_held closing sent =
     let o = own.own kind grant is_held in
@@ -53,7 +53,7 @@ newer_than_its_notes task h kind grant note own is_held closing sent =
     let of_life : note.life ≡ grant.life = eqb-true note.life grant.life both.1 in
     let of_kind : note.kind ≡ kind = equal_kinds note.kind grant.lease.kind kinds.1 ∙ o.of_kind in
     let spent = member (IsSpent h) (notes_sent task h) note own.spent sent in
-    let below : note.number < grant.number = spent.newer (of_life ∙ o.of_life) grant (subst (λ (k : Kind). held k h ≡ Some grant) (sym of_kind) is_held) in
+    let below : note.number < grant.number = spent.newer (of_life ∙ o.of_life) grant (subst (λ (k : Kind). held_grant k h ≡ Some grant) (sym of_kind) is_held) in
     let above : nat_le grant.number note.number ≡ true = last.1 in
     (grind (arith, nat_tests))
 
@@ -66,14 +66,14 @@ of_closed_task note grant closing =
 -- each note of a task that was freed is one of those that it sent
 abbrev pub FreesSentNotes : List AnsweredTableCall → ℕ → List SliceletCall → Type 0
 FreesSentNotes calls task h = (note : ReleaseNote) (at : ℕ) (answer : Result TableReply TableError) → note.task ≡ task
-    → Contains calls (answered (call.Free note at) answer) → Contains (notes_sent task h) note
+    → Contains calls (answered_call (call.Free note at) answer) → Contains (notes_sent task h) note
 
 held_unfreed : (calls : List AnsweredTableCall) (task : ℕ) (h : List SliceletCall) (kind : Kind) (grant : Grant) → FreesSentNotes calls task h → HoldsOwnLeases task h
-    → held kind h ≡ Some grant → IsFreed calls grant → ⊥
+    → held_grant kind h ≡ Some grant → IsFreed calls grant → ⊥
 held_unfreed calls task h kind grant frees own is_held freed =
     let o = own.own kind grant is_held in
     let of_task : freed.note.task ≡ task = of_closed_task freed.note grant freed.closed ∙ o.of_task in
-    let freed_call : AnsweredTableCall = answered (call.Free freed.note freed.at) (Ok freed.reply) in
+    let freed_call : AnsweredTableCall = answered_call (call.Free freed.note freed.at) (Ok freed.reply) in
     let among = subst (λ (cs : List AnsweredTableCall). Contains cs freed_call) (sym freed.parts)
     (Contains-append_right freed.later (freed_call ∷ freed.before) freed_call (here freed_call freed.before)) in
     newer_than_its_notes task h kind grant freed.note own is_held freed.closed (frees freed.note freed.at (Ok freed.reply) of_task among)
@@ -104,7 +104,7 @@ most_next n (Some slicing) = omega arith
 -- a live lease that a task holds covers only what the task owns in the committed assignment
 pub lease_owner : (skew : ℕ) (calls : List AnsweredTableCall) (task : ℕ) (h : List SliceletCall) (key at : ℕ) (kind : Kind) (grant : Grant) → TableFacts skew calls
     → FreesSentNotes calls task h → HoldsOwnLeases task h → IsSent calls grant → last_reading calls ≤ at + skew
-    → held kind h ≡ Some grant → at < grant.lease.ends → covers_by_owners calls key grant ≡ true
+    → held_grant kind h ≡ Some grant → at < grant.lease.ends → covers_by_owners calls key grant ≡ true
     → owns (slices_of (committed_in calls)) key task ≡ true
 lease_owner skew calls task h key at kind grant table frees own sent timely is_held live covered =
     let ends = table.skewed grant sent in

@@ -3,7 +3,7 @@ use Rattle.std.proofs.Common.{◌≡◌, ℕ, Bool, true, false, List, [], ◌�
 use Rattle.std.specs.Prelude.{None, ◌==◌, Contains, Ok, Result, if◌then◌else◌}
 use Rattle.std.specs.List.{AllByRecursion}
 use Rattle.std.proofs.lemmas.Bool.Decides.{nat_tests}
-use Rattle.machines.specs.Calls.{answered}
+use Rattle.machines.specs.Calls.{answered_call}
 use Rattle.machines.specs.Refusals.{first_of}
 use Rattle.machines.proofs.Every.{all_weaker}
 use Rattle.lease_table.specs.declared.call.TableCall.{TableCall}
@@ -135,5 +135,5 @@ all_freed_sent job (e ∷ past) run =
 
 -- every note that was freed was sent by its task
 pub freed_note_sent : (job : Job) (past : Past) (note : ReleaseNote) (at : ℕ) (answer : Result TableReply TableError) → IsRun job past
-    → Contains (table_calls past) (answered (Free note at) answer) → IsNoteOf past note
-freed_note_sent job past note at answer run i = member (FreesOnlySent past) (table_calls past) (answered (Free note at) answer) (all_freed_sent job past run) i
+    → Contains (table_calls past) (answered_call (Free note at) answer) → IsNoteOf past note
+freed_note_sent job past note at answer run i = member (FreesOnlySent past) (table_calls past) (answered_call (Free note at) answer) (all_freed_sent job past run) i

@@ -3,7 +3,7 @@ use Rattle.std.proofs.Common.{◌≡◌, ℕ, zero, suc, ◌+◌, ◌-◌, ◌<�
 use Rattle.std.specs.Prelude.{Option, Some, None, Ok, Err, is_ok, is_none, ◌==◌, nat_le, slice_get, if◌then◌else◌}
 use Rattle.std.proofs.lemmas.Bool.Decides.{nat_tests}
 use Rattle.std.proofs.lemmas.Option.{slice_get_past}
-use Rattle.machines.specs.Calls.{answered}
+use Rattle.machines.specs.Calls.{answered_call}
 use Rattle.assignment.specs.Slices.{Slicing}
 use Rattle.lease_table.specs.declared.call.TableCall.{TableCall}
 use Rattle.lease_table.specs.declared.call.TableCall.TheVariants as call
@@ -77,7 +77,7 @@ more published slicing commits (suc i) before many e = by_test (commits + 1 == s
         by_place false l = get_left published (slicing ∷ []) i (grind (arith, nat_tests))
 
 accepted_step : (policy : Terms) (past : List AnsweredTableCall) (c : TableCall) (reply : TableReply) → IsRun policy past → IsPublished past
-    → IsAccepted (standing_after policy past) c reply → IsPublished (answered c (Ok reply) ∷ past)
+    → IsAccepted (standing_after policy past) c reply → IsPublished (answered_call c (Ok reply) ∷ past)
 accepted_step policy past (call.Propose number slicing at) reply run h a = record {
   all = ap (λ (xs : List Slicing). xs ++ slicing ∷ []) (h.all ∙ ap (λ (p : Option Slicing). published_list past ++ waiting p) a.alone ∙ append_nil (published_list past));
   many = h.many;
@@ -85,7 +85,7 @@ accepted_step policy past (call.Propose number slicing at) reply run h a = recor
 }
 accepted_step policy past (call.Commit number at) reply run h a = by_pending (pending_in past) refl
   where
-    by_pending : (p : Option Slicing) → p ≡ pending_in past → IsPublished (answered (call.Commit number at) (Ok reply) ∷ past)
+    by_pending : (p : Option Slicing) → p ≡ pending_in past → IsPublished (answered_call (call.Commit number at) (Ok reply) ∷ past)
     by_pending None e = absurd (let f : is_none (pending_in past) ≡ false = a.proposed in let t : is_none (pending_in past) ≡ true = ap is_none (sym e) in let g : true ≡ false = sym t ∙ f in cc)
     by_pending (Some slicing) e = record {
       all = h.all ∙ sym (append_nil (published_list past ++ waiting (pending_in past)));
@@ -101,7 +101,7 @@ accepted_step policy past (call.Grant task life at) reply run h a = record { all
 accepted_step policy past (call.Free note at) reply run h a = record { all = h.all; many = h.many; each = h.each }
 accepted_step policy past call.Restart reply run h a = record { all = h.all; many = h.many; each = h.each }
 
-refused_step : (past : List AnsweredTableCall) (c : TableCall) (refusal : TableError) → IsPublished past → IsPublished (answered c (Err refusal) ∷ past)
+refused_step : (past : List AnsweredTableCall) (c : TableCall) (refusal : TableError) → IsPublished past → IsPublished (answered_call c (Err refusal) ∷ past)
 refused_step past (call.Propose number slicing at) refusal h = record { all = h.all; many = h.many; each = h.each }
 refused_step past (call.Commit number at) refusal h = record { all = h.all; many = h.many; each = h.each }
 refused_step past (call.JobTake assigner at) refusal h = record { all = h.all; many = h.many; each = h.each }

@@ -14,7 +14,7 @@ use Rattle.lease_table.specs.Calls.{AnsweredTableCall, grants_after}
 use Rattle.lease_table.specs.OpenRows.{IsSent}
 use Rattle.slicelet.specs.declared.call.SliceletCall.{SliceletCall}
 use Rattle.slicelet.specs.declared.call.SliceletCall.TheVariants.{Start, Hear, Release}
-use Rattle.slicelet.specs.Calls.{held}
+use Rattle.slicelet.specs.Calls.{held_grant}
 use Rattle.slicelet.proofs.Hearing.{held_heard, all_at_heard}
 use Rattle.cluster.specs.Jobs.{Job}
 use Rattle.cluster.specs.declared.error.ClusterError.TheVariants as error
@@ -67,7 +67,7 @@ all_heard_sent job task (e ∷ past) run =
     ])
 
 -- every lease that a task holds was sent
-pub held_sent : (job : Job) (task : ℕ) (past : Past) (kind : Kind) (grant : Grant) → IsRun job past → held kind (task_calls task past) ≡ Some grant
+pub held_sent : (job : Job) (task : ℕ) (past : Past) (kind : Kind) (grant : Grant) → IsRun job past → held_grant kind (task_calls task past) ≡ Some grant
     → IsSent (table_calls past) grant
 held_sent job task past kind grant run e =
     let h = task_calls task past in

@@ -1,7 +1,7 @@
 -- The table's calls in a run are a run of the table, and those of a longer past begin with those of a shorter one.
 use Rattle.std.proofs.Common.{◌≡◌, List, [], ◌∷◌, ◌++◌, refl, sym, ◌∙◌, ap, subst, inl, inr}
 use Rattle.std.specs.Prelude.{Ok}
-use Rattle.machines.specs.Calls.{answered}
+use Rattle.machines.specs.Calls.{answered_call}
 use Rattle.lease_table.specs.Calls.{AnsweredTableCall}
 use Rattle.lease_table.specs.Runs.{IsRun as IsTableRun}
 use Rattle.cluster.specs.Jobs.{Job}
@@ -30,5 +30,5 @@ table_calls_extend (e ∷ later) past =
     let h = table_calls_extend later past in
     elim (adds_to_table (later ++ past) e) [
       | inl same ↦ (h.0, same ∙ h.1)
-      | inr new ↦ (answered new.made (Ok new.told) ∷ h.0, new.added ∙ ap (λ (calls : List AnsweredTableCall). answered new.made (Ok new.told) ∷ calls) h.1)
+      | inr new ↦ (answered_call new.made (Ok new.told) ∷ h.0, new.added ∙ ap (λ (calls : List AnsweredTableCall). answered_call new.made (Ok new.told) ∷ calls) h.1)
     ]

@@ -1,7 +1,7 @@
 -- A call that was accepted came to its actor, and its machine took it.
 use Rattle.std.proofs.Common.{◌≡◌, ℕ, Bool, true, false, not, refl, sym, ◌∙◌, ap, subst}
 use Rattle.std.specs.Prelude.{Option, Some, None, Result, Ok, Err, if◌then◌else◌}
-use Rattle.machines.specs.Answers.{replied}
+use Rattle.machines.specs.Answers.{with_named_reply}
 use Rattle.machines.specs.Calls.{answer_of}
 use Rattle.machines.specs.Numbers.{is_within}
 use Rattle.machines.specs.Refusals.{first_of, when, unless_refused}
@@ -75,7 +75,7 @@ table_answer job past c r h =
 
 -- THE STEPS OF A SLICELET
 
-not_refused : {M A S E : Type 0} (name : A → S) (o : Option E) (value : M × A) (left : M × S) → replied name (unless_refused o value) ≡ Ok left → o ≡ None
+not_refused : {M A S E : Type 0} (name : A → S) (o : Option E) (value : M × A) (left : M × S) → with_named_reply name (unless_refused o value) ≡ Ok left → o ≡ None
 not_refused name None value left e = refl
 not_refused name (Some why) value left e = absurd (cc)
 
@@ -84,6 +84,6 @@ step_unrefused s (Start life at) left e = not_refused (λ _. Started) (first_of 
 step_unrefused s (Hear grant at) left e = not_refused (λ _. Heard) (first_of (hear_checks s grant at)) _ left e
 step_unrefused s (Release kind at) left e = not_refused Released (first_of (release_checks s kind at)) _ left e
 
-pub named_reply : {M A S E : Type 0} (name : A → S) (o : Option E) (value : M × A) (left : M × S) → replied name (unless_refused o value) ≡ Ok left → left.1 ≡ name value.1
+pub named_reply : {M A S E : Type 0} (name : A → S) (o : Option E) (value : M × A) (left : M × S) → with_named_reply name (unless_refused o value) ≡ Ok left → left.1 ≡ name value.1
 named_reply name None value left e = cc
 named_reply name (Some why) value left e = absurd (cc)

@@ -4,7 +4,7 @@ use Rattle.std.specs.Prelude.{Result, Ok, Err, reverse}
 use Rattle.std.proofs.lemmas.List.{reverse-append}
 use Rattle.machines.specs.declared.machine.Trouble.{Trouble}
 use Rattle.machines.specs.declared.machine.Trouble.TheVariants.{Refused, NoMemory}
-use Rattle.machines.specs.Answers.{Takes, replied}
+use Rattle.machines.specs.Answers.{Takes, with_named_reply}
 use Rattle.lease_table.specs.declared.values.Grant.{Grant}
 use Rattle.lease_table.specs.declared.values.ReleaseNote.{ReleaseNote}
 use Rattle.slicelet.specs.declared.call.SliceletCall.TheVariants.{Hear}
@@ -38,7 +38,7 @@ reversed_more xs x = reverse-append xs (x ∷ [])
 heard_reply : (s left : SliceletState) (grant : Grant) (at : ℕ) (told : SliceletReply) → slicelet_step s (Hear grant at) ≡ Ok (left, told) → told ≡ Heard
 heard_reply s left grant at told e = by_step (hear_step s grant at) e
   where
-    by_step : (step : Result (SliceletState × Unit {0}) SliceletError) → replied (λ _. Heard) step ≡ Ok (left, told) → told ≡ Heard
+    by_step : (step : Result (SliceletState × Unit {0}) SliceletError) → with_named_reply (λ _. Heard) step ≡ Ok (left, told) → told ≡ Heard
     by_step (Ok p) e = sym (answer_is (p.0, Heard) (left, told) e)
     by_step (Err why) e = absurd (cc)
 

@@ -1,6 +1,6 @@
 -- What happened so far: calls with their replies, newest first, and what each actor accepted of them.
 use Rattle.std.specs.Prelude.{ℕ, ◌==◌, Bool, true, false, List, [], ◌∷◌, map, Option, Some, None, Ok, if◌then◌else◌}
-use Rattle.machines.specs.Calls.{answered}
+use Rattle.machines.specs.Calls.{answered_call}
 use Rattle.assignment.specs.Slices.{Slicing}
 use Rattle.lease_table.specs.declared.call.TableCall.{TableCall}
 use Rattle.lease_table.specs.declared.values.Grant.{Grant}
@@ -58,7 +58,7 @@ readings past = map (λ e. reading e.call) past
 
 -- the calls that the table accepted with its answers, the last one first
 abbrev pub with_answer : TableCall → ClusterReply → List AnsweredTableCall → List AnsweredTableCall
-with_answer c (reply.Table r) before = answered c (Ok r) ∷ before
+with_answer c (reply.Table r) before = answered_call c (Ok r) ∷ before
 with_answer c _ before = before
 
 abbrev pub with_table_call : ClusterCall → ClusterReply → List AnsweredTableCall → List AnsweredTableCall

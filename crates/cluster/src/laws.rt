@@ -1,7 +1,7 @@
 //! What holds of every run: laws over calls with their replies.
 
 ghost use Rattle.std.specs.Prelude.{◌≡◌, ℕ, ◌<◌, ◌≤◌, ◌++◌, ◌⊎◌, ◌∷◌, true, false, Some, Result, IsTrue, Contains};
-ghost use Rattle.machines.specs.Calls.{answered};
+ghost use Rattle.machines.specs.Calls.{answered_call};
 ghost use Rattle.machines.specs.Numbers.{is_within};
 ghost use Rattle.slice_ranges.specs.declared.key.TheConstants.{KEYS};
 ghost use Rattle.policy_rules.specs.declared.lease.Kind.{Kind};
@@ -16,7 +16,7 @@ ghost use Rattle.lease_table.specs.Calls.{last_reading};
 ghost use Rattle.lease_table.specs.Runs.{IsRun as IsTableRun};
 ghost use Rattle.lease_table.specs.Generations.{assignment_in, newest_generation};
 ghost use Rattle.lease_table.specs.OpenRows.{IsSent};
-ghost use Rattle.slicelet.specs.Calls.{held};
+ghost use Rattle.slicelet.specs.Calls.{held_grant};
 ghost use Rattle.slicelet.specs.Rules.{covers_key};
 ghost use Rattle.slicelet.specs.Accepted.{AreAccepted};
 ghost use Rattle.slicelet.specs.Continuity.{is_strange};
@@ -43,13 +43,13 @@ pub fn told_law()
 /// and the table's last reading is that of an earlier call, or 0 where it accepted none.
 pub fn sent_law()
     ensures held { (job : Job) (past : Past) (task : ℕ) (kind : Kind) (grant : Grant) → IsRun job past
-        → held kind (task_calls task past) ≡ Some grant → IsSent (table_calls past) grant }
+        → held_grant kind (task_calls task past) ≡ Some grant → IsSent (table_calls past) grant }
     ensures own { (job : Job) (past : Past) (task : ℕ) (kind : Kind) (grant : Grant) → IsRun job past
-        → held kind (task_calls task past) ≡ Some grant → grant.task ≡ task }
+        → held_grant kind (task_calls task past) ≡ Some grant → grant.task ≡ task }
     ensures made { (job : Job) (past : Past) (note : ReleaseNote) → IsRun job past
         → Contains (notes_made past) note → IsNoteOf past note }
     ensures freed { (job : Job) (past : Past) (note : ReleaseNote) (at : ℕ) (answer : Result TableReply TableError) → IsRun job past
-        → Contains (table_calls past) (answered (Free note at) answer) → IsNoteOf past note }
+        → Contains (table_calls past) (answered_call (Free note at) answer) → IsNoteOf past note }
     ensures reading { (past : Past) → (last_reading (table_calls past) ≡ 0) ⊎ WasRead past (last_reading (table_calls past)) }
 {
     slicelet::held_law();

@@ -4,7 +4,7 @@ use Rattle.std.specs.Prelude.{Option, Some, None, Ok, nat_lt, nat_le, is_none, i
 use Rattle.std.specs.List.{list_any}
 use Rattle.std.proofs.lemmas.Bool.Decides.{nat_tests}
 use Rattle.machines.specs.Refusals.{first_of, unless_refused}
-use Rattle.machines.specs.Answers.{replied}
+use Rattle.machines.specs.Answers.{with_named_reply}
 use Rattle.machines.specs.Calls.{answer_of}
 use Rattle.machines.proofs.Refused.{all_none, not_when}
 use Rattle.assignment.specs.Slices.{Slicing}
@@ -86,7 +86,7 @@ IsAnsweredAfter policy past c given = given ≡ answer_of (table_step (standing_
 
 -- an answered call was not refused, and its reply is that of its step
 unrefused : {R : Type 0} (name : R → TableReply) (o : Option TableError) (new : Standing) (r : R) (reply : TableReply)
-    → Ok reply ≡ answer_of (replied name (unless_refused o (new, r))) → (o ≡ None) × (reply ≡ name r)
+    → Ok reply ≡ answer_of (with_named_reply name (unless_refused o (new, r))) → (o ≡ None) × (reply ≡ name r)
 unrefused name None new r reply e = (refl, cc)
 unrefused name (Some refusal) new r reply e = absurd (cc)
 

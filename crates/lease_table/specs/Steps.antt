@@ -174,8 +174,8 @@ free_step t note at =
 
 -- `restart`, which is never refused: the rows are lost, and no commit is accepted before the greatest
 -- deadline that was given; all else is kept
-abbrev pub restarted : Standing → Standing
-restarted t = record t { grace = t.deadline; rows = [] }
+abbrev pub standing_after_restart : Standing → Standing
+standing_after_restart t = record t { grace = t.deadline; rows = [] }
 
 abbrev pub restart_step : Standing → Result (Standing × ℕ) TableError
-restart_step t = Ok (restarted t, length t.rows)
+restart_step t = Ok (standing_after_restart t, length t.rows)

@@ -18,7 +18,7 @@ ghost use Rattle.lease_table.specs.Policies.{Terms, is_policy};
 ghost use Rattle.lease_table.specs.Tables.{Standing, opening, generation_of, slices_of, last_number};
 ghost use Rattle.lease_table.specs.Calls.{AnsweredTableCall, table_step, standing_after, LeadsTo};
 ghost use Rattle.lease_table.specs.Calls.{reading_after, last_reading, last_term, committed_in, pending_in, grants_sent, deadline_in, grace_in};
-ghost use Rattle.machines.specs.Calls.{LeadsOn, answered};
+ghost use Rattle.machines.specs.Calls.{LeadsOn, answered_call};
 ghost use Rattle.lease_table.specs.Runs.{IsRun, commits_in, proposed_at, restarted_at, longest_term};
 ghost use Rattle.lease_table.specs.Generations.{assignment_in, published_in, newest_generation, covers_by_owners, HasFewOwners};
 ghost use Rattle.lease_table.specs.OpenRows.{IsSent, IsFreed, IsLost, IsOut, IsOpen, HoldsUp, IsHeldUp, grant_numbered};
@@ -138,7 +138,7 @@ pub fn grace_law()
         → commit_step (standing_after policy past) number at ≡ Err (Grace until)
         → (until ≡ grace_in past) × (at < until) × (at < restarted_at past + longest_term policy) }
     ensures accepted { (policy : Terms) (past : List AnsweredTableCall) (number at : ℕ) (reply : TableReply)
-        → IsRun policy (answered (call.Commit number at) (Ok reply) ∷ past) → grace_in past ≤ at }
+        → IsRun policy (answered_call (call.Commit number at) (Ok reply) ∷ past) → grace_in past ≤ at }
 {}
 
 /// A commit is held up exactly where the row of a sent grant of the committed generation or an older
@@ -157,7 +157,7 @@ pub fn held_law()
         → HoldsJob past number at → is_some (pending_in past) ≡ true
         → (is_ok (commit_step (standing_after policy past) number at) ≡ true) ↔ ((grace_in past ≤ at) × (IsHeldUp past at → ⊥)) }
     ensures cleared { (policy : Terms) (past : List AnsweredTableCall) (number at : ℕ) (reply : TableReply) (grant : Grant)
-        → IsRun policy (answered (call.Commit number at) (Ok reply) ∷ past) → IsSent past grant
+        → IsRun policy (answered_call (call.Commit number at) (Ok reply) ∷ past) → IsSent past grant
         → grant.lease.generation ≤ commits_in past → (grant.table_ends ≤ at) ⊎ IsFreed past grant }
 {}
 
@@ -177,17 +177,17 @@ pub fn bound_law()
 pub fn terms_law()
     ensures number { (policy : Terms) (past : List AnsweredTableCall) → IsRun policy past → last_number (last_term past) ≡ takes_in past }
     ensures taken { (policy : Terms) (past : List AnsweredTableCall) (assigner at : ℕ) (reply : TableReply)
-        → IsRun policy (answered (call.JobTake assigner at) (Ok reply) ∷ past)
+        → IsRun policy (answered_call (call.JobTake assigner at) (Ok reply) ∷ past)
         → reply ≡ Term (record { number = takes_in past + 1; assigner = assigner; until = at + policy.job }) }
     ensures renewed { (policy : Terms) (past : List AnsweredTableCall) (number at : ℕ) (reply : TableReply) (term : JobTerm)
-        → IsRun policy (answered (call.JobRenew number at) (Ok reply) ∷ past) → last_term past ≡ Some term
+        → IsRun policy (answered_call (call.JobRenew number at) (Ok reply) ∷ past) → last_term past ≡ Some term
         → reply ≡ Term (record term { until = at + policy.job }) }
     ensures given { (past : List AnsweredTableCall) (term : JobTerm) → last_term past ≡ Some term → IsGiven past term }
     ensures held { (policy : Terms) (past : List AnsweredTableCall) (asked : TableCall) (reply : TableReply) (number : ℕ)
-        → IsRun policy (answered asked (Ok reply) ∷ past) → number_passed asked ≡ Some number
+        → IsRun policy (answered_call asked (Ok reply) ∷ past) → number_passed asked ≡ Some number
         → HoldsJob past number (reading_after asked (last_reading past)) }
     ensures single { (policy : Terms) (past : List AnsweredTableCall) (assigner at : ℕ) (reply : TableReply) (term : JobTerm)
-        → IsRun policy (answered (call.JobTake assigner at) (Ok reply) ∷ past) → IsGiven past term → term.until ≤ at }
+        → IsRun policy (answered_call (call.JobTake assigner at) (Ok reply) ∷ past) → IsGiven past term → term.until ≤ at }
     ensures one { (policy : Terms) (past : List AnsweredTableCall) (at : ℕ) (term other : JobTerm) → IsRun policy past → last_reading past ≤ at
         → IsGiven past term → IsGiven past other → at < term.until → at < other.until
         → (term.number ≡ other.number) × (term.assigner ≡ other.assigner) }

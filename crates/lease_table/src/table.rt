@@ -6,7 +6,7 @@ ghost use Rattle.slice_ranges.specs.Sets.{keys_where};
 ghost use Rattle.assignment.specs.Owners.{owns};
 ghost use Rattle.lease_table.specs.Tables.{opening, phase_of, generation_of, slices_of, last_number};
 ghost use Rattle.machines.specs.Answers.{Answers, Takes};
-ghost use Rattle.lease_table.specs.Steps.{grant_checks, standing_at, propose_checks, grant_with, with_row, take_step, renew_step, propose_step, commit_step, grant_step, free_step, restarted, refused_or_no_memory};
+ghost use Rattle.lease_table.specs.Steps.{grant_checks, standing_at, propose_checks, grant_with, with_row, take_step, renew_step, propose_step, commit_step, grant_step, free_step, standing_after_restart, refused_or_no_memory};
 
 mod checks;
 
@@ -258,7 +258,7 @@ impl LeaseTable {
     /// freed. It takes no memory and is never refused.
     pub fn restart(&mut self) -> u64
         ensures count { result ≡ length self.old.rows }
-        ensures left { self.new ≡ restarted self.old }
+        ensures left { self.new ≡ standing_after_restart self.old }
     {
         let count = self.rows.count_running(self.last);
         self.rows.clear();

@@ -6,8 +6,8 @@ pub record AnsweredCall (C R F : Type 0) : Type 0 where
   pub call : C
   pub answer : Result R F
 
-abbrev pub answered : {C R F : Type 0} → C → Result R F → AnsweredCall C R F
-answered call answer = record { call = call; answer = answer }
+abbrev pub answered_call : {C R F : Type 0} → C → Result R F → AnsweredCall C R F
+answered_call call answer = record { call = call; answer = answer }
 
 -- the answer of a step, without what it leaves
 abbrev pub answer_of : {M R F : Type 0} → Result (M × R) F → Result R F
@@ -16,5 +16,5 @@ answer_of (Err refusal) = Err refusal
 
 -- a step from where calls lead leads where they lead with this call and its answer, and a refused one nowhere else
 abbrev pub LeadsOn : {M C R F : Type 0} → (List (AnsweredCall C R F) → M → Type 0) → List (AnsweredCall C R F) → M → C → Result (M × R) F → Type 0
-LeadsOn leads past before call (Ok p) = leads (answered call (Ok p.1) ∷ past) p.0
-LeadsOn leads past before call (Err refusal) = leads (answered call (Err refusal) ∷ past) before
+LeadsOn leads past before call (Ok p) = leads (answered_call call (Ok p.1) ∷ past) p.0
+LeadsOn leads past before call (Err refusal) = leads (answered_call call (Err refusal) ∷ past) before

@@ -31,8 +31,8 @@ count test zero = 0
 count test (suc bound) = if test bound then count test bound + 1 else count test bound
 
 -- whether a key is in one of the pairs, each a start and an end
-abbrev pub covered : List (ℕ × ℕ) → ℕ → Bool
-covered pairs key = list_any (λ p. nat_le p.0 key && nat_lt key p.1) pairs
+abbrev pub pairs_cover : List (ℕ × ℕ) → ℕ → Bool
+pairs_cover pairs key = list_any (λ p. nat_le p.0 key && nat_lt key p.1) pairs
 
 -- the refusals of a pair in their order, where the pair before it ends at `end`
 abbrev pub pair_checks : ℕ → ℕ × ℕ → List (Option RangesError)

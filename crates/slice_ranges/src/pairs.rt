@@ -2,7 +2,7 @@
 
 ghost use Rattle.std.specs.Prelude.{◌≡◌, ℕ, None, IfOk, OnOk};
 ghost use Rattle.std.specs.Result.{result_err};
-ghost use Rattle.slice_ranges.specs.Sets.{covered, refusal_of, has, IsRanges};
+ghost use Rattle.slice_ranges.specs.Sets.{pairs_cover, refusal_of, has, IsRanges};
 ghost use Rattle.slice_ranges.specs.internals.Turns.{IsTurned};
 
 use crate::error::RangesError;
@@ -33,7 +33,7 @@ pub fn check(pairs: &[(u64, u64)]) -> Result<(), RangesError>
 pub fn boundaries_of_pairs(alloc: Global, pairs: &[(u64, u64)]) -> Result<Vec<u64>, AllocError>
     requires { refusal_of pairs.now ≡ None }
     ensures ranges { IfOk result (λ v. IsRanges v.items) }
-    ensures keys { IfOk result (λ v. (key : ℕ) → has v.items key ≡ covered pairs.now key) }
+    ensures keys { IfOk result (λ v. (key : ℕ) → has v.items key ≡ pairs_cover pairs.now key) }
 {
     let mut boundaries = Vec::new(alloc);
     let mut inside = false;

@@ -6,7 +6,7 @@ ghost use Rattle.std.specs.Cmp.{partial_equiv_from_equiv};
 ghost use Rattle.std.specs.Cmp.Lexicographic.{pointwise};
 ghost use Rattle.std.proofs.lemmas.Cmp.{nat_list_eq_equiv};
 ghost use Rattle.slice_ranges.specs.declared.error.RangesError.TheVariants as refused;
-ghost use Rattle.slice_ranges.specs.Sets.{covered, refusal_of, has, count, keys_where, IsRanges};
+ghost use Rattle.slice_ranges.specs.Sets.{pairs_cover, refusal_of, has, count, keys_where, IsRanges};
 ghost use Rattle.slice_ranges.specs.Levels.{value_after, LevelsRise};
 ghost use Rattle.slice_ranges.specs.internals.Sweeps.{apply};
 
@@ -71,7 +71,7 @@ impl Ranges {
     /// It is refused by the first [`RangesError`] of the first pair that has one, and for want of
     /// memory where none has.
     pub fn build(alloc: Global, pairs: &[(u64, u64)]) -> Result<Self, RangesError>
-        ensures keys { IfOk result (λ r. (key : ℕ) → has r key ≡ covered pairs.now key) }
+        ensures keys { IfOk result (λ r. (key : ℕ) → has r key ≡ pairs_cover pairs.now key) }
         ensures accepted { OnOk result (refusal_of pairs.now ≡ None) }
         ensures refused { IfErr result (λ e. e ≡ unwrap_or (refusal_of pairs.now) refused.NoMemory) }
     {

@@ -12,7 +12,7 @@ use Rattle.policy_rules.specs.declared.answer.Verdict.TheVariants.{Allow, Deny}
 use Rattle.policy_rules.specs.Rule.{allowed_by, is_covered, greatest, live_generation}
 use Rattle.lease_table.specs.declared.values.Grant.{Grant}
 use Rattle.slicelet.specs.declared.call.SliceletCall.{SliceletCall}
-use Rattle.slicelet.specs.Calls.{is_started, last_reading, held}
+use Rattle.slicelet.specs.Calls.{is_started, last_reading, held_grant}
 use Rattle.slicelet.specs.Rules.{seen_by, rule_after, is_allowed, is_permitted}
 use Rattle.slicelet.specs.Laws.{HasCoveringLease}
 
@@ -33,7 +33,7 @@ module _ (kind : Kind) (generation : ℕ) where
   no_case (Some owned) a = absurd (cc)
 
   module _ (covers : Grant → Bool) (h : List SliceletCall) (at : ℕ) where
-    past_lease : (own : Kind) (o : Option Grant) (cases : List (Option Verdict)) → held own h ≡ o
+    past_lease : (own : Kind) (o : Option Grant) (cases : List (Option Verdict)) → held_grant own h ≡ o
         → verdict_of (allowed_by own at (option_map (seen_by covers) o) ∷ cases) ≡ Allow kind generation
         → HasCoveringLease covers h at kind generation ⊎ (verdict_of cases ≡ Allow kind generation)
     unfolding verdict_of
@@ -45,24 +45,24 @@ module _ (kind : Kind) (generation : ℕ) where
             → HasCoveringLease covers h at kind generation ⊎ (unwrap_or (first_of cases) (Deny NoLease) ≡ Allow kind generation)
         by_tests true true l c a =
             let same : own ≡ kind = cc in
-            inl (record { grant = grant; is_held = subst (λ k. held k h ≡ Some grant) same e; live = grind (arith, nat_tests); covered = c; told = cc })
+            inl (record { grant = grant; is_held = subst (λ k. held_grant k h ≡ Some grant) same e; live = grind (arith, nat_tests); covered = c; told = cc })
         by_tests true false l c a = inr a
         by_tests false covered l c a = inr a
 
     pub covering_lease : rule_after covers h at ≡ Allow kind generation → HasCoveringLease covers h at kind generation
     unfolding verdict_of
     covering_lease a =
-        let guard = option_map (seen_by covers) (held Guard h) in
-        let bridge = option_map (seen_by covers) (held Bridge h) in
+        let guard = option_map (seen_by covers) (held_grant Guard h) in
+        let bridge = option_map (seen_by covers) (held_grant Bridge h) in
         let rest : List (Option Verdict) = option_map (λ owned. Deny (NotOwned owned)) (greatest (live_generation at guard) (live_generation at bridge)) ∷ [] in
         let ended : List (Option Verdict) = when (is_covered guard || is_covered bridge) (Deny Ended) ∷ rest in
         let bridges : List (Option Verdict) = allowed_by Bridge at bridge ∷ ended in
         let guards : List (Option Verdict) = allowed_by Guard at guard ∷ bridges in
         let up = past_denial (not (is_started h)) Down (when (nat_lt at (last_reading h)) (Deny ClockBack) ∷ guards) a in
         let on = past_denial (nat_lt at (last_reading h)) ClockBack guards up in
-        elim (past_lease Guard (held Guard h) bridges refl on) [
+        elim (past_lease Guard (held_grant Guard h) bridges refl on) [
           | inl found ↦ found
-          | inr b ↦ elim (past_lease Bridge (held Bridge h) ended refl b) [
+          | inr b ↦ elim (past_lease Bridge (held_grant Bridge h) ended refl b) [
             | inl found ↦ found
             | inr r ↦ absurd (no_case (greatest (live_generation at guard) (live_generation at bridge)) (past_denial (is_covered guard || is_covered bridge) Ended rest r))
           ]

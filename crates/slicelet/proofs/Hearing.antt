@@ -11,7 +11,7 @@ use Rattle.lease_table.specs.declared.values.Grant.{Grant}
 use Rattle.slicelet.specs.declared.handle.KeyHandle.{KeyHandle}
 use Rattle.slicelet.specs.declared.call.SliceletCall.{SliceletCall}
 use Rattle.slicelet.specs.declared.call.SliceletCall.TheVariants.{Start, Hear, Release}
-use Rattle.slicelet.specs.Calls.{this_life, is_about, heard_by, held, is_started, last_reading, reading_of}
+use Rattle.slicelet.specs.Calls.{this_life, is_about, heard_by, held_grant, is_started, last_reading, reading_of}
 use Rattle.slicelet.specs.Rules.{seen_by, rule_after, is_allowed, is_permitted}
 use Rattle.slicelet.specs.Continuity.{IsContinuous}
 use Rattle.slicelet.specs.Laws.{WasHeard, AgreeOnCall, AgreeOnHeard}
@@ -55,7 +55,7 @@ module _ (covers other : Grant → Bool) where
   agree_before [] h a = a
   agree_before (c ∷ later) h a = agree_before later h a.1
 
-  seen_same : (kind : Kind) (h : List SliceletCall) → AgreeOnHeard covers other h → (o : Option Grant) → held kind h ≡ o
+  seen_same : (kind : Kind) (h : List SliceletCall) → AgreeOnHeard covers other h → (o : Option Grant) → held_grant kind h ≡ o
       → option_map (seen_by covers) o ≡ option_map (seen_by other) o
   seen_same kind h a None e = refl
   seen_same kind h a (Some grant) e =
@@ -64,11 +64,11 @@ module _ (covers other : Grant → Bool) where
 
   pub same_rule : (h : List SliceletCall) (at : ℕ) → AgreeOnHeard covers other h → rule_after covers h at ≡ rule_after other h at
   same_rule h at a =
-      let guard = seen_same Guard h a (held Guard h) refl in
-      let bridge = seen_same Bridge h a (held Bridge h) refl in
+      let guard = seen_same Guard h a (held_grant Guard h) refl in
+      let bridge = seen_same Bridge h a (held_grant Bridge h) refl in
       let holding : Option SeenLease → Option SeenLease → SeenHolding = λ g b. record { up = is_started h; last = last_reading h; guard = g; bridge = b } in
-      ap (λ (g : Option SeenLease). rule (holding g (option_map (seen_by covers) (held Bridge h))) at) guard
-      ∙ ap (λ (b : Option SeenLease). rule (holding (option_map (seen_by other) (held Guard h)) b) at) bridge
+      ap (λ (g : Option SeenLease). rule (holding g (option_map (seen_by covers) (held_grant Bridge h))) at) guard
+      ∙ ap (λ (b : Option SeenLease). rule (holding (option_map (seen_by other) (held_grant Guard h)) b) at) bridge
 
   pub same_permitted : (h : List SliceletCall) (at : ℕ) → AgreeOnHeard covers other h → is_permitted covers h at ≡ is_permitted other h at
   same_permitted h at a = ap is_allowed (same_rule h at a)

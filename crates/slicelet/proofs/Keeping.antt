@@ -8,7 +8,7 @@ use Rattle.policy_rules.specs.declared.lease.Kind.TheVariants.{Guard, Bridge}
 use Rattle.policy_rules.specs.declared.holding.Holding.{Holding}
 use Rattle.policy_rules.specs.declared.lease.Lease.{Lease}
 use Rattle.policy_rules.specs.Rule.{SeenHolding, holding_seen_from, rule, is_allowed}
-use Rattle.slicelet.specs.Stamps.{Stamps, since, restamped}
+use Rattle.slicelet.specs.Stamps.{Stamps, since, stamp_after_change}
 use Rattle.lease_table.specs.declared.values.Grant.{Grant}
 use Rattle.lease_table.specs.declared.values.ReleaseNote.{ReleaseNote}
 use Rattle.slicelet.specs.declared.error.SliceletError.{SliceletError}
@@ -20,7 +20,7 @@ use Rattle.slicelet.specs.Calls.{reading_of, is_started, last_reading}
 use Rattle.slicelet.specs.Rules.{covers_key}
 use Rattle.slicelet.specs.Stamping.{turns, stamp_of, stamps_where}
 use Rattle.slicelet.specs.States.{SliceletState, state_after, held_in, greatest_in, stamp_in, holding_in, permits}
-use Rattle.slicelet.specs.Steps.{hear_checks, release_checks, hear_step, release_step, number_of, note_of, with_grant, with_greatest, moved_by, read_at, counted, next_state}
+use Rattle.slicelet.specs.Steps.{hear_checks, release_checks, hear_step, release_step, number_of, note_of, with_grant, with_greatest, moved_by, read_at, state_with_count, next_state}
 use Rattle.slicelet.specs.Accepted.{StandsAfter}
 use Rattle.slicelet.specs.internals.State.{lease_of_kind, with_lease, heard_of_kind, with_heard, number_in, granted_as, leases_of, state_of}
 use Rattle.slicelet.specs.internals.Stamping.{serves, IsRestamped, Renews}
@@ -34,7 +34,7 @@ use Rattle.slicelet.proofs.Standing.{restamped_same, leads_on}
 
 -- the stamps that a call makes are those that its step leaves
 stamps_left : (s moved : SliceletState) (at : ℕ) (next : Holding) (stamps : Stamps) → IsRestamped s at next stamps → moved.up ≡ true → moved.last ≤ at
-    → ((key : ℕ) → serves next key at ≡ serves (leases_of moved) key at) → stamps_where (since stamps) ≡ (counted s moved at).stamps
+    → ((key : ℕ) → serves next key at ≡ serves (leases_of moved) key at) → stamps_where (since stamps) ≡ (state_with_count s moved at).stamps
 stamps_left s moved at next stamps r started l same = same_stamps _ _ (λ key k.
     r key k ∙ restamped_same (stamp_in s key) _ (permits s key at) _ _ _ (s.count + 1) _ refl refl (same key ∙ sym (permits_served moved key at started l)) refl)
 
@@ -48,7 +48,7 @@ left_last task key (c ∷ h) at started l stays =
     permits_served (state_after task (c ∷ h)) key (reading_of c) started on_time ∙ stays (reading_of c) l
 
 renewed_after : (task : ℕ) (h : List SliceletCall) (at n key : ℕ) (next : Holding) → is_started h ≡ true → last_reading h ≤ at → Renews (leases_of (state_after task h)) next at
-    → stamp_of (covers_key key) h ≡ restamped (stamp_of (covers_key key) h) (permits (state_after task h) key at) (serves next key at) n
+    → stamp_of (covers_key key) h ≡ stamp_after_change (stamp_of (covers_key key) h) (permits (state_after task h) key at) (serves next key at) n
 renewed_after task h at n key next started l renews =
     let served = serves (leases_of (state_after task h)) key at in
     stamp_unchanged (turns (covers_key key) h) served n (left_last task key h at started l (renews.stays key))
@@ -85,12 +85,12 @@ module _ (task count life : ℕ) (holding : Holding) (heard : HeardGrants) (stam
   -- the stamps that a slicelet makes for its next call
   pub restamped_is : {E : Type 0} (kind : Kind) (lease : Option Lease) (at n : ℕ) (before after : List ℕ) (result : Result Stamps E)
       → ((key : ℕ) → has before key ≡ is_allowed (rule (holding_seen_from holding key) at)) → ((key : ℕ) → has after key ≡ serves (with_lease holding kind lease) key at) → n ≡ count + 1
-      → IfOk result (λ s. (key : ℕ) → since s key ≡ restamped (since stamps key) (has before key) (has after key) n)
+      → IfOk result (λ s. (key : ℕ) → since s key ≡ stamp_after_change (since stamps key) (has before key) (has after key) n)
       → IfOk result (IsRestamped (state_of task count life holding heard stamps) at (with_lease (leases_of (state_of task count life holding heard stamps)) kind lease))
-  restamped_is kind lease at n before after (Err e) permits serve counted is = is
-  restamped_is kind lease at n before after (Ok new) permits serve counted is = λ key inside.
+  restamped_is kind lease at n before after (Err e) permits serve state_with_count is = is
+  restamped_is kind lease at n before after (Ok new) permits serve state_with_count is = λ key inside.
       is key ∙ restamped_same _ _ _ _ _ _ _ _ (sym (stamp_among_where (since stamps) key inside)) (permits key ∙ permits_kept key at)
-      (serve key ∙ ap (λ (held : Holding). serves (with_lease held kind lease) key at) (sym leases_kept)) counted
+      (serve key ∙ ap (λ (held : Holding). serves (with_lease held kind lease) key at) (sym leases_kept)) state_with_count
 
   -- a lease that renews what is held leaves the stamps
   pub renewed_is : (h : List SliceletCall) (kind : Kind) (lease : Option Lease) (at : ℕ) → StandsAfter h (state_of task count life holding heard stamps) → holding.up ≡ true → holding.last ≤ at
@@ -124,7 +124,7 @@ module _ (task count life : ℕ) (holding : Holding) (heard : HeardGrants) (stam
   started_is next at =
       ap (λ (all : List (Option ℕ)). let s : SliceletState = record (next_state (state_of task count life holding heard stamps) (Start next at)) { stamps = all } in s) (same_stamps _ _ (λ key k. sym (no_stamp key)))
     where
-      no_stamp : (key : ℕ) → restamped (stamp_in (state_of task count life holding heard stamps) key) (permits (state_of task count life holding heard stamps) key at)
+      no_stamp : (key : ℕ) → stamp_after_change (stamp_in (state_of task count life holding heard stamps) key) (permits (state_of task count life holding heard stamps) key at)
           (permits (read_at at (moved_by (state_of task count life holding heard stamps) (Start next at))) key at) (count + 1) ≡ None
       no_stamp key =
           let on_time : at ≤ at = omega arith in
@@ -152,16 +152,16 @@ module _ (task count life : ℕ) (holding : Holding) (heard : HeardGrants) (stam
           ≡ next_state (state_of task count life holding heard stamps) (Hear grant at)
       by_kind Guard k r =
           let on_time : at ≤ at = omega arith in
-          ap (λ (g : Grant). let s : SliceletState = record (counted (state_of task count life holding heard stamps) (left Guard) at) { guard = Some g; stamps = stamps_where (since new) } in s) own
-          ∙ ap (λ (all : List (Option ℕ)). let s : SliceletState = record (counted (state_of task count life holding heard stamps) (left Guard) at) { stamps = all } in s)
+          ap (λ (g : Grant). let s : SliceletState = record (state_with_count (state_of task count life holding heard stamps) (left Guard) at) { guard = Some g; stamps = stamps_where (since new) } in s) own
+          ∙ ap (λ (all : List (Option ℕ)). let s : SliceletState = record (state_with_count (state_of task count life holding heard stamps) (left Guard) at) { stamps = all } in s)
           (stamps_left (state_of task count life holding heard stamps) (left Guard) at (with_lease (leases_of (state_of task count life holding heard stamps)) Guard (Some grant.lease)) new r started on_time (λ key. refl))
-          ∙ ap (λ (kind : Kind). counted (state_of task count life holding heard stamps) (left kind) at) (sym k)
+          ∙ ap (λ (kind : Kind). state_with_count (state_of task count life holding heard stamps) (left kind) at) (sym k)
       by_kind Bridge k r =
           let on_time : at ≤ at = omega arith in
-          ap (λ (g : Grant). let s : SliceletState = record (counted (state_of task count life holding heard stamps) (left Bridge) at) { bridge = Some g; stamps = stamps_where (since new) } in s) own
-          ∙ ap (λ (all : List (Option ℕ)). let s : SliceletState = record (counted (state_of task count life holding heard stamps) (left Bridge) at) { stamps = all } in s)
+          ap (λ (g : Grant). let s : SliceletState = record (state_with_count (state_of task count life holding heard stamps) (left Bridge) at) { bridge = Some g; stamps = stamps_where (since new) } in s) own
+          ∙ ap (λ (all : List (Option ℕ)). let s : SliceletState = record (state_with_count (state_of task count life holding heard stamps) (left Bridge) at) { stamps = all } in s)
           (stamps_left (state_of task count life holding heard stamps) (left Bridge) at (with_lease (leases_of (state_of task count life holding heard stamps)) Bridge (Some grant.lease)) new r started on_time (λ key. refl))
-          ∙ ap (λ (kind : Kind). counted (state_of task count life holding heard stamps) (left kind) at) (sym k)
+          ∙ ap (λ (kind : Kind). state_with_count (state_of task count life holding heard stamps) (left kind) at) (sym k)
 
   -- after a `release`
   pub released_is : (kind : Kind) (at : ℕ) (new : Stamps) → holding.up ≡ true

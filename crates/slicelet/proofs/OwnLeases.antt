@@ -14,7 +14,7 @@ use Rattle.lease_table.specs.declared.values.ReleaseNote.{ReleaseNote}
 use Rattle.slicelet.specs.declared.error.SliceletError.TheVariants.{Old}
 use Rattle.slicelet.specs.declared.call.SliceletCall.{SliceletCall}
 use Rattle.slicelet.specs.declared.call.SliceletCall.TheVariants.{Start, Hear, Release}
-use Rattle.slicelet.specs.Calls.{this_life, life_of, is_about, heard_by, held, greatest_heard}
+use Rattle.slicelet.specs.Calls.{this_life, life_of, is_about, heard_by, held_grant, greatest_heard}
 use Rattle.slicelet.specs.States.{state_after}
 use Rattle.slicelet.specs.Steps.{start_checks, hear_checks, release_checks, old_number, number_of, note_of}
 use Rattle.slicelet.specs.Accepted.{AreAccepted, notes_sent}
@@ -53,7 +53,7 @@ same_itself Guard = refl
 same_itself Bridge = refl
 
 -- the number of a held lease was heard
-held_number_heard : (task : ℕ) (h : List SliceletCall) (kind : Kind) (o : Option Grant) → held kind h ≡ o → is_none o ≡ false
+held_number_heard : (task : ℕ) (h : List SliceletCall) (kind : Kind) (o : Option Grant) → held_grant kind h ≡ o → is_none o ≡ false
     → ((grant : Grant) → o ≡ Some grant → IsOwn task h kind grant) → IsUpTo (number_of o) (greatest_heard kind h)
 held_number_heard task h kind None q e own = absurd (cc)
 held_number_heard task h kind (Some grant) q e own = rw ((own grant refl).greatest) (omega arith)
@@ -123,7 +123,7 @@ module _ (task : ℕ) (h : List SliceletCall) (s : HoldsOwnLeases task h) where
     spent = (its_note, all_weaker (IsSpent h) (IsSpent (Release kind at ∷ h)) (notes_sent task h) spent s.spent);
   }
     where
-      not_held : (other : Kind) (grant : Grant) (b : Bool) → heard_by (if b then Some (Release kind at) else find (is_about other) (this_life h)) ≡ Some grant → (b ≡ false) × (held other h ≡ Some grant)
+      not_held : (other : Kind) (grant : Grant) (b : Bool) → heard_by (if b then Some (Release kind at) else find (is_about other) (this_life h)) ≡ Some grant → (b ≡ false) × (held_grant other h ≡ Some grant)
       not_held other grant true q = absurd (cc)
       not_held other grant false q = (refl, q)
 
@@ -136,7 +136,7 @@ module _ (task : ℕ) (h : List SliceletCall) (s : HoldsOwnLeases task h) where
       its_note : IsSpent (Release kind at ∷ h) (note_of (state_after task h) kind)
       its_note = record {
         of_life = omega arith;
-        heard = λ q. rw (held_after task h kind) (held_number_heard task h kind (held kind h) refl (rw (held_after task h kind) at (release_accepted (state_after task h) kind at e).is_held) (s.own kind));
+        heard = λ q. rw (held_after task h kind) (held_number_heard task h kind (held_grant kind h) refl (rw (held_after task h kind) at (release_accepted (state_after task h) kind at e).is_held) (s.own kind));
         newer = λ q grant p. absurd (let f : same_kind kind kind ≡ false = (not_held kind grant (same_kind kind kind) p).0 in let t = same_itself kind in cc);
       }
 

@@ -7,12 +7,12 @@ use Rattle.slice_ranges.specs.Sets.{has, IsRanges}
 use Rattle.slice_ranges.specs.Passing.{Heads, IsPast}
 use Rattle.slice_ranges.proofs.Sweeping.{IsRest, rest_until, rest_past, head_bounds}
 use Rattle.slice_ranges.proofs.Leveling.{levels_bounds}
-use Rattle.slicelet.specs.Stamps.{Stamps, since, IsStamps, restamped}
+use Rattle.slicelet.specs.Stamps.{Stamps, since, IsStamps, stamp_after_change}
 use Rattle.slicelet.specs.internals.Sweeping.{HeadsLevels, IsNextOfThree, IsPastLevel}
 use Rattle.slicelet.proofs.StampWriting.{IsRestOfLevels, levels_until, levels_past, levels_heads, levels_below, IsWritten, written_same, written_level}
 
 abbrev wanted : Stamps → List ℕ → List ℕ → ℕ → ℕ → Option ℕ
-wanted stamps before after stamp key = restamped (since stamps key) (has before key) (has after key) stamp
+wanted stamps before after stamp key = stamp_after_change (since stamps key) (has before key) (has after key) stamp
 
 abbrev high : ℕ
 high = KEYS + 1
@@ -23,7 +23,7 @@ pub record IsSweep (stamps : Stamps) (before after : List ℕ) (stamp : ℕ) (ol
   pub before_rest : IsRest before in_a a p high
   pub after_rest : IsRest after in_b b p high
   pub writing : IsWritten None out last p (wanted stamps before after stamp)
-  pub now : last ≡ restamped old in_a in_b stamp
+  pub now : last ≡ stamp_after_change old in_a in_b stamp
 
 pub sweep_start : (stamps : Stamps) (before after : List ℕ) (stamp : ℕ) (out : Stamps) → IsStamps stamps → IsRanges before → IsRanges after → out ≡ []
     → IsSweep stamps before after stamp None stamps false before false after out None 0
@@ -62,10 +62,10 @@ module _ (stamps : Stamps) (before after : List ℕ) (stamp : ℕ) (old : Option
       let b_is = rest_until after in_b b p m high k s.after_rest next.second_starts l g in
       rw (old_is, a_is, b_is) (sym s.now)
 
-  at : wanted stamps before after stamp m ≡ restamped now_old now_a now_b stamp
+  at : wanted stamps before after stamp m ≡ stamp_after_change now_old now_a now_b stamp
   at = rw (old_past.1, a_past.1, b_past.1) refl
 
-  pub sweep_same : (now : Option ℕ) → now ≡ restamped now_old now_a now_b stamp → now ≡ last → IsSweep stamps before after stamp now_old next_levels now_a next_a now_b next_b out last (m + 1)
+  pub sweep_same : (now : Option ℕ) → now ≡ stamp_after_change now_old now_a now_b stamp → now ≡ last → IsSweep stamps before after stamp now_old next_levels now_a next_a now_b next_b out last (m + 1)
   sweep_same now is e = record {
     levels_rest = old_past.0;
     before_rest = a_past.0;
@@ -74,7 +74,7 @@ module _ (stamps : Stamps) (before after : List ℕ) (stamp : ℕ) (old : Option
     now = sym e ∙ is;
   }
 
-  pub sweep_level : (now : Option ℕ) → now ≡ restamped now_old now_a now_b stamp → IsSweep stamps before after stamp now_old next_levels now_a next_a now_b next_b (out ++ (m, now) ∷ []) now (m + 1)
+  pub sweep_level : (now : Option ℕ) → now ≡ stamp_after_change now_old now_a now_b stamp → IsSweep stamps before after stamp now_old next_levels now_a next_a now_b next_b (out ++ (m, now) ∷ []) now (m + 1)
   sweep_level now is = record {
     levels_rest = old_past.0;
     before_rest = a_past.0;

@@ -6,7 +6,7 @@ use Rattle.std.specs.Prelude.{Option, Some, None, IsTrue, ◌==◌, ◌&&◌, na
 use Rattle.policy_rules.proofs.Permitting.{permitted_down, permitted_at_last}
 use Rattle.lease_table.specs.declared.values.Grant.{Grant}
 use Rattle.slicelet.specs.declared.handle.KeyHandle.{KeyHandle}
-use Rattle.slicelet.specs.Stamps.{restamped}
+use Rattle.slicelet.specs.Stamps.{stamp_after_change}
 use Rattle.slicelet.specs.Handles.{is_up_to}
 use Rattle.slicelet.specs.declared.call.SliceletCall.{SliceletCall}
 use Rattle.slicelet.specs.Calls.{reading_of, life_of}
@@ -35,7 +35,7 @@ record HasStamp (o : Option ℕ) (most : ℕ) : Type 0 where
   is : o ≡ Some stamp
   at_most : stamp ≤ most
 
-one : (h : List (Bool × Bool)) (o : Option ℕ) → (o ≡ None) ⊎ HasStamp o (length h) → HasStamp (restamped o true true (length h + 1)) (suc (length h))
+one : (h : List (Bool × Bool)) (o : Option ℕ) → (o ≡ None) ⊎ HasStamp o (length h) → HasStamp (stamp_after_change o true true (length h + 1)) (suc (length h))
 one h None s = record { stamp = length h + 1; is = refl; at_most = omega arith }
 one h (Some x) (inl e) = absurd (cc)
 one h (Some x) (inr s) = record { stamp = s.stamp; is = s.is; at_most = omega (arith, s.at_most) }
@@ -59,16 +59,16 @@ no_stamp ((before, false) ∷ h) e = refl
 no_stamp ((before, true) ∷ h) e = absurd (cc)
 
 -- where permission is what the newest call left, the stamp stays
-pub stamp_unchanged : (h : List (Bool × Bool)) (permitted : Bool) (stamp : ℕ) → after_last h ≡ permitted → stamp_after h ≡ restamped (stamp_after h) permitted permitted stamp
+pub stamp_unchanged : (h : List (Bool × Bool)) (permitted : Bool) (stamp : ℕ) → after_last h ≡ permitted → stamp_after h ≡ stamp_after_change (stamp_after h) permitted permitted stamp
 stamp_unchanged h false stamp e = no_stamp h e
 stamp_unchanged h true stamp e = let s = has_stamp h e in rw s.is refl
 
 -- a key with a stamp keeps it while it stays permitted
-stamp_stays : (n stamp : ℕ) (o : Option ℕ) (m : ℕ) → o ≡ Some stamp → is_up_to n (restamped o true true m) ≡ is_up_to n o
+stamp_stays : (n stamp : ℕ) (o : Option ℕ) (m : ℕ) → o ≡ Some stamp → is_up_to n (stamp_after_change o true true m) ≡ is_up_to n o
 stamp_stays n stamp None m e = absurd (cc)
 stamp_stays n stamp (Some x) m e = refl
 
-up_to_one : (n m : ℕ) (o : Option ℕ) → (o ≡ None) ⊎ HasStamp o m → m < n → is_up_to n (restamped o true true (m + 1)) ≡ true
+up_to_one : (n m : ℕ) (o : Option ℕ) → (o ≡ None) ⊎ HasStamp o m → m < n → is_up_to n (stamp_after_change o true true (m + 1)) ≡ true
 up_to_one n m None s l = le-leb (m + 1) n (omega arith)
 up_to_one n m (Some x) (inl e) l = absurd (cc)
 up_to_one n m (Some x) (inr s) l = let e : x ≡ s.stamp = let f : Some x ≡ Some s.stamp = s.is in cc in le-leb x n (omega (arith, s.at_most))

@@ -3,23 +3,23 @@ use Rattle.std.proofs.Common.{◌≡◌, ◌∙◌, ℕ, suc, ◌+◌, ◌<◌, 
 use Rattle.std.specs.Prelude.{Option, Some, None, Ok, Err, is_some, option_map, if◌then◌else◌, MatchBool, ◌==◌, ◌&&◌}
 use Rattle.slice_ranges.specs.declared.key.TheConstants.{KEYS}
 use Rattle.machines.specs.Refusals.{first_of, unless_refused}
-use Rattle.machines.specs.Answers.{replied}
+use Rattle.machines.specs.Answers.{with_named_reply}
 use Rattle.policy_rules.specs.declared.lease.Kind.{Kind}
 use Rattle.policy_rules.specs.declared.lease.Kind.TheVariants.{Guard, Bridge}
 use Rattle.lease_table.specs.declared.values.Grant.{Grant}
 use Rattle.slicelet.specs.declared.handle.KeyHandle.{KeyHandle}
-use Rattle.slicelet.specs.Stamps.{restamped}
+use Rattle.slicelet.specs.Stamps.{stamp_after_change}
 use Rattle.slicelet.specs.Handles.{is_up_to}
 use Rattle.slicelet.specs.declared.error.SliceletError.{SliceletError}
 use Rattle.slicelet.specs.declared.call.SliceletReply.{SliceletReply}
 use Rattle.slicelet.specs.declared.call.SliceletReply.TheVariants.{Started, Heard, Released}
 use Rattle.slicelet.specs.declared.call.SliceletCall.{SliceletCall}
 use Rattle.slicelet.specs.declared.call.SliceletCall.TheVariants.{Start, Hear, Release}
-use Rattle.slicelet.specs.Calls.{reading_of, held, greatest_heard}
+use Rattle.slicelet.specs.Calls.{reading_of, held_grant, greatest_heard}
 use Rattle.slicelet.specs.Rules.{covers_key, rule_after, is_permitted}
 use Rattle.slicelet.specs.Stamping.{stamp_of, stamps_where}
 use Rattle.slicelet.specs.States.{SliceletState, state_after, held_in, greatest_in, stamp_in, rule_in_state}
-use Rattle.slicelet.specs.Steps.{start_checks, hear_checks, release_checks, old_number, with_grant, with_greatest, moved_by, read_at, counted, next_state, note_of, slicelet_step}
+use Rattle.slicelet.specs.Steps.{start_checks, hear_checks, release_checks, old_number, with_grant, with_greatest, moved_by, read_at, state_with_count, next_state, note_of, slicelet_step}
 use Rattle.slicelet.specs.Accepted.{checks_of, StandsAfter}
 use Rattle.slicelet.specs.Continuity.{IsContinuous, is_strange, is_kept, checked_in, IsChecked}
 use Rattle.slicelet.proofs.Accepting.{hear_accepted}
@@ -27,7 +27,7 @@ use Rattle.slicelet.proofs.States.{same_stamps, stamp_among_where, held_after, g
 use Rattle.slicelet.proofs.Stamping.{length-turns, continuous_as_stamped}
 use Rattle.slicelet.proofs.OwnLeases.{greatest_above, own_leases}
 
-pub restamped_same : (o p : Option ℕ) (b c a d : Bool) (m n : ℕ) → o ≡ p → b ≡ c → a ≡ d → m ≡ n → restamped o b a m ≡ restamped p c d n
+pub restamped_same : (o p : Option ℕ) (b c a d : Bool) (m n : ℕ) → o ≡ p → b ≡ c → a ≡ d → m ≡ n → stamp_after_change o b a m ≡ stamp_after_change p c d n
 restamped_same o p b c a d m n e f g i = rw (e, f, g, i) refl
 
 -- the state after one call more, where the call is not counted yet
@@ -52,14 +52,14 @@ moved_is task h (Release kind at) e = by_kind kind
 pub next_after : (task : ℕ) (h : List SliceletCall) (c : SliceletCall) → first_of (checks_of (state_after task h) c) ≡ None
     → next_state (state_after task h) c ≡ state_after task (c ∷ h)
 next_after task h c e =
-    ap (λ (s : SliceletState). counted (state_after task h) s (reading_of c)) (moved_is task h c e)
+    ap (λ (s : SliceletState). state_with_count (state_after task h) s (reading_of c)) (moved_is task h c e)
     ∙ ap (λ (stamps : List (Option ℕ)). with_stamps (length h + 1) stamps) stamps_are
     ∙ ap (λ (n : ℕ). with_stamps n (state_after task (c ∷ h)).stamps) (let one_more : length h + 1 ≡ suc (length h) = omega arith in one_more)
   where
     with_stamps : ℕ → List (Option ℕ) → SliceletState
     with_stamps n stamps = record (state_after task (c ∷ h)) { count = n; stamps = stamps }
 
-    stamps_are : stamps_where (λ key. restamped (stamp_in (state_after task h) key) (is_permitted (covers_key key) h (reading_of c)) (is_permitted (covers_key key) (c ∷ h) (reading_of c)) (length h + 1))
+    stamps_are : stamps_where (λ key. stamp_after_change (stamp_in (state_after task h) key) (is_permitted (covers_key key) h (reading_of c)) (is_permitted (covers_key key) (c ∷ h) (reading_of c)) (length h + 1))
         ≡ stamps_where (λ key. stamp_of (covers_key key) (c ∷ h))
     stamps_are = same_stamps _ _ (λ key l. restamped_same _ _ _ _ _ _ _ _
         (stamp_among_where (λ key. stamp_of (covers_key key) h) key l) refl refl
@@ -96,7 +96,7 @@ checks_after h s handle at l k = subst (λ (x : SliceletState). IsChecked s.task
 
 -- an accepted step is refused by nothing, and leaves the next state
 taken : {A R : Type 0} (o : Option SliceletError) (name : A → R) (next : SliceletState) (answer : A) (p : SliceletState × R)
-    → replied name (unless_refused {A = SliceletState × A} o (next, answer)) ≡ Ok p → (o ≡ None) × (next ≡ p.0)
+    → with_named_reply name (unless_refused {A = SliceletState × A} o (next, answer)) ≡ Ok p → (o ≡ None) × (next ≡ p.0)
 taken {A} {R} None name next answer p e = let same : (next, name answer) ≡ p = cc in (refl, ap (λ (q : SliceletState × R). q.0) same)
 taken (Some refusal) name next answer p e = absurd (cc)
 
@@ -108,7 +108,7 @@ accepted_step s (Release kind at) p e = taken (first_of (release_checks s kind a
 pub steps_on : (h : List SliceletCall) (s : SliceletState) (c : SliceletCall) (p : SliceletState × SliceletReply) → StandsAfter h s → slicelet_step s c ≡ Ok p → StandsAfter (c ∷ h) p.0
 steps_on h s c p k e = let step = accepted_step s c p e in subst (λ (x : SliceletState). StandsAfter (c ∷ h) x) step.1 (leads_on h s c k step.0)
 
-pub held_by_calls : (h : List SliceletCall) (s : SliceletState) (kind : Kind) → StandsAfter h s → held_in s kind ≡ held kind h
+pub held_by_calls : (h : List SliceletCall) (s : SliceletState) (kind : Kind) → StandsAfter h s → held_in s kind ≡ held_grant kind h
 held_by_calls h s kind k = ap (λ (x : SliceletState). held_in x kind) k.state ∙ held_after s.task h kind
 
 pub greatest_by_calls : (h : List SliceletCall) (s : SliceletState) (kind : Kind) → StandsAfter h s → greatest_in s kind ≡ greatest_heard kind h

@@ -5,7 +5,7 @@ use Rattle.slice_ranges.specs.declared.key.TheConstants.{KEYS}
 use Rattle.policy_rules.specs.declared.lease.Kind.{Kind}
 use Rattle.policy_rules.specs.declared.lease.Kind.TheVariants.{Guard, Bridge}
 use Rattle.slicelet.specs.declared.call.SliceletCall.{SliceletCall}
-use Rattle.slicelet.specs.Calls.{held, greatest_heard}
+use Rattle.slicelet.specs.Calls.{held_grant, greatest_heard}
 use Rattle.slicelet.specs.Stamping.{stamps_from, stamps_where, stamp_among}
 use Rattle.slicelet.specs.States.{state_after, held_in, greatest_in}
 
@@ -31,7 +31,7 @@ among_from stamp (suc n) low (suc place) l =
 pub stamp_among_where : (stamp : ℕ → Option ℕ) (key : ℕ) → key < KEYS → stamp_among (stamps_where stamp) key ≡ stamp key
 stamp_among_where stamp key l = among_from stamp KEYS 0 key l ∙ ap stamp (let e : 0 + key ≡ key = omega arith in e)
 
-pub held_after : (task : ℕ) (h : List SliceletCall) (kind : Kind) → held_in (state_after task h) kind ≡ held kind h
+pub held_after : (task : ℕ) (h : List SliceletCall) (kind : Kind) → held_in (state_after task h) kind ≡ held_grant kind h
 held_after task h Guard = refl
 held_after task h Bridge = refl
 

@@ -55,8 +55,8 @@ heard_by (Some (Hear grant at)) = Some grant
 heard_by _ = None
 
 -- the held lease of a kind: the last call about the kind since the last `start` is the `hear` of this grant
-abbrev pub held : Kind → List SliceletCall → Option Grant
-held kind h = heard_by (find (is_about kind) (this_life h))
+abbrev pub held_grant : Kind → List SliceletCall → Option Grant
+held_grant kind h = heard_by (find (is_about kind) (this_life h))
 
 -- the number of a grant that a call heard of a kind
 abbrev pub number_heard : Kind → SliceletCall → Option ℕ

@@ -6,7 +6,7 @@ use Rattle.lease_table.specs.declared.values.Grant.{Grant}
 use Rattle.lease_table.specs.declared.values.ReleaseNote.{ReleaseNote}
 use Rattle.slicelet.specs.declared.call.SliceletCall.{SliceletCall}
 use Rattle.slicelet.specs.declared.call.SliceletCall.TheVariants.{Start, Hear, Release}
-use Rattle.slicelet.specs.Calls.{life_of, held, greatest_heard}
+use Rattle.slicelet.specs.Calls.{life_of, held_grant, greatest_heard}
 use Rattle.slicelet.specs.Accepted.{notes_sent}
 
 -- a held lease was granted to this task in its current life, is of its kind, and its number is the greatest heard
@@ -25,11 +25,11 @@ IsUpTo number (Some greatest) = number ≤ greatest
 pub record IsSpent (h : List SliceletCall) (note : ReleaseNote) : Type 0 where
   pub of_life : note.life ≤ life_of h
   pub heard : note.life ≡ life_of h → IsUpTo note.number (greatest_heard note.kind h)
-  pub newer : note.life ≡ life_of h → (grant : Grant) → held note.kind h ≡ Some grant → note.number < grant.number
+  pub newer : note.life ≡ life_of h → (grant : Grant) → held_grant note.kind h ≡ Some grant → note.number < grant.number
 
 -- each held lease is the task's own, and each note that it sent is spent
 pub record HoldsOwnLeases (task : ℕ) (h : List SliceletCall) : Type 0 where
-  pub own : (kind : Kind) (grant : Grant) → held kind h ≡ Some grant → IsOwn task h kind grant
+  pub own : (kind : Kind) (grant : Grant) → held_grant kind h ≡ Some grant → IsOwn task h kind grant
   pub spent : AllByRecursion (IsSpent h) (notes_sent task h)
 
 -- a grant of a note's kind and life has a greater number
@@ -39,7 +39,7 @@ IsAbove grant note = note.kind ≡ grant.lease.kind → note.life ≡ grant.life
 -- a key is allowed at a reading by the lease that is held of a kind: it is live, covers the key and is of this generation
 pub record HasCoveringLease (covers : Grant → Bool) (h : List SliceletCall) (at : ℕ) (kind : Kind) (generation : ℕ) : Type 0 where
   pub grant : Grant
-  pub is_held : held kind h ≡ Some grant
+  pub is_held : held_grant kind h ≡ Some grant
   pub live : at < grant.lease.ends
   pub covered : covers grant ≡ true
   pub told : grant.lease.generation ≡ generation

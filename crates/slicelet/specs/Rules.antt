@@ -8,7 +8,7 @@ pub use Rattle.policy_rules.specs.Rule.{is_allowed}
 use Rattle.slice_ranges.specs.Sets.{has}
 use Rattle.lease_table.specs.declared.values.Grant.{Grant}
 use Rattle.slicelet.specs.declared.call.SliceletCall.{SliceletCall}
-use Rattle.slicelet.specs.Calls.{is_started, last_reading, held}
+use Rattle.slicelet.specs.Calls.{is_started, last_reading, held_grant}
 
 -- a granted lease as it is seen by whoever knows whether it covers a key
 abbrev pub seen_by : (Grant → Bool) → Grant → SeenLease
@@ -19,8 +19,8 @@ abbrev pub holding_after : (Grant → Bool) → List SliceletCall → SeenHoldin
 holding_after covers h = record {
   up = is_started h;
   last = last_reading h;
-  guard = option_map (seen_by covers) (held Guard h);
-  bridge = option_map (seen_by covers) (held Bridge h);
+  guard = option_map (seen_by covers) (held_grant Guard h);
+  bridge = option_map (seen_by covers) (held_grant Bridge h);
 }
 
 -- the written rule over these calls, for what a lease covers

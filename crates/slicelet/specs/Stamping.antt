@@ -2,7 +2,7 @@
 use Rattle.std.specs.Prelude.{ℕ, zero, suc, ◌+◌, Bool, List, [], ◌∷◌, length, Option, None, slice_index_or}
 use Rattle.slice_ranges.specs.declared.key.TheConstants.{KEYS}
 use Rattle.lease_table.specs.declared.values.Grant.{Grant}
-use Rattle.slicelet.specs.Stamps.{restamped}
+use Rattle.slicelet.specs.Stamps.{stamp_after_change}
 use Rattle.slicelet.specs.declared.call.SliceletCall.{SliceletCall}
 use Rattle.slicelet.specs.Calls.{reading_of}
 use Rattle.slicelet.specs.Rules.{is_permitted}
@@ -15,7 +15,7 @@ turns covers (c ∷ h) = (is_permitted covers h (reading_of c), is_permitted cov
 -- each call stamps the key with the number of calls, itself included, unless it keeps its stamp
 abbrev pub stamp_after : List (Bool × Bool) → Option ℕ
 stamp_after [] = None
-stamp_after (t ∷ h) = restamped (stamp_after h) t.0 t.1 (length h + 1)
+stamp_after (t ∷ h) = stamp_after_change (stamp_after h) t.0 t.1 (length h + 1)
 
 -- the stamp of a key after these calls
 abbrev pub stamp_of : (Grant → Bool) → List SliceletCall → Option ℕ

@@ -20,5 +20,5 @@ or_stamp None stamp = stamp
 or_stamp (Some old) stamp = old
 
 -- a key of the set after keeps its stamp where it has one and is in the set before, else it gets the new one
-abbrev pub restamped : Option ℕ → Bool → Bool → ℕ → Option ℕ
-restamped old before after stamp = if after then Some (if before then or_stamp old stamp else stamp) else None
+abbrev pub stamp_after_change : Option ℕ → Bool → Bool → ℕ → Option ℕ
+stamp_after_change old before after stamp = if after then Some (if before then or_stamp old stamp else stamp) else None

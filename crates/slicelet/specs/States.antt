@@ -6,7 +6,7 @@ use Rattle.policy_rules.specs.declared.answer.Verdict.{Verdict}
 use Rattle.policy_rules.specs.Rule.{SeenHolding, rule, is_allowed}
 use Rattle.lease_table.specs.declared.values.Grant.{Grant}
 use Rattle.slicelet.specs.declared.call.SliceletCall.{SliceletCall}
-use Rattle.slicelet.specs.Calls.{is_started, life_of, last_reading, held, greatest_heard}
+use Rattle.slicelet.specs.Calls.{is_started, life_of, last_reading, held_grant, greatest_heard}
 use Rattle.slicelet.specs.Rules.{seen_by, covers_key}
 use Rattle.slicelet.specs.Stamping.{stamp_of, stamps_where, stamp_among}
 
@@ -47,8 +47,8 @@ state_after task h = record {
   life = life_of h;
   up = is_started h;
   last = last_reading h;
-  guard = held Guard h;
-  bridge = held Bridge h;
+  guard = held_grant Guard h;
+  bridge = held_grant Bridge h;
   guard_number = greatest_heard Guard h;
   bridge_number = greatest_heard Bridge h;
   stamps = stamps_where (λ key. stamp_of (covers_key key) h);

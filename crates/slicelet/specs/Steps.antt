@@ -5,10 +5,10 @@ use Rattle.policy_rules.specs.declared.lease.Kind.{Kind}
 use Rattle.policy_rules.specs.declared.lease.Kind.TheVariants.{Guard, Bridge}
 use Rattle.lease_table.specs.declared.values.Grant.{Grant}
 use Rattle.lease_table.specs.declared.values.ReleaseNote.{ReleaseNote}
-use Rattle.slicelet.specs.Stamps.{restamped}
+use Rattle.slicelet.specs.Stamps.{stamp_after_change}
 use Rattle.slicelet.specs.declared.error.SliceletError.{SliceletError}
 use Rattle.slicelet.specs.declared.error.SliceletError.TheVariants.{NotStarted, OldLife, ClockBack, OtherTask, OtherLife, Old, TooLate, NothingHeld, HistoryFull}
-use Rattle.machines.specs.Answers.{replied}
+use Rattle.machines.specs.Answers.{with_named_reply}
 use Rattle.machines.specs.declared.event.Event.{Event}
 use Rattle.slicelet.specs.declared.call.SliceletReply.{SliceletReply}
 use Rattle.slicelet.specs.declared.call.SliceletReply.TheVariants.{Started, Heard, Released}
@@ -73,15 +73,15 @@ abbrev pub read_at : ℕ → SliceletState → SliceletState
 read_at at s = record s { last = at }
 
 -- a call that found one state and left another one is counted, and stamps each key with the count, unless it keeps its stamp
-abbrev pub counted : SliceletState → SliceletState → ℕ → SliceletState
-counted before after at = record after {
+abbrev pub state_with_count : SliceletState → SliceletState → ℕ → SliceletState
+state_with_count before after at = record after {
   count = before.count + 1;
-  stamps = stamps_where (λ key. restamped (stamp_in before key) (permits before key at) (permits after key at) (before.count + 1));
+  stamps = stamps_where (λ key. stamp_after_change (stamp_in before key) (permits before key at) (permits after key at) (before.count + 1));
 }
 
 -- the state after an accepted call
 abbrev pub next_state : SliceletState → SliceletCall → SliceletState
-next_state s c = counted s (read_at (reading_of c) (moved_by s c)) (reading_of c)
+next_state s c = state_with_count s (read_at (reading_of c) (moved_by s c)) (reading_of c)
 
 -- STEPS
 
@@ -104,9 +104,9 @@ release_step s kind at = answer (release_checks s kind at) (next_state s (Releas
 
 -- an event is its call, whatever its ticket
 abbrev pub slicelet_step : SliceletState → SliceletCall → Result (SliceletState × SliceletReply) SliceletError
-slicelet_step s (Start life at) = replied (λ _. Started) (start_step s life at)
-slicelet_step s (Hear grant at) = replied (λ _. Heard) (hear_step s grant at)
-slicelet_step s (Release kind at) = replied Released (release_step s kind at)
+slicelet_step s (Start life at) = with_named_reply (λ _. Started) (start_step s life at)
+slicelet_step s (Hear grant at) = with_named_reply (λ _. Heard) (hear_step s grant at)
+slicelet_step s (Release kind at) = with_named_reply Released (release_step s kind at)
 
 abbrev pub event_step : SliceletState → Event SliceletCall → Result (SliceletState × SliceletReply) SliceletError
 event_step s event = slicelet_step s event.call

@@ -8,7 +8,7 @@ ghost use Rattle.lease_table.specs.declared.values.Grant.{Grant};
 ghost use Rattle.slicelet.specs.declared.call.SliceletCall.{SliceletCall};
 ghost use Rattle.slicelet.specs.declared.call.SliceletCall.TheVariants.{Start, Hear};
 ghost use Rattle.slicelet.specs.declared.call.SliceletReply.{SliceletReply};
-ghost use Rattle.slicelet.specs.Calls.{life_of, held, greatest_heard};
+ghost use Rattle.slicelet.specs.Calls.{life_of, held_grant, greatest_heard};
 ghost use Rattle.slicelet.specs.States.{SliceletState, opening, held_in, greatest_in, rule_in_state};
 ghost use Rattle.slicelet.specs.Steps.{slicelet_step};
 ghost use Rattle.slice_ranges.specs.declared.key.TheConstants.{KEYS};
@@ -26,7 +26,7 @@ pub fn state_law()
     ensures next { (calls : List SliceletCall) (state : SliceletState) (call : SliceletCall) (taken : SliceletState × SliceletReply)
         → StandsAfter calls state → slicelet_step state call ≡ Ok taken → StandsAfter (call ∷ calls) taken.0 }
     ensures held { (calls : List SliceletCall) (state : SliceletState) (kind : Kind) → StandsAfter calls state
-        → held_in state kind ≡ held kind calls }
+        → held_in state kind ≡ held_grant kind calls }
     ensures greatest { (calls : List SliceletCall) (state : SliceletState) (kind : Kind) → StandsAfter calls state
         → greatest_in state kind ≡ greatest_heard kind calls }
     ensures rule { (covers : Grant → Bool) (calls : List SliceletCall) (state : SliceletState) (at : ℕ) → StandsAfter calls state
@@ -65,7 +65,7 @@ pub fn covering_lease_law()
 
 /// The grant of a held lease is that of a `hear` among the calls.
 pub fn heard_law()
-    ensures held { (kind : Kind) (h : List SliceletCall) (grant : Grant) → held kind h ≡ Some grant → WasHeard h grant }
+    ensures held { (kind : Kind) (h : List SliceletCall) (grant : Grant) → held_grant kind h ≡ Some grant → WasHeard h grant }
     ensures among { (h : List SliceletCall) (grant : Grant) → (heard : WasHeard h grant) → Contains h (Hear grant heard.at) }
 {}
 

@@ -4,7 +4,7 @@ ghost use Rattle.std.specs.Prelude.{◌≡◌, ◌<◌, ℕ, Some, IfOk};
 ghost use Rattle.slice_ranges.specs.declared.key.TheConstants.{KEYS};
 ghost use Rattle.slice_ranges.specs.Sets.{has};
 ghost use Rattle.slicelet.specs.Handles.{is_still};
-ghost use Rattle.slicelet.specs.Stamps.{since, restamped};
+ghost use Rattle.slicelet.specs.Stamps.{since, stamp_after_change};
 ghost use Rattle.slicelet.specs.internals.State.{stamps_in};
 
 use crate::handle::KeyHandle;
@@ -21,7 +21,7 @@ pub fn restamp(
     stamp: u64,
 ) -> Result<Stamped, AllocError>
     ensures { IfOk result (λ s. (key : ℕ) → since s key
-        ≡ restamped (since (stamps_in stamps.now) key) (has before.now key) (has after.now key) stamp) }
+        ≡ stamp_after_change (since (stamps_in stamps.now) key) (has before.now key) (has after.now key) stamp) }
 {
     match stamps {
         Some(stamps) => stamps.restamp(before, after, stamp),

@@ -2,7 +2,7 @@
 
 ghost use Rattle.std.specs.Prelude.{◌≡◌, ℕ, [], None, IfOk};
 ghost use Rattle.slice_ranges.specs.Sets.{has};
-ghost use Rattle.slicelet.specs.Stamps.{since, restamped};
+ghost use Rattle.slicelet.specs.Stamps.{since, stamp_after_change};
 
 use crate::sweep::sweep;
 use slice_ranges::{Ranges, SliceKey};
@@ -53,7 +53,7 @@ impl Stamped {
     /// `stamp`.
     pub fn restamp(&self, before: &Ranges, after: &Ranges, stamp: u64) -> Result<Self, AllocError>
         ensures { IfOk result (λ s. (key : ℕ) → since s key
-            ≡ restamped (since self.now key) (has before.now key) (has after.now key) stamp) }
+            ≡ stamp_after_change (since self.now key) (has before.now key) (has after.now key) stamp) }
     {
         let alloc = *self.levels.allocator();
         let levels = sweep(

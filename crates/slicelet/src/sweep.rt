@@ -2,7 +2,7 @@
 
 ghost use Rattle.std.specs.Prelude.{◌≡◌, ℕ, Some, None, [], IfOk};
 ghost use Rattle.slice_ranges.specs.Sets.{has, IsRanges};
-ghost use Rattle.slicelet.specs.Stamps.{since, restamped, IsStamps};
+ghost use Rattle.slicelet.specs.Stamps.{since, stamp_after_change, IsStamps};
 ghost use Rattle.slicelet.specs.internals.Sweeping.{IsNextOfThree, IsPastLevel};
 
 use slice_ranges::{boundaries_above, next_boundary};
@@ -21,7 +21,7 @@ pub fn sweep(
     requires after { IsRanges after.now }
     ensures levels { IfOk result (λ v. IsStamps v.items) }
     ensures keys { IfOk result (λ v. (key : ℕ) → since v.items key
-        ≡ restamped (since levels.now key) (has before.now key) (has after.now key) stamp) }
+        ≡ stamp_after_change (since levels.now key) (has before.now key) (has after.now key) stamp) }
 {
     let mut levels_rest = levels;
     let mut before_rest = before;
@@ -46,7 +46,7 @@ pub fn sweep(
 
 // The stamp of a key that had this one, if any, and was in the first set and is in the second.
 fn restamped(old: Option<u64>, before: bool, after: bool, stamp: u64) -> Option<u64>
-    ensures { result ≡ restamped old before after stamp }
+    ensures { result ≡ stamp_after_change old before after stamp }
 {
     match old {
         Some(kept) if before && after => Some(kept),

@@ -16,8 +16,8 @@ use Rattle.weighted_move.specs.Owning.{IsFit, IsRange}
 use Rattle.weighted_move.specs.Moves.{IsCandidate, IsChange, IsBestOf, gain_of}
 use Rattle.weighted_move.specs.Chains.{after_moves, left_by}
 use Rattle.weighted_move.specs.Merging.{IsMerged}
-use Rattle.weighted_move.specs.Weighing.{weighed}
-use Rattle.weighted_move.specs.Settling.{settled}
+use Rattle.weighted_move.specs.Weighing.{slices_with_loads}
+use Rattle.weighted_move.specs.Settling.{slices_in_range}
 use Rattle.weighted_move.specs.Plans.{CanPlan, IsPlan, range_for}
 use Rattle.weighted_move.specs.Handovers.{handover, exactly, IsHandover, AreBestHandovers, IsPlanOfHandovers}
 use Rattle.weighted_move.proofs.Choosing.{same_kind}
@@ -123,7 +123,7 @@ module _ (slices : List Slice) (loads tasks : List ℕ) (limits : Limits) (plan 
 
   pub plan_handed_over : IsPlanOfHandovers slices loads tasks limits (min limits.low (length tasks)) plan
   plan_handed_over =
-      let P : OwnerRange → Type 0 = λ r. IsMerged limits.cold (settled tasks r (weighed tasks slices loads)) h.runs in
+      let P : OwnerRange → Type 0 = λ r. IsMerged limits.cold (slices_in_range tasks r (slices_with_loads tasks slices loads)) h.runs in
       record { runs = h.runs; merged = subst P range_exact h.merged; moved = best_moved; split = h.split }
 
   pub number_exact : All (λ s. length s.owners ≡ min limits.low (length tasks)) plan.slices

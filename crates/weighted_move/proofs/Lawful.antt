@@ -17,11 +17,11 @@ use Rattle.weighted_move.specs.declared.made.Plan.{Plan}
 use Rattle.weighted_move.specs.Policies.{Limits, is_policy}
 use Rattle.machines.specs.Numbers.{is_within}
 use Rattle.weighted_move.specs.Weights.{Tiles}
-use Rattle.weighted_move.specs.Weighing.{weighed}
+use Rattle.weighted_move.specs.Weighing.{slices_with_loads}
 use Rattle.weighted_move.specs.Merging.{in_line}
 use Rattle.weighted_move.specs.Chains.{after_moves}
-use Rattle.weighted_move.specs.Halving.{halved_into}
-use Rattle.weighted_move.specs.Plans.{CanPlan, IsPlan, range_for, prepared}
+use Rattle.weighted_move.specs.Halving.{slices_with_halves_within}
+use Rattle.weighted_move.specs.Plans.{CanPlan, IsPlan, range_for, slices_for_plan}
 use Rattle.weighted_move.specs.Owning.{IsFit, IsRange}
 use Rattle.weighted_move.specs.Keys.{bare, owners_after}
 use Rattle.weighted_move.proofs.Starts.{tiles_at_first}
@@ -75,8 +75,8 @@ module _ (slices : List Slice) (loads tasks : List ℕ) (limits : Limits) (plan 
       let P : List WeighedSlice → Type 0 = λ xs. AreFit tasks set (range_for limits tasks) xs in
       subst P (sym h.merged.cut) (prepared_fits tasks set (range_for limits tasks) slices loads is_range.ordered is_range.known)
 
-  ready_tile : Tiles 0 (prepared slices loads tasks limits) KEYS
-  ready_tile = settled_tiles 0 KEYS tasks (range_for limits tasks) [] (weighed tasks slices loads) (tiles_at_first tasks slices loads can.accepted (plannable slices loads tasks can.planned).each)
+  ready_tile : Tiles 0 (slices_for_plan slices loads tasks limits) KEYS
+  ready_tile = settled_tiles 0 KEYS tasks (range_for limits tasks) [] (slices_with_loads tasks slices loads) (tiles_at_first tasks slices loads can.accepted (plannable slices loads tasks can.planned).each)
 
   line_tile : Tiles 0 (in_line h.merged.groups) KEYS
   line_tile = let P : List WeighedSlice → Type 0 = λ xs. Tiles 0 xs KEYS in subst P (sym h.merged.cut) ready_tile
@@ -94,7 +94,7 @@ module _ (slices : List Slice) (loads tasks : List ℕ) (limits : Limits) (plan 
   number_each =
       let room = limits.most - length (after_moves h.runs plan.moves) in
       let parts = halved_all (IsFit tasks range) limits.hot room (after_moves h.runs plan.moves) after_good.fits in
-      rw h.split (λ k d l. (All-from_recursion (λ (s : Slice). IsFit tasks range s.owners) (halved_into limits.hot room (after_moves h.runs plan.moves)) parts k d l))
+      rw h.split (λ k d l. (All-from_recursion (λ (s : Slice). IsFit tasks range s.owners) (slices_with_halves_within limits.hot room (after_moves h.runs plan.moves)) parts k d l))
 
   pub plan_accepted : refusal_of plan.slices ≡ None
   plan_accepted =
@@ -108,9 +108,9 @@ module _ (slices : List Slice) (loads tasks : List ℕ) (limits : Limits) (plan 
       rw h.split (halved_accepted tasks set range limits.hot room (after_moves h.runs plan.moves) after_good.tiles after_good.fits
       is_range.some is_range.few (omega (arith, few, ready, cut, runs, after, allowed.most)))
 
-  pub plan_keys : (key : ℕ) → key < KEYS → owners_of plan.slices key ≡ owners_after key (owners_of (bare (prepared slices loads tasks limits)) key) plan.moves
+  pub plan_keys : (key : ℕ) → key < KEYS → owners_of plan.slices key ≡ owners_after key (owners_of (bare (slices_for_plan slices loads tasks limits)) key) plan.moves
   plan_keys key ends =
-      let ready = prepared slices loads tasks limits in
+      let ready = slices_for_plan slices loads tasks limits in
       let after = after_moves h.runs plan.moves in
       let room = limits.most - length after in
       let made = owners_of_halved tasks set range limits.hot room key after after_good.tiles after_good.fits ends in

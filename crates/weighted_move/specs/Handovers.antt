@@ -7,12 +7,12 @@ use Rattle.weighted_move.specs.declared.moves.Move.{Move}
 use Rattle.weighted_move.specs.declared.range.OwnerRange.{OwnerRange}
 use Rattle.weighted_move.specs.declared.weighed.WeighedSlice.{WeighedSlice}
 use Rattle.weighted_move.specs.Chains.{after_moves, left_by}
-use Rattle.weighted_move.specs.Halving.{halved}
+use Rattle.weighted_move.specs.Halving.{slices_with_halves}
 use Rattle.weighted_move.specs.Merging.{IsMerged}
 use Rattle.weighted_move.specs.Moves.{IsBestOf, IsTaker}
 use Rattle.weighted_move.specs.Policies.{Limits}
-use Rattle.weighted_move.specs.Settling.{settled}
-use Rattle.weighted_move.specs.Weighing.{weighed}
+use Rattle.weighted_move.specs.Settling.{slices_in_range}
+use Rattle.weighted_move.specs.Weighing.{slices_with_loads}
 use Rattle.weighted_move.specs.Weights.{load_of, share_of}
 
 -- an owner hands its share of a slice over to another task: the gain is the greater of the two loads,
@@ -57,6 +57,6 @@ exactly number = record { low = number; high = number }
 -- handovers, and halves the hot slices that are left
 pub record IsPlanOfHandovers (slices : List Slice) (loads tasks : List ℕ) (limits : Limits) (number : ℕ) (plan : Plan) : Type 0 where
   pub runs : List WeighedSlice
-  pub merged : IsMerged limits.cold (settled tasks (exactly number) (weighed tasks slices loads)) runs
+  pub merged : IsMerged limits.cold (slices_in_range tasks (exactly number) (slices_with_loads tasks slices loads)) runs
   pub moved : AreBestHandovers runs tasks limits.churn plan.moves
-  pub split : plan.slices ≡ halved limits.hot limits.most (after_moves runs plan.moves)
+  pub split : plan.slices ≡ slices_with_halves limits.hot limits.most (after_moves runs plan.moves)

@@ -11,9 +11,9 @@ ghost use Rattle.weighted_move.specs.declared.range.OwnerRange.{OwnerRange};
 ghost use Rattle.weighted_move.specs.declared.weighed.WeighedSlice.{WeighedSlice};
 ghost use Rattle.weighted_move.specs.declared.moves.Move.{Move};
 ghost use Rattle.weighted_move.specs.Weights.{Tiles, load_of, share_of};
-ghost use Rattle.weighted_move.specs.Moves.{IsCandidate, load_after, changed_slice, moved};
+ghost use Rattle.weighted_move.specs.Moves.{IsCandidate, load_after, changed_slice, slices_after_move};
 ghost use Rattle.weighted_move.specs.Owning.{IsFit, IsRange, IsTaskSet, IsWithin};
-ghost use Rattle.weighted_move.specs.Plans.{CanPlan, IsPlan, range_for, prepared};
+ghost use Rattle.weighted_move.specs.Plans.{CanPlan, IsPlan, range_for, slices_for_plan};
 ghost use Rattle.weighted_move.specs.Settling.{IsLeastLoaded, IsMostLoaded, least_loaded, most_loaded, strangers};
 ghost use Rattle.weighted_move.specs.Keys.{bare, owners_after};
 ghost use Rattle.weighted_move.specs.Handovers.{IsHandover, IsPlanOfHandovers};
@@ -33,7 +33,7 @@ pub fn plan_law()
     ensures keys { (slices : List Slice) (loads tasks : List ℕ) (limits : Limits) (plan : Plan) (key : ℕ)
         → CanPlan slices loads tasks limits → IsPlan slices loads tasks limits plan → key < KEYS
         → owners_of plan.slices key
-        ≡ owners_after key (owners_of (bare (prepared slices loads tasks limits)) key) plan.moves }
+        ≡ owners_after key (owners_of (bare (slices_for_plan slices loads tasks limits)) key) plan.moves }
 {}
 
 /// The owner that a slice loses has the greatest load of its owners, and the task that it gets the least load of
@@ -51,7 +51,7 @@ pub fn settling_law()
 pub fn move_law()
     ensures loads { (slices : List WeighedSlice) (tasks : List ℕ) (range : OwnerRange) (left : ℕ) (move : Move) (candidate : IsCandidate slices tasks range left move) (task : ℕ)
         → Tiles 0 slices KEYS
-        → load_of (moved slices move) task ≡ load_after (load_of slices) candidate.slice (changed_slice move.giver move.taker candidate.slice) task }
+        → load_of (slices_after_move slices move) task ≡ load_after (load_of slices) candidate.slice (changed_slice move.giver move.taker candidate.slice) task }
     ensures fixed { (slices : List WeighedSlice) (tasks : List ℕ) (range : OwnerRange) (left : ℕ) (move : Move) (candidate : IsCandidate slices tasks range left move)
         → range.low ≡ range.high → IsFit tasks range candidate.slice.owners
         → (a : ℕ) × (b : ℕ) × (move.giver ≡ Some a) × (move.taker ≡ Some b) }

@@ -2,7 +2,7 @@
 use Rattle.std.proofs.Common.{◌≡◌, ℕ, ◌+◌, ◌≤◌, false, List, [], ◌∷◌, None, Ok, refl, sym, ◌∙◌, inl, inr, arith}
 use Rattle.std.proofs.lemmas.Bool.{lt-ltb, le-ltb, le-leb, lt-leb, cases_lt}
 use Rattle.slice_ranges.specs.declared.key.TheConstants.{KEYS}
-use Rattle.slice_ranges.specs.Sets.{covered, has, IsRanges, keys_where, refusal_from, refusal_of, Rises}
+use Rattle.slice_ranges.specs.Sets.{pairs_cover, has, IsRanges, keys_where, refusal_from, refusal_of, Rises}
 use Rattle.slice_ranges.proofs.Boundaries.{inside_below, rises_bounds, rises_starts}
 use Rattle.slice_ranges.proofs.KeysWhere.{is_where}
 use Rattle.serde_json.specs.Data.{Data}
@@ -20,7 +20,7 @@ not_refused end low (s ∷ e ∷ rest) l r =
     (not_refused e (e + 1) rest (omega arith) r.1.1)
 
 -- the pairs of boundaries cover the keys of the set
-covers : (low : ℕ) (bs : List ℕ) (key : ℕ) → Rises low bs (KEYS + 1) → has bs KEYS ≡ false → covered (pairs_of bs) key ≡ has bs key
+covers : (low : ℕ) (bs : List ℕ) (key : ℕ) → Rises low bs (KEYS + 1) → has bs KEYS ≡ false → pairs_cover (pairs_of bs) key ≡ has bs key
 covers low [] key r even = refl
 covers low (s ∷ []) key r even =
     let bound : s + 1 ≤ KEYS + 1 = r.1 in
@@ -29,7 +29,7 @@ covers low (s ∷ []) key r even =
 covers low (s ∷ e ∷ rest) key r even =
     let bound : e + 1 ≤ KEYS + 1 = rises_bounds (e + 1) rest (KEYS + 1) r.1.1 in
     let later : has rest KEYS ≡ false = rw (le-ltb KEYS s (omega (arith, bound, r.1.0)), le-ltb KEYS e (omega (arith, bound))) at even in
-    let same : covered (pairs_of rest) key ≡ has rest key = covers (e + 1) rest key r.1.1 later in
+    let same : pairs_cover (pairs_of rest) key ≡ has rest key = covers (e + 1) rest key r.1.1 later in
     elim (cases_lt key s) [
       | inl below ↦ (rw (lt-leb s key below, lt-ltb key s below) (same ∙ inside_below false rest (e + 1) key (rises_starts (e + 1) rest (KEYS + 1) r.1.1) (omega (arith, r.1.0))))
       | inr above ↦ elim (cases_lt key e) [
@@ -40,7 +40,7 @@ covers low (s ∷ e ∷ rest) key r even =
 
 pub pairs_of_set : (bs : List ℕ) → IsRanges bs → set_of (pairs_of bs) (refusal_of (pairs_of bs)) ≡ Ok bs
 pairs_of_set bs ranges =
-    let same : bs ≡ keys_where (covered (pairs_of bs)) = is_where (covered (pairs_of bs)) bs ranges (λ key _. sym (covers 0 bs key ranges.rises ranges.ends)) in
+    let same : bs ≡ keys_where (pairs_cover (pairs_of bs)) = is_where (pairs_cover (pairs_of bs)) bs ranges (λ key _. sym (covers 0 bs key ranges.rises ranges.ends)) in
     rw (not_refused 0 0 bs (omega arith) ranges.rises, ← same) refl
 
 pub ranges_read : (bs : List ℕ) → IsRanges bs → ranges_of (ranges_data bs) ≡ Ok bs
@@ -49,8 +49,8 @@ ranges_read bs ranges = rw (list_read two_numbers_of pair_data (λ pair. refl) (
 
 -- a set that was made of the pairs is the set of their keys
 pub ranges_are : (d : Data) (pairs : List (ℕ × ℕ)) (shown : List (ℕ × ℕ)) (bs : List ℕ) → list_of two_numbers_of d ≡ Ok pairs → shown ≡ pairs
-    → refusal_of shown ≡ None → IsRanges bs → ((key : ℕ) → has bs key ≡ covered shown key) → ranges_of d ≡ Ok bs
+    → refusal_of shown ≡ None → IsRanges bs → ((key : ℕ) → has bs key ≡ pairs_cover shown key) → ranges_of d ≡ Ok bs
 unfolding ranges_of
 ranges_are d pairs shown bs read same accepted ranges keys =
-    let is : bs ≡ keys_where (covered shown) = is_where (covered shown) bs ranges (λ key _. keys key) in
+    let is : bs ≡ keys_where (pairs_cover shown) = is_where (pairs_cover shown) bs ranges (λ key _. keys key) in
     rw (read, ← same, accepted, ← is) refl

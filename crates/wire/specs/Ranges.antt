@@ -1,7 +1,7 @@
 -- Sets of slice keys as JSON.
 use Rattle.std.specs.Prelude.{ℕ, List, [], ◌∷◌, Option, Some, None, Result, Ok, Err}
 use Rattle.serde_json.specs.Data.{Data}
-use Rattle.slice_ranges.specs.Sets.{covered, keys_where, refusal_of}
+use Rattle.slice_ranges.specs.Sets.{pairs_cover, keys_where, refusal_of}
 use Rattle.program_io.specs.Reading.{◌>>=◌}
 use Rattle.program_io.specs.Members.{list_of, two_numbers_of}
 use Rattle.wire.specs.declared.fault.Refusal.{Refusal}
@@ -25,7 +25,7 @@ ranges_data boundaries = list_data pair_data (pairs_of boundaries)
 
 -- the set of the keys of pairs, unless they are refused
 abbrev pub set_of : List (ℕ × ℕ) → Option RangesError → Result (List ℕ) Refusal
-set_of pairs None = Ok (keys_where (covered pairs))
+set_of pairs None = Ok (keys_where (pairs_cover pairs))
 set_of pairs (Some why) = Err (Ranges why)
 
 -- the set of the keys of an array of pairs

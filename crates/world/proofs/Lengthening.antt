@@ -1,7 +1,7 @@
 -- A longer past has told the table the same first.
 use Rattle.std.proofs.Common.{◌≡◌, Bool, true, false, List, [], ◌∷◌, ◌++◌, refl, ap}
 use Rattle.std.specs.Prelude.{Option, Some, None, if◌then◌else◌}
-use Rattle.machines.specs.Calls.{answered, answer_of}
+use Rattle.machines.specs.Calls.{answered_call, answer_of}
 use Rattle.lease_table.specs.declared.call.TableCall.{TableCall}
 use Rattle.lease_table.specs.Policies.{Terms}
 use Rattle.lease_table.specs.Calls.{AnsweredTableCall, standing_after, table_step}
@@ -15,7 +15,7 @@ Extends calls before = (later : List AnsweredTableCall) × (calls ≡ later ++ b
 extended : (policy : Terms) (o : Option TableCall) (calls before : List AnsweredTableCall) → Extends calls before → Extends (with_call policy o calls) before
 extended policy None calls before h = h
 extended policy (Some c) calls before h =
-    (answered c (answer_of (table_step (standing_after policy calls) c)) ∷ h.0, ap (λ (l : List AnsweredTableCall). answered c (answer_of (table_step (standing_after policy calls) c)) ∷ l) h.1)
+    (answered_call c (answer_of (table_step (standing_after policy calls) c)) ∷ h.0, ap (λ (l : List AnsweredTableCall). answered_call c (answer_of (table_step (standing_after policy calls) c)) ∷ l) h.1)
 
 pub table_calls_extend : (policy : Terms) (later past : Past) → Extends (table_calls policy (later ++ past)) (table_calls policy past)
 table_calls_extend policy [] past = ([], refl)

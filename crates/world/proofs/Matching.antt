@@ -2,8 +2,8 @@
 use Rattle.std.proofs.Common.{◌≡◌, ℕ, ◌+◌, length, Bool, true, false, not, ◌||◌, List, [], ◌∷◌, ◌++◌, refl, sym, ◌∙◌, ap, subst, inl, inr}
 use Rattle.std.specs.Prelude.{Option, Some, None, Result, Ok, Err, ◌==◌, Contains, is_ok, option_map, if◌then◌else◌}
 use Rattle.std.specs.List.{AllByRecursion, list_any}
-use Rattle.machines.specs.Calls.{answered, answer_of}
-use Rattle.machines.specs.Answers.{replied}
+use Rattle.machines.specs.Calls.{answered_call, answer_of}
+use Rattle.machines.specs.Answers.{with_named_reply}
 use Rattle.machines.specs.Numbers.{is_within}
 use Rattle.machines.specs.Refusals.{when}
 use Rattle.machines.proofs.Every.{all_weaker, all_push}
@@ -89,7 +89,7 @@ of_layer : {M A E : Type 0} (refused : E → Refusal) (name : A → Reply) (s : 
 of_layer refused name (Ok p) a = refl
 of_layer refused name (Err why) a = absurd (let f : false ≡ true = a in cc)
 
-still_ok : {M A S E : Type 0} (name : A → S) (s : Result (M × A) E) → is_ok s ≡ true → is_ok (replied name s) ≡ true
+still_ok : {M A S E : Type 0} (name : A → S) (s : Result (M × A) E) → is_ok s ≡ true → is_ok (with_named_reply name s) ≡ true
 still_ok name (Ok p) ok = refl
 still_ok name (Err why) ok = absurd (let f : false ≡ true = ok in cc)
 
@@ -152,10 +152,10 @@ taken_answer false v made next number handle e = absurd (cc)
 module _ (job : Job) (past : ClusterPast) (calls : List AnsweredTableCall) (tasks : ℕ → List SliceletCall) (notes : List ReleaseNote) (handles : List KeyHandle)
     (h : Matches job past calls tasks notes handles) where
   answered_matches : (c : TableCall) (s : Result (Standing × TableReply) TableError) → s ≡ table_step (standing_after job.policy calls) c → is_ok s ≡ true
-      → table_refusal job past c ≡ None → Matches job (with_event (answered_table c (answer_of s)) past) (answered c (answer_of s) ∷ calls) tasks notes handles
+      → table_refusal job past c ≡ None → Matches job (with_event (answered_table c (answer_of s)) past) (answered_call c (answer_of s) ∷ calls) tasks notes handles
   answered_matches c (Err why) e ok came = absurd (let f : false ≡ true = ok in cc)
   answered_matches c (Ok p) e ok came = record {
-    table = ap (λ (cs : List AnsweredTableCall). answered c (Ok p.1) ∷ cs) h.table;
+    table = ap (λ (cs : List AnsweredTableCall). answered_call c (Ok p.1) ∷ cs) h.table;
     task = λ n. h.task n;
     each_note = h.each_note;
     each_handle = h.each_handle;
@@ -206,11 +206,11 @@ module _ (job : Job) (past : ClusterPast) (calls : List AnsweredTableCall) (task
   -- a release makes its note
   release_matches : (by : ℕ) (kind : Kind) (at number : ℕ) (r : Reply) (x : Result (SliceletState × ReleaseNote) SliceletError) → x ≡ release_step (state_after by (tasks by)) kind at
       → is_ok x ≡ true → r ≡ from_layer refusal.Slicelet (reply.Released number) x → is_within by job.tasks ≡ true
-      → Matches job (with_event (answered_task by (Release kind at) (replied Released x)) past) calls (λ n. with_task_call n (Some (by, Release kind at)) (tasks n)) (note_told r notes) handles
+      → Matches job (with_event (answered_task by (Release kind at) (with_named_reply Released x)) past) calls (λ n. with_task_call n (Some (by, Release kind at)) (tasks n)) (note_told r notes) handles
   release_matches by kind at number r (Err why) e ok told inside = absurd (let f : false ≡ true = ok in cc)
   release_matches by kind at number r (Ok q) e ok told inside =
-      let step : Result (SliceletState × SliceletReply) SliceletError = replied Released (release_step (state_after by (tasks by)) kind at) in
-      let m = task_matches by (Release kind at) (Ok (q.0, Released q.1)) (ap (λ (s : Result (SliceletState × ReleaseNote) SliceletError). replied Released s) e) refl inside refl in
+      let step : Result (SliceletState × SliceletReply) SliceletError = with_named_reply Released (release_step (state_after by (tasks by)) kind at) in
+      let m = task_matches by (Release kind at) (Ok (q.0, Released q.1)) (ap (λ (s : Result (SliceletState × ReleaseNote) SliceletError). with_named_reply Released s) e) refl inside refl in
       let after : ClusterPast = called (call.Task by (Release kind at)) (answer.Task (Released q.1)) ∷ past in
       let made : is_made after q.1 ≡ true = or_left (same_note q.1 q.1) (is_made past q.1) (own_note q.1) in
       record {
@@ -287,42 +287,42 @@ module _ (job : Job) (past : Past) (h : IsPlayed job past) where
   -- an accepted step of the table comes to it, and is accepted
   may_call : (s : Step) (r : Reply) → IsReply job past (event s r) → is_accepted r ≡ true → MayCall job now calls (table_call past s)
   unfolding MayCall
-  may_call (step.Take assigner at) r answered a =
+  may_call (step.Take assigner at) r answered_call a =
       let t = standing_after job.policy calls in
-      let own = of_actor (is_within assigner job.assigners) (from_layer refusal.Table reply.Term (take_step t assigner at)) (given_reply job past (step.Take assigner at) r answered a).accepted in
+      let own = of_actor (is_within assigner job.assigners) (from_layer refusal.Table reply.Term (take_step t assigner at)) (given_reply job past (step.Take assigner at) r answered_call a).accepted in
       (still_ok table_reply.Term (take_step t assigner at) (of_layer refusal.Table reply.Term (take_step t assigner at) own.1), nothing_against (is_within assigner job.assigners) error.NoActor own.0)
-  may_call (step.Renew assigner at) r answered a =
+  may_call (step.Renew assigner at) r answered_call a =
       let t = standing_after job.policy calls in
       let renewed = renew_step t (kept_number assigner past) at in
-      let own = of_actor (is_within assigner job.assigners) (from_layer refusal.Table reply.Renewed renewed) (given_reply job past (step.Renew assigner at) r answered a).accepted in
+      let own = of_actor (is_within assigner job.assigners) (from_layer refusal.Table reply.Renewed renewed) (given_reply job past (step.Renew assigner at) r answered_call a).accepted in
       (still_ok table_reply.Term renewed (of_layer refusal.Table reply.Renewed renewed own.1), refl)
-  may_call (step.Propose assigner generation slices at) r answered a =
+  may_call (step.Propose assigner generation slices at) r answered_call a =
       let t = standing_after job.policy calls in
       let proposed = propose_step t (kept_number assigner past) (record { generation = generation; slices = slices }) at in
       let told = from_layer refusal.Table (λ _. reply.Proposed generation) proposed in
-      let own = of_actor (is_within assigner job.assigners) (if_built (refusal_of slices) told) (given_reply job past (step.Propose assigner generation slices at) r answered a).accepted in
+      let own = of_actor (is_within assigner job.assigners) (if_built (refusal_of slices) told) (given_reply job past (step.Propose assigner generation slices at) r answered_call a).accepted in
       (still_ok (λ _. table_reply.Proposed) proposed (of_layer refusal.Table (λ _. reply.Proposed generation) proposed (of_built (refusal_of slices) told own.1)), refl)
-  may_call (step.Commit assigner at) r answered a =
+  may_call (step.Commit assigner at) r answered_call a =
       let t = standing_after job.policy calls in
       let committed = commit_step t (kept_number assigner past) at in
-      let own = of_actor (is_within assigner job.assigners) (from_layer refusal.Table reply.Committed committed) (given_reply job past (step.Commit assigner at) r answered a).accepted in
+      let own = of_actor (is_within assigner job.assigners) (from_layer refusal.Table reply.Committed committed) (given_reply job past (step.Commit assigner at) r answered_call a).accepted in
       (still_ok table_reply.Committed committed (of_layer refusal.Table reply.Committed committed own.1), refl)
-  may_call (step.Grant task life at) r answered a =
+  may_call (step.Grant task life at) r answered_call a =
       let t = standing_after job.policy calls in
       let sent = grant_step t task life at in
-      let own = of_actor (is_within task job.tasks) (from_layer refusal.Table granted sent) (given_reply job past (step.Grant task life at) r answered a).accepted in
+      let own = of_actor (is_within task job.tasks) (from_layer refusal.Table granted sent) (given_reply job past (step.Grant task life at) r answered_call a).accepted in
       (still_ok table_reply.Granted sent (of_layer refusal.Table granted sent own.1), nothing_against (is_within task job.tasks) error.NoActor own.0)
-  may_call (step.Free number at) r answered a =
-      freed_may at (numbered number (notes_made past)) (λ note e. made_of_number number (notes_made past) note e) (given_reply job past (step.Free number at) r answered a).accepted
-  may_call step.Lose r answered a = (refl, refl)
-  may_call _ r answered a = tt
+  may_call (step.Free number at) r answered_call a =
+      freed_may at (numbered number (notes_made past)) (λ note e. made_of_number number (notes_made past) note e) (given_reply job past (step.Free number at) r answered_call a).accepted
+  may_call step.Lose r answered_call a = (refl, refl)
+  may_call _ r answered_call a = tt
 
   -- a step of a task
   started : (task life at : ℕ) (r : Reply) → IsReply job past (event (step.Start task life at) r) → is_accepted r ≡ true
       → Matches job (with_event (event_of job past (step.Start task life at) r) now) calls (λ n. with_task_call n (Some (task, Start life at)) (task_calls job.policy n past)) (notes_made past) (handles_made past)
-  started task life at r answered a =
+  started task life at r answered_call a =
       let x = start_step (history job task past) life at in
-      let own = of_actor (is_within task job.tasks) (from_layer refusal.Slicelet (λ _. reply.Started life) x) (given_reply job past (step.Start task life at) r answered a).accepted in
+      let own = of_actor (is_within task job.tasks) (from_layer refusal.Slicelet (λ _. reply.Started life) x) (given_reply job past (step.Start task life at) r answered_call a).accepted in
       task_matches job now calls (λ n. task_calls job.policy n past) (notes_made past) (handles_made past) h task (Start life at) (slicelet_step (history job task past) (Start life at)) refl
       (still_ok (λ _. Started) x (of_layer refusal.Slicelet (λ _. reply.Started life) x own.1)) own.0 refl
 
@@ -341,10 +341,10 @@ module _ (job : Job) (past : Past) (h : IsPlayed job past) where
   heard : (task number at : ℕ) (r : Reply) → IsReply job past (event (step.Hear task number at) r) → is_accepted r ≡ true
       → Matches job (with_event (event_of job past (step.Hear task number at) r) now) calls
       (λ n. with_task_call n (task_call (grants job.policy past) (step.Hear task number at)) (task_calls job.policy n past)) (notes_made past) (handles_made past)
-  heard task number at r answered a =
+  heard task number at r answered_call a =
       let o = numbered number (grants job.policy past) in
       let told = if_sent o (λ grant. from_layer refusal.Slicelet (λ _. reply.Heard number) (hear_step (history job task past) grant at)) in
-      let own = of_actor (is_within task job.tasks) told (given_reply job past (step.Hear task number at) r answered a).accepted in
+      let own = of_actor (is_within task job.tasks) told (given_reply job past (step.Hear task number at) r answered_call a).accepted in
       heard_matches task at number o (λ grant e. made_of_number number (grants_sent calls) grant e) own.1 own.0
 
   actor_reply : (b : Bool) (r x : Reply) → b ≡ true → r ≡ (if b then x else reply.Refused refusal.NoActor) → r ≡ x
@@ -354,41 +354,41 @@ module _ (job : Job) (past : Past) (h : IsPlayed job past) where
   released : (task : ℕ) (kind : Kind) (at : ℕ) (r : Reply) → IsReply job past (event (step.Release task kind at) r) → is_accepted r ≡ true
       → Matches job (with_event (event_of job past (step.Release task kind at) r) now) calls
       (λ n. with_task_call n (Some (task, Release kind at)) (task_calls job.policy n past)) (note_told r (notes_made past)) (handles_made past)
-  released task kind at r answered a =
+  released task kind at r answered_call a =
       let x = release_step (history job task past) kind at in
       let number = length (notes_made past) + 1 in
-      let g = given_reply job past (step.Release task kind at) r answered a in
+      let g = given_reply job past (step.Release task kind at) r answered_call a in
       let own = of_actor (is_within task job.tasks) (from_layer refusal.Slicelet (reply.Released number) x) g.accepted in
       release_matches job now calls (λ n. task_calls job.policy n past) (notes_made past) (handles_made past) h task kind at number r x refl
       (of_layer refusal.Slicelet (reply.Released number) x own.1) (actor_reply (is_within task job.tasks) r (from_layer refusal.Slicelet (reply.Released number) x) own.0 g.given) own.0
 
   held : (task : ℕ) (key : List ℕ) (at : ℕ) (r : Reply) → IsReply job past (event (step.Hold task key at) r) → is_accepted r ≡ true
       → Matches job (with_event (hold_event task key at r) now) calls (λ n. task_calls job.policy n past) (notes_made past) (handle_told r (handles_made past))
-  held task key at (reply.Holding number handle) answered a =
-      let g = given_reply job past (step.Hold task key at) (reply.Holding number handle) answered a in
+  held task key at (reply.Holding number handle) answered_call a =
+      let g = given_reply job past (step.Hold task key at) (reply.Holding number handle) answered_call a in
       let v = rule_in job past task (slice_key key) at in
       hold_matches job now calls (λ n. task_calls job.policy n past) (notes_made past) (handles_made past) h task (slice_key key) at number handle
       (taken_answer (is_within task job.tasks) v (handle_on (slice_key key) (history job task past)) (length (handles_made past) + 1) number handle g.given)
-  held task key at _ answered a = h
+  held task key at _ answered_call a = h
 
   checked_now : (task number at : ℕ) (r : Reply) (o : Option KeyHandle) → o ≡ numbered number (handles_made past) → IsReply job past (event (step.Check task number at) r)
       → Matches job (with_event (check_event task at r o) now) calls (λ n. task_calls job.policy n past) (notes_made past) (handles_made past)
-  checked_now task number at r None e answered = h
-  checked_now task number at reply.Continuous (Some handle) e answered =
-      let f = check_found job past task number at handle (sym e) answered in
+  checked_now task number at r None e answered_call = h
+  checked_now task number at reply.Continuous (Some handle) e answered_call =
+      let f = check_found job past task number at handle (sym e) answered_call in
       check_matches job now calls (λ n. task_calls job.policy n past) (notes_made past) (handles_made past) h task at handle f.inside
       (made_of_number number (handles_made past) handle (sym e)) f.familiar f.continuous
-  checked_now task number at _ (Some handle) e answered = h
+  checked_now task number at _ (Some handle) e answered_call = h
 
   by_step : (s : Step) (r : Reply) → IsReply job past (event s r) → is_accepted r ≡ true
       → Matches job (with_event (event_of job past s r) now) (with_call job.policy (table_call past s) calls)
       (λ n. with_task_call n (task_call (grants job.policy past) s) (task_calls job.policy n past)) (notes_with s r (notes_made past)) (handles_with s r (handles_made past))
-  by_step (step.Hold task key at) r answered a = held task key at r answered a
-  by_step (step.Check task number at) r answered a = checked_now task number at r (numbered number (handles_made past)) refl answered
-  by_step (step.Start task life at) r answered a = started task life at r answered a
-  by_step (step.Hear task number at) r answered a = heard task number at r answered a
-  by_step (step.Release task kind at) r answered a = released task kind at r answered a
-  by_step s r answered a = table_matches job now calls (λ n. task_calls job.policy n past) (notes_made past) (handles_made past) h (table_call past s) (may_call s r answered a)
+  by_step (step.Hold task key at) r answered_call a = held task key at r answered_call a
+  by_step (step.Check task number at) r answered_call a = checked_now task number at r (numbered number (handles_made past)) refl answered_call
+  by_step (step.Start task life at) r answered_call a = started task life at r answered_call a
+  by_step (step.Hear task number at) r answered_call a = heard task number at r answered_call a
+  by_step (step.Release task kind at) r answered_call a = released task kind at r answered_call a
+  by_step s r answered_call a = table_matches job now calls (λ n. task_calls job.policy n past) (notes_made past) (handles_made past) h (table_call past s) (may_call s r answered_call a)
 
 -- a run of steps is a run of the machines
 pub played_matches : (job : Job) (past : Past) → IsRun job past → IsPlayed job past

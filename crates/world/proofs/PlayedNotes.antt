@@ -1,7 +1,7 @@
 -- Every note that was made, or freed, was sent by its task.
 use Rattle.std.proofs.Common.{◌≡◌, ℕ, true, List, sym, subst}
 use Rattle.std.specs.Prelude.{Some, Result, Contains}
-use Rattle.machines.specs.Calls.{answered}
+use Rattle.machines.specs.Calls.{answered_call}
 use Rattle.lease_table.specs.declared.call.TableCall.TheVariants.{Free}
 use Rattle.lease_table.specs.declared.call.TableReply.{TableReply}
 use Rattle.lease_table.specs.declared.error.TableError.{TableError}
@@ -32,7 +32,7 @@ made_note_sent job past number note run e =
     sent_note job past note h (made_sent job (played job past) note h.run (is_member same_note equal_notes note (notes_of (played job past)) made))
 
 pub freed_note_sent : (job : Job) (past : Past) (note : ReleaseNote) (at : ℕ) (reply : Result TableReply TableError) → IsRun job past
-    → Contains (table_calls job.policy past) (answered (Free note at) reply) → IsNoteOf job past note
+    → Contains (table_calls job.policy past) (answered_call (Free note at) reply) → IsNoteOf job past note
 freed_note_sent job past note at reply run i =
     let h = played_matches job past run in
-    sent_note job past note h (freed_sent job (played job past) note at reply h.run (subst (λ (calls : List AnsweredTableCall). Contains calls (answered (Free note at) reply)) (sym h.table) i))
+    sent_note job past note h (freed_sent job (played job past) note at reply h.run (subst (λ (calls : List AnsweredTableCall). Contains calls (answered_call (Free note at) reply)) (sym h.table) i))

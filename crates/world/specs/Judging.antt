@@ -1,7 +1,7 @@
 -- The written rule over leases that a step hands in.
 use Rattle.std.specs.Prelude.{◌≡◌, ℕ, List, [], ◌∷◌, Option, Some, None, Result, Ok, Err, if◌then◌else◌}
 use Rattle.slice_ranges.specs.declared.error.RangesError.{RangesError}
-use Rattle.slice_ranges.specs.Sets.{covered, or_else, refusal_of}
+use Rattle.slice_ranges.specs.Sets.{pairs_cover, or_else, refusal_of}
 use Rattle.policy_rules.specs.declared.lease.Kind.{Kind}
 use Rattle.policy_rules.specs.declared.lease.Kind.TheVariants.{Guard, Bridge}
 use Rattle.policy_rules.specs.Leases.{SeenLease, same_kind}
@@ -23,7 +23,7 @@ leases_refusal (lease ∷ leases) = or_else (refusal_of lease.ranges) (leases_re
 
 -- a lease as it is seen from a slice key: it covers the members of its pairs
 abbrev pub written_seen_from : ℕ → WrittenLease → SeenLease
-written_seen_from key lease = record { generation = lease.generation; ends = lease.ends; covers = covered lease.ranges key }
+written_seen_from key lease = record { generation = lease.generation; ends = lease.ends; covers = pairs_cover lease.ranges key }
 
 -- the lease of a kind as it is seen from a slice key, where there was this one before
 abbrev pub held_after : ℕ → Kind → Option SeenLease → List WrittenLease → Option SeenLease

@@ -1,7 +1,7 @@
 -- What each actor was told so far, and what was made.
 use Rattle.std.specs.Prelude.{ℕ, ◌-◌, ◌==◌, List, [], ◌∷◌, ◌++◌, map, slice_get, Option, Some, None, option_map, if◌then◌else◌}
 use Rattle.std.specs.List.{range_with_len}
-use Rattle.machines.specs.Calls.{answered, answer_of}
+use Rattle.machines.specs.Calls.{answered_call, answer_of}
 use Rattle.assignment.specs.Slices.{Slicing}
 use Rattle.lease_table.specs.declared.call.TableCall.{TableCall}
 use Rattle.lease_table.specs.declared.call.TableCall.TheVariants as call
@@ -137,7 +137,7 @@ table_call past _ = None
 -- calls with one more and its answer, if there is one more
 abbrev pub with_call : Terms → Option TableCall → List AnsweredTableCall → List AnsweredTableCall
 with_call policy None calls = calls
-with_call policy (Some c) calls = answered c (answer_of (table_step (standing_after policy calls) c)) ∷ calls
+with_call policy (Some c) calls = answered_call c (answer_of (table_step (standing_after policy calls) c)) ∷ calls
 
 -- the calls that the table accepted, the last one first
 abbrev pub table_calls : Terms → Past → List AnsweredTableCall

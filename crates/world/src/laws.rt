@@ -1,7 +1,7 @@
 //! What holds of every run: laws over steps with their replies.
 
 ghost use Rattle.std.specs.Prelude.{◌≡◌, ℕ, ◌≤◌, ◌++◌, ◌⊎◌, List, ◌∷◌, true, false, Some, Result, IsTrue, Contains};
-ghost use Rattle.machines.specs.Calls.{answered};
+ghost use Rattle.machines.specs.Calls.{answered_call};
 ghost use Rattle.policy_rules.specs.declared.lease.Kind.{Kind};
 ghost use Rattle.slicelet.specs.declared.handle.KeyHandle.{KeyHandle};
 ghost use Rattle.lease_table.specs.declared.call.TableCall.TheVariants as call;
@@ -15,7 +15,7 @@ ghost use Rattle.lease_table.specs.Calls.{last_reading};
 ghost use Rattle.lease_table.specs.Runs.{IsRun as IsTableRun};
 ghost use Rattle.lease_table.specs.Generations.{assignment_in, newest_generation};
 ghost use Rattle.lease_table.specs.OpenRows.{IsSent};
-ghost use Rattle.slicelet.specs.Calls.{held};
+ghost use Rattle.slicelet.specs.Calls.{held_grant};
 ghost use Rattle.slicelet.specs.Accepted.{AreAccepted};
 ghost use Rattle.slicelet.specs.Continuity.{is_strange};
 ghost use Rattle.world.specs.Jobs.{Job};
@@ -42,13 +42,13 @@ pub fn told_law()
 /// and the table's last reading is that of an earlier step, or 0 where it accepted none.
 pub fn sent_law()
     ensures held { (job : Job) (past : Past) (task : ℕ) (kind : Kind) (grant : Grant)
-        → held kind (task_calls job.policy task past) ≡ Some grant → IsSent (table_calls job.policy past) grant }
+        → held_grant kind (task_calls job.policy task past) ≡ Some grant → IsSent (table_calls job.policy past) grant }
     ensures own { (job : Job) (past : Past) (task : ℕ) (kind : Kind) (grant : Grant) → IsRun job past
-        → held kind (task_calls job.policy task past) ≡ Some grant → grant.task ≡ task }
+        → held_grant kind (task_calls job.policy task past) ≡ Some grant → grant.task ≡ task }
     ensures made { (job : Job) (past : Past) (number : ℕ) (note : ReleaseNote) → IsRun job past
         → numbered number (notes_made past) ≡ Some note → IsNoteOf job past note }
     ensures freed { (job : Job) (past : Past) (note : ReleaseNote) (at : ℕ) (answer : Result TableReply TableError) → IsRun job past
-        → Contains (table_calls job.policy past) (answered (call.Free note at) answer) → IsNoteOf job past note }
+        → Contains (table_calls job.policy past) (answered_call (call.Free note at) answer) → IsNoteOf job past note }
     ensures reading { (job : Job) (past : Past)
         → (last_reading (table_calls job.policy past) ≡ 0) ⊎ WasRead past (last_reading (table_calls job.policy past)) }
 {

@@ -5,7 +5,7 @@ use Rattle.policy_rules.specs.declared.holding.Holding.{Holding}
 use Rattle.policy_rules.specs.declared.lease.Lease.{Lease}
 use Rattle.policy_rules.specs.Leases.{seen_from}
 use Rattle.policy_rules.specs.Rule.{is_serving}
-use Rattle.slicelet.specs.Stamps.{Stamps, since, restamped}
+use Rattle.slicelet.specs.Stamps.{Stamps, since, stamp_after_change}
 use Rattle.slicelet.specs.States.{SliceletState, stamp_in, permits}
 
 -- a held lease is live at the reading and covers the key
@@ -14,7 +14,7 @@ serves holding key at = is_serving at (option_map (seen_from key) holding.guard)
 
 -- the stamps of the keys after one call more, at a reading, which leaves these leases
 abbrev pub IsRestamped : SliceletState → ℕ → Holding → Stamps → Type 0
-IsRestamped s at next stamps = (key : ℕ) → key < KEYS → since stamps key ≡ restamped (stamp_in s key) (permits s key at) (serves next key at) (s.count + 1)
+IsRestamped s at next stamps = (key : ℕ) → key < KEYS → since stamps key ≡ stamp_after_change (stamp_in s key) (permits s key at) (serves next key at) (s.count + 1)
 
 -- a lease that is live at a reading, or none, served at each earlier reading what it serves then
 abbrev pub Stays : ℕ → Option Lease → Type 0

@@ -1,9 +1,9 @@
 use Rattle.std.proofs.Common.{◌≡◌, ◌++◌, map, take}
 use Rattle.cluster.specs.declared.call.ClusterCall.TheVariants as call
 use Rattle.audit.specs.OneRun.{entry_turn}
-use Rattle.audit.specs.Shown.{shown}
+use Rattle.audit.specs.Shown.{turn_of}
 use Rattle.audit.proofs.points.add_clerk.Given as goal
 
 -- the entries so far were added
 abbrev pub invariant-loop-entry : goal.invariant-loop-entry
-invariant-loop-entry l = map shown l.points.items ≡ map shown l.initial.points.items ++ map (entry_turn (call.Clerk l.clerk)) (take l.entry-index l.entries)
+invariant-loop-entry l = map turn_of l.points.items ≡ map turn_of l.initial.points.items ++ map (entry_turn (call.Clerk l.clerk)) (take l.entry-index l.entries)

@@ -1,9 +1,9 @@
 use Rattle.std.proofs.Common.{◌≡◌, ◌++◌, map, take}
 use Rattle.cluster.specs.declared.call.ClusterCall.TheVariants as call
 use Rattle.audit.specs.OneRun.{turns_from}
-use Rattle.audit.specs.Shown.{shown}
+use Rattle.audit.specs.Shown.{turn_of}
 use Rattle.audit.proofs.points.add_clerks.Given as goal
 
 -- the histories so far were added
 abbrev pub invariant-loop-place : goal.invariant-loop-place
-invariant-loop-place l = map shown l.points.items ≡ map shown l.initial.points.items ++ turns_from call.Clerk 1 (take l.place l.histories)
+invariant-loop-place l = map turn_of l.points.items ≡ map turn_of l.initial.points.items ++ turns_from call.Clerk 1 (take l.place l.histories)

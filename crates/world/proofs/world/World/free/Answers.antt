@@ -1,6 +1,6 @@
 use Rattle.std.proofs.Common.{◌≡◌, List, sym, ap, subst, ◌∙◌}
 use Rattle.std.specs.Prelude.{Option, Some, Ok, option_map}
-use Rattle.machines.specs.Answers.{replied}
+use Rattle.machines.specs.Answers.{with_named_reply}
 use Rattle.lease_table.specs.declared.call.TableCall.{TableCall}
 use Rattle.lease_table.specs.declared.call.TableCall.TheVariants as call
 use Rattle.lease_table.specs.declared.call.TableReply.TheVariants as told
@@ -23,7 +23,7 @@ returns-in-Ok c = λ job past k.
     let calls = table_calls job.policy past in
     let given : numbered c.args.note (notes_made past) ≡ Some c.in-Some.note.now = sym (c.in-Some.ensures ∙ ap (λ (xs : List ReleaseNote). numbered c.args.note xs) (c.as_slice.ensures.value ∙ k.notes)) in
     let done = subst (λ (t : Standing). free_step t c.in-Some.note.now c.args.at ≡ Ok (c.free.new.self, c.in-Ok.rows)) k.table c.in-Ok.ensures in
-    let whole = ap (replied told.Freed) done in
+    let whole = ap (with_named_reply told.Freed) done in
     let named : Option ReleaseNote → Option TableCall = λ o. option_map (λ note. call.Free note c.args.at) o in
     record {
       run = (

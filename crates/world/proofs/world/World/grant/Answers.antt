@@ -1,6 +1,6 @@
 use Rattle.std.proofs.Common.{◌≡◌, ℕ, ◌<◌, List, ◌∷◌, ◌++◌, length, sym, ap, subst, ◌∙◌, true, false}
 use Rattle.std.specs.Prelude.{Ok}
-use Rattle.machines.specs.Answers.{replied}
+use Rattle.machines.specs.Answers.{with_named_reply}
 use Rattle.lease_table.specs.declared.call.TableCall.TheVariants as call
 use Rattle.lease_table.specs.declared.call.TableReply.TheVariants as told
 use Rattle.lease_table.specs.declared.values.Grant.{Grant}
@@ -33,7 +33,7 @@ returns-in-Ok c = λ job past k.
     let inside = of_job (λ n. history job n past) job.tasks c.args.self.now.tasks.items k.tasks c.in_ok-place_of.field-0 c.args.task c.in_ok-place_of.ensures.0 (subst (λ (xs : List SliceletState). c.in_ok-place_of.field-0 < length xs) c.as_slice.ensures.value c.in_ok-place_of.ensures.1) in
     let task : c.in-Some.of_job ≡ c.args.task = c.in-Some.ensures.value in
     let done = subst (λ (t : Standing). grant_step t c.args.task c.args.life c.args.at ≡ Ok (c.grant.new.self, c.in-Ok.grant)) k.table (subst (λ (n : ℕ). grant_step c.args.self.now.table n c.args.life c.args.at ≡ Ok (c.grant.new.self, c.in-Ok.grant)) task c.in-Ok.ensures) in
-    let whole = ap (replied told.Granted) done in
+    let whole = ap (with_named_reply told.Granted) done in
     let items : c.reserve.new.self.items ≡ c.args.self.now.grants.items = c.reserve.ensures.items in
     record {
       run = (answers job past (step.Grant c.args.task c.args.life c.args.at) tt refusal.Table granted (grant_step (standing job.policy past) c.args.task c.args.life c.args.at) (by_own c.args.task job.tasks _ inside) (c.grant.new.self, c.in-Ok.grant) done, k.run);

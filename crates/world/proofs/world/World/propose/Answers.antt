@@ -1,6 +1,6 @@
 use Rattle.std.proofs.Common.{◌≡◌, ℕ, ◌<◌, List, ◌∷◌, ◌++◌, length, refl, sym, ap, subst, ◌∙◌}
 use Rattle.std.specs.Prelude.{Option, Ok, Err}
-use Rattle.machines.specs.Answers.{Takes, replied}
+use Rattle.machines.specs.Answers.{Takes, with_named_reply}
 use Rattle.machines.specs.Refusals.{first_of}
 use Rattle.assignment.specs.Slices.{Slicing}
 use Rattle.lease_table.specs.declared.call.TableCall.TheVariants as call
@@ -61,7 +61,7 @@ returns-in-Ok-propose c = λ job past k.
     let one = subst (λ (a : Slicing). propose_step c.args.self.now.table c.number-number.result a c.args.at ≡ Ok (c.propose.new.self, c.in-Ok-propose.field-0)) built c.in-Ok-propose.ensures in
     let two = subst (λ (n : ℕ). propose_step c.args.self.now.table n slicing c.args.at ≡ Ok (c.propose.new.self, c.in-Ok-propose.field-0)) number one in
     let done = subst (λ (t : Standing). propose_step t (kept_number c.args.assigner past) slicing c.args.at ≡ Ok (c.propose.new.self, c.in-Ok-propose.field-0)) k.table two in
-    let whole = ap (replied (λ _. told.Proposed)) done in
+    let whole = ap (with_named_reply (λ _. told.Proposed)) done in
     record {
       run = (
         answers job past (step.Propose c.args.assigner c.args.generation c.args.slices.now c.args.at) tt refusal.Table (λ _. reply.Proposed c.args.generation) (propose_step (standing job.policy past) (kept_number c.args.assigner past) slicing c.args.at)

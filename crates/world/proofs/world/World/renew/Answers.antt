@@ -1,6 +1,6 @@
 use Rattle.std.proofs.Common.{◌≡◌, ℕ, ◌<◌, List, length, refl, sym, ap, subst, ◌∙◌}
 use Rattle.std.specs.Prelude.{Ok, Err}
-use Rattle.machines.specs.Answers.{replied}
+use Rattle.machines.specs.Answers.{with_named_reply}
 use Rattle.lease_table.specs.declared.call.TableCall.TheVariants as call
 use Rattle.lease_table.specs.declared.call.TableReply.TheVariants as told
 use Rattle.lease_table.specs.Tables.{Standing, last_number}
@@ -24,7 +24,7 @@ returns-in-Ok c = λ job past k.
     let number : c.number.result ≡ kept_number c.args.assigner past = c.number.ensures ∙ ap (λ (a : Keeping). last_number a.term) (own_assigner job past c.args.self.now.assigners.items c.args.assigner c.in_ok-place.place c.index.result.now k.assigners c.in_ok-place.ensures.0 (subst (λ (xs : List Keeping). c.in_ok-place.place < length xs) c.as_slice.ensures.value c.in_ok-place.ensures.1) c.index.ensures).keeps in
     let own = own_assigner job past c.args.self.now.assigners.items c.args.assigner c.in_ok-place.place c.index_mut.result.now k.assigners c.in_ok-place.ensures.0 (subst (λ (xs : List Keeping). c.in_ok-place.place < length xs) c.as_slice.ensures.value c.in_ok-place.ensures.1) c.index_mut.ensures.value in
     let done = subst (λ (t : Standing). renew_step t (kept_number c.args.assigner past) c.args.at ≡ Ok (c.job_renew.new.self, c.in-Ok.term)) k.table (subst (λ (n : ℕ). renew_step c.args.self.now.table n c.args.at ≡ Ok (c.job_renew.new.self, c.in-Ok.term)) number c.in-Ok.ensures) in
-    let whole = ap (replied told.Term) done in
+    let whole = ap (with_named_reply told.Term) done in
     record {
       run = (answers job past (step.Renew c.args.assigner c.args.at) tt refusal.Table reply.Renewed (renew_step (standing job.policy past) (kept_number c.args.assigner past) c.args.at) (by_own c.args.assigner job.assigners _ own.inside) (c.job_renew.new.self, c.in-Ok.term) done, k.run);
       within = k.within;

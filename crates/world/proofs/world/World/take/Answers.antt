@@ -1,6 +1,6 @@
 use Rattle.std.proofs.Common.{◌≡◌, ◌<◌, List, length, refl, sym, ap, subst, ◌∙◌}
 use Rattle.std.specs.Prelude.{Ok, Err}
-use Rattle.machines.specs.Answers.{replied}
+use Rattle.machines.specs.Answers.{with_named_reply}
 use Rattle.lease_table.specs.declared.call.TableCall.TheVariants as call
 use Rattle.lease_table.specs.declared.call.TableReply.TheVariants as told
 use Rattle.lease_table.specs.Tables.{Standing}
@@ -23,7 +23,7 @@ returns-in-Ok c = λ job past k.
     let calls = table_calls job.policy past in
     let own = own_assigner job past c.args.self.now.assigners.items c.args.assigner c.in_ok-place.place c.index_mut.result.now k.assigners c.in_ok-place.ensures.0 (subst (λ (xs : List Keeping). c.in_ok-place.place < length xs) c.as_slice.ensures.value c.in_ok-place.ensures.1) c.index_mut.ensures.value in
     let done = subst (λ (t : Standing). take_step t c.args.assigner c.args.at ≡ Ok (c.job_take.new.self, c.in-Ok.term)) k.table c.in-Ok.ensures in
-    let whole = ap (replied told.Term) done in
+    let whole = ap (with_named_reply told.Term) done in
     record {
       run = (answers job past (step.Take c.args.assigner c.args.at) tt refusal.Table reply.Term (take_step (standing job.policy past) c.args.assigner c.args.at) (by_own c.args.assigner job.assigners _ own.inside) (c.job_take.new.self, c.in-Ok.term) done, k.run);
       within = k.within;
