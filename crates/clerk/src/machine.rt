@@ -13,7 +13,7 @@ use std::alloc::AllocError;
 pub type ClerkEvent = Event<ClerkCall>;
 
 impl Clerk {
-    /// Makes the call that a value stands for, and answers what it answers: its refusal; want of memory comes
+    /// Makes the call that a value stands for, and answers what it answers: its refusal; out of memory comes
     /// last, and changes nothing.
     pub fn call(&mut self, call: &ClerkCall) -> Result<ClerkReply, Trouble<ClerkError>>
         ensures { Takes (clerk_step self.old call.now) self.old result self.new }

@@ -26,7 +26,7 @@ impl<M: Machine> LaneLock<M> {
     /// A lock round a machine, and a pass for each of its lanes, of lane 0 first.
     ///
     /// The history is to have `limit` entries at the most. It is refused with [`NewLockError::Lanes`]
-    /// where `lanes` is not 1 to 8 or `limit` not 1 to 65,536, and then for want of memory. Where it is
+    /// where `lanes` is not 1 to 8 or `limit` not 1 to 65,536, and then where memory runs out. Where it is
     /// refused, the machine is dropped.
     pub fn new(
         alloc: Global,

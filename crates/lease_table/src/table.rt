@@ -146,7 +146,7 @@ impl LeaseTable {
     /// Proposes the assignment of the next generation, under the job term of this number.
     ///
     /// Refused by `ReadingRange`, `ClockBack`, `NotHolder`, `StaleBase`, `Pending` and
-    /// `TooManyOwnersForJob`, in this order; want of memory comes last, and changes nothing.
+    /// `TooManyOwnersForJob`, in this order; out of memory comes last, and changes nothing.
     pub fn propose(
         &mut self,
         number: u64,

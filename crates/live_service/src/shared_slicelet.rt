@@ -125,7 +125,7 @@ impl SharedSlicelet {
     /// The slicelet of a task before its first call, and a pass for each lane of its lock, of lane 0 first.
     ///
     /// Its history is to have `limit` entries at the most. It is refused with [`NewLockError::Lanes`]
-    /// where `lanes` is not 1 to 8 or `limit` not 1 to 65,536, and then for want of memory.
+    /// where `lanes` is not 1 to 8 or `limit` not 1 to 65,536, and then where memory runs out.
     pub fn new(
         alloc: Global,
         task: TaskId,

@@ -92,7 +92,7 @@ impl SharedTable {
     /// A table before its first call, and a pass for each lane of its lock, of lane 0 first.
     ///
     /// Its history is to have `limit` entries at the most. It is refused with [`NewLockError::Lanes`]
-    /// where `lanes` is not 1 to 8 or `limit` not 1 to 65,536, and then for want of memory.
+    /// where `lanes` is not 1 to 8 or `limit` not 1 to 65,536, and then where memory runs out.
     pub fn new(
         alloc: Global,
         policy: Policy,
@@ -338,7 +338,7 @@ impl SharedTable {
     }
 
     /// The rows that are neither freed nor ended at the last accepted reading, in grant order. Refused where
-    /// the ticket pass is spent, and then for want of memory.
+    /// the ticket pass is spent, and then where memory runs out.
     pub fn rows<R: Wait>(
         &self,
         rt: &R,

@@ -29,7 +29,7 @@ pub record SaysNone (bytes : List ℕ) : Type 0 where
 abbrev pub IsRefused : List ℕ → Type 0
 IsRefused bytes = IsNoJson bytes ⊎ SaysNone bytes
 
--- no job was read, for want of memory or since there is none
+-- no job was read, out of memory or since there is none
 abbrev pub IsUnread : List ℕ → Fault InputError → Type 0
 IsUnread bytes (fault.Input refusal) = IsRefused bytes
 IsUnread bytes fault.Read = ⊥

@@ -60,7 +60,7 @@ impl LoadShare {
 
     /// Adds a record, and answers the total of the share.
     ///
-    /// Refused by `WeightRange` and `TotalRange`, in this order; want of memory comes last. Either
+    /// Refused by `WeightRange` and `TotalRange`, in this order; out of memory comes last. Either
     /// way nothing changes.
     pub fn add(&mut self, key: SliceKey, weight: u64) -> Result<u64, Trouble<LoadError>>
         ensures { Takes (add_step key weight self.old) self.old result self.new }

@@ -1,7 +1,7 @@
 -- Calls of a machine with their answers, and where they lead.
 use Rattle.std.specs.Prelude.{List, ◌∷◌, Result, Ok, Err}
 
--- a call with its answer; want of memory is no answer, and changes nothing
+-- a call with its answer; out of memory is no answer, and changes nothing
 pub record AnsweredCall (C R F : Type 0) : Type 0 where
   pub call : C
   pub answer : Result R F

@@ -9,7 +9,7 @@ use Rattle.world.specs.Runs.{IsRun, past_after}
 use Rattle.service.specs.declared.script.Script.{Script}
 use Rattle.service.specs.Lines.{text_of}
 
--- a reply is another than want of memory
+-- a reply is another than `NoMemory`
 abbrev pub is_answer : Reply → Bool
 is_answer reply.NoMemory = false
 is_answer _ = true
@@ -18,7 +18,7 @@ is_answer _ = true
 abbrev pub past_of : Script → List Reply → Past
 past_of script replies = past_after [] script.steps replies
 
--- the text of a script, whose job is within its limits: there are replies, one for each step, that a job answers its steps with from their first on, none of them for want of memory; the text has
+-- the text of a script, whose job is within its limits: there are replies, one for each step, that a job answers its steps with from their first on, none of them `NoMemory`; the text has
 -- their lines, and says at its end whether the steps are timely
 pub record IsOutput (script : Script) (text : List ℕ) : Type 0 where
   pub within : is_policy script.job.policy ≡ true

@@ -28,7 +28,7 @@ pub record SaysFault (bytes : List ℕ) (f : ScriptError) : Type 0 where
 abbrev pub IsRefusedFor : List ℕ → ScriptError → Type 0
 IsRefusedFor bytes f = ((f ≡ NotJson) × IsNoJson bytes) ⊎ SaysFault bytes f
 
--- no script was read, for want of memory or for its fault
+-- no script was read, out of memory or for its fault
 abbrev pub IsUnread : List ℕ → Fault ScriptError → Type 0
 IsUnread bytes (fault.Input f) = IsRefusedFor bytes f
 IsUnread bytes fault.Read = ⊥

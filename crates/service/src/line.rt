@@ -141,7 +141,7 @@ impl fmt::Display for Spaced<'_> {
     }
 }
 
-/// The line of a reply, without its end. No line is written for want of memory.
+/// The line of a reply, without its end. `NoMemory` has no line.
 #[derive(Clone, Copy)]
 pub struct Line<'a>(pub &'a Reply);
 

@@ -31,7 +31,7 @@ fn is_timely(script: &Script) -> bool
     timely(script.steps.as_slice(), script.job.policy().skew())
 }
 
-// The lines of the replies, none of which is for want of memory.
+// The lines of the replies, none of which is `NoMemory`.
 fn lines_of(alloc: Global, replies: &[Reply]) -> Result<String, AllocError>
     ensures lines { IfOk result (λ text. string_bytes text ≡ flat_map line_of replies.now) }
     ensures answers { IfOk result (λ text. list_all is_answer replies.now ≡ true) }
@@ -46,7 +46,7 @@ fn lines_of(alloc: Global, replies: &[Reply]) -> Result<String, AllocError>
     Ok(text)
 }
 
-// The lines of the replies, none of which is for want of memory, and the last line.
+// The lines of the replies, none of which is `NoMemory`, and the last line.
 fn text_of(alloc: Global, replies: &[Reply], timely: bool) -> Result<String, AllocError>
     ensures text { IfOk result (λ text. string_bytes text ≡ text_of replies.now timely) }
     ensures answers { IfOk result (λ text. list_all is_answer replies.now ≡ true) }

@@ -15,7 +15,7 @@ use weighted_move::PlanError;
 use wire::kind_word;
 use world::Refusal;
 
-// The words for slices that make no assignment. No reply is for want of memory.
+// The words for slices that make no assignment. `NoMemory` has no words.
 fn slices_words(error: AssignmentError) -> &'static str
     ensures { result.now ≡ slices_words error }
 {
@@ -33,7 +33,7 @@ fn slices_words(error: AssignmentError) -> &'static str
     }
 }
 
-// The words for pairs that make no set. No reply is for want of memory.
+// The words for pairs that make no set. `NoMemory` has no words.
 fn ranges_words(error: RangesError) -> &'static str
     ensures { result.now ≡ ranges_words error }
 {
@@ -68,7 +68,7 @@ fn load_words(error: LoadError) -> &'static str
     }
 }
 
-// The words for why there is no plan. No reply is for want of memory.
+// The words for why there is no plan. `NoMemory` has no words.
 fn plan_words(error: PlanError) -> &'static str
     ensures { result.now ≡ plan_words error }
 {

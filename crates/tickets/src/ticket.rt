@@ -103,7 +103,7 @@ impl Ticket {
     /// A ticket, and its passes, each of which may draw `quota` numbers.
     ///
     /// It is refused with [`TicketError::Passes`] where `passes` is not 1 to 128 or `quota` not 1 to 2^32,
-    /// and then for want of memory.
+    /// and then where memory runs out.
     pub fn new(
         alloc: Global,
         passes: u64,
