@@ -1,6 +1,7 @@
 //! A set of slice keys, as half-open ranges.
 
-ghost use Rattle.std.specs.Prelude.{◌≡◌, ◌↔◌, ℕ, Bool, ◌-◌, ◌<◌, ◌≤◌, ◌&&◌, ◌||◌, not, nat_eq, List, [], None, false, IfOk, IfErr, OnOk, unwrap_or, if◌then◌else◌};
+ghost use Rattle.std.specs.Prelude.{◌≡◌, ◌↔◌, ℕ, Bool, ◌-◌, ◌<◌, ◌≤◌, ◌&&◌, ◌||◌, not, nat_eq, List, [], None, false, IfOk, IfErr, OnOk, option_map, unwrap_or, if◌then◌else◌};
+ghost use Rattle.std.specs.Arc.{arc_slice_items};
 ghost use Rattle.std.specs.Bool.{IsTrue};
 ghost use Rattle.std.specs.Cmp.{partial_equiv_from_equiv};
 ghost use Rattle.std.specs.Cmp.Lexicographic.{pointwise};
@@ -17,23 +18,29 @@ use crate::pairs::{boundaries_of_pairs, check};
 use crate::sweep::{Operation, sweep};
 use std::alloc::{AllocError, Global};
 use std::marker::Model;
+use std::sync::ArcSlice;
 
 /// A set of slice keys. Equal sets are equal values: contracts see the keys at which membership
 /// turns, in rising order, the first of which turns it on.
+///
+/// Copies share the memory of their boundaries.
 #[derive(Debug, Drop)]
 pub struct Ranges {
-    boundaries: Vec<u64>,
+    alloc: Global,
+    // None for the set without keys.
+    boundaries: Option<ArcSlice<u64>>,
 }
 
 impl Model for Ranges {
-    ghost use Rattle.std.specs.Prelude.{List, ℕ};
+    ghost use Rattle.std.specs.Prelude.{List, [], ℕ, option_map, unwrap_or};
+    ghost use Rattle.std.specs.Arc.{arc_slice_items};
     ghost use Rattle.slice_ranges.specs.Sets.{IsRanges};
 
     ghost Value = { List ℕ };
 
-    ghost view = { λ r. r.boundaries.items };
+    ghost view = { λ r. unwrap_or (option_map arc_slice_items r.boundaries) [] };
 
-    ghost invariant = { λ r. IsRanges r.boundaries.items };
+    ghost invariant = { λ r. IsRanges (unwrap_or (option_map arc_slice_items r.boundaries) []) };
 }
 
 /// Sets of the same keys are equal.
@@ -46,7 +53,7 @@ impl PartialEq for Ranges {
         ensures eq { result ≡ pointwise nat_eq self.now other.now }
         ensures same { IsTrue result ↔ (self.now ≡ other.now) }
     {
-        self.boundaries == other.boundaries
+        self.boundaries() == other.boundaries()
     }
 }
 
@@ -60,7 +67,8 @@ impl Ranges {
         ensures { result ≡ [] }
     {
         Ranges {
-            boundaries: Vec::new(alloc),
+            alloc,
+            boundaries: None,
         }
     }
 
@@ -76,8 +84,7 @@ impl Ranges {
         ensures refused { IfErr result (λ e. e ≡ unwrap_or (refusal_of pairs.now) refused.NoMemory) }
     {
         check(pairs)?;
-        let boundaries = boundaries_of_pairs(alloc, pairs)?;
-        Ok(Ranges { boundaries })
+        Ok(Ranges::of(alloc, boundaries_of_pairs(alloc, pairs)?)?)
     }
 
     /// The keys at which levels say yes: each level is a key and what holds from there on, up to the
@@ -87,18 +94,14 @@ impl Ranges {
         ensures { IfOk result
             (λ r. (key : ℕ) → key < KEYS → has r key ≡ value_after false levels.now key) }
     {
-        let boundaries = boundaries_of_levels(alloc, levels)?;
-        Ok(Ranges { boundaries })
+        Ranges::of(alloc, boundaries_of_levels(alloc, levels)?)
     }
 
     /// Whether the set has a key.
     pub fn contains(&self, key: SliceKey) -> bool
         ensures { result ≡ has self.now key }
     {
-        self.boundaries
-            .partition_point(|boundary| *boundary <= key.value())
-            % 2
-            == 1
+        slice_of(&self.boundaries).partition_point(|boundary| *boundary <= key.value()) % 2 == 1
     }
 
     /// The keys at which membership turns, in rising order; the first of them turns it on.
@@ -106,14 +109,14 @@ impl Ranges {
         ensures boundaries { result.now ≡ self.now }
         ensures ranges { IsRanges self.now }
     {
-        self.boundaries.as_slice()
+        slice_of(&self.boundaries)
     }
 
     /// How many keys the set has.
     pub fn width(&self) -> u64
         ensures { result ≡ count (has self.now) KEYS }
     {
-        width_of(&self.boundaries)
+        width_of(self.boundaries())
     }
 
     /// The keys of both sets.
@@ -144,9 +147,8 @@ impl Ranges {
         ensures { IfOk result
             (λ r. (key : ℕ) → has r key ≡ apply operation (has self.now key) (has other.now key)) }
     {
-        let alloc = *self.boundaries.allocator();
-        let boundaries = sweep(alloc, &self.boundaries, &other.boundaries, operation)?;
-        Ok(Ranges { boundaries })
+        let boundaries = sweep(self.alloc, self.boundaries(), other.boundaries(), operation)?;
+        Ranges::of(self.alloc, boundaries)
     }
 
     /// A set that equals this one.
@@ -154,7 +156,22 @@ impl Ranges {
         ensures { IfOk result (λ r. r ≡ self.now) }
     {
         Ok(Ranges {
-            boundaries: self.boundaries.clone()?,
+            alloc: self.alloc,
+            boundaries: shared(&self.boundaries)?,
+        })
+    }
+
+    // The set of these boundaries.
+    fn of(alloc: Global, boundaries: Vec<u64>) -> Result<Self, AllocError>
+        requires { IsRanges boundaries.items }
+        ensures { IfOk result (λ r. r ≡ boundaries.items) }
+    {
+        if boundaries.is_empty() {
+            return Ok(Ranges::empty(alloc));
+        }
+        Ok(Ranges {
+            alloc,
+            boundaries: Some(ArcSlice::from_vec(boundaries)?),
         })
     }
 
@@ -183,6 +200,26 @@ impl Ranges {
 pub fn keys_where_law()
     ensures { (member : ℕ → Bool) (key : ℕ) → key < KEYS → has (keys_where member) key ≡ member key }
 {}
+
+// The boundaries that are shared.
+fn slice_of(boundaries: &Option<ArcSlice<u64>>) -> &[u64]
+    ensures { result.now ≡ unwrap_or (option_map arc_slice_items boundaries.now) [] }
+{
+    match boundaries {
+        Some(boundaries) => boundaries.as_slice(),
+        None => &[],
+    }
+}
+
+// The same boundaries, in the same memory.
+fn shared(boundaries: &Option<ArcSlice<u64>>) -> Result<Option<ArcSlice<u64>>, AllocError>
+    ensures { IfOk result (λ copied. unwrap_or (option_map arc_slice_items copied) [] ≡ unwrap_or (option_map arc_slice_items boundaries.now) []) }
+{
+    match boundaries {
+        Some(boundaries) => Ok(Some(boundaries.clone()?)),
+        None => Ok(None),
+    }
+}
 
 // How many keys lie inside the boundaries.
 fn width_of(boundaries: &[u64]) -> u64
