@@ -13,12 +13,12 @@ mod checks;
 use self::checks::any_written_has_more_owners;
 use crate::error::TableError;
 use crate::policy::{MOST_GRANTS, Policy};
+use crate::publication::Publication;
 use crate::rows::Rows;
 use crate::values::{Grant, JobTerm, Phase, ReleaseNote, Row};
 use assignment::{Assignment, Slice, TaskId};
 use machines::Trouble;
 use policy_rules::{Kind, Lease};
-use slice_ranges::Ranges;
 use std::alloc::{AllocError, Global};
 use std::marker::Model;
 
@@ -32,8 +32,7 @@ pub struct LeaseTable {
     policy: Policy,
     last: u64,
     term: Option<JobTerm>,
-    committed: Option<Assignment>,
-    pending: Option<Assignment>,
+    publication: Publication,
     granted: u64,
     deadline: u64,
     grace: u64,
@@ -52,8 +51,8 @@ impl Model for LeaseTable {
       policy = t.policy;
       last = t.last;
       term = t.term;
-      committed = t.committed;
-      pending = t.pending;
+      committed = t.publication.committed;
+      pending = t.publication.pending;
       granted = t.granted;
       deadline = t.deadline;
       grace = t.grace;
@@ -72,8 +71,7 @@ impl LeaseTable {
             policy,
             last: 0,
             term: None,
-            committed: None,
-            pending: None,
+            publication: Publication::none(alloc),
             granted: 0,
             deadline: 0,
             grace: 0,
@@ -85,14 +83,14 @@ impl LeaseTable {
     pub fn committed(&self) -> Option<&Assignment>
         ensures { option_map (λ a. a.now) result ≡ self.now.committed }
     {
-        self.committed.as_ref()
+        self.publication.committed()
     }
 
     /// Whether an assignment is proposed, and the generations.
     pub fn phase(&self) -> Phase
         ensures { result ≡ phase_of self.now }
     {
-        match &self.pending {
+        match self.publication.pending() {
             Some(next) => Phase::Bridging(self.generation(), next.generation()),
             None => Phase::Steady(self.generation()),
         }
@@ -159,7 +157,7 @@ impl LeaseTable {
             .map_err(Trouble::Refused)?;
         let next = assignment.copy()?;
         self.advance(at);
-        self.pending = Some(next);
+        self.publication.propose(next);
         Ok(())
     }
 
@@ -202,7 +200,7 @@ impl LeaseTable {
     {
         let generation = self.check_commit(number, at)?;
         self.advance(at);
-        self.committed = self.pending.take();
+        self.publication.commit();
         Ok(generation)
     }
 
@@ -216,6 +214,7 @@ impl LeaseTable {
         ensures { Takes (grant_step self.old task life at) self.old result self.new }
     {
         self.check_grant(at).map_err(Trouble::Refused)?;
+        self.publication.keep_keys(task)?;
         let grant = self.grant_of_phase(task, life, at)?;
         self.add_row(grant.row(), at)?;
         Ok(grant)
@@ -224,12 +223,19 @@ impl LeaseTable {
     /// The grant that [`grant`](Self::grant) would answer. The table stays as it is.
     ///
     /// Refused as `grant` is; out of memory comes last.
-    pub fn next_grant(&self, task: TaskId, life: u32, at: u64) -> Result<Grant, Trouble<TableError>>
-        ensures grant { IfOk result (λ grant. grant ≡ grant_with self.now self.now.pending task life at) }
-        ensures accepted { OnOk result (first_of (grant_checks self.now at) ≡ None) }
-        ensures refused { IfErr result (λ trouble. trouble ≡ refused_or_no_memory (first_of (grant_checks self.now at))) }
+    pub fn next_grant(
+        &mut self,
+        task: TaskId,
+        life: u32,
+        at: u64,
+    ) -> Result<Grant, Trouble<TableError>>
+        ensures grant { IfOk result (λ grant. grant ≡ grant_with self.old self.old.pending task life at) }
+        ensures accepted { OnOk result (first_of (grant_checks self.old at) ≡ None) }
+        ensures refused { IfErr result (λ trouble. trouble ≡ refused_or_no_memory (first_of (grant_checks self.old at))) }
+        ensures same { self.new ≡ self.old }
     {
         self.check_grant(at).map_err(Trouble::Refused)?;
+        self.publication.keep_keys(task)?;
         Ok(self.grant_of_phase(task, life, at)?)
     }
 
@@ -274,8 +280,7 @@ impl LeaseTable {
             policy: self.policy,
             last: self.last,
             term: self.term,
-            committed: copy_of(&self.committed)?,
-            pending: copy_of(&self.pending)?,
+            publication: self.publication.copy()?,
             granted: self.granted,
             deadline: self.deadline,
             grace: self.grace,
@@ -287,7 +292,7 @@ impl LeaseTable {
     fn generation(&self) -> u64
         ensures { result ≡ generation_of self.now.committed }
     {
-        match &self.committed {
+        match self.publication.committed() {
             Some(assignment) => assignment.generation(),
             None => 0,
         }
@@ -310,9 +315,8 @@ impl LeaseTable {
         ensures grant { IfOk result (λ grant. grant ≡ grant_with self.now self.now.pending task life at) }
         ensures runs { IfOk result (λ grant. at < grant.table_ends) }
     {
-        let alloc = self.rows.allocator();
         let number = self.granted + 1;
-        match &self.pending {
+        match self.publication.pending() {
             None => {
                 let table_ends = at + self.policy.guard();
                 Ok(Grant {
@@ -322,7 +326,7 @@ impl LeaseTable {
                     lease: Lease {
                         kind: Kind::Guard,
                         generation: self.generation(),
-                        ranges: keys_of_task(alloc, &self.committed, task)?,
+                        ranges: self.publication.guard_keys(task)?,
                         ends: table_ends - self.policy.skew(),
                     },
                     table_ends,
@@ -337,7 +341,7 @@ impl LeaseTable {
                     lease: Lease {
                         kind: Kind::Bridge,
                         generation: next.generation(),
-                        ranges: keys_kept_over(alloc, &self.committed, next, task)?,
+                        ranges: self.publication.bridge_keys(task)?,
                         ends: table_ends - self.policy.skew(),
                     },
                     table_ends,
@@ -380,48 +384,4 @@ fn later_of(deadline: u64, other: u64) -> u64
     ensures { result ≡ max deadline other }
 {
     deadline.max(other)
-}
-
-// The keys that a task owns in an assignment, none where there is none.
-fn keys_of_task(
-    alloc: Global,
-    assignment: &Option<Assignment>,
-    task: TaskId,
-) -> Result<Ranges, AllocError>
-    ensures { IfOk result
-        (λ r. r ≡ keys_where (λ key. owns (slices_of assignment.now) key task)) }
-{
-    let keys = match assignment {
-        Some(assignment) => assignment.of_task(task)?,
-        None => Ranges::empty(alloc),
-    };
-    Ranges::keys_where_law(&keys);
-    Ok(keys)
-}
-
-// The keys that a task owns in an assignment and in the next one.
-fn keys_kept_over(
-    alloc: Global,
-    assignment: &Option<Assignment>,
-    next: &Assignment,
-    task: TaskId,
-) -> Result<Ranges, AllocError>
-    ensures { IfOk result (λ r. r ≡ keys_where
-        (λ key. owns (slices_of assignment.now) key task && owns next.now.slices key task)) }
-{
-    let keys = match assignment {
-        Some(assignment) => assignment.bridge(next, task)?,
-        None => Ranges::empty(alloc),
-    };
-    Ranges::keys_where_law(&keys);
-    Ok(keys)
-}
-
-fn copy_of(assignment: &Option<Assignment>) -> Result<Option<Assignment>, AllocError>
-    ensures { IfOk result (λ copied. copied ≡ assignment.now) }
-{
-    match assignment {
-        Some(assignment) => Ok(Some(assignment.copy()?)),
-        None => Ok(None),
-    }
 }

@@ -73,7 +73,7 @@ impl LeaseTable {
                 generation: committed,
             });
         }
-        if self.pending.is_some() {
+        if self.publication.pending().is_some() {
             return Err(TableError::Pending);
         }
         if too_many {
@@ -103,7 +103,7 @@ impl LeaseTable {
         ensures reading { OnOk result ((self.now.last ≤ at) × (at < READINGS)) }
     {
         self.check_holder(number, at)?;
-        let Some(next) = &self.pending else {
+        let Some(next) = self.publication.pending() else {
             return Err(TableError::NothingPending);
         };
         if at < self.grace {
@@ -154,7 +154,7 @@ impl LeaseTable {
         ensures number { OnOk result (self.now.granted < MOST_GRANTS) }
     {
         self.check_reading(at)?;
-        if self.committed.is_none() && self.pending.is_none() {
+        if self.publication.committed().is_none() && self.publication.pending().is_none() {
             return Err(TableError::NoAssignment);
         }
         if self.granted >= self.policy.numbers() {

@@ -1,6 +1,7 @@
-use Rattle.std.proofs.Common.{◌≡◌, ◌∷◌, None, sym, subst, rules}
+use Rattle.std.proofs.Common.{◌≡◌, ◌∷◌, None, Ok, Result, ap, sym, subst, rules}
 use Rattle.machines.specs.Refusals.{first_of}
 use Rattle.slicelet.specs.declared.call.SliceletCall.TheVariants.{Start}
+use Rattle.slicelet.specs.declared.error.SliceletError.{SliceletError}
 use Rattle.slicelet.specs.States.{SliceletState}
 use Rattle.slicelet.specs.Steps.{start_checks}
 use Rattle.slicelet.specs.Accepted.{StandsAfter}
@@ -15,3 +16,10 @@ invariant_of-self c =
     let next = leads_on c.self.invariant.0 _ (Start c.args.life c.args.at) c.self.invariant.1 (rw (← c.self.view_is) at accepted) in
     let left = subst (λ (s : SliceletState). StandsAfter (Start c.args.life c.args.at ∷ c.self.invariant.0) s) (sym (started_is c.self.inside.task c.self.inside.count c.self.inside.life c.self.inside.holding c.self.inside.heard (stamps_in c.self.inside.stamps) c.args.life c.args.at)) next in
     (Start c.args.life c.args.at ∷ c.self.invariant.0, rw (c.no_leases.ensures, c.no_grants-self-inside.ensures) left)
+
+pub returns : goal.returns
+returns c =
+    let accepted : first_of (start_checks c.args.self.now c.args.life c.args.at) ≡ None = search rules in
+    let started = started_is c.self.inside.task c.self.inside.count c.self.inside.life c.self.inside.holding c.self.inside.heard (stamps_in c.self.inside.stamps) c.args.life c.args.at in
+    let told : SliceletState → Result (SliceletState × Unit {0}) SliceletError = λ s. Ok (s, tt) in
+    rw (accepted, c.no_leases.ensures, c.no_grants-self-inside.ensures, ← c.self.view_is) (ap told (sym started))
