@@ -8,3 +8,4 @@ pub mod Leveling
 pub mod LevelWriting
 pub mod Searching
 pub mod Widths
+pub mod Containment

@@ -15,6 +15,10 @@ inside_after inside (b ∷ bs) key = if nat_lt key b then inside else inside_aft
 abbrev pub has : List ℕ → ℕ → Bool
 has = inside_after false
 
+-- each key of a set is in another one
+abbrev pub IsSubset : List ℕ → List ℕ → Type 0
+IsSubset keys others = (key : ℕ) → has keys key ≡ true → has others key ≡ true
+
 -- the list rises strictly, from low on, and stays below high
 abbrev pub Rises : ℕ → List ℕ → ℕ → Type 0
 Rises low [] high = low ≤ high

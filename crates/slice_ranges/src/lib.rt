@@ -6,6 +6,7 @@ mod key;
 mod levels;
 mod pairs;
 mod ranges;
+mod subset;
 mod sweep;
 
 pub use error::RangesError;

@@ -7,7 +7,7 @@ ghost use Rattle.std.specs.Cmp.{partial_equiv_from_equiv};
 ghost use Rattle.std.specs.Cmp.Lexicographic.{pointwise};
 ghost use Rattle.std.proofs.lemmas.Cmp.{nat_list_eq_equiv};
 ghost use Rattle.slice_ranges.specs.declared.error.RangesError.TheVariants as refused;
-ghost use Rattle.slice_ranges.specs.Sets.{pairs_cover, refusal_of, has, count, keys_where, IsRanges};
+ghost use Rattle.slice_ranges.specs.Sets.{pairs_cover, refusal_of, has, count, keys_where, IsRanges, IsSubset};
 ghost use Rattle.slice_ranges.specs.Levels.{value_after, LevelsRise};
 ghost use Rattle.slice_ranges.specs.internals.Sweeps.{apply};
 
@@ -15,6 +15,7 @@ use crate::error::RangesError;
 use crate::key::{KEYS, SliceKey};
 use crate::levels::boundaries_of_levels;
 use crate::pairs::{boundaries_of_pairs, check};
+use crate::subset::is_subset;
 use crate::sweep::{Operation, sweep};
 use std::alloc::{AllocError, Global};
 use std::marker::Model;
@@ -117,6 +118,13 @@ impl Ranges {
         ensures { result ≡ count (has self.now) KEYS }
     {
         width_of(self.boundaries())
+    }
+
+    /// Whether each key of this set is in the other one. It takes no memory.
+    pub fn is_subset(&self, other: &Ranges) -> bool
+        ensures { IsTrue result ↔ IsSubset self.now other.now }
+    {
+        is_subset(self.boundaries(), other.boundaries())
     }
 
     /// The keys of both sets.

@@ -3,7 +3,7 @@
 ghost use Rattle.std.specs.Prelude.{◌≡◌, ℕ, true, Some, None, is_some, IfOk};
 ghost use Rattle.slice_ranges.specs.Sets.{has};
 ghost use Rattle.slicelet.specs.internals.State.{lease_of_kind, with_lease, heard_of_kind, with_heard, number_in};
-ghost use Rattle.slicelet.specs.internals.Stamping.{serves, Stays, IsRenewed, Renews};
+ghost use Rattle.slicelet.specs.internals.Stamping.{serves, Stays, ServesSame, ServesAll, RenewsBeside, Renews};
 
 use lease_table::Grant;
 use policy_rules::{Holding, Kind, Lease, live_keys};
@@ -121,25 +121,53 @@ pub fn live_keys_with(
     }
 }
 
-/// Whether a lease that is heard at a reading covers the same keys as the one of its kind that is held, and all
-/// that is held is live: then the keys that may be served stay what they are.
-pub fn renews(holding: &Holding, lease: &Lease, at: u64) -> bool
-    ensures { result ≡ true → Renews holding.now (with_lease holding.now lease.now.kind (Some lease.now)) at }
+/// Whether the keys that may be served stay what they are where a lease, or none, takes the place of that
+/// of a kind at a reading: all that is held is live, and the lease covers the same keys as the one before
+/// it, or the lease of the other kind covers those of both. It takes no memory.
+pub fn renews(holding: &Holding, kind: Kind, lease: &Option<Lease>, at: u64) -> bool
+    ensures { result ≡ true → Renews holding.now (with_lease holding.now kind lease.now) at }
 {
-    let (held, other) = match lease.kind {
-        Kind::Guard => (&holding.guard, &holding.bridge),
-        Kind::Bridge => (&holding.bridge, &holding.guard),
-    };
-    is_renewed(held, lease, at) && is_none_or_live(other, at)
+    match kind {
+        Kind::Guard => renews_beside(&holding.guard, lease, &holding.bridge, at),
+        Kind::Bridge => renews_beside(&holding.bridge, lease, &holding.guard, at),
+    }
 }
 
-// Whether a held lease and another one are live, and cover the same keys.
-fn is_renewed(held: &Option<Lease>, lease: &Lease, at: u64) -> bool
-    ensures { result ≡ true → IsRenewed at held.now lease.now }
+// The same of a held lease, the one in its place, and that of the other kind.
+fn renews_beside(
+    held: &Option<Lease>,
+    lease: &Option<Lease>,
+    other: &Option<Lease>,
+    at: u64,
+) -> bool
+    ensures { result ≡ true → RenewsBeside at held.now lease.now other.now }
 {
-    match held {
-        Some(held) => held.is_live(at) && lease.is_live(at) && held.ranges == lease.ranges,
-        None => false,
+    is_none_or_live(held, at)
+        && is_none_or_live(other, at)
+        && (covers_same(held, lease, at)
+            || covers_all(other, held, at) && covers_all(other, lease, at))
+}
+
+// Whether two leases are live and cover the same keys.
+fn covers_same(held: &Option<Lease>, lease: &Option<Lease>, at: u64) -> bool
+    ensures { result ≡ true → ServesSame at lease.now held.now }
+{
+    match (held, lease) {
+        (Some(held), Some(lease)) => {
+            held.is_live(at) && lease.is_live(at) && held.ranges == lease.ranges
+        }
+        _ => false,
+    }
+}
+
+// Whether a lease is live and covers all keys of another one, if there is another.
+fn covers_all(other: &Option<Lease>, lease: &Option<Lease>, at: u64) -> bool
+    ensures { result ≡ true → ServesAll at other.now lease.now }
+{
+    match (other, lease) {
+        (_, None) => true,
+        (Some(other), Some(lease)) => other.is_live(at) && lease.ranges.is_subset(&other.ranges),
+        (None, Some(_)) => false,
     }
 }
 

@@ -105,7 +105,7 @@ impl Slicelet {
     {
         self.check_hear(grant, at).map_err(Trouble::Refused)?;
         let lease = Some(grant.lease.copy()?);
-        let stamps = if renews(&self.holding, &grant.lease, at) {
+        let stamps = if renews(&self.holding, grant.lease.kind, &lease, at) {
             None
         } else {
             Some(self.restamped(grant.lease.kind, &lease, at)?)
@@ -129,17 +129,24 @@ impl Slicelet {
         ensures { Takes (release_step self.old kind at) self.old result self.new }
     {
         let number = self.check_release(kind, at).map_err(Trouble::Refused)?;
-        let stamps = self.restamped(kind, &None, at)?;
+        let stamps = if renews(&self.holding, kind, &None, at) {
+            None
+        } else {
+            Some(self.restamped(kind, &None, at)?)
+        };
         self.count += 1;
         self.holding.last = at;
         put_lease(&mut self.holding, kind, None);
-        self.stamps = Some(stamps);
-        Ok(ReleaseNote {
+        let note = ReleaseNote {
             task: self.task,
             life: self.life,
             kind,
             number,
-        })
+        };
+        if let Some(stamps) = stamps {
+            put_stamps(&mut self.stamps, stamps);
+        }
+        Ok(note)
     }
 
     /// Why the release of the lease of a kind is refused, if it is: the refusals of

@@ -1,5 +1,5 @@
 -- The keys that held leases serve.
-use Rattle.std.specs.Prelude.{◌≡◌, ℕ, ◌+◌, ◌<◌, ◌≤◌, ◌||◌, Bool, Option, Some, option_map}
+use Rattle.std.specs.Prelude.{◌≡◌, ℕ, ◌+◌, ◌<◌, ◌≤◌, ◌||◌, Bool, true, Option, option_map}
 use Rattle.slice_ranges.specs.declared.key.TheConstants.{KEYS}
 use Rattle.policy_rules.specs.declared.holding.Holding.{Holding}
 use Rattle.policy_rules.specs.declared.lease.Lease.{Lease}
@@ -20,10 +20,21 @@ IsRestamped s at next stamps = (key : ℕ) → key < KEYS → since stamps key �
 abbrev pub Stays : ℕ → Option Lease → Type 0
 Stays at held = (key earlier : ℕ) → earlier ≤ at → is_serving earlier (option_map (seen_from key) held) ≡ is_serving at (option_map (seen_from key) held)
 
--- a lease serves at a reading what the held one does, and has served
-pub record IsRenewed (at : ℕ) (held : Option Lease) (lease : Lease) : Type 0 where
-  pub same : (key : ℕ) → is_serving at (Some (seen_from key lease)) ≡ is_serving at (option_map (seen_from key) held)
-  pub stays : Stays at held
+-- a lease, or none, serves at a reading what another one does
+abbrev pub ServesSame : ℕ → Option Lease → Option Lease → Type 0
+ServesSame at lease other = (key : ℕ) → is_serving at (option_map (seen_from key) lease) ≡ is_serving at (option_map (seen_from key) other)
+
+-- a lease, or none, serves at a reading all that another one does
+abbrev pub ServesAll : ℕ → Option Lease → Option Lease → Type 0
+ServesAll at other lease = (key : ℕ) → is_serving at (option_map (seen_from key) lease) ≡ true → is_serving at (option_map (seen_from key) other) ≡ true
+
+-- a lease in the place of a held one leaves, with that of the other kind, what is served at a reading; and
+-- the same was served at each earlier one
+pub record RenewsBeside (at : ℕ) (held lease other : Option Lease) : Type 0 where
+  pub same : (key : ℕ) → (is_serving at (option_map (seen_from key) lease) || is_serving at (option_map (seen_from key) other))
+      ≡ (is_serving at (option_map (seen_from key) held) || is_serving at (option_map (seen_from key) other))
+  pub held_stays : Stays at held
+  pub other_stays : Stays at other
 
 -- a task may serve at a reading what it might before, and might at each earlier one
 pub record Renews (holding : Holding) (next : Holding) (at : ℕ) : Type 0 where
