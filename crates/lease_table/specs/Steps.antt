@@ -2,8 +2,6 @@
 use Rattle.std.specs.Prelude.{ℕ, ◌==◌, ◌+◌, ◌-◌, Bool, false, not, ◌&&◌, nat_lt, nat_le, max, List, [], ◌∷◌, ◌++◌, length, filter, Option, Some, None, is_some, is_none, option_map, Result, Ok}
 use Rattle.std.specs.List.{list_any}
 use Rattle.machines.specs.Refusals.{when, answer}
-use Rattle.machines.specs.declared.machine.Trouble.{Trouble}
-use Rattle.machines.specs.declared.machine.Trouble.TheVariants.{Refused, NoMemory}
 use Rattle.slice_ranges.specs.Sets.{keys_where}
 use Rattle.policy_rules.specs.declared.lease.Kind.TheVariants.{Guard, Bridge}
 use Rattle.assignment.specs.Slices.{Slicing}
@@ -139,11 +137,6 @@ bridge_of t next task life at = record {
 abbrev pub grant_with : Standing → Option Slicing → ℕ → ℕ → ℕ → Grant
 grant_with t None task life at = guard_of t task life at
 grant_with t (Some next) task life at = bridge_of t next task life at
-
--- why a call that takes memory is not taken: the refusal, or out of memory where there is none
-abbrev pub refused_or_no_memory : Option TableError → Trouble TableError
-refused_or_no_memory None = NoMemory
-refused_or_no_memory (Some why) = Refused why
 
 -- the row of a grant
 abbrev pub row_of : Grant → Row

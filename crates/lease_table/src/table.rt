@@ -5,8 +5,8 @@ ghost use Rattle.machines.specs.Refusals.{first_of};
 ghost use Rattle.slice_ranges.specs.Sets.{keys_where};
 ghost use Rattle.assignment.specs.Owners.{owns};
 ghost use Rattle.lease_table.specs.Tables.{opening, phase_of, generation_of, slices_of, last_number};
-ghost use Rattle.machines.specs.Answers.{Answers, Takes};
-ghost use Rattle.lease_table.specs.Steps.{grant_checks, standing_at, propose_checks, grant_with, with_row, take_step, renew_step, propose_step, commit_step, grant_step, free_step, standing_after_restart, refused_or_no_memory};
+ghost use Rattle.machines.specs.Answers.{Answers, Takes, trouble_of};
+ghost use Rattle.lease_table.specs.Steps.{grant_checks, standing_at, propose_checks, grant_with, with_row, take_step, renew_step, propose_step, commit_step, grant_step, free_step, standing_after_restart};
 
 mod checks;
 
@@ -231,7 +231,7 @@ impl LeaseTable {
     ) -> Result<Grant, Trouble<TableError>>
         ensures grant { IfOk result (λ grant. grant ≡ grant_with self.old self.old.pending task life at) }
         ensures accepted { OnOk result (first_of (grant_checks self.old at) ≡ None) }
-        ensures refused { IfErr result (λ trouble. trouble ≡ refused_or_no_memory (first_of (grant_checks self.old at))) }
+        ensures refused { IfErr result (λ trouble. trouble ≡ trouble_of (first_of (grant_checks self.old at))) }
         ensures same { self.new ≡ self.old }
     {
         self.check_grant(at).map_err(Trouble::Refused)?;

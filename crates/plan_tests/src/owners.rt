@@ -2,7 +2,7 @@
 
 use crate::samples::{HALF, key_of, task_of};
 use assignment::{Assignment, AssignmentError, Listed, OwnedSlice, Slice, TaskId};
-use machines::Duplicate;
+use machines::{Duplicate, Trouble};
 use slice_ranges::Ranges;
 use std::alloc::{AllocError, Global};
 use std::test::Fail;
@@ -93,7 +93,10 @@ fn names_owners(rt: HostRuntime) -> Result<(), Fail> {
 // Why one slice with these owners makes no assignment, if it makes none.
 fn refusal_of(alloc: Global, owners: &[u64]) -> Result<Option<AssignmentError>, AllocError> {
     let slices = slices_of(alloc, &[(0, owners)])?;
-    Ok(Assignment::build(alloc, 1, &slices).err())
+    Ok(match Assignment::build(alloc, 1, &slices) {
+        Err(Trouble::Refused(why)) => Some(why),
+        _ => None,
+    })
 }
 
 #[test]

@@ -1,8 +1,9 @@
 //! What the tests speak of, and plans in words.
 
 use assignment::{Assignment, Listed, Slice, TaskId};
-use slice_ranges::{SliceKey, slice_key};
 use load_ledger::{LoadBook, LoadShare};
+use machines::Trouble;
+use slice_ranges::{SliceKey, slice_key};
 use std::alloc::{AllocError, Global};
 use std::test::Fail;
 use weighted_move::{Move, Plan, PlanError, PlanPolicy, TaskSet, plan};
@@ -76,10 +77,24 @@ pub fn plan_of(
     loads: &[u64],
     tasks: &[u64],
     policy: &PlanPolicy,
-) -> Result<Result<Plan, PlanError>, Fail> {
+) -> Result<Result<Plan, Trouble<PlanError>>, Fail> {
     let assignment = assignment_of(alloc, listing)?;
     let set = set_of(tasks)?;
     Ok(plan(alloc, &assignment, loads, &set, policy))
+}
+
+// Why there is no plan, if it is refused.
+pub fn plan_refusal(
+    alloc: Global,
+    listing: Listing<'_>,
+    loads: &[u64],
+    tasks: &[u64],
+    policy: &PlanPolicy,
+) -> Result<Option<PlanError>, Fail> {
+    Ok(match plan_of(alloc, listing, loads, tasks, policy)? {
+        Err(Trouble::Refused(why)) => Some(why),
+        _ => None,
+    })
 }
 
 // Slices and moves, one after another, if there is memory for them.

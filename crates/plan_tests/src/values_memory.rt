@@ -2,15 +2,16 @@
 //! answers then as with ample memory.
 
 use crate::samples::{HALF, again, task_of};
-use assignment::{Assignment, AssignmentError, Listed, Slice};
+use assignment::{Assignment, Listed, Slice};
+use machines::Trouble;
 use policy_rules::{Holding, Kind, Lease, permitted};
 use slice_ranges::{Ranges, RangesError};
 use std::alloc::{AllocError, Global};
 use std::test::Fail;
 
-fn ranges_at_last(alloc: Global, pairs: &[(u64, u64)]) -> Result<Ranges, RangesError> {
+fn ranges_at_last(alloc: Global, pairs: &[(u64, u64)]) -> Result<Ranges, Trouble<RangesError>> {
     match Ranges::build(alloc, pairs) {
-        Err(RangesError::NoMemory) => Ranges::build(alloc, pairs),
+        Err(Trouble::NoMemory) => Ranges::build(alloc, pairs),
         first => first,
     }
 }
@@ -69,7 +70,7 @@ fn halves(alloc: Global, lower: u64, upper: u64) -> Result<Vec<Slice>, AllocErro
 
 fn built(alloc: Global, generation: u64, slices: &[Slice]) -> Result<Assignment, Fail> {
     let built = match Assignment::build(alloc, generation, slices) {
-        Err(AssignmentError::NoMemory) => Assignment::build(alloc, generation, slices),
+        Err(Trouble::NoMemory) => Assignment::build(alloc, generation, slices),
         first => first,
     };
     Ok(built.ok().ok_or("slices make an assignment")?)

@@ -49,14 +49,12 @@ slices_words assignment.TooManyOwners = codes "too-many-owners"
 slices_words assignment.OwnerTwice = codes "owner-twice"
 slices_words assignment.BadTask = codes "bad-task"
 slices_words assignment.TooManySlices = codes "too-many-slices"
-slices_words assignment.NoMemory = codes "no-memory"
 
 -- the words for pairs that make no set; the last is in no reply
 abbrev pub ranges_words : RangesError → List ℕ
 ranges_words ranges.Unsorted = codes "unsorted"
 ranges_words ranges.Empty = codes "empty"
 ranges_words ranges.PastEnd = codes "past-end"
-ranges_words ranges.NoMemory = codes "no-memory"
 
 -- the words for why a key is not served
 abbrev pub ground_words : Ground → List ℕ
@@ -113,7 +111,6 @@ abbrev pub plan_words : PlanError → List ℕ
 plan_words plan.NoTasks = codes "no-tasks"
 plan_words plan.LoadsLength = codes "loads-length"
 plan_words plan.LoadRange = codes "load-range"
-plan_words plan.NoMemory = codes "no-memory"
 
 -- the words for a refusal; the first is in no reply to a script, whose actors are all of its job
 abbrev pub refusal_words : Refusal → List ℕ

@@ -9,7 +9,7 @@ use Rattle.program_io.specs.declared.fault.WrongForm.{WrongForm}
 use Rattle.machines.specs.Numbers.{is_within}
 use Rattle.assignment.specs.declared.task.TheConstants.{TASKS}
 use Rattle.weighted_move.specs.Owning.{rise_from}
-use Rattle.world.specs.Bounds.{Bounds, bounds, is_bounds}
+use Rattle.weighted_move.specs.Bounds.{Bounds, bounds, is_bounds}
 use Rattle.program_io.specs.Reading.{◌>>=◌, ◌>>◌, check}
 use Rattle.program_io.specs.Members.{wrong, exactly, number_at, number_in, number_of, flag_at, text_at, list_at}
 use Rattle.wire.specs.Assignments.{slice_of}

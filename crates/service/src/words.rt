@@ -15,7 +15,7 @@ use weighted_move::PlanError;
 use wire::kind_word;
 use world::Refusal;
 
-// The words for slices that make no assignment. `NoMemory` has no words.
+// The words for slices that make no assignment.
 fn slices_words(error: AssignmentError) -> &'static str
     ensures { result.now ≡ slices_words error }
 {
@@ -29,11 +29,10 @@ fn slices_words(error: AssignmentError) -> &'static str
         AssignmentError::OwnerTwice => "owner-twice",
         AssignmentError::BadTask => "bad-task",
         AssignmentError::TooManySlices => "too-many-slices",
-        AssignmentError::NoMemory => "no-memory",
     }
 }
 
-// The words for pairs that make no set. `NoMemory` has no words.
+// The words for pairs that make no set.
 fn ranges_words(error: RangesError) -> &'static str
     ensures { result.now ≡ ranges_words error }
 {
@@ -41,7 +40,6 @@ fn ranges_words(error: RangesError) -> &'static str
         RangesError::Unsorted => "unsorted",
         RangesError::Empty => "empty",
         RangesError::PastEnd => "past-end",
-        RangesError::NoMemory => "no-memory",
     }
 }
 
@@ -68,7 +66,7 @@ fn load_words(error: LoadError) -> &'static str
     }
 }
 
-// The words for why there is no plan. `NoMemory` has no words.
+// The words for why there is no plan.
 fn plan_words(error: PlanError) -> &'static str
     ensures { result.now ≡ plan_words error }
 {
@@ -76,7 +74,6 @@ fn plan_words(error: PlanError) -> &'static str
         PlanError::NoTasks => "no-tasks",
         PlanError::LoadsLength => "loads-length",
         PlanError::LoadRange => "load-range",
-        PlanError::NoMemory => "no-memory",
     }
 }
 

@@ -1,10 +1,5 @@
 //! Why there is no set.
 
-ghost use Rattle.std.specs.Prelude.{◌≡◌};
-ghost use Rattle.slice_ranges.specs.declared.error.RangesError.TheVariants as refused;
-
-use std::alloc::{AllocError, AllocFailed};
-
 /// Why pairs make no set: the first of these at the first pair that has one.
 #[derive(Clone, Copy, Debug, PartialEq, Eq)]
 pub enum RangesError {
@@ -14,22 +9,4 @@ pub enum RangesError {
     Empty,
     /// The pair ends past the last key.
     PastEnd,
-    /// The pairs make a set, and there was no memory for it.
-    NoMemory,
-}
-
-impl From<AllocError> for RangesError {
-    ghost from_gives = { λ _ e. e ≡ refused.NoMemory };
-
-    fn from(_error: AllocError) -> Self {
-        RangesError::NoMemory
-    }
-}
-
-impl<T: Drop> From<AllocFailed<T>> for RangesError {
-    ghost from_gives = { λ _ e. e ≡ refused.NoMemory };
-
-    fn from(_error: AllocFailed<T>) -> Self {
-        RangesError::NoMemory
-    }
 }

@@ -11,5 +11,6 @@ mod sweep;
 
 pub use error::RangesError;
 pub use key::{KEYS, SliceKey, slice_key};
+pub use pairs::pairs_refusal;
 pub use ranges::{Ranges, keys_where_law};
 pub use sweep::{boundaries_above, next_boundary};

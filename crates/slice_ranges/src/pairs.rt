@@ -1,7 +1,6 @@
 //! Pairs of a start and an end, and the boundaries of their keys.
 
 ghost use Rattle.std.specs.Prelude.{◌≡◌, ℕ, None, IfOk, OnOk};
-ghost use Rattle.std.specs.Result.{result_err};
 ghost use Rattle.slice_ranges.specs.Sets.{pairs_cover, refusal_of, has, IsRanges};
 ghost use Rattle.slice_ranges.specs.internals.Turns.{IsTurned};
 
@@ -9,24 +8,24 @@ use crate::error::RangesError;
 use crate::key::KEYS;
 use std::alloc::{AllocError, Global};
 
-/// Why pairs make no set, if they make none.
-pub fn check(pairs: &[(u64, u64)]) -> Result<(), RangesError>
-    ensures { result_err result ≡ refusal_of pairs.now }
+/// Why pairs make no set, if they make none: the first [`RangesError`] of the first pair that has one.
+pub fn pairs_refusal(pairs: &[(u64, u64)]) -> Option<RangesError>
+    ensures { result ≡ refusal_of pairs.now }
 {
     let mut end = 0;
     for pair in pairs {
         if pair.0 < end {
-            return Err(RangesError::Unsorted);
+            return Some(RangesError::Unsorted);
         }
         if pair.1 <= pair.0 {
-            return Err(RangesError::Empty);
+            return Some(RangesError::Empty);
         }
         if pair.1 > KEYS {
-            return Err(RangesError::PastEnd);
+            return Some(RangesError::PastEnd);
         }
         end = pair.1;
     }
-    Ok(())
+    None
 }
 
 /// The boundaries of pairs in order.

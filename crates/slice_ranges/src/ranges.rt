@@ -6,7 +6,7 @@ ghost use Rattle.std.specs.Bool.{IsTrue};
 ghost use Rattle.std.specs.Cmp.{partial_equiv_from_equiv};
 ghost use Rattle.std.specs.Cmp.Lexicographic.{pointwise};
 ghost use Rattle.std.proofs.lemmas.Cmp.{nat_list_eq_equiv};
-ghost use Rattle.slice_ranges.specs.declared.error.RangesError.TheVariants as refused;
+ghost use Rattle.machines.specs.Answers.{trouble_of};
 ghost use Rattle.slice_ranges.specs.Sets.{pairs_cover, refusal_of, has, count, keys_where, IsRanges, IsSubset};
 ghost use Rattle.slice_ranges.specs.Levels.{value_after, LevelsRise};
 ghost use Rattle.slice_ranges.specs.internals.Sweeps.{apply};
@@ -14,9 +14,10 @@ ghost use Rattle.slice_ranges.specs.internals.Sweeps.{apply};
 use crate::error::RangesError;
 use crate::key::{KEYS, SliceKey};
 use crate::levels::boundaries_of_levels;
-use crate::pairs::{boundaries_of_pairs, check};
+use crate::pairs::{boundaries_of_pairs, pairs_refusal};
 use crate::subset::is_subset;
 use crate::sweep::{Operation, sweep};
+use machines::Trouble;
 use std::alloc::{AllocError, Global};
 use std::marker::Model;
 use std::sync::ArcSlice;
@@ -77,14 +78,16 @@ impl Ranges {
     /// starts before the end of the one before it. Pairs that touch are joined, and no pairs make
     /// the empty set.
     ///
-    /// It is refused by the first [`RangesError`] of the first pair that has one, and for want of
-    /// memory where none has.
-    pub fn build(alloc: Global, pairs: &[(u64, u64)]) -> Result<Self, RangesError>
+    /// It is refused by the first [`RangesError`] of the first pair that has one. Where none has, it
+    /// may run out of memory.
+    pub fn build(alloc: Global, pairs: &[(u64, u64)]) -> Result<Self, Trouble<RangesError>>
         ensures keys { IfOk result (λ r. (key : ℕ) → has r key ≡ pairs_cover pairs.now key) }
         ensures accepted { OnOk result (refusal_of pairs.now ≡ None) }
-        ensures refused { IfErr result (λ e. e ≡ unwrap_or (refusal_of pairs.now) refused.NoMemory) }
+        ensures refused { IfErr result (λ trouble. trouble ≡ trouble_of (refusal_of pairs.now)) }
     {
-        check(pairs)?;
+        if let Some(why) = pairs_refusal(pairs) {
+            return Err(Trouble::Refused(why));
+        }
         Ok(Ranges::of(alloc, boundaries_of_pairs(alloc, pairs)?)?)
     }
 

@@ -3,8 +3,8 @@
 use crate::samples::{HALF, again, assignment_of};
 use assignment::Assignment;
 use clerk::{Clerk, ClerkCall, ClerkError, ClerkEvent, ClerkReply, Unknown};
-use slice_ranges::{SliceKey, slice_key};
 use machines::{Machine, Trouble};
+use slice_ranges::{SliceKey, slice_key};
 use std::alloc::Global;
 use std::test::Fail;
 

@@ -25,7 +25,7 @@ fn try_assignment(
     alloc: Global,
     generation: u64,
     listed: &[(u64, &[u64])],
-) -> Result<Assignment, AssignmentError> {
+) -> Result<Assignment, Trouble<AssignmentError>> {
     let slices = slices_of(alloc, listed)?;
     Assignment::build(alloc, generation, &slices)
 }
@@ -37,7 +37,7 @@ pub fn assignment_of(
     listed: &[(u64, &[u64])],
 ) -> Result<Assignment, Fail> {
     let built = match try_assignment(alloc, generation, listed) {
-        Err(AssignmentError::NoMemory) => try_assignment(alloc, generation, listed),
+        Err(Trouble::NoMemory) => try_assignment(alloc, generation, listed),
         first => first,
     };
     Ok(built.ok().ok_or("slices make an assignment")?)

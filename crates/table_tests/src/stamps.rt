@@ -1,8 +1,9 @@
 //! Sets of keys with stamps.
 
 use crate::samples::{again, task_of};
+use machines::Trouble;
+use slice_ranges::{Ranges, SliceKey};
 use slicelet::{KeyHandle, Stamped};
-use slice_ranges::{Ranges, RangesError, SliceKey};
 use std::alloc::Global;
 use std::test::Fail;
 
@@ -12,7 +13,7 @@ fn key_of(number: u64) -> Result<SliceKey, Fail> {
 
 fn set_of(alloc: Global, pairs: &[(u64, u64)]) -> Result<Ranges, Fail> {
     let built = match Ranges::build(alloc, pairs) {
-        Err(RangesError::NoMemory) => Ranges::build(alloc, pairs),
+        Err(Trouble::NoMemory) => Ranges::build(alloc, pairs),
         first => first,
     };
     Ok(built.ok().ok_or("pairs that do not overlap make a set")?)

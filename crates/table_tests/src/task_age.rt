@@ -1,9 +1,9 @@
 //! A slicelet after many calls.
 
 use crate::task_samples::{allow, copy_of, grant_of, hear, release, serve, slicelet_of, start};
-use slicelet::{KeyHandle, Slicelet, Stranger};
-use slice_ranges::SliceKey;
 use policy_rules::{Kind, Verdict};
+use slice_ranges::SliceKey;
+use slicelet::{KeyHandle, Slicelet, Stranger};
 use std::alloc::Global;
 use std::test::Fail;
 

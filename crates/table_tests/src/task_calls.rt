@@ -5,9 +5,9 @@ use crate::task_samples::{
     abc, allow, base_of, copy_of, grant_of, hear, hello, refusal, release, serve, slicelet_of,
     start,
 };
-use slice_ranges::SliceKey;
 use lease_table::{Grant, ReleaseNote};
 use policy_rules::{Ground, Kind, Verdict};
+use slice_ranges::SliceKey;
 use slicelet::{Slicelet, SliceletError};
 use std::alloc::Global;
 use std::test::Fail;

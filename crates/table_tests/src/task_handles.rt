@@ -6,10 +6,10 @@ use crate::task_samples::{
     start, whole_of,
 };
 use assignment::{Assignment, TaskId};
-use slicelet::{KeyHandle, Slicelet, Stranger};
-use slice_ranges::SliceKey;
 use lease_table::{Grant, LeaseTable};
 use policy_rules::{Ground, Kind, Verdict};
+use slice_ranges::SliceKey;
+use slicelet::{KeyHandle, Slicelet, Stranger};
 use std::alloc::Global;
 use std::test::Fail;
 

@@ -2,10 +2,10 @@
 
 use crate::samples::{HALF, assignment_of, task_of};
 use assignment::Assignment;
-use slice_ranges::{Ranges, RangesError, SliceKey, slice_key};
 use lease_table::{Grant, LeaseTable, Policy, ReleaseNote, TableError};
 use machines::Trouble;
 use policy_rules::{Kind, Lease, Verdict};
+use slice_ranges::{Ranges, RangesError, SliceKey, slice_key};
 use slicelet::{Slicelet, SliceletCall, SliceletError, SliceletEvent};
 use std::alloc::{AllocError, Global};
 use std::test::Fail;
@@ -151,14 +151,14 @@ pub fn base_of(alloc: Global) -> Result<(LeaseTable, Slicelet, Grant), Fail> {
     Ok((table, slicelet, grant))
 }
 
-fn key_7(alloc: Global) -> Result<Ranges, RangesError> {
+fn key_7(alloc: Global) -> Result<Ranges, Trouble<RangesError>> {
     Ranges::build(alloc, &[(7, 8)])
 }
 
 // A grant for task 1 that no table sent, of one key and of the generation of its number.
 pub fn grant_of(alloc: Global, number: u64, kind: Kind) -> Result<Grant, Fail> {
     let ranges = match key_7(alloc) {
-        Err(RangesError::NoMemory) => key_7(alloc),
+        Err(Trouble::NoMemory) => key_7(alloc),
         first => first,
     };
     Ok(Grant {

@@ -41,9 +41,9 @@ record Allows (limits : Limits) : Type 0 where
 
 allows : (limits : Limits) → is_policy limits ≡ true → Allows limits
 allows limits h =
-    let ends = and_parts (is_within limits.low limits.high && nat_le limits.high MOST_OWNERS && nat_le limits.churn KEYS) (is_within limits.most MOST_SLICES) h in
-    let churn = and_parts (is_within limits.low limits.high && nat_le limits.high MOST_OWNERS) (nat_le limits.churn KEYS) ends.0 in
-    let range = and_parts (is_within limits.low limits.high) (nat_le limits.high MOST_OWNERS) churn.0 in
+    let parts = and_parts (is_within limits.low limits.high && nat_le limits.high MOST_OWNERS) (nat_le limits.churn KEYS && is_within limits.most MOST_SLICES) h in
+    let ends = and_parts (nat_le limits.churn KEYS) (is_within limits.most MOST_SLICES) parts.1 in
+    let range = and_parts (is_within limits.low limits.high) (nat_le limits.high MOST_OWNERS) parts.0 in
     let low = and_parts (nat_le 1 limits.low) (nat_le limits.low limits.high) range.0 in
     let most = (and_parts (nat_le 1 limits.most) (nat_le limits.most MOST_SLICES) ends.1).1 in
     let a = low.0 in

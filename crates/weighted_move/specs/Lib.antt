@@ -8,6 +8,7 @@ pub mod Merging
 pub mod Halving
 pub mod Settling
 pub mod Weighing
+pub mod Bounds
 pub mod Policies
 pub mod Plans
 pub mod Keys

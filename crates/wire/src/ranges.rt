@@ -6,9 +6,10 @@ ghost use Rattle.wire.specs.Ranges.{ranges_data, ranges_of};
 ghost use Rattle.wire.specs.Refusals.{Gives};
 
 use crate::fault::{DecodeError, Refusal};
+use machines::Trouble;
 use program_io::{TwoNumbers, list_of};
 use serde_json::{Value, json};
-use slice_ranges::{Ranges, RangesError};
+use slice_ranges::Ranges;
 use std::alloc::{AllocError, Global};
 
 /// The set as pairs of a start and an end.
@@ -35,7 +36,7 @@ pub fn ranges_of(alloc: Global, value: &Value) -> Result<Ranges, DecodeError>
             let _boundaries = ranges.boundaries();
             Ok(ranges)
         }
-        Err(RangesError::NoMemory) => Err(DecodeError::NoMemory),
-        Err(error) => Err(DecodeError::Refused(Refusal::Ranges(error))),
+        Err(Trouble::NoMemory) => Err(DecodeError::NoMemory),
+        Err(Trouble::Refused(why)) => Err(DecodeError::Refused(Refusal::Ranges(why))),
     }
 }

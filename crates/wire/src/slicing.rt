@@ -8,7 +8,8 @@ ghost use Rattle.wire.specs.Refusals.{Gives};
 
 use crate::fault::{DecodeError, Refusal};
 use crate::message::Wire;
-use assignment::{Assignment, AssignmentError, OwnedSlice, Slice, TaskId};
+use assignment::{Assignment, OwnedSlice, Slice, TaskId};
+use machines::Trouble;
 use program_io::{Form, Number, Unread, exactly, list_at, list_of, number_at, number_of, pair_of};
 use serde_json::{Value, json};
 use std::alloc::{AllocError, Global};
@@ -76,8 +77,8 @@ pub fn assignment_in(alloc: Global, value: &Value) -> Result<Assignment, DecodeE
     let slices = list_at::<SliceForm>(alloc, "slices", value)?;
     match Assignment::build(alloc, generation, slices.as_slice()) {
         Ok(assignment) => Ok(assignment),
-        Err(AssignmentError::NoMemory) => Err(DecodeError::NoMemory),
-        Err(error) => Err(DecodeError::Refused(Refusal::Slices(error))),
+        Err(Trouble::NoMemory) => Err(DecodeError::NoMemory),
+        Err(Trouble::Refused(why)) => Err(DecodeError::Refused(Refusal::Slices(why))),
     }
 }
 

@@ -4,6 +4,7 @@ use Rattle.std.specs.Prelude.{Option, Some, None, Result, Ok, Err, is_ok}
 use Rattle.machines.specs.Refusals.{unless_refused}
 use Rattle.machines.specs.Numbers.{is_within}
 use Rattle.world.specs.Jobs.{Job}
+use Rattle.assignment.specs.declared.error.AssignmentError.{AssignmentError}
 use Rattle.assignment.specs.Slices.{Slicing}
 use Rattle.weighted_move.specs.declared.made.Plan.{Plan}
 use Rattle.weighted_move.specs.declared.error.PlanError.{PlanError}
@@ -11,17 +12,18 @@ use Rattle.weighted_move.specs.Plans.{plan_refusal}
 use Rattle.world.specs.declared.step.Step.{Step}
 use Rattle.world.specs.declared.step.Step.TheVariants as step
 use Rattle.world.specs.declared.reply.Refusal.{Refusal}
+use Rattle.world.specs.declared.reply.Refusal.TheVariants as refusal
 use Rattle.world.specs.declared.reply.Reply.{Reply}
 use Rattle.world.specs.declared.reply.Reply.TheVariants as reply
 use Rattle.world.specs.Pasts.{event, Past, is_accepted}
 use Rattle.world.specs.Told.{draft_of}
-use Rattle.world.specs.Replies.{Outcome, Plain, plan_in, by_actor, from_layer, planned, plan_reply, reply_to}
+use Rattle.world.specs.Replies.{Outcome, Plain, plan_in, by_actor, from_layer, if_built, planned, plan_reply, reply_to}
 use Rattle.world.specs.Runs.{IsReply, IsOutcome, takes_memory, needs_memory}
 use Rattle.machines.specs.declared.machine.Trouble.{Trouble}
 use Rattle.machines.specs.declared.machine.Trouble.TheVariants.{Refused, NoMemory}
-use Rattle.machines.specs.Answers.{Takes}
+use Rattle.machines.specs.Answers.{Takes, trouble_of}
 use Rattle.world.specs.declared.world.World.{World}
-use Rattle.world.specs.Troubles.{of_layer, unless_refused_for}
+use Rattle.world.specs.Troubles.{of_layer}
 use Rattle.world.specs.Worlds.{Keeps, Played}
 
 -- what an answered step answers
@@ -85,6 +87,22 @@ troubled job past s world refused name step old new NoMemory told is takes each 
 pub unmade : {M A E : Type 0} (job : Job) (past : Past) (s : Step) (world : World) (refused : E → Refusal) (name : A → Reply) (o : Option E) (p : M × A)
     → IsOutcome job past s Plain → reply_to job past s Plain ≡ from_layer refused name (unless_refused o p) → takes_memory s ≡ true
     → ((x : A) → needs_memory s (name x) ≡ true)
-    → Keeps job past world → Played job past s (Err (unless_refused_for refused o)) world
+    → Keeps job past world → Played job past s (Err (of_layer refused (trouble_of o))) world
 unmade {M = M} {A = A} {E = E} job past s world refused name None p told is takes each k = let step : Result (M × A) E = Ok p in (k, wants_memory job past s told refused name step is takes each refl)
 unmade {M = M} {A = A} {E = E} job past s world refused name (Some why) p told is takes each k = let step : Result (M × A) E = Err why in let same : step ≡ Err why = refl in (k, refuses job past s told refused name step is why same)
+
+-- slices that are refused are so before memory runs out
+pub no_refusal : {E : Type 0} (o : Option E) → NoMemory ≡ trouble_of o → o ≡ None
+no_refusal None e = refl
+no_refusal (Some why) e = absurd (cc)
+
+pub some_refusal : {E : Type 0} (o : Option E) (why : E) → Refused why ≡ trouble_of o → o ≡ Some why
+some_refusal None why e = absurd (cc)
+some_refusal (Some other) why e = cc
+
+-- where slices make no assignment, or there is no memory for it
+pub unbuilt : (job : Job) (past : Past) (s : Step) (world : World) (o : Option AssignmentError) (answer : Reply)
+    → IsOutcome job past s Plain → reply_to job past s Plain ≡ if_built o answer → takes_memory s ≡ true → needs_memory s answer ≡ true
+    → Keeps job past world → Played job past s (Err (of_layer refusal.Slices (trouble_of o))) world
+unbuilt job past s world None answer told is takes need k = (k, replied_without_memory job past s takes answer is need)
+unbuilt job past s world (Some why) answer told is takes need k = (k, replied_as job past s told (reply.Refused (refusal.Slices why)) is)

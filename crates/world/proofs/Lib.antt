@@ -7,7 +7,6 @@ pub mod TableCalls
 pub mod Keeping
 pub mod Sending
 pub mod Tying
-pub mod Refusing
 pub mod Checking
 pub mod Playing
 pub mod Publishing

@@ -1,6 +1,6 @@
 -- What a `plan` is answered.
 use Rattle.std.proofs.Common.{◌≡◌, ℕ, Bool, List, true, false, ◌&&◌, refl, sym, ◌∙◌, ap, subst, inl, inr}
-use Rattle.std.specs.Prelude.{Option, Some, None, Err, nat_le, unwrap_or}
+use Rattle.std.specs.Prelude.{Option, Some, None, Err, nat_le}
 use Rattle.std.proofs.lemmas.Bool.{and_parts}
 use Rattle.slice_ranges.specs.declared.key.TheConstants.{KEYS}
 use Rattle.assignment.specs.declared.slice.TheConstants.{MOST_OWNERS}
@@ -9,12 +9,11 @@ use Rattle.lease_table.specs.Policies.{Terms, is_policy}
 use Rattle.machines.specs.Numbers.{is_within}
 use Rattle.assignment.specs.Slices.{Slicing, refusal_of}
 use Rattle.weighted_move.specs.declared.error.PlanError.{PlanError}
-use Rattle.weighted_move.specs.declared.error.PlanError.TheVariants as plan
 use Rattle.weighted_move.specs.declared.made.Plan.{Plan}
-use Rattle.weighted_move.specs.Policies.{Limits, is_policy as is_plan_policy}
+use Rattle.weighted_move.specs.Policies.{Limits, limits_of, is_policy as is_plan_policy}
 use Rattle.weighted_move.specs.Plans.{CanPlan, IsPlan, plan_refusal}
 use Rattle.world.specs.Jobs.{Job}
-use Rattle.world.specs.Bounds.{Bounds, is_bounds, limits_of}
+use Rattle.weighted_move.specs.Bounds.{Bounds, is_bounds}
 use Rattle.world.specs.declared.step.Step.TheVariants as step
 use Rattle.world.specs.declared.reply.Refusal.TheVariants as refusal
 use Rattle.world.specs.declared.reply.Reply.TheVariants as reply
@@ -23,29 +22,21 @@ use Rattle.world.specs.Told.{draft_of}
 use Rattle.world.specs.Replies.{Plain, Planned, plan_in, planned, plan_reply}
 use Rattle.world.specs.Runs.{IsReply, IsPlanOf}
 use Rattle.world.specs.declared.world.World.{World}
-use Rattle.world.specs.Troubles.{of_plan, unless_refused_for}
+use Rattle.machines.specs.Answers.{trouble_of}
+use Rattle.world.specs.Troubles.{of_layer}
 use Rattle.world.specs.Worlds.{Keeps, Played}
 use Rattle.world.specs.Headline.{IsPlannedFromDraft}
 use Rattle.world.proofs.Answering.{replied_without_memory}
 
-joined : (a b c : Bool) → a ≡ true → (b && c) ≡ true → (a && b && c) ≡ true
-joined true b c e f = f
-joined false b c e f = absurd (let g : false ≡ true = e in cc)
+both : (a b : Bool) → a ≡ true → b ≡ true → (a && b) ≡ true
+both true b e f = f
+both false b e f = absurd (let g : false ≡ true = e in cc)
 
 -- what holds a plan in a job is within its limits
 pub are_limits : (t : Terms) (b : Bounds) → is_policy t ≡ true → is_bounds b ≡ true → is_plan_policy (limits_of t.low t.high b) ≡ true
 are_limits t b h k =
     let few = (and_parts _ _ (and_parts _ _ (and_parts _ _ (and_parts _ _ (and_parts _ _ (and_parts _ _ h).0).0).0).0).0).0 in
-    joined (is_within t.low t.high && nat_le t.high MOST_OWNERS) (nat_le b.churn KEYS) (is_within b.most MOST_SLICES) few k
-
--- want of memory is told where there is no refusal, and else the refusal
-pub trouble_of : (o : Option PlanError) (e : PlanError) → (o ≡ Some plan.NoMemory → ⊥) → e ≡ unwrap_or o plan.NoMemory
-    → of_plan e ≡ unless_refused_for refusal.Plan o
-trouble_of None e other same = ap of_plan same
-trouble_of (Some plan.NoTasks) e other same = ap of_plan same
-trouble_of (Some plan.LoadsLength) e other same = ap of_plan same
-trouble_of (Some plan.LoadRange) e other same = ap of_plan same
-trouble_of (Some plan.NoMemory) e other same = absurd (other refl)
+    both (is_within t.low t.high && nat_le t.high MOST_OWNERS) (is_bounds b) few k
 
 module _ (job : Job) (past : Past) (loads tasks : List ℕ) (bounds : Bounds) where
   -- there is no draft
@@ -87,9 +78,9 @@ module _ (job : Job) (past : Past) (loads tasks : List ℕ) (bounds : Bounds) wh
         replied_without_memory job past (step.Plan loads tasks bounds) refl (reply.Planned (plan_in Plain))
         (ap (λ (o : Option Slicing). plan_reply o loads tasks (plan_in Plain)) drafted ∙ ap (λ (o : Option PlanError). planned o (plan_in Plain)) free) refl
 
-    -- why there is none, or want of memory for it
+    -- why there is none, or that there is no memory for it
     pub unplanned_played : (world : World) → Keeps job past world → (o : Option PlanError) → plan_refusal draft.slices loads tasks ≡ o
-        → Played job past (step.Plan loads tasks bounds) (Err (unless_refused_for refusal.Plan o)) world
+        → Played job past (step.Plan loads tasks bounds) (Err (of_layer refusal.Plan (trouble_of o))) world
     unplanned_played world k None e = (k, no_room_reply e)
     unplanned_played world k (Some why) e = (k, unplanned_reply why e)
 

@@ -16,7 +16,7 @@ use Rattle.world.specs.declared.step.Step.TheVariants as step
 use Rattle.world.specs.declared.reply.Reply.{Reply}
 use Rattle.world.specs.declared.reply.Reply.TheVariants as reply
 use Rattle.world.specs.Pasts.{Event, event, Past, steps_of, reading, IsTimely}
-use Rattle.world.specs.Bounds.{Bounds}
+use Rattle.weighted_move.specs.Bounds.{Bounds}
 use Rattle.world.specs.Told.{draft_of, standing, task_calls}
 use Rattle.weighted_move.specs.declared.made.Plan.{Plan}
 use Rattle.world.specs.Runs.{IsPlanOf}

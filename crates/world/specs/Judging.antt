@@ -9,8 +9,8 @@ use Rattle.policy_rules.specs.Rule.{SeenHolding, rule}
 use Rattle.world.specs.declared.judge.WrittenLease.{WrittenLease}
 use Rattle.world.specs.declared.judge.Question.{Question}
 use Rattle.machines.specs.declared.machine.Trouble.{Trouble}
-use Rattle.machines.specs.declared.machine.Trouble.TheVariants as trouble
-use Rattle.machines.specs.declared.machine.Trouble.TheVariants.{NoMemory}
+use Rattle.machines.specs.Answers.{trouble_of}
+use Rattle.world.specs.Troubles.{of_layer}
 use Rattle.world.specs.declared.reply.Refusal.{Refusal}
 use Rattle.world.specs.declared.reply.Refusal.TheVariants.{Ranges}
 use Rattle.world.specs.declared.reply.Reply.{Reply}
@@ -48,12 +48,7 @@ answer_with question key (Some refusal) = Refused (Ranges refusal)
 abbrev pub judge_reply : Question → ℕ → Reply
 judge_reply question key = answer_with question key (leases_refusal question.leases)
 
--- why leases are not held: the refusal, or want of memory where there is none
-abbrev pub trouble_of : Option RangesError → Trouble Refusal
-trouble_of None = NoMemory
-trouble_of (Some why) = trouble.Refused (Ranges why)
-
--- a question about a slice key was answered, or it was not for the first refusal of its leases, or for want of memory where there is none
+-- a question about a slice key was answered, or it was not for the first refusal of its leases, or since it ran out of memory where there is none
 abbrev pub IsJudged : Question → ℕ → Result Reply (Trouble Refusal) → Type 0
 IsJudged question key (Ok answer) = (answer ≡ judge_reply question key) × (leases_refusal question.leases ≡ None)
-IsJudged question key (Err trouble) = trouble ≡ trouble_of (leases_refusal question.leases)
+IsJudged question key (Err trouble) = trouble ≡ of_layer Ranges (trouble_of (leases_refusal question.leases))

@@ -1,4 +1,3 @@
-pub mod Bounds
 pub mod Pasts
 pub mod Told
 pub mod Troubles

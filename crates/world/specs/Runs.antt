@@ -12,7 +12,8 @@ use Rattle.world.specs.declared.step.Step.TheVariants as step
 use Rattle.world.specs.declared.reply.Reply.{Reply}
 use Rattle.world.specs.declared.reply.Reply.TheVariants as reply
 use Rattle.world.specs.Pasts.{Event, event, Past, is_accepted}
-use Rattle.world.specs.Bounds.{Bounds, limits_of}
+use Rattle.weighted_move.specs.Bounds.{Bounds}
+use Rattle.weighted_move.specs.Policies.{limits_of}
 use Rattle.world.specs.Told.{numbered, draft_of, handles_made, task_calls}
 use Rattle.world.specs.Replies.{Outcome, is_continuous_in, plan_in, covers_in, history, reply_to}
 

@@ -8,11 +8,13 @@ ghost use Rattle.world.specs.Told.{numbered};
 ghost use Rattle.world.specs.Troubles.{of_layer};
 
 use crate::reply::Refusal;
+use assignment::AssignmentError;
 use clerk::ClerkError;
 use lease_table::TableError;
 use load_ledger::LoadError;
 use machines::Trouble;
 use slicelet::SliceletError;
+use weighted_move::PlanError;
 
 /// The place of the actor of this number; refused where there is none.
 pub fn place_of<A>(number: u64, actors: &[A]) -> Result<usize, Trouble<Refusal>>
@@ -73,6 +75,26 @@ pub fn of_clerk(error: Trouble<ClerkError>) -> Trouble<Refusal>
 {
     match error {
         Trouble::Refused(why) => Trouble::Refused(Refusal::Clerk(why)),
+        Trouble::NoMemory => Trouble::NoMemory,
+    }
+}
+
+/// Why slices make no assignment, as a step's refusal.
+pub fn of_slices(error: Trouble<AssignmentError>) -> Trouble<Refusal>
+    ensures { result ≡ of_layer refusal.Slices error }
+{
+    match error {
+        Trouble::Refused(why) => Trouble::Refused(Refusal::Slices(why)),
+        Trouble::NoMemory => Trouble::NoMemory,
+    }
+}
+
+/// Why there is no plan, as a step's refusal.
+pub fn of_plan(error: Trouble<PlanError>) -> Trouble<Refusal>
+    ensures { result ≡ of_layer refusal.Plan error }
+{
+    match error {
+        Trouble::Refused(why) => Trouble::Refused(Refusal::Plan(why)),
         Trouble::NoMemory => Trouble::NoMemory,
     }
 }

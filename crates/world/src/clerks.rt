@@ -11,9 +11,9 @@ use crate::actors::{numbered, of_clerk, place_of};
 use crate::reply::{Refusal, Reply};
 use crate::world::World;
 use assignment::Assignment;
-use slice_ranges::slice_key;
 use lease_table::{LeaseTable, Phase};
 use machines::Trouble;
+use slice_ranges::slice_key;
 
 // The committed assignment of a generation: that of the proposal of this place.
 fn published<'a>(

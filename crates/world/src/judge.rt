@@ -1,14 +1,16 @@
 //! The written rule over leases that a step hands in.
 
 ghost use Rattle.std.specs.Prelude.{◌≡◌};
-ghost use Rattle.slice_ranges.specs.Sets.{refusal_of};
-ghost use Rattle.world.specs.Judging.{leases_refusal, judge_reply, trouble_of, IsJudged};
+ghost use Rattle.machines.specs.Answers.{trouble_of};
+ghost use Rattle.world.specs.declared.reply.Refusal.TheVariants as refusal;
+ghost use Rattle.world.specs.Judging.{leases_refusal, judge_reply, IsJudged};
+ghost use Rattle.world.specs.Troubles.{of_layer};
 
 use crate::reply::{Refusal, Reply};
 use assignment::Listed;
-use slice_ranges::{Ranges, RangesError, SliceKey};
 use machines::Trouble;
 use policy_rules::{Holding, Kind, Lease, verdict};
+use slice_ranges::{Ranges, SliceKey, pairs_refusal};
 use std::alloc::Global;
 
 /// A lease as a script writes it.
@@ -39,26 +41,12 @@ pub struct Question {
     pub at: u64,
 }
 
-// Why pairs make no set, if they make none.
-fn refusal(alloc: Global, pairs: &[(u64, u64)]) -> Option<RangesError>
-    ensures { result ≡ refusal_of pairs.now }
-{
-    let why = match Ranges::build(alloc, pairs) {
-        Ok(_) => return None,
-        Err(why) => why,
-    };
-    match why {
-        RangesError::NoMemory => None,
-        why => Some(why),
-    }
-}
-
-// The refusal of the first of these leases that has one, or else want of memory.
-fn first_refusal(alloc: Global, leases: &[WrittenLease]) -> Trouble<Refusal>
-    ensures { result ≡ trouble_of (leases_refusal leases.now) }
+// The refusal of the first of these leases that has one, or else out of memory.
+fn first_refusal(leases: &[WrittenLease]) -> Trouble<Refusal>
+    ensures { result ≡ of_layer refusal.Ranges (trouble_of (leases_refusal leases.now)) }
 {
     for lease in leases {
-        if let Some(why) = refusal(alloc, lease.ranges.as_slice()) {
+        if let Some(why) = pairs_refusal(lease.ranges.as_slice()) {
             return Trouble::Refused(Refusal::Ranges(why));
         }
     }
@@ -78,7 +66,7 @@ pub fn judge(alloc: Global, question: &Question, key: SliceKey) -> Result<Reply,
     for lease in question.leases.as_slice() {
         let ranges = match Ranges::build(alloc, lease.ranges.as_slice()) {
             Ok(ranges) => ranges,
-            Err(_) => return Err(first_refusal(alloc, question.leases.as_slice())),
+            Err(_) => return Err(first_refusal(question.leases.as_slice())),
         };
         let held = Lease {
             kind: lease.kind,

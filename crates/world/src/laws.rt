@@ -23,7 +23,7 @@ ghost use Rattle.world.specs.declared.step.Step.TheVariants as step;
 ghost use Rattle.world.specs.declared.reply.Reply.{Reply};
 ghost use Rattle.world.specs.declared.reply.Reply.TheVariants as reply;
 ghost use Rattle.weighted_move.specs.declared.made.Plan.{Plan};
-ghost use Rattle.world.specs.Bounds.{Bounds};
+ghost use Rattle.weighted_move.specs.Bounds.{Bounds};
 ghost use Rattle.world.specs.Pasts.{Past, event, steps_of, IsTimely};
 ghost use Rattle.world.specs.Told.{numbered, notes_made, handles_made, table_calls, task_calls};
 ghost use Rattle.world.specs.Replies.{history};

@@ -25,7 +25,6 @@ pub use laws::{
     handle_law, interval_law, known_generations_law, owner_law, planned_law, rule_law, sent_law,
     told_law,
 };
-pub use plans::PlanBounds;
 pub use readings::timely;
 pub use reply::{OwnerList, Refusal, Reply};
 pub use step::Step;

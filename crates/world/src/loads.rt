@@ -3,12 +3,13 @@
 ghost use Rattle.std.specs.Prelude.{◌≡◌, ◌≤◌, ◌∷◌, [], map, IfOk};
 ghost use Rattle.std.specs.List.{range_with_len};
 ghost use Rattle.std.specs.Vec.{vec_capacity};
+ghost use Rattle.machines.specs.Answers.{trouble_of};
 ghost use Rattle.machines.specs.Refusals.{first_of};
 ghost use Rattle.load_ledger.specs.Books.{gather_checks, task_total};
 ghost use Rattle.world.specs.Jobs.{Job};
 ghost use Rattle.world.specs.declared.reply.Refusal.TheVariants as refusal;
 ghost use Rattle.world.specs.declared.step.Step.TheVariants as step;
-ghost use Rattle.world.specs.Troubles.{unless_refused_for};
+ghost use Rattle.world.specs.Troubles.{of_layer};
 ghost use Rattle.world.specs.Pasts.{Past};
 ghost use Rattle.world.specs.Worlds.{AreActors, Keeps, Played};
 
@@ -17,9 +18,9 @@ use crate::reply::{Refusal, Reply};
 use crate::world::World;
 use assignment::{Listed, TaskId};
 use cluster::Job;
-use slice_ranges::slice_key;
 use load_ledger::{LoadBook, LoadShare};
 use machines::Trouble;
+use slice_ranges::slice_key;
 use std::alloc::{AllocError, Global};
 use std::mem;
 
@@ -89,9 +90,9 @@ impl World {
         }
     }
 
-    // Why nothing is gathered where memory is wanting.
+    // Why nothing is gathered when out of memory.
     fn ungathered(&self) -> Trouble<Refusal>
-        ensures { result ≡ unless_refused_for refusal.Load (first_of (gather_checks self.now.shares.items self.now.book)) }
+        ensures { result ≡ of_layer refusal.Load (trouble_of (first_of (gather_checks self.now.shares.items self.now.book))) }
     {
         match self.book.gather_refusal(self.shares.as_slice()) {
             Some(why) => Trouble::Refused(Refusal::Load(why)),

@@ -1,90 +1,26 @@
 //! The step of plans.
 
-ghost use Rattle.std.specs.Prelude.{◌≡◌, IfSome, is_some};
-ghost use Rattle.world.specs.Bounds.{bounds, is_bounds, limits_of};
+ghost use Rattle.std.specs.Prelude.{◌≡◌};
+ghost use Rattle.weighted_move.specs.Policies.{limits_of};
 ghost use Rattle.world.specs.Jobs.{Job};
 ghost use Rattle.world.specs.declared.step.Step.TheVariants as step;
 ghost use Rattle.world.specs.Pasts.{Past};
-ghost use Rattle.world.specs.Troubles.{of_plan};
 ghost use Rattle.world.specs.Worlds.{Keeps, Played};
 
+use crate::actors::of_plan;
 use crate::reply::{Refusal, Reply};
 use crate::world::World;
-use assignment::MOST_SLICES;
-use slice_ranges::KEYS;
 use lease_table::{Policy, policy_law};
 use machines::Trouble;
-use std::marker::Model;
-use weighted_move::{PlanError, PlanPolicy, TaskSet};
+use weighted_move::{PlanBounds, PlanPolicy, TaskSet};
 
-/// What a `plan` step holds its plan to, beside the numbers of owners of the job.
-#[derive(Clone, Copy, Debug, PartialEq, Eq)]
-pub struct PlanBounds {
-    churn: u64,
-    cold: u64,
-    hot: u64,
-    most: u64,
-}
-
-impl Model for PlanBounds {
-    ghost use Rattle.std.specs.Prelude.{◌≡◌, true};
-    ghost use Rattle.world.specs.Bounds.{Bounds, bounds, is_bounds};
-
-    ghost Value = { Bounds };
-
-    ghost view = { λ b. bounds b.churn b.cold b.hot b.most };
-
-    ghost invariant = { λ b. is_bounds (bounds b.churn b.cold b.hot b.most) ≡ true };
-
-    ghost inverse = { λ v. record { churn = v.churn; cold = v.cold; hot = v.hot; most = v.most } };
-}
-
-impl PlanBounds {
-    /// Bounds, or `None` where an argument is outside its limits: how many keys may move (up to
-    /// 2^63); the load up to which neighbours merge; the load above which a slice is halved; and up
-    /// to how many slices that is done (1 to 1024).
-    pub fn new(churn: u64, cold: u64, hot: u64, most: u64) -> Option<Self>
-        ensures valid { is_some result ≡ is_bounds (bounds churn cold hot most) }
-        ensures value { IfSome result (λ b. b ≡ bounds churn cold hot most) }
-    {
-        if churn <= KEYS && 1 <= most && most <= MOST_SLICES as u64 {
-            Some(PlanBounds {
-                churn,
-                cold,
-                hot,
-                most,
-            })
-        } else {
-            None
-        }
-    }
-
-    // What a plan is held to in a job of this policy.
-    #[tactic(auto, using(crate::proofs::Planning::are_limits))]
-    fn of_job(self, policy: Policy) -> PlanPolicy
-        ensures { result ≡ limits_of policy.low policy.high self }
-    {
-        policy_law(policy);
-        PlanPolicy::new(
-            policy.low(),
-            policy.high(),
-            self.churn,
-            self.cold,
-            self.hot,
-            self.most,
-        )
-        .unwrap()
-    }
-}
-
-// Why there is no plan, as a step's refusal.
-fn of_plan(error: PlanError) -> Trouble<Refusal>
-    ensures { result ≡ of_plan error }
+// What a plan with these bounds is held to in a job of this policy.
+#[tactic(auto, using(crate::proofs::Planning::are_limits))]
+fn plan_policy(policy: Policy, bounds: PlanBounds) -> PlanPolicy
+    ensures { result ≡ limits_of policy.low policy.high bounds }
 {
-    match error {
-        PlanError::NoMemory => Trouble::NoMemory,
-        why => Trouble::Refused(Refusal::Plan(why)),
-    }
+    policy_law(policy);
+    PlanPolicy::with_bounds(policy.low(), policy.high(), bounds).unwrap()
 }
 
 impl World {
@@ -100,7 +36,7 @@ impl World {
         let Some(draft) = &self.draft else {
             return Err(Trouble::Refused(Refusal::NoDraft));
         };
-        let policy = bounds.of_job(self.job.policy());
+        let policy = plan_policy(self.job.policy(), bounds);
         match weighted_move::plan(self.alloc, draft, loads, tasks, &policy) {
             Ok(plan) => Ok(Reply::Planned(plan)),
             Err(error) => Err(of_plan(error)),

@@ -1,11 +1,12 @@
 //! The steps of the table and its assigners.
 
 ghost use Rattle.std.specs.Prelude.{◌≡◌, ◌∷◌};
+ghost use Rattle.machines.specs.Answers.{trouble_of};
 ghost use Rattle.machines.specs.Refusals.{first_of};
 ghost use Rattle.lease_table.specs.Steps.{propose_checks};
 ghost use Rattle.world.specs.Jobs.{Job};
 ghost use Rattle.world.specs.declared.reply.Refusal.TheVariants as refusal;
-ghost use Rattle.world.specs.Troubles.{unless_refused_for};
+ghost use Rattle.world.specs.Troubles.{of_layer};
 ghost use Rattle.world.specs.declared.step.Step.TheVariants as step;
 ghost use Rattle.world.specs.Pasts.{Past};
 ghost use Rattle.world.specs.Worlds.{Keeps, Played};
@@ -14,7 +15,7 @@ use crate::actors::{numbered, of_table, place_of};
 use crate::reply::{Refusal, Reply};
 use crate::world::World;
 use assigner::View;
-use assignment::{Assignment, AssignmentError, Listed, Slice, TaskId};
+use assignment::{Assignment, Listed, Slice, TaskId};
 use machines::Trouble;
 
 impl World {
@@ -81,10 +82,10 @@ impl World {
         let number = self.assigners[place].number();
         let next = match Assignment::build(self.alloc, generation, slices) {
             Ok(next) => next,
-            Err(AssignmentError::NoMemory) => {
+            Err(Trouble::NoMemory) => {
                 return Err(self.unproposed(number, generation, slices, at));
             }
-            Err(why) => return Err(Trouble::Refused(Refusal::Slices(why))),
+            Err(Trouble::Refused(why)) => return Err(Trouble::Refused(Refusal::Slices(why))),
         };
         if self.proposals.reserve(1).is_err() {
             return Err(self.unproposed(number, generation, slices, at));
@@ -106,8 +107,8 @@ impl World {
         slices: &[Slice],
         at: u64,
     ) -> Trouble<Refusal>
-        ensures { result ≡ unless_refused_for refusal.Table (first_of
-            (propose_checks self.now.table number (record { generation = generation; slices = slices.now }) at)) }
+        ensures { result ≡ of_layer refusal.Table (trouble_of (first_of
+            (propose_checks self.now.table number (record { generation = generation; slices = slices.now }) at))) }
     {
         match self.table.propose_refusal(number, generation, slices, at) {
             Some(why) => Trouble::Refused(Refusal::Table(why)),

@@ -9,9 +9,9 @@ ghost use Rattle.world.specs.Worlds.{Keeps, Played};
 use crate::actors::{numbered, of_slicelet, place_of};
 use crate::reply::{Refusal, Reply};
 use crate::world::World;
-use slice_ranges::slice_key;
 use machines::Trouble;
 use policy_rules::{Kind, Verdict};
+use slice_ranges::slice_key;
 
 impl World {
     pub(crate) fn start(&mut self, task: u64, life: u32, at: u64) -> Result<Reply, Trouble<Refusal>>

@@ -7,11 +7,12 @@ ghost use Rattle.world.specs.Judging.{judge_reply};
 ghost use Rattle.world.specs.Pasts.{Past};
 ghost use Rattle.world.specs.Worlds.{Keeps, Played};
 
+use crate::actors::of_slices;
 use crate::reply::{OwnerList, Refusal, Reply};
 use crate::world::World;
-use assignment::{Assignment, AssignmentError, Slice};
-use slice_ranges::slice_key;
+use assignment::{Assignment, Slice};
 use machines::Trouble;
+use slice_ranges::slice_key;
 
 impl World {
     pub(crate) fn hash(&self, key: &[u8]) -> Result<Reply, Trouble<Refusal>>
@@ -37,8 +38,7 @@ impl World {
                     slices: slices.len(),
                 })
             }
-            Err(AssignmentError::NoMemory) => Err(Trouble::NoMemory),
-            Err(why) => Err(Trouble::Refused(Refusal::Slices(why))),
+            Err(error) => Err(of_slices(error)),
         }
     }
 

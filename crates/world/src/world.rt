@@ -27,11 +27,11 @@ use assigner::Assigner;
 use assignment::{Assignment, TaskId};
 use clerk::Clerk;
 use cluster::Job;
-use slicelet::{KeyHandle, Slicelet};
-use slice_ranges::slice_key;
 use lease_table::{Grant, LeaseTable, ReleaseNote, policy_law};
 use load_ledger::{LoadBook, LoadShare};
 use machines::Trouble;
+use slice_ranges::slice_key;
+use slicelet::{KeyHandle, Slicelet};
 use std::alloc::{AllocError, Global};
 
 /// Every actor of a job, and everything that was made so far: grants, notes, handles and committed

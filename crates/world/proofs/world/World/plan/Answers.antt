@@ -1,20 +1,18 @@
 use Rattle.std.proofs.Common.{◌≡◌, ◌∙◌, sym, ap, subst, refl}
 use Rattle.std.specs.Prelude.{Some}
 use Rattle.lease_table.specs.Policies.{Terms}
-use Rattle.weighted_move.specs.Policies.{Limits}
+use Rattle.weighted_move.specs.Policies.{Limits, limits_of}
 use Rattle.weighted_move.specs.Plans.{CanPlan, IsPlan, plan_refusal}
 use Rattle.world.specs.Jobs.{Job}
-use Rattle.world.specs.Bounds.{limits_of}
 use Rattle.world.specs.Told.{draft_of}
-use Rattle.world.proofs.Planning.{planned_reply, trouble_of, unplanned_played}
-use Rattle.world.proofs.Refusing.{plan_other}
+use Rattle.world.proofs.Planning.{planned_reply, unplanned_played}
 use Rattle.world.proofs.world.World.plan.Goals as goal
 
 pub returns-in-Ok : goal.returns-in-Ok
 returns-in-Ok c = λ job past k.
     let draft : draft_of past ≡ Some c.in-Some.draft = sym k.draft ∙ c.in-Some.is in
-    let held : c.of_job-policy.result ≡ limits_of job.policy.low job.policy.high c.args.bounds =
-    c.of_job-policy.ensures ∙ ap (λ (t : Terms). limits_of t.low t.high c.args.bounds) (c.policy.ensures ∙ ap (λ (j : Job). j.policy) k.same_job) in
+    let held : c.plan_policy-policy.result ≡ limits_of job.policy.low job.policy.high c.args.bounds =
+    c.plan_policy-policy.ensures ∙ ap (λ (t : Terms). limits_of t.low t.high c.args.bounds) (c.policy.ensures ∙ ap (λ (j : Job). j.policy) k.same_job) in
     let can = subst (λ (l : Limits). CanPlan c.in-Some.draft.slices c.args.loads.now c.args.tasks.now l) held c.in-Ok.ensures.can in
     let is = subst (λ (l : Limits). IsPlan c.in-Some.draft.slices c.args.loads.now c.args.tasks.now l c.in-Ok.plan) held c.in-Ok.ensures.planned in
     record {
@@ -37,6 +35,5 @@ pub returns-in-Err : goal.returns-in-Err
 returns-in-Err c = λ job past k.
     let draft : draft_of past ≡ Some c.in-Some.draft = sym k.draft ∙ c.in-Some.is in
     let refusal = plan_refusal c.in-Some.draft.slices c.args.loads.now c.args.tasks.now in
-    let trouble = trouble_of refusal c.in-Err.error (plan_other c.in-Some.draft.slices c.args.loads.now c.args.tasks.now) c.in-Err.ensures.refused in
-    rw (c.of_plan.ensures, trouble)
+    rw (c.of_plan.ensures, c.in-Err.ensures.refused)
     (unplanned_played job past c.args.loads.now c.args.tasks.now c.args.bounds c.in-Some.draft draft c.args.self.now k refusal refl)

@@ -17,10 +17,9 @@ use Rattle.world.proofs.Answering.{by_own, answers, troubled}
 use Rattle.world.proofs.AssignerTerms.{own_assigner}
 use Rattle.world.proofs.TableCalls.{stands_at, sends_at, proposes_at}
 use Rattle.world.proofs.Keeping.{moved}
-use Rattle.world.proofs.Refusing.{no_refusal, slices_other}
+use Rattle.world.proofs.Answering.{no_refusal}
 use Rattle.std.proofs.Common.{[]}
 use Rattle.assignment.specs.declared.error.AssignmentError.{AssignmentError}
-use Rattle.assignment.specs.declared.error.AssignmentError.TheVariants as slices
 use Rattle.assignment.specs.Slices.{refusal_of}
 use Rattle.lease_table.specs.Steps.{propose_checks}
 use Rattle.world.specs.Replies.{if_built}
@@ -33,7 +32,7 @@ returns-in-Err-NoMemory c = λ job past k.
     let own = own_assigner job past c.args.self.now.assigners.items c.args.assigner c.in_ok-place.place c.index.result.now k.assigners c.in_ok-place.ensures.0 (subst (λ (xs : List Keeping). c.in_ok-place.place < length xs) c.as_slice.ensures.value c.in_ok-place.ensures.1) c.index.ensures in
     let number : c.number-number.result ≡ kept_number c.args.assigner past = c.number-number.ensures ∙ ap (λ (a : Keeping). last_number a.term) own.keeps in
     let fault = rw c.in-Err-NoMemory.field-0-is at c.in-Err-NoMemory.ensures.refused in
-    let none = no_refusal slices.NoMemory (refusal_of c.args.slices.now) (slices_other c.args.slices.now) fault in
+    let none = no_refusal (refusal_of c.args.slices.now) fault in
     let checks : first_of (propose_checks c.args.self.now.table c.number-number.result slicing c.args.at) ≡ first_of (propose_checks (standing job.policy past) (kept_number c.args.assigner past) slicing c.args.at) =
     ap (λ (t : Standing). first_of (propose_checks t c.number-number.result slicing c.args.at)) k.table ∙ ap (λ (n : ℕ). first_of (propose_checks (standing job.policy past) n slicing c.args.at)) number in
     rw (c.unproposed.ensures, checks)

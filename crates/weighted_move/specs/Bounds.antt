@@ -1,8 +1,7 @@
--- What a `plan` step holds its plan to.
+-- What a plan is held to, beside the numbers of owners.
 use Rattle.std.specs.Prelude.{ℕ, Bool, ◌&&◌, nat_le}
 use Rattle.slice_ranges.specs.declared.key.TheConstants.{KEYS}
 use Rattle.assignment.specs.declared.assignment.TheConstants.{MOST_SLICES}
-use Rattle.weighted_move.specs.Policies.{Limits, limits}
 use Rattle.machines.specs.Numbers.{is_within}
 
 -- how many keys may move; the loads up to which neighbours merge, and above which a slice is halved;
@@ -19,7 +18,3 @@ bounds churn cold hot most = record { churn = churn; cold = cold; hot = hot; mos
 -- the bounds are in their ranges
 abbrev pub is_bounds : Bounds → Bool
 is_bounds b = nat_le b.churn KEYS && is_within b.most MOST_SLICES
-
--- what a plan is held to where a slice has so many owners at the least and at the most
-abbrev pub limits_of : ℕ → ℕ → Bounds → Limits
-limits_of low high b = limits low high b.churn b.cold b.hot b.most
