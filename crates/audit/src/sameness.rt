@@ -6,9 +6,9 @@ ghost use Rattle.cluster.specs.declared.reply.ClusterReply.TheVariants as answer
 use assignment::Listed;
 use clerk::{ClerkReply, Found};
 use cluster::{ClusterError, ClusterReply};
-use slicelet::{KeyHandle, SliceletReply};
 use lease_table::{Phase, Row, TableReply};
 use policy_rules::Verdict;
+use slicelet::{KeyHandle, SliceletReply};
 
 fn is_reply_of_table(reply: &TableReply, other: &TableReply) -> bool
     ensures { MatchBool result (other.now ≡ reply.now) (other.now ≢ reply.now) }

@@ -1,7 +1,10 @@
 //! A clerk as a machine.
 
+ghost use Rattle.std.specs.Prelude.{◌≡◌, true, IfErr};
+ghost use Rattle.machines.specs.declared.machine.Trouble.TheVariants.{NoMemory};
 ghost use Rattle.machines.specs.Answers.{Takes};
 ghost use Rattle.clerk.specs.Calls.{event_step, clerk_step};
+ghost use Rattle.clerk.specs.Memory.{takes_memory};
 
 use crate::call::{ClerkCall, ClerkReply};
 use crate::clerk::Clerk;
@@ -13,10 +16,12 @@ use std::alloc::AllocError;
 pub type ClerkEvent = Event<ClerkCall>;
 
 impl Clerk {
-    /// Makes the call that a value stands for, and answers what it answers: its refusal; out of memory comes
-    /// last, and changes nothing.
+    /// Makes the call that a value stands for, and answers what it answers: its refusal.
+    ///
+    /// Only `Learn` can be out of memory: this comes last, and changes nothing.
     pub fn call(&mut self, call: &ClerkCall) -> Result<ClerkReply, Trouble<ClerkError>>
-        ensures { Takes (clerk_step self.old call.now) self.old result self.new }
+        ensures step { Takes (clerk_step self.old call.now) self.old result self.new }
+        ensures memory { IfErr result (λ trouble. trouble ≡ NoMemory → takes_memory call.now ≡ true) }
     {
         match call {
             ClerkCall::Learn(assignment) => {

@@ -1,9 +1,10 @@
 -- A call of a clerk.
 use Rattle.std.proofs.Common.{◌≡◌, ℕ, ◌+◌, ◌<◌, Bool, true, false, List, [], ◌∷◌, length, refl, sym, ◌∙◌, ap, subst, arith}
-use Rattle.std.specs.Prelude.{◌≢◌, ◌==◌, nat_le, nat_lt, Option, Some, None, Result, Ok, Err, set, get_or, if◌then◌else◌}
+use Rattle.std.specs.Prelude.{◌≢◌, ◌==◌, nat_le, nat_lt, Option, Some, None, Result, Ok, Err, IfErr, set, get_or, if◌then◌else◌}
 use Rattle.std.proofs.lemmas.Bool.Decides.{nat_tests}
 use Rattle.std.proofs.lemmas.List.{set-get_or}
 use Rattle.machines.specs.declared.machine.Trouble.{Trouble}
+use Rattle.machines.specs.declared.machine.Trouble.TheVariants.{NoMemory}
 use Rattle.machines.specs.Answers.{Takes, with_named_reply}
 use Rattle.machines.specs.Refusals.{when, first_of, unless_refused}
 use Rattle.machines.specs.Numbers.{is_within}
@@ -17,6 +18,7 @@ use Rattle.clerk.specs.declared.error.ClerkError.{ClerkError}
 use Rattle.clerk.specs.declared.error.ClerkError.TheVariants.{Old}
 use Rattle.clerk.specs.Steps.{look_at}
 use Rattle.clerk.specs.Calls.{clerk_step}
+use Rattle.clerk.specs.Memory.{takes_memory}
 use Rattle.clerk.specs.Knowledge.{accepted_with, greater, greatest_of}
 use Rattle.std.specs.declared.alloc.AllocError.{AllocError}
 use Rattle.cluster.specs.Jobs.{Job}
@@ -80,10 +82,10 @@ module _ (job : Job) (past : Past) (clerk place : ℕ) (c : ClerkCall) (old new 
   reply_is kept =
       by_own clerk job.clerks _ inside ∙ ap (λ (o : Option ClusterError). unless o (from_machine error.Clerk reply.Clerk (clerk_step (newest_learnt clerk past) c))) came
 
-  pub clerk_played : (answer : Result ClerkReply (Trouble ClerkError)) → Takes (clerk_step before c) before answer after → new.clerks.items ≡ set old.clerks.items place after → IsSameBesideClerks old new
+  pub clerk_played : (answer : Result ClerkReply (Trouble ClerkError)) → Takes (clerk_step before c) before answer after → IfErr answer (λ trouble. trouble ≡ NoMemory → takes_memory c ≡ true) → new.clerks.items ≡ set old.clerks.items place after → IsSameBesideClerks old new
       → IsPlayed job past (call.Clerk clerk c) (told_as error.Clerk reply.Clerk answer) new
   unfolding LeadsTo
-  clerk_played (Ok told) took clerks same =
+  clerk_played (Ok told) took memory clerks same =
       let done : clerk_step (newest_learnt clerk past) c ≡ Ok (after, told) = subst (λ (s : Option Slicing). clerk_step s c ≡ Ok (after, told)) at_place took in
       let past_now : Past = event (call.Clerk clerk c) (reply.Clerk told) ∷ past in
       let now : after ≡ newest_learnt (place + 1) past_now =
@@ -104,7 +106,7 @@ module _ (job : Job) (past : Past) (clerk place : ℕ) (c : ClerkCall) (old new 
         handle_keys = λ handle. same.handle_keys (handle_key handle) ∙ k.handle_keys handle;
         proposals = same.proposals ∙ k.proposals;
       }
-  clerk_played (Err trouble) took clerks same =
+  clerk_played (Err trouble) took memory clerks same =
       untaken job past (call.Clerk clerk c) error.Clerk reply.Clerk (clerk_step (newest_learnt clerk past) c) reply_is tt old new before after trouble k
       (record {
         job = same.job;
@@ -117,16 +119,17 @@ module _ (job : Job) (past : Past) (clerk place : ℕ) (c : ClerkCall) (old new 
         note_keys = same.note_keys;
         handle_keys = same.handle_keys;
         proposals = same.proposals;
-      }) (subst (λ (s : Option Slicing). Takes (clerk_step s c) before (Err trouble) after) at_place took) (λ r. refl)
+      }) (subst (λ (s : Option Slicing). Takes (clerk_step s c) before (Err trouble) after) at_place took) memory (λ r. refl)
 
 -- a call that comes to its clerk
 pub clerk_turn : (job : Job) (past : Past) (clerk place : ℕ) (c : ClerkCall) (old new : Cluster) → place + 1 ≡ clerk → clerk_refusal past c ≡ None → LeadsTo job past old
     → (before after : Option Slicing) → before ≡ get_or old.clerks.items place before → place < length old.clerks.items
-    → (answer : Result ClerkReply (Trouble ClerkError)) → Takes (clerk_step before c) before answer after → new.clerks.items ≡ set old.clerks.items place after → IsSameBesideClerks old new
+    → (answer : Result ClerkReply (Trouble ClerkError)) → Takes (clerk_step before c) before answer after → IfErr answer (λ trouble. trouble ≡ NoMemory → takes_memory c ≡ true)
+    → new.clerks.items ≡ set old.clerks.items place after → IsSameBesideClerks old new
     → (result : Result ClusterReply AllocError) → result ≡ told_as error.Clerk reply.Clerk answer → IsPlayed job past (call.Clerk clerk c) result new
-clerk_turn job past clerk place c old new number came k before after found within answer took clerks same result is =
+clerk_turn job past clerk place c old new number came k before after found within answer took memory clerks same result is =
     subst (λ (r : Result ClusterReply AllocError). IsPlayed job past (call.Clerk clerk c) r new) (sym is)
-    (clerk_played job past clerk place c old new number came k before after found within answer took clerks same)
+    (clerk_played job past clerk place c old new number came k before after found within answer took memory clerks same)
 
 -- the clerk of a place is of the job
 pub inside_job : (job : Job) (past : Past) (clerk place : ℕ) (cluster : Cluster) → LeadsTo job past cluster → place + 1 ≡ clerk → place < length cluster.clerks.items

@@ -20,10 +20,11 @@ use Rattle.cluster.specs.declared.call.ClusterCall.TheVariants as call
 use Rattle.cluster.specs.declared.reply.ClusterReply.{ClusterReply}
 use Rattle.cluster.specs.declared.reply.ClusterReply.TheVariants as reply
 use Rattle.cluster.specs.declared.cluster.Cluster.{Cluster}
-use Rattle.cluster.specs.Pasts.{event, Past, is_accepted, task_calls, history, newest_learnt}
+use Rattle.cluster.specs.Pasts.{event, Past, task_calls, history, newest_learnt}
 use Rattle.cluster.specs.Deliveries.{handles_made, same_handle, is_given}
 use Rattle.cluster.specs.internals.Keys.{Key, key_eq, note_key, handle_key}
 use Rattle.cluster.specs.Replies.{covers, rule_in, holding, familiar, checked, reply_to}
+use Rattle.cluster.specs.Memory.{gives_handle, MayRunOut}
 use Rattle.cluster.specs.Runs.{IsReply}
 use Rattle.cluster.specs.Clusters.{AreActors, LeadsTo}
 use Rattle.cluster.proofs.Keying.{handle_keys_same}
@@ -123,7 +124,7 @@ held_leads job past task key at handle old new k more same keys is = record {
 -- where there is no memory for it, nothing changed
 pub hold_out_of_memory : (job : Job) (past : Past) (task key at : ℕ) (handle : KeyHandle) (old new : Cluster) → LeadsTo job past old → IsSame old new
     → ((kept : Bool) → reply_to job past (call.Hold task key at) kept ≡ reply.Holding handle)
-    → LeadsTo job past new × ((kept : Bool) → is_accepted (reply_to job past (call.Hold task key at) kept) ≡ true)
+    → LeadsTo job past new × MayRunOut job past (call.Hold task key at)
 unfolding LeadsTo
 hold_out_of_memory job past task key at handle old new k same is =
-    (kept_same job past old new k same, λ kept. ap (λ (r : ClusterReply). is_accepted r) (is kept))
+    (kept_same job past old new k same, (refl, λ kept. ap (λ (r : ClusterReply). gives_handle r) (is kept)))

@@ -1,8 +1,20 @@
 -- A call that delivers what has a number.
-use Rattle.std.proofs.Common.{◌≡◌, ℕ, Bool, true, false, not, refl, sym, ap, subst, length}
-use Rattle.std.specs.Prelude.{Option, Some, None, Result, Ok, option_map}
+use Rattle.std.proofs.Common.{◌≡◌, ℕ, ◌≤◌, Bool, true, false, List, not, refl, sym, ◌∙◌, ap, subst, length}
+use Rattle.std.specs.Prelude.{Option, Some, None, Result, Ok, Err, IfErr, option_map}
 use Rattle.std.specs.declared.alloc.AllocError.{AllocError}
 use Rattle.machines.specs.Numbers.{is_within}
+use Rattle.machines.specs.declared.machine.Trouble.{Trouble}
+use Rattle.machines.specs.declared.machine.Trouble.TheVariants.{NoMemory}
+use Rattle.assignment.specs.Slices.{Slicing}
+use Rattle.assignment.specs.Equality.{slicing_equivalence}
+use Rattle.lease_table.specs.Policies.{Terms}
+use Rattle.lease_table.specs.Calls.{AnsweredTableCall}
+use Rattle.lease_table.specs.Runs.{commits_in, IsRun as IsTableRun}
+use Rattle.lease_table.specs.Generations.{assignment_in, published_in}
+use Rattle.clerk.specs.declared.call.ClerkCall.TheVariants.{Learn}
+use Rattle.clerk.specs.declared.call.ClerkReply.{ClerkReply}
+use Rattle.clerk.specs.declared.error.ClerkError.{ClerkError}
+use Rattle.clerk.specs.Memory.{takes_memory}
 use Rattle.machines.specs.Refusals.{when}
 use Rattle.lease_table.specs.declared.values.Grant.{Grant}
 use Rattle.slicelet.specs.declared.call.SliceletCall.TheVariants.{Hear}
@@ -12,13 +24,14 @@ use Rattle.cluster.specs.declared.error.ClusterError.TheVariants as error
 use Rattle.cluster.specs.declared.reply.ClusterReply.{ClusterReply}
 use Rattle.cluster.specs.declared.reply.ClusterReply.TheVariants as reply
 use Rattle.cluster.specs.declared.cluster.Cluster.{Cluster}
-use Rattle.cluster.specs.Pasts.{Past, grants}
-use Rattle.cluster.specs.Deliveries.{is_sent, task_refusal}
+use Rattle.cluster.specs.Pasts.{Past, table_calls, grants, published}
+use Rattle.cluster.specs.Deliveries.{is_sent, is_published, is_published_as, task_refusal, clerk_refusal}
 use Rattle.cluster.specs.Replies.{by_actor}
 use Rattle.cluster.specs.Clusters.{LeadsTo, IsPlayed, IsPlayedOr}
 use Rattle.cluster.specs.Numbered.{numbered}
 use Rattle.cluster.proofs.Finding.{numbered_sent}
-use Rattle.cluster.proofs.Stopping.{call_of_none, few_tasks}
+use Rattle.cluster.proofs.Publishing.{known_generation}
+use Rattle.cluster.proofs.Stopping.{call_of_none, clerk_of_none, few_tasks, few_clerks}
 use Rattle.cluster.proofs.TaskTurns.{by_own, by_none}
 
 none_told : (told answer : ClusterReply) → answer ≡ told → (let r : Result ClusterReply AllocError = Ok told in r) ≡ Ok answer
@@ -35,6 +48,16 @@ module _ (job : Job) (past : Past) (cluster : Cluster) (k : LeadsTo job past clu
   hear_unsent task at None own e = (none_told _ _ (by_own task job.tasks _ own), k)
   hear_unsent task at (Some grant) own e = absurd (cc)
 
+  pub learn_of_none : (clerk : ℕ) (o : Option Slicing) → is_within clerk (length cluster.clerks.items) ≡ false
+      → IsPlayedOr job past (option_map (λ slicing. asked.Clerk clerk (Learn slicing)) o) (by_actor clerk job.clerks (reply.Refused error.NotSent)) (Ok (reply.Refused error.NoActor)) cluster
+  learn_of_none clerk None e = (none_told _ _ (by_none clerk job.clerks _ (few_clerks job past cluster k clerk e)), k)
+  learn_of_none clerk (Some slicing) e = clerk_of_none job past cluster k clerk (Learn slicing) e
+
+  pub learn_unpublished : (clerk : ℕ) (o : Option Slicing) → is_within clerk job.clerks ≡ true → None ≡ o
+      → IsPlayedOr job past (option_map (λ slicing. asked.Clerk clerk (Learn slicing)) o) (by_actor clerk job.clerks (reply.Refused error.NotSent)) (Ok (reply.Refused error.NotSent)) cluster
+  learn_unpublished clerk None own e = (none_told _ _ (by_own clerk job.clerks _ own), k)
+  learn_unpublished clerk (Some slicing) own e = absurd (cc)
+
 -- what was made is no reason to refuse
 unrefused : {E : Type 0} (b : Bool) (why : E) → b ≡ true → when (not b) why ≡ None
 unrefused true why e = refl
@@ -48,3 +71,25 @@ pub hear_played : (job : Job) (past : Past) (task at : ℕ) (grant : Grant) (o :
     → IsPlayed job past (asked.Task task (Hear grant at)) result new → IsPlayedOr job past (option_map (λ grant. asked.Task task (Hear grant at)) o) none result new
 hear_played job past task at grant o none result new e played =
     subst (λ (o : Option Grant). IsPlayedOr job past (option_map (λ grant. asked.Task task (Hear grant at)) o) none result new) e played
+
+-- a published assignment comes to a clerk
+pub published_comes : (job : Job) (past : Past) (generation : ℕ) (slicing : Slicing) → IsTableRun job.policy (table_calls past)
+    → ((calls : List AnsweredTableCall) (generation : ℕ) → generation ≤ commits_in calls → assignment_in generation calls ≡ published_in generation calls)
+    → ((policy : Terms) (calls : List AnsweredTableCall) (generation : ℕ) (slicing : Slicing) → IsTableRun policy calls → assignment_in generation calls ≡ Some slicing → slicing.generation ≡ generation)
+    → published generation past ≡ Some slicing → clerk_refusal past (Learn slicing) ≡ None
+published_comes job past generation slicing run known named e =
+    let calls = table_calls past in
+    let same : slicing.generation ≡ generation = named job.policy calls generation slicing run (known calls generation (known_generation job.policy calls run generation slicing e) ∙ e) in
+    unrefused (is_published past slicing) error.NotSent
+    (ap (λ (n : ℕ). is_published_as slicing (published n past)) same ∙ (ap (is_published_as slicing) e ∙ slicing_equivalence.refl slicing))
+
+-- it is learnt
+pub learn_played : (job : Job) (past : Past) (clerk : ℕ) (slicing : Slicing) (o : Option Slicing) (none : ClusterReply) (result : Result ClusterReply AllocError) (new : Cluster) → Some slicing ≡ o
+    → IsPlayed job past (asked.Clerk clerk (Learn slicing)) result new → IsPlayedOr job past (option_map (λ slicing. asked.Clerk clerk (Learn slicing)) o) none result new
+learn_played job past clerk slicing o none result new e played =
+    subst (λ (o : Option Slicing). IsPlayedOr job past (option_map (λ slicing. asked.Clerk clerk (Learn slicing)) o) none result new) e played
+
+-- to learn takes memory
+pub learn_takes : (slicing : Slicing) (answer : Result ClerkReply (Trouble ClerkError)) → IfErr answer (λ trouble. trouble ≡ NoMemory → takes_memory (Learn slicing) ≡ true)
+learn_takes slicing (Ok told) = tt
+learn_takes slicing (Err trouble) = λ e. refl

@@ -19,10 +19,11 @@ use Rattle.cluster.specs.declared.call.ClusterCall.TheVariants as call
 use Rattle.cluster.specs.declared.reply.ClusterReply.{ClusterReply}
 use Rattle.cluster.specs.declared.reply.ClusterReply.TheVariants as reply
 use Rattle.cluster.specs.declared.cluster.Cluster.{Cluster}
-use Rattle.cluster.specs.Pasts.{event, Past, is_accepted, table_calls, task_calls, history, learnt_by, newest_learnt}
+use Rattle.cluster.specs.Pasts.{event, Past, table_calls, task_calls, history, learnt_by, newest_learnt}
 use Rattle.cluster.specs.Deliveries.{notes_made, handles_made, same_note, same_handle}
 use Rattle.cluster.specs.internals.Keys.{Key, key_eq, note_key, handle_key}
 use Rattle.cluster.specs.Replies.{from_machine, reply_to}
+use Rattle.cluster.specs.Memory.{takes_memory, needs_memory}
 use Rattle.cluster.specs.Runs.{IsReply, IsOutcome}
 use Rattle.cluster.specs.Clusters.{AreActors, Keeps, LeadsTo, IsPlayed}
 use Rattle.cluster.specs.internals.Turns.{told_as}
@@ -158,17 +159,17 @@ module _ {M R E : Type 0} (job : Job) (past : Past) (c : ClusterCall) (refused :
   pub taken : (p : M × R) → step ≡ Ok p → IsReply job past (event c (name p.1))
   taken p e = (true, outcome, sym (is true ∙ ap (from_machine refused name) e))
 
-  accepted : ((r : R) → is_accepted (name r) ≡ true) → (s : Result (M × R) E) → is_ok s ≡ true → is_accepted (from_machine refused name s) ≡ true
-  accepted each (Ok p) ok = each p.1
-  accepted each (Err why) ok = absurd (let f : false ≡ true = ok in cc)
+  needed : ((r : R) → needs_memory c (name r) ≡ true) → (s : Result (M × R) E) → is_ok s ≡ true → needs_memory c (from_machine refused name s) ≡ true
+  needed each (Ok p) ok = each p.1
+  needed each (Err why) ok = absurd (let f : false ≡ true = ok in cc)
 
   pub untaken : (old new : Cluster) (before after : M) (trouble : Trouble E) → LeadsTo job past old → IsSame old new → Takes step before (Err trouble) after
-      → ((r : R) → is_accepted (name r) ≡ true) → IsPlayed job past c (told_as refused name (Err trouble)) new
+      → (trouble ≡ NoMemory → takes_memory c ≡ true) → ((r : R) → needs_memory c (name r) ≡ true) → IsPlayed job past c (told_as refused name (Err trouble)) new
   unfolding LeadsTo
-  untaken old new before after (Refused why) k same h each =
+  untaken old new before after (Refused why) k same h takes each =
       refused_leads job past c (refused why) new (kept_same job past old new k same) (true, outcome, sym (is true ∙ ap (from_machine refused name) h.0))
-  untaken old new before after NoMemory k same h each =
-      (kept_same job past old new k same, λ kept. subst (λ (r : ClusterReply). is_accepted r ≡ true) (sym (is kept)) (accepted each step h.0))
+  untaken old new before after NoMemory k same h takes each =
+      (kept_same job past old new k same, (takes refl, λ kept. subst (λ (r : ClusterReply). needs_memory c r ≡ true) (sym (is kept)) (needed each step h.0)))
 
 -- a call that does not come to its machine
 pub stopped : (job : Job) (past : Past) (c : ClusterCall) (why : ClusterError) (cluster : Cluster) → LeadsTo job past cluster

@@ -152,3 +152,19 @@ published_is policy calls run counted generation = by_test (nat_le generation (g
         let many : length (published_list calls) ≡ commits_in calls = h.many in
         let beyond : length (published_list calls) < generation = omega (arith, high, counted, many) in
         sym (h.each generation ∙ numbered_past (published_list calls) generation beyond)
+
+-- a published generation is one of the commits
+pub known_generation : (policy : Terms) (calls : List AnsweredTableCall) → IsRun policy calls → (generation : ℕ) (slicing : Slicing) → published_in generation calls ≡ Some slicing
+    → generation ≤ commits_in calls
+known_generation policy calls run generation slicing e = by_test (nat_le generation (commits_in calls)) refl
+  where
+    h : IsPublished calls
+    h = are_published policy calls run
+
+    by_test : (b : Bool) → b ≡ nat_le generation (commits_in calls) → generation ≤ commits_in calls
+    by_test true t = grind (arith, nat_tests)
+    by_test false t =
+        let high : commits_in calls < generation = grind (arith, nat_tests) in
+        let many : length (published_list calls) ≡ commits_in calls = h.many in
+        let beyond : length (published_list calls) < generation = omega (arith, high, many) in
+        absurd (let none : None ≡ Some slicing = sym (numbered_past (published_list calls) generation beyond) ∙ (sym (h.each generation) ∙ e) in cc)

@@ -28,7 +28,7 @@ module _ (job : Job) (past : Past) (cluster : Cluster) (k : LeadsTo job past clu
   unfolding LeadsTo
   few_tasks task e = subst (λ (n : ℕ). is_within task n ≡ false) k.tasks.0 e
 
-  few_clerks : (clerk : ℕ) → is_within clerk (length cluster.clerks.items) ≡ false → is_within clerk job.clerks ≡ false
+  pub few_clerks : (clerk : ℕ) → is_within clerk (length cluster.clerks.items) ≡ false → is_within clerk job.clerks ≡ false
   unfolding LeadsTo
   few_clerks clerk e = subst (λ (n : ℕ). is_within clerk n ≡ false) k.clerks.0 e
 

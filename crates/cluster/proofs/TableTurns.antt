@@ -29,7 +29,7 @@ use Rattle.cluster.specs.Replies.{unless, from_machine, reply_to}
 use Rattle.cluster.specs.Clusters.{AreActors, LeadsTo, IsPlayed}
 use Rattle.cluster.specs.internals.Keys.{key_eq, note_key, handle_key}
 use Rattle.cluster.specs.internals.Proposals.{proposals_with}
-use Rattle.cluster.specs.internals.Turns.{told_as, grants_kept, proposals_kept, IsSameBesideTable}
+use Rattle.cluster.specs.internals.Turns.{told_as, grants_kept, proposals_kept, OnlyTakes, IsSameBesideTable}
 use Rattle.cluster.proofs.Playing.{taken, untaken}
 use Rattle.cluster.proofs.Turning.{stays}
 
@@ -39,10 +39,11 @@ module _ (job : Job) (past : Past) (c : TableCall) (old new : Cluster) (came : t
   reply_is kept = ap (λ (o : Option ClusterError). unless o (from_machine error.Table reply.Table (table_step (standing job.policy past) c))) came
 
   pub table_played : (answer : Result TableReply (Trouble TableError)) → LeadsTo job past old → Takes (table_step old.table c) old.table answer new.table
+      → OnlyTakes c answer
       → new.grants.items ≡ grants_kept answer old.grants.items → new.proposals.items ≡ proposals_kept c answer old.proposals.items → IsSameBesideTable old new
       → IsPlayed job past (call.Table c) (told_as error.Table reply.Table answer) new
   unfolding LeadsTo
-  table_played (Ok told) k took grants proposals others =
+  table_played (Ok told) k took memory grants proposals others =
       let done : table_step (standing job.policy past) c ≡ Ok (new.table, told) = subst (λ (t : Standing). table_step t c ≡ Ok (new.table, told)) k.table took in
       record {
         run = (taken job past (call.Table c) error.Table reply.Table (table_step (standing job.policy past) c) reply_is tt (new.table, told) done, k.run);
@@ -58,7 +59,7 @@ module _ (job : Job) (past : Past) (c : TableCall) (old new : Cluster) (came : t
         handle_keys = λ handle. ap (λ keys. contains key_eq keys (handle_key handle)) others.6 ∙ k.handle_keys handle;
         proposals = proposals ∙ ap (proposals_with c true) k.proposals;
       }
-  table_played (Err trouble) k took grants proposals others =
+  table_played (Err trouble) k took memory grants proposals others =
       untaken job past (call.Table c) error.Table reply.Table (table_step (standing job.policy past) c) reply_is tt old new old.table new.table trouble k (record {
         job = others.0;
         table = stays (table_step old.table c) old.table new.table trouble took;
@@ -70,16 +71,16 @@ module _ (job : Job) (past : Past) (c : TableCall) (old new : Cluster) (came : t
         note_keys = λ key. ap (λ keys. contains key_eq keys key) others.5;
         handle_keys = λ key. ap (λ keys. contains key_eq keys key) others.6;
         proposals = proposals;
-      }) (subst (λ (t : Standing). Takes (table_step t c) old.table (Err trouble) new.table) k.table took) (λ r. refl)
+      }) (subst (λ (t : Standing). Takes (table_step t c) old.table (Err trouble) new.table) k.table took) memory (λ r. refl)
 
 -- a call that comes to the table, with the law of its steps
 pub table_turn : (job : Job) (past : Past) (c : TableCall) (old new : Cluster) → LeadsTo job past old → table_refusal job past c ≡ None
     → ((policy : Terms) (calls : List AnsweredTableCall) (asked : TableCall) → is_policy policy ≡ true
     → LeadsOn (LeadsTable policy) calls (standing_after policy calls) asked (table_step (standing_after policy calls) asked))
-    → (answer : Result TableReply (Trouble TableError)) → Takes (table_step old.table c) old.table answer new.table
+    → (answer : Result TableReply (Trouble TableError)) → Takes (table_step old.table c) old.table answer new.table → OnlyTakes c answer
     → new.grants.items ≡ grants_kept answer old.grants.items → new.proposals.items ≡ proposals_kept c answer old.proposals.items → IsSameBesideTable old new → (result : Result ClusterReply AllocError) → result ≡ told_as error.Table reply.Table answer
     → IsPlayed job past (call.Table c) result new
 unfolding LeadsTo
-table_turn job past c old new k came law answer took grants proposals others result is =
+table_turn job past c old new k came law answer took memory grants proposals others result is =
     subst (λ (r : Result ClusterReply AllocError). IsPlayed job past (call.Table c) r new) (sym is)
-    (table_played job past c old new came (law job.policy (table_calls past) c k.within) answer k took grants proposals others)
+    (table_played job past c old new came (law job.policy (table_calls past) c k.within) answer k took memory grants proposals others)

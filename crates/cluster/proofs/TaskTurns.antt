@@ -113,7 +113,7 @@ module _ (job : Job) (past : Past) (task place : ℕ) (c : SliceletCall) (old ne
         note_keys = keys;
         handle_keys = others.handle_keys;
         proposals = others.proposals;
-      }) (subst (λ (s : SliceletState). Takes (slicelet_step s c) before (Err trouble) after) at_place took) (λ r. refl)
+      }) (subst (λ (s : SliceletState). Takes (slicelet_step s c) before (Err trouble) after) at_place took) (λ none. refl) (λ r. refl)
 
 -- a call that comes to its task
 pub task_turn : (job : Job) (past : Past) (task place : ℕ) (c : SliceletCall) (old new : Cluster) → place + 1 ≡ task → task_refusal past c ≡ None → LeadsTo job past old

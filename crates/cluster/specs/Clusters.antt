@@ -1,5 +1,5 @@
 -- Which past leads to a cluster.
-use Rattle.std.specs.Prelude.{◌≡◌, ℕ, ◌+◌, Bool, true, List, ◌∷◌, Option, Some, None, Result, Ok, Err, length, slice_get, reverse}
+use Rattle.std.specs.Prelude.{◌≡◌, ℕ, ◌+◌, true, List, ◌∷◌, Option, Some, None, Result, Ok, Err, length, slice_get, reverse}
 use Rattle.std.specs.declared.alloc.AllocError.{AllocError}
 use Rattle.lease_table.specs.Policies.{is_policy}
 use Rattle.indexmap.specs.IndexSet.{contains}
@@ -9,9 +9,9 @@ use Rattle.cluster.specs.Jobs.{Job}
 use Rattle.cluster.specs.declared.call.ClusterCall.{ClusterCall}
 use Rattle.cluster.specs.declared.reply.ClusterReply.{ClusterReply}
 use Rattle.cluster.specs.declared.cluster.Cluster.{Cluster}
-use Rattle.cluster.specs.Pasts.{event, Past, is_accepted, table_calls, standing, grants, history, newest_learnt}
+use Rattle.cluster.specs.Pasts.{event, Past, table_calls, standing, grants, history, newest_learnt}
 use Rattle.cluster.specs.Deliveries.{notes_made, handles_made, is_made, is_given}
-use Rattle.cluster.specs.Replies.{reply_to}
+use Rattle.cluster.specs.Memory.{MayRunOut}
 use Rattle.cluster.specs.Runs.{IsRun}
 use Rattle.cluster.specs.internals.Keys.{key_eq, note_key, handle_key}
 use Rattle.cluster.specs.internals.Proposals.{proposals_in}
@@ -39,10 +39,10 @@ pub record Keeps (job : Job) (past : Past) (cluster : Cluster) : Type 0 where
 unfoldable pub LeadsTo : Job → Past → Cluster → Type 0
 LeadsTo job past cluster = Keeps job past cluster
 
--- a call is answered, or it is out of memory: only where it would not be refused, and the same past leads to the cluster as before
+-- a call is answered, or it is out of memory where it may be, and the same past leads to the cluster as before
 abbrev pub IsPlayed : Job → Past → ClusterCall → Result ClusterReply AllocError → Cluster → Type 0
 IsPlayed job past call (Ok reply) cluster = LeadsTo job (event call reply ∷ past) cluster
-IsPlayed job past call (Err e) cluster = LeadsTo job past cluster × ((kept : Bool) → is_accepted (reply_to job past call kept) ≡ true)
+IsPlayed job past call (Err e) cluster = LeadsTo job past cluster × MayRunOut job past call
 
 -- a call that delivers what has a number is answered as the call that holds it; where nothing has the number, this is answered, and nothing changes
 abbrev pub IsPlayedOr : Job → Past → Option ClusterCall → ClusterReply → Result ClusterReply AllocError → Cluster → Type 0

@@ -3,6 +3,7 @@ pub mod Timing
 pub mod Pasts
 pub mod Deliveries
 pub mod Replies
+pub mod Memory
 pub mod Runs
 pub mod Headline
 pub mod Promises

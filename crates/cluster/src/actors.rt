@@ -8,7 +8,7 @@ ghost use Rattle.cluster.specs.Numbered.{numbered};
 use crate::error::ClusterError;
 
 /// The place of the actor of this number.
-pub(crate) fn place_of<A>(number: u64, actors: &[A]) -> Option<usize>
+pub fn place_of<A>(number: u64, actors: &[A]) -> Option<usize>
     ensures { MatchOption result
         (is_within number (length actors.now) ≡ false)
         (λ place. (place + 1 ≡ number) × (place < length actors.now)) }
@@ -21,7 +21,7 @@ pub(crate) fn place_of<A>(number: u64, actors: &[A]) -> Option<usize>
 }
 
 /// Whether a number is from 1 to the most.
-pub(crate) fn is_within(number: u64, most: u64) -> bool
+pub fn is_within(number: u64, most: u64) -> bool
     ensures { result ≡ is_within number most }
 {
     1 <= number && number <= most

@@ -3,10 +3,10 @@
 ghost use Rattle.std.specs.Prelude.{◌≡◌, IfOk};
 
 use clerk::ClerkCall;
-use slicelet::{KeyHandle, SliceletCall};
-use slice_ranges::SliceKey;
 use lease_table::TableCall;
 use machines::Duplicate;
+use slice_ranges::SliceKey;
+use slicelet::{KeyHandle, SliceletCall};
 use std::alloc::AllocError;
 
 /// A call of one actor, with what it delivers: grants, notes, handles and assignments themselves. `at` is a

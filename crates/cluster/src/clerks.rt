@@ -15,12 +15,12 @@ use crate::cluster::Cluster;
 use crate::error::ClusterError;
 use crate::reply::ClusterReply;
 use clerk::{ClerkCall, ClerkError, ClerkReply};
-use slice_ranges::SliceKey;
 use machines::Trouble;
+use slice_ranges::SliceKey;
 use std::alloc::AllocError;
 
 // What a clerk answers, as the cluster's reply.
-fn told_by_clerk(
+pub(crate) fn told_by_clerk(
     answer: Result<ClerkReply, Trouble<ClerkError>>,
 ) -> Result<ClusterReply, AllocError>
     ensures { result ≡ told_as error.Clerk reply.Clerk answer }

@@ -7,12 +7,15 @@ ghost use Rattle.lease_table.specs.Policies.{is_policy};
 ghost use Rattle.slicelet.specs.Continuity.{is_strange};
 ghost use Rattle.slicelet.specs.States.{opening};
 ghost use Rattle.cluster.specs.Jobs.{Job};
+ghost use Rattle.cluster.specs.declared.call.ClusterCall.{ClusterCall};
 ghost use Rattle.cluster.specs.declared.call.ClusterCall.TheVariants as asked;
+ghost use Rattle.cluster.specs.declared.error.ClusterError.{ClusterError};
 ghost use Rattle.cluster.specs.declared.reply.ClusterReply.{ClusterReply};
+ghost use Rattle.cluster.specs.declared.reply.ClusterReply.TheVariants as reply;
 ghost use Rattle.cluster.specs.Timing.{IsTimely};
 ghost use Rattle.cluster.specs.Pasts.{Past, event, readings, history};
 ghost use Rattle.cluster.specs.Deliveries.{is_given};
-ghost use Rattle.cluster.specs.Runs.{IsRun};
+ghost use Rattle.cluster.specs.Runs.{IsReply, IsRun};
 ghost use Rattle.cluster.specs.Headline.{MayServe, IsOwner, IsWhileHeld};
 ghost use Rattle.cluster.specs.Promises.{IsServedByRule, IsCheckedByHistory};
 ghost use Rattle.cluster.specs.Clusters.{AreActors, LeadsTo, IsPlayed};
@@ -25,8 +28,8 @@ use crate::reply::ClusterReply;
 use assignment::{Assignment, TaskId};
 use clerk::Clerk;
 use indexmap::IndexSet;
-use slicelet::{KeyHandle, Slicelet};
 use lease_table::{Grant, LeaseTable, ReleaseNote, policy_law};
+use slicelet::{KeyHandle, Slicelet};
 use std::alloc::{AllocError, Global};
 
 /// A job's table, slicelets and clerks, and all that was made so far: grants, notes, handles and
@@ -100,7 +103,7 @@ impl Cluster {
             ClusterCall::Table(call) => self.call_table(call),
             ClusterCall::Task { task, call } => self.call_task(*task, call),
             ClusterCall::Clerk { clerk, call } => self.call_clerk(*clerk, call),
-            ClusterCall::Phase => Ok(self.phase()),
+            ClusterCall::Phase => Ok(self.phase_reply()),
             ClusterCall::Rows => self.rows(),
             ClusterCall::Serve { task, key, at } => Ok(self.serve(*task, *key, *at)),
             ClusterCall::Hold { task, key, at } => self.hold(*task, *key, *at),
@@ -114,6 +117,12 @@ impl Cluster {
     pub fn run_law(&self)
         ensures run { (job : Job) (past : Past) → LeadsTo job past self.now → IsRun job past }
         ensures within { (job : Job) (past : Past) → LeadsTo job past self.now → is_policy job.policy ≡ true }
+    {}
+
+    /// A call that is refused leads on, and changes nothing.
+    pub fn refusal_law(&self)
+        ensures { (job : Job) (past : Past) (call : ClusterCall) (why : ClusterError) → LeadsTo job past self.now
+            → IsReply job past (event call (reply.Refused why)) → LeadsTo job (event call (reply.Refused why) ∷ past) self.now }
     {}
 
     /// At every point of what led to this cluster: a `serve` was told what the written rule says of its

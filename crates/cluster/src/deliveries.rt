@@ -11,8 +11,8 @@ use crate::actors::numbered;
 use crate::cluster::Cluster;
 use crate::keys::{handle_key, note_key};
 use assignment::Assignment;
-use slicelet::KeyHandle;
 use lease_table::{Grant, LeaseTable, Phase, ReleaseNote};
+use slicelet::KeyHandle;
 
 // The committed assignment of a generation: that of the proposal of this place.
 pub(crate) fn published<'a>(

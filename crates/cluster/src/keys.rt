@@ -5,9 +5,9 @@ ghost use Rattle.indexmap.specs.IndexSet.{contains, spare};
 ghost use Rattle.cluster.specs.internals.Keys.{Key, key_eq, note_key, handle_key};
 
 use indexmap::IndexSet;
-use slicelet::KeyHandle;
 use lease_table::ReleaseNote;
 use policy_rules::Kind;
+use slicelet::KeyHandle;
 
 /// All that a note or a handle says.
 pub(crate) type Key = (u64, u64, u64, u64);

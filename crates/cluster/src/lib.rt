@@ -23,6 +23,7 @@ mod timeliness;
 mod timing;
 
 pub use crate::cluster::Cluster;
+pub use actors::{is_within, place_of};
 pub use call::ClusterCall;
 pub use error::ClusterError;
 pub use job::{Job, MOST_ASSIGNERS, MOST_CLERKS};

@@ -1,11 +1,16 @@
-//! What was made, by its number.
+//! What was made, by its number, and what a front asks before it makes a call.
 
-ghost use Rattle.std.specs.Prelude.{◌≡◌, option_map, reverse};
+ghost use Rattle.std.specs.Prelude.{◌≡◌, ◌+◌, length, option_map, reverse};
 ghost use Rattle.cluster.specs.Jobs.{Job};
-ghost use Rattle.cluster.specs.Pasts.{Past, grants, published};
+ghost use Rattle.cluster.specs.Pasts.{Past, standing, grants, published};
 ghost use Rattle.cluster.specs.Deliveries.{notes_made, handles_made};
 ghost use Rattle.cluster.specs.Numbered.{numbered};
 ghost use Rattle.machines.specs.Answers.{Takes};
+ghost use Rattle.machines.specs.Refusals.{first_of};
+ghost use Rattle.lease_table.specs.Tables.{phase_of};
+ghost use Rattle.lease_table.specs.Steps.{propose_checks};
+ghost use Rattle.clerk.specs.declared.call.ClerkCall.TheVariants.{Learn};
+ghost use Rattle.clerk.specs.Calls.{clerk_step};
 ghost use Rattle.slicelet.specs.declared.call.SliceletCall.TheVariants.{Hear};
 ghost use Rattle.slicelet.specs.Steps.{slicelet_step};
 ghost use Rattle.cluster.specs.declared.call.ClusterCall.TheVariants as asked;
@@ -15,15 +20,17 @@ ghost use Rattle.cluster.specs.Replies.{by_actor};
 ghost use Rattle.cluster.specs.Clusters.{LeadsTo, IsPlayedOr};
 
 use crate::actors::{numbered, place_of};
+use crate::clerks::told_by_clerk;
 use crate::cluster::Cluster;
 use crate::deliveries::published;
 use crate::error::ClusterError;
 use crate::reply::ClusterReply;
 use crate::tasks::told_by_task;
-use assignment::Assignment;
-use slicelet::{KeyHandle, Slicelet, SliceletError, SliceletReply};
-use lease_table::{Grant, ReleaseNote};
+use assignment::{Assignment, Slice};
+use clerk::{Clerk, ClerkError, ClerkReply};
+use lease_table::{Grant, Phase, ReleaseNote, TableError};
 use machines::Trouble;
+use slicelet::{KeyHandle, Slicelet, SliceletError, SliceletReply};
 use std::alloc::AllocError;
 
 impl Cluster {
@@ -61,6 +68,43 @@ impl Cluster {
         published(generation, &self.table, self.proposals.as_slice())
     }
 
+    /// The number that the next note gets.
+    pub fn next_note(&self) -> u64
+        ensures { (job : Job) (past : Past) → LeadsTo job past self.now → result ≡ length (notes_made past) + 1 }
+    {
+        self.notes.as_slice().len() as u64 + 1
+    }
+
+    /// The number that the next handle gets.
+    pub fn next_handle(&self) -> u64
+        ensures { (job : Job) (past : Past) → LeadsTo job past self.now → result ≡ length (handles_made past) + 1 }
+    {
+        self.handles.as_slice().len() as u64 + 1
+    }
+
+    /// The table's phase.
+    pub fn phase(&self) -> Phase
+        ensures { (job : Job) (past : Past) → LeadsTo job past self.now → result ≡ phase_of (standing job.policy past) }
+    {
+        self.table.phase()
+    }
+
+    /// Why the table refuses a proposal of slices that make an assignment, if it does: its refusals in
+    /// their order, with no need of the assignment. `number` is that of a job term, and `at` a reading of
+    /// the table's clock, in ticks.
+    pub fn proposal_refusal(
+        &self,
+        number: u64,
+        generation: u64,
+        slices: &[Slice],
+        at: u64,
+    ) -> Option<TableError>
+        ensures { (job : Job) (past : Past) → LeadsTo job past self.now → result ≡ first_of (propose_checks
+            (standing job.policy past) number (record { generation = generation; slices = slices.now }) at) }
+    {
+        self.table.propose_refusal(number, generation, slices, at)
+    }
+
     /// A task hears the grant of this number, at a reading of its clock in ticks. It is answered as the call that
     /// holds the grant, of which no other copy is made; `NoActor` comes before `NotSent`.
     pub fn hear_numbered(
@@ -82,6 +126,28 @@ impl Cluster {
         };
         told_by_task(hear(&mut self.tasks[place], grant, at))
     }
+
+    /// A clerk learns the published assignment of this generation. It is answered as the call that holds the
+    /// assignment, of which no other copy is made; `NoActor` comes before `NotSent`.
+    pub fn learn_published(
+        &mut self,
+        clerk: u64,
+        generation: u64,
+    ) -> Result<ClusterReply, AllocError>
+        ensures { (job : Job) (past : Past) → LeadsTo job past self.old → IsPlayedOr job past
+            (option_map (λ slicing. asked.Clerk clerk (Learn slicing)) (published generation past))
+            (by_actor clerk job.clerks (reply.Refused error.NotSent)) result self.new }
+    {
+        lease_table::generations_law();
+        lease_table::assignments_law();
+        let Some(place) = place_of(clerk, self.clerks.as_slice()) else {
+            return Ok(ClusterReply::Refused(ClusterError::NoActor));
+        };
+        let Some(assignment) = published(generation, &self.table, self.proposals.as_slice()) else {
+            return Ok(ClusterReply::Refused(ClusterError::NotSent));
+        };
+        told_by_clerk(learn(&mut self.clerks[place], assignment))
+    }
 }
 
 fn hear(
@@ -93,4 +159,11 @@ fn hear(
 {
     slicelet.hear(grant, at)?;
     Ok(SliceletReply::Heard)
+}
+
+fn learn(clerk: &mut Clerk, assignment: &Assignment) -> Result<ClerkReply, Trouble<ClerkError>>
+    ensures { Takes (clerk_step clerk.old (Learn assignment.now)) clerk.old result clerk.new }
+{
+    clerk.learn(assignment)?;
+    Ok(ClerkReply::Learnt)
 }

@@ -5,10 +5,10 @@ ghost use Rattle.std.specs.Prelude.{◌≡◌, IfOk};
 use crate::error::ClusterError;
 use assignment::Listed;
 use clerk::{ClerkReply, Found};
-use slicelet::{KeyHandle, SliceletReply};
 use lease_table::{Phase, Row, TableReply};
 use machines::Duplicate;
 use policy_rules::Verdict;
+use slicelet::{KeyHandle, SliceletReply};
 use std::alloc::AllocError;
 
 /// What the caller is told.

@@ -11,7 +11,7 @@ ghost use Rattle.cluster.specs.declared.reply.ClusterReply.TheVariants as reply;
 ghost use Rattle.cluster.specs.Pasts.{Past, event};
 ghost use Rattle.cluster.specs.Deliveries.{table_refusal};
 ghost use Rattle.cluster.specs.Clusters.{LeadsTo, IsPlayed};
-ghost use Rattle.cluster.specs.internals.Turns.{told_as, makes_nothing, grants_kept, proposals_kept, IsSameBesideTable};
+ghost use Rattle.cluster.specs.internals.Turns.{told_as, makes_nothing, grants_kept, proposals_kept, OnlyTakes, IsSameBesideTable};
 
 use crate::actors::{is_within, unless};
 use crate::cluster::Cluster;
@@ -69,6 +69,7 @@ impl Cluster {
     // Makes a call of the table, and keeps what it makes.
     fn take_table(&mut self, call: &TableCall) -> Result<TableReply, Trouble<TableError>>
         ensures step { Takes (table_step self.old.table call.now) self.old.table result self.new.table }
+        ensures memory { OnlyTakes call.now result }
         ensures grants { self.new.grants.items ≡ grants_kept result self.old.grants.items }
         ensures proposals { self.new.proposals.items ≡ proposals_kept call.now result self.old.proposals.items }
         ensures others { IsSameBesideTable self.old self.new }
@@ -97,6 +98,7 @@ impl Cluster {
     fn take_unkept(&mut self, call: &TableCall) -> Result<TableReply, Trouble<TableError>>
         requires { makes_nothing call.now ≡ true }
         ensures step { Takes (table_step self.old.table call.now) self.old.table result self.new.table }
+        ensures memory { OnlyTakes call.now result }
         ensures grants { self.new.grants.items ≡ grants_kept result self.old.grants.items }
         ensures proposals { self.new.proposals.items ≡ proposals_kept call.now result self.old.proposals.items }
         ensures others { IsSameBesideTable self.old self.new }
@@ -147,8 +149,8 @@ impl Cluster {
         Ok(grant)
     }
 
-    /// The table's phase.
-    pub(crate) fn phase(&self) -> ClusterReply
+    /// The reply to a call that asks for the phase.
+    pub(crate) fn phase_reply(&self) -> ClusterReply
         ensures { (job : Job) (past : Past) → LeadsTo job past self.now
             → IsPlayed job past asked.Phase (Ok result) self.now }
     {

@@ -21,11 +21,11 @@ use crate::keys::{Key, handle_key, insert_reserved, note_key};
 use crate::laws::covers_law;
 use crate::reply::ClusterReply;
 use indexmap::IndexSet;
-use slicelet::{KeyHandle, Slicelet, SliceletCall, SliceletError, SliceletReply};
-use slice_ranges::SliceKey;
 use lease_table::ReleaseNote;
 use machines::Trouble;
 use policy_rules::{Kind, Verdict};
+use slice_ranges::SliceKey;
+use slicelet::{KeyHandle, Slicelet, SliceletCall, SliceletError, SliceletReply};
 use std::alloc::AllocError;
 
 // What a slicelet answers, as the cluster's reply.

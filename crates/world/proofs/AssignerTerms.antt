@@ -1,5 +1,5 @@
 -- What an assigner keeps after it was told something.
-use Rattle.std.proofs.Common.{◌≡◌, ℕ, ◌+◌, ◌<◌, true, false, List, length, refl, ◌∙◌, ap, subst, arith}
+use Rattle.std.proofs.Common.{◌≡◌, ℕ, ◌+◌, ◌<◌, true, false, Bool, List, ◌∷◌, length, refl, sym, ◌∙◌, ap, subst, arith}
 use Rattle.std.specs.Prelude.{◌≢◌, ◌==◌, Option, if◌then◌else◌}
 use Rattle.std.proofs.Math.ListN.{set, get_or}
 use Rattle.std.proofs.lemmas.Bool.Decides.{nat_tests}
@@ -7,11 +7,14 @@ use Rattle.lease_table.specs.declared.values.JobTerm.{JobTerm}
 use Rattle.machines.specs.Numbers.{is_within}
 use Rattle.assigner.specs.Terms.{Keeping}
 use Rattle.world.specs.Jobs.{Job}
-use Rattle.world.specs.Pasts.{Past}
-use Rattle.world.specs.Told.{kept_term}
-use Rattle.world.specs.Worlds.{AreActors}
+use Rattle.world.specs.declared.step.Step.{Step}
+use Rattle.world.specs.declared.reply.Reply.{Reply}
+use Rattle.world.specs.declared.reply.Reply.TheVariants as reply
+use Rattle.world.specs.Pasts.{event, Past, is_accepted}
+use Rattle.world.specs.Front.{term_told, kept_with, kept_term}
+use Rattle.cluster.specs.Clusters.{AreActors}
 use Rattle.world.specs.Replies.{assigner_of}
-use Rattle.world.proofs.ActorLists.{within_at, actor_at, actors_set}
+use Rattle.cluster.proofs.ActorLists.{within_at, actor_at, actors_set, actors_same}
 
 -- what an assigner keeps after one of them was told something
 abbrev pub told_with : Job → Past → ℕ → (ℕ → Option JobTerm → Option JobTerm) → ℕ → Keeping
@@ -47,3 +50,22 @@ own_assigner job past assigners by place old are number inside at =
           (e ∙ ap (with_told told) here ∙ own_term job past by (place + 1) told number)
           (λ i other. other_term job past by (i + 1) told (λ same. other (omega arith)));
     }
+
+-- a step that tells an assigner a term, or none
+told_term : (b : Bool) (n : ℕ) (answer : Reply) (t : Option JobTerm)
+    → (if b then term_told n answer t else t) ≡ (if is_accepted answer then (if b then term_told n answer t else t) else t)
+told_term true n (reply.Refused why) t = refl
+told_term false n (reply.Refused why) t = refl
+told_term true n reply.NoMemory t = refl
+told_term false n reply.NoMemory t = refl
+told_term b n _ t = refl
+
+pub assigners_told : (job : Job) (past : Past) (s : Step) (by : ℕ) (answer : Reply) (assigners : List Keeping)
+    → ((n : ℕ) (before : Option JobTerm) → kept_with n s answer before ≡ (if by == n then term_told n answer before else before))
+    → AreActors (told_with job past by (λ n before. term_told n answer before)) job.assigners assigners → AreActors (assigner_of job (event s answer ∷ past)) job.assigners assigners
+assigners_told job past s by answer assigners kept are =
+    actors_same (told_with job past by (λ n before. term_told n answer before)) (assigner_of job (event s answer ∷ past)) job.assigners assigners
+    (λ n.
+    let before = kept_term n past in
+    ap (λ (t : Option JobTerm). let a : Keeping = record { id = n; job_term = job.policy.job; term = t } in a)
+    (told_term (by == n) n answer before ∙ ap (λ (t : Option JobTerm). if is_accepted answer then t else before) (sym (kept n before)))) are

@@ -2,9 +2,7 @@
 use Rattle.std.proofs.Common.{◌≡◌, ℕ, Bool, List, true, false, ◌&&◌, refl, sym, ◌∙◌, ap, subst, inl, inr}
 use Rattle.std.specs.Prelude.{Option, Some, None, Err, nat_le}
 use Rattle.std.proofs.lemmas.Bool.{and_parts}
-use Rattle.slice_ranges.specs.declared.key.TheConstants.{KEYS}
 use Rattle.assignment.specs.declared.slice.TheConstants.{MOST_OWNERS}
-use Rattle.assignment.specs.declared.assignment.TheConstants.{MOST_SLICES}
 use Rattle.lease_table.specs.Policies.{Terms, is_policy}
 use Rattle.machines.specs.Numbers.{is_within}
 use Rattle.assignment.specs.Slices.{Slicing, refusal_of}
@@ -18,7 +16,7 @@ use Rattle.world.specs.declared.step.Step.TheVariants as step
 use Rattle.world.specs.declared.reply.Refusal.TheVariants as refusal
 use Rattle.world.specs.declared.reply.Reply.TheVariants as reply
 use Rattle.world.specs.Pasts.{event, Past}
-use Rattle.world.specs.Told.{draft_of}
+use Rattle.world.specs.Front.{draft_of}
 use Rattle.world.specs.Replies.{Plain, Planned, plan_in, planned, plan_reply}
 use Rattle.world.specs.Runs.{IsReply, IsPlanOf}
 use Rattle.world.specs.declared.world.World.{World}
@@ -26,7 +24,7 @@ use Rattle.machines.specs.Answers.{trouble_of}
 use Rattle.world.specs.Troubles.{of_layer}
 use Rattle.world.specs.Worlds.{Keeps, Played}
 use Rattle.world.specs.Headline.{IsPlannedFromDraft}
-use Rattle.world.proofs.Answering.{replied_without_memory}
+use Rattle.world.proofs.Answering.{drafted_alike, replied_without_memory}
 
 both : (a b : Bool) → a ≡ true → b ≡ true → (a && b) ≡ true
 both true b e f = f
@@ -75,14 +73,14 @@ module _ (job : Job) (past : Past) (loads tasks : List ℕ) (bounds : Bounds) wh
     -- there is one, and no memory for it
     pub no_room_reply : plan_refusal draft.slices loads tasks ≡ None → IsReply job past (event (step.Plan loads tasks bounds) reply.NoMemory)
     no_room_reply free =
-        replied_without_memory job past (step.Plan loads tasks bounds) refl (reply.Planned (plan_in Plain))
+        replied_without_memory job past (step.Plan loads tasks bounds) refl (λ outcome. drafted_alike (draft_of past) loads tasks (plan_in outcome) (plan_in Plain)) (reply.Planned (plan_in Plain))
         (ap (λ (o : Option Slicing). plan_reply o loads tasks (plan_in Plain)) drafted ∙ ap (λ (o : Option PlanError). planned o (plan_in Plain)) free) refl
 
-    -- why there is none, or that there is no memory for it
+    -- why there is none, or no memory for it
     pub unplanned_played : (world : World) → Keeps job past world → (o : Option PlanError) → plan_refusal draft.slices loads tasks ≡ o
         → Played job past (step.Plan loads tasks bounds) (Err (of_layer refusal.Plan (trouble_of o))) world
     unplanned_played world k None e = (k, no_room_reply e)
-    unplanned_played world k (Some why) e = (k, unplanned_reply why e)
+    unplanned_played world k (Some why) e = (k, unplanned_reply why e, refl)
 
   -- a plan that is answered is one of the draft
   module _ (law : (list : List _) (given set : List ℕ) (limits : Limits) (made : Plan) → CanPlan list given set limits → IsPlan list given set limits made → refusal_of made.slices ≡ None) (plan : Plan) where

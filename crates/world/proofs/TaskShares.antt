@@ -10,9 +10,9 @@ use Rattle.machines.specs.Numbers.{is_within}
 use Rattle.load_ledger.specs.Shares.{Share, with_record}
 use Rattle.world.specs.Jobs.{Job}
 use Rattle.world.specs.Pasts.{Past}
-use Rattle.world.specs.Told.{recorded_by, share_of, shares_in}
-use Rattle.world.specs.Worlds.{AreActors}
-use Rattle.world.proofs.ActorLists.{within_at, actor_at, actors_set}
+use Rattle.world.specs.Front.{recorded_by, share_of, shares_in}
+use Rattle.cluster.specs.Clusters.{AreActors}
+use Rattle.cluster.proofs.ActorLists.{within_at, actor_at, actors_set}
 
 -- the share of a task after one of them recorded something
 abbrev pub recorded_share : Past → ℕ → ℕ → ℕ → ℕ → Share

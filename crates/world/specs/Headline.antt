@@ -1,35 +1,34 @@
 -- What holds of every run, in the words of whoever runs a service.
-use Rattle.std.specs.Prelude.{◌≡◌, ℕ, Bool, false, IsTrue, List, ◌∷◌, ◌++◌, Some, None, Contains, ◌↔◌}
+use Rattle.std.specs.Prelude.{◌≡◌, ℕ, Bool, false, IsTrue, List, ◌∷◌, ◌++◌, Some, None, ◌↔◌}
 use Rattle.slice_ranges.specs.Hash.{slice_key}
 use Rattle.assignment.specs.Slices.{Slicing, refusal_of}
-use Rattle.assignment.specs.Owners.{owns}
 use Rattle.machines.specs.Numbers.{is_within}
-use Rattle.lease_table.specs.Tables.{slices_of}
-use Rattle.lease_table.specs.declared.values.ReleaseNote.{ReleaseNote}
-use Rattle.slicelet.specs.Accepted.{notes_sent}
 use Rattle.slicelet.specs.declared.handle.KeyHandle.{KeyHandle}
 use Rattle.slicelet.specs.Rules.{is_allowed}
-use Rattle.cluster.specs.declared.timing.Reading.TheVariants.{TableClock}
 use Rattle.slicelet.specs.Continuity.{IsContinuous}
+use Rattle.cluster.specs.Pasts.{task_calls}
+use Rattle.cluster.specs.Replies.{covers, rule_in}
+use Rattle.cluster.specs.Headline.{IsOwner as IsOwnerIn}
+use Rattle.weighted_move.specs.declared.made.Plan.{Plan}
 use Rattle.world.specs.Jobs.{Job}
 use Rattle.world.specs.declared.step.Step.TheVariants as step
 use Rattle.world.specs.declared.reply.Reply.{Reply}
 use Rattle.world.specs.declared.reply.Reply.TheVariants as reply
-use Rattle.world.specs.Pasts.{Event, event, Past, steps_of, reading, IsTimely}
+use Rattle.world.specs.Pasts.{Event, event, Past, steps_of, IsTimely}
 use Rattle.weighted_move.specs.Bounds.{Bounds}
-use Rattle.world.specs.Told.{draft_of, standing, task_calls}
-use Rattle.weighted_move.specs.declared.made.Plan.{Plan}
+use Rattle.world.specs.Front.{draft_of}
+use Rattle.world.specs.Calls.{calls_in}
+use Rattle.world.specs.Replies.{Plain, reply_to}
 use Rattle.world.specs.Runs.{IsPlanOf}
-use Rattle.world.specs.Replies.{Plain, covers_in, rule_in, reply_to}
 
 -- a request is served exactly when the written rule allows its key on what the task was told, and each denial names its ground
 abbrev pub IsServedByRule : Job → Past → ℕ → List ℕ → ℕ → Reply → Type 0
-IsServedByRule job past task key at answer = IsTrue (is_within task job.tasks) → answer ≡ reply.Verdict (rule_in job past task (slice_key key) at)
+IsServedByRule job past task key at answer = IsTrue (is_within task job.tasks) → answer ≡ reply.Verdict (rule_in (calls_in job past) task (slice_key key) at)
 
 -- a handle is continuous exactly when no step since took its key away, and else it is broken
 pub record IsCheckedByHistory (job : Job) (past : Past) (task : ℕ) (handle : KeyHandle) (at : ℕ) (answer : Reply) : Type 0 where
-  pub continuous : (answer ≡ reply.Continuous) ↔ IsContinuous (covers_in job past handle.key) (task_calls job.policy task past) handle at
-  pub broken : (answer ≡ reply.Broken) ↔ (IsContinuous (covers_in job past handle.key) (task_calls job.policy task past) handle at → ⊥)
+  pub continuous : (answer ≡ reply.Continuous) ↔ IsContinuous (covers (calls_in job past) handle.key) (task_calls task (calls_in job past)) handle at
+  pub broken : (answer ≡ reply.Broken) ↔ (IsContinuous (covers (calls_in job past) handle.key) (task_calls task (calls_in job past)) handle at → ⊥)
 
 -- a plan was made of the draft, and its slices make an assignment
 pub record IsPlannedFromDraft (job : Job) (past : Past) (loads tasks : List ℕ) (bounds : Bounds) (plan : Plan) : Type 0 where
@@ -49,7 +48,7 @@ MayServe job past task key = (at : ℕ) × IsTimely job.policy.skew (step.Serve 
 
 -- a task owns a key in the committed assignment
 abbrev pub IsOwner : Job → Past → ℕ → List ℕ → Type 0
-IsOwner job past task key = IsTrue (owns (slices_of (standing job.policy past).committed) (slice_key key) task)
+IsOwner job past task key = IsOwnerIn (calls_in job past) task (slice_key key)
 
 -- a `hold` of a key, or of another of the same hash, was answered with the handle of a number
 pub record IsHold (e : Event) (key : List ℕ) (number : ℕ) : Type 0 where
@@ -81,11 +80,3 @@ pub record IsWhileHeld (run past : Past) (task : ℕ) (key : List ℕ) : Type 0 
   pub from_hold : past ≡ since ++ before
   pub rest : Past
   pub up_to_check : check ∷ (between ++ hold ∷ before) ≡ rest ++ past
-
--- a note was sent by its task
-abbrev pub IsNoteOf : Job → Past → ReleaseNote → Type 0
-IsNoteOf job past note = Contains (notes_sent note.task (task_calls job.policy note.task past)) note
-
--- a step of the table was at this reading
-abbrev pub WasRead : Past → ℕ → Type 0
-WasRead past at = (e : Event) × Contains past e × (reading e.step ≡ TableClock at)

@@ -1,10 +1,11 @@
 pub mod Pasts
-pub mod Told
+pub mod Front
+pub mod Calls
 pub mod Troubles
 pub mod Judging
 pub mod Replies
 pub mod Runs
 pub mod Headline
-pub mod Proposals
 pub mod Worlds
+pub mod internals
 pub use Rattle.cluster.specs.Jobs

@@ -1,36 +1,40 @@
 -- Runs: each step is answered by the steps before it.
-use Rattle.std.specs.Prelude.{◌≡◌, ℕ, Bool, true, false, IsTrue, List, [], ◌∷◌, Some, None, ⊤, ◌⊎◌, ◌↔◌}
+use Rattle.std.specs.Prelude.{◌≡◌, ℕ, Bool, true, false, IsTrue, List, [], ◌∷◌, Some, None, Result, Ok, Err, ⊤, ◌⊎◌}
 use Rattle.assignment.specs.Slices.{Slicing}
-use Rattle.slicelet.specs.declared.handle.KeyHandle.{KeyHandle}
-use Rattle.machines.specs.Numbers.{is_within}
-use Rattle.slicelet.specs.Continuity.{IsContinuous, is_strange}
 use Rattle.weighted_move.specs.declared.made.Plan.{Plan}
 use Rattle.weighted_move.specs.Plans.{CanPlan, IsPlan, plan_refusal}
+use Rattle.cluster.specs.declared.call.ClusterCall.{ClusterCall}
+use Rattle.cluster.specs.Pasts.{Past as ClusterPast}
+use Rattle.cluster.specs.Runs.{IsOutcome as IsClusterOutcome}
 use Rattle.world.specs.Jobs.{Job}
 use Rattle.world.specs.declared.step.Step.{Step}
 use Rattle.world.specs.declared.step.Step.TheVariants as step
+use Rattle.world.specs.declared.reply.Refusal.{Refusal}
 use Rattle.world.specs.declared.reply.Reply.{Reply}
 use Rattle.world.specs.declared.reply.Reply.TheVariants as reply
 use Rattle.world.specs.Pasts.{Event, event, Past, is_accepted}
 use Rattle.weighted_move.specs.Bounds.{Bounds}
 use Rattle.weighted_move.specs.Policies.{limits_of}
-use Rattle.world.specs.Told.{numbered, draft_of, handles_made, task_calls}
-use Rattle.world.specs.Replies.{Outcome, is_continuous_in, plan_in, covers_in, history, reply_to}
+use Rattle.world.specs.Front.{draft_of}
+use Rattle.world.specs.Calls.{call_of, calls_in}
+use Rattle.world.specs.Replies.{Outcome, is_continuous_in, plan_in, reply_to}
 
 -- a plan of a draft for loads and tasks, within bounds and by the numbers of owners of the job: there is one, and this is one
 abbrev pub IsPlanOf : Job → Slicing → List ℕ → List ℕ → Bounds → Plan → Type 0
 IsPlanOf job draft loads tasks bounds plan =
     CanPlan draft.slices loads tasks (limits_of job.policy.low job.policy.high bounds) × IsPlan draft.slices loads tasks (limits_of job.policy.low job.policy.high bounds) plan
 
+-- the outcome of a call that a step makes; where it makes none, there is none
+abbrev pub IsCallOutcome : Job → ClusterPast → Bool → Result ClusterCall Refusal → Type 0
+IsCallOutcome job calls kept (Ok made) = IsClusterOutcome job calls made kept
+IsCallOutcome job calls kept (Err why) = ⊤
+
 -- a handle that was made, and that the task can have given, is continuous exactly where the outcome of a `check` says so; the outcome of a `plan` that is not refused has a
 -- plan of the draft; other steps have no outcome
 abbrev pub IsOutcome : Job → Past → Step → Outcome → Type 0
-IsOutcome job past (step.Check task number at) outcome =
-    is_within task job.tasks ≡ true → (handle : KeyHandle) → numbered number (handles_made past) ≡ Some handle → is_strange (history job task past) handle ≡ false
-    → IsTrue (is_continuous_in outcome) ↔ IsContinuous (covers_in job past handle.key) (task_calls job.policy task past) handle at
 IsOutcome job past (step.Plan loads tasks bounds) outcome =
     (draft : Slicing) → draft_of past ≡ Some draft → plan_refusal draft.slices loads tasks ≡ None → IsPlanOf job draft loads tasks bounds (plan_in outcome)
-IsOutcome job past _ outcome = ⊤
+IsOutcome job past s outcome = IsCallOutcome job (calls_in job past) (is_continuous_in outcome) (call_of job past (calls_in job past) s)
 
 -- a step may be out of memory
 abbrev pub takes_memory : Step → Bool

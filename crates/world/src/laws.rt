@@ -1,67 +1,32 @@
 //! What holds of every run: laws over steps with their replies.
 
-ghost use Rattle.std.specs.Prelude.{◌≡◌, ℕ, ◌≤◌, ◌++◌, ◌⊎◌, List, ◌∷◌, true, false, Some, Result, IsTrue, Contains};
-ghost use Rattle.machines.specs.Calls.{answered_call};
-ghost use Rattle.policy_rules.specs.declared.lease.Kind.{Kind};
-ghost use Rattle.slicelet.specs.declared.handle.KeyHandle.{KeyHandle};
-ghost use Rattle.lease_table.specs.declared.call.TableCall.TheVariants as call;
-ghost use Rattle.lease_table.specs.declared.call.TableReply.{TableReply};
-ghost use Rattle.lease_table.specs.declared.error.TableError.{TableError};
-ghost use Rattle.lease_table.specs.declared.values.Grant.{Grant};
-ghost use Rattle.lease_table.specs.declared.values.ReleaseNote.{ReleaseNote};
-ghost use Rattle.lease_table.specs.Policies.{is_policy};
+ghost use Rattle.std.specs.Prelude.{◌≡◌, ℕ, List, ◌∷◌, true, false, Some, IsTrue};
 ghost use Rattle.machines.specs.Numbers.{is_within};
-ghost use Rattle.lease_table.specs.Calls.{last_reading};
-ghost use Rattle.lease_table.specs.Runs.{IsRun as IsTableRun};
-ghost use Rattle.lease_table.specs.Generations.{assignment_in, newest_generation};
-ghost use Rattle.lease_table.specs.OpenRows.{IsSent};
-ghost use Rattle.slicelet.specs.Calls.{held_grant};
-ghost use Rattle.slicelet.specs.Accepted.{AreAccepted};
+ghost use Rattle.lease_table.specs.Policies.{is_policy};
 ghost use Rattle.slicelet.specs.Continuity.{is_strange};
+ghost use Rattle.slicelet.specs.declared.handle.KeyHandle.{KeyHandle};
+ghost use Rattle.weighted_move.specs.declared.made.Plan.{Plan};
+ghost use Rattle.cluster.specs.Numbered.{numbered};
+ghost use Rattle.cluster.specs.Pasts.{readings};
+ghost use Rattle.cluster.specs.Runs.{IsRun as IsClusterRun};
+ghost use Rattle.cluster.specs.Timing.{IsTimely as AreTimely};
 ghost use Rattle.world.specs.Jobs.{Job};
 ghost use Rattle.world.specs.declared.step.Step.TheVariants as step;
 ghost use Rattle.world.specs.declared.reply.Reply.{Reply};
 ghost use Rattle.world.specs.declared.reply.Reply.TheVariants as reply;
-ghost use Rattle.weighted_move.specs.declared.made.Plan.{Plan};
 ghost use Rattle.weighted_move.specs.Bounds.{Bounds};
 ghost use Rattle.world.specs.Pasts.{Past, event, steps_of, IsTimely};
-ghost use Rattle.world.specs.Told.{numbered, notes_made, handles_made, table_calls, task_calls};
-ghost use Rattle.world.specs.Replies.{history};
+ghost use Rattle.world.specs.Calls.{calls_in, handles_made, history};
 ghost use Rattle.world.specs.Runs.{IsRun};
-ghost use Rattle.world.specs.Headline.{IsServedByRule, IsCheckedByHistory, IsPlannedFromDraft, IsNoteOf, WasRead, MayServe, IsOwner, IsWhileHeld};
+ghost use Rattle.world.specs.Headline.{IsServedByRule, IsCheckedByHistory, IsPlannedFromDraft, MayServe, IsOwner, IsWhileHeld};
 
-/// The calls of the table in a past, with the answers of the table's steps to them, are a run of the table;
-/// and in every run each task accepts its calls.
-pub fn told_law()
-    ensures table { (job : Job) (past : Past) → IsTableRun job.policy (table_calls job.policy past) }
-    ensures tasks { (job : Job) (past : Past) (task : ℕ) → IsRun job past
-        → AreAccepted task (task_calls job.policy task past) }
+/// The calls that the steps of a run make, with their replies, are a run of the cluster, so that each of its
+/// laws holds of them; and they are timely where the steps are.
+pub fn calls_law()
+    ensures run { (job : Job) (past : Past) → IsRun job past → IsClusterRun job (calls_in job past) }
+    ensures timely { (job : Job) (skew : ℕ) (past : Past) → IsTimely skew (steps_of past)
+        → AreTimely skew (readings (calls_in job past)) }
 {}
-
-/// Every lease that a task holds was sent, and to this task; every note that was made, or freed, was sent by its task;
-/// and the table's last reading is that of an earlier step, or 0 where it accepted none.
-pub fn sent_law()
-    ensures held { (job : Job) (past : Past) (task : ℕ) (kind : Kind) (grant : Grant)
-        → held_grant kind (task_calls job.policy task past) ≡ Some grant → IsSent (table_calls job.policy past) grant }
-    ensures own { (job : Job) (past : Past) (task : ℕ) (kind : Kind) (grant : Grant) → IsRun job past
-        → held_grant kind (task_calls job.policy task past) ≡ Some grant → grant.task ≡ task }
-    ensures made { (job : Job) (past : Past) (number : ℕ) (note : ReleaseNote) → IsRun job past
-        → numbered number (notes_made past) ≡ Some note → IsNoteOf job past note }
-    ensures freed { (job : Job) (past : Past) (note : ReleaseNote) (at : ℕ) (answer : Result TableReply TableError) → IsRun job past
-        → Contains (table_calls job.policy past) (answered_call (call.Free note at) answer) → IsNoteOf job past note }
-    ensures reading { (job : Job) (past : Past)
-        → (last_reading (table_calls job.policy past) ≡ 0) ⊎ WasRead past (last_reading (table_calls job.policy past)) }
-{
-    slicelet::held_law();
-}
-
-/// The slices of a generation that is known, committed or proposed, never change.
-pub fn known_generations_law()
-    ensures { (job : Job) (later past : Past) (generation : ℕ) → generation ≤ newest_generation (table_calls job.policy past)
-        → assignment_in generation (table_calls job.policy (later ++ past)) ≡ assignment_in generation (table_calls job.policy past) }
-{
-    lease_table::assignments_law();
-}
 
 /// A request is served exactly when the written rule allows its key on what its task was told, and
 /// each denial names its ground.
@@ -75,7 +40,7 @@ pub fn rule_law()
 pub fn handle_law()
     ensures { (job : Job) (past : Past) (task number at : ℕ) (handle : KeyHandle) (answer : Reply)
         → IsRun job (event (step.Check task number at) answer ∷ past) → IsTrue (is_within task job.tasks)
-        → numbered number (handles_made past) ≡ Some handle → is_strange (history job task past) handle ≡ false
+        → numbered number (handles_made job past) ≡ Some handle → is_strange (history job task past) handle ≡ false
         → IsCheckedByHistory job past task handle at answer }
 {}
 

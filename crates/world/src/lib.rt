@@ -1,4 +1,4 @@
-//! Every actor of a key ownership service in one step machine.
+//! A key ownership service for scripts: a front on a job's cluster, by numbers.
 #![tactic(auto)]
 
 mod actors;
@@ -13,18 +13,15 @@ mod reply;
 mod step;
 mod table;
 mod tasks;
+mod told;
 mod values;
 mod world;
 mod world_copy;
 
 pub use crate::world::World;
-pub use actors::numbered;
 pub use cluster::{Job, MOST_ASSIGNERS, MOST_CLERKS};
 pub use judge::{Question, WrittenLease};
-pub use laws::{
-    handle_law, interval_law, known_generations_law, owner_law, planned_law, rule_law, sent_law,
-    told_law,
-};
+pub use laws::{calls_law, handle_law, interval_law, owner_law, planned_law, rule_law};
 pub use readings::timely;
 pub use reply::{OwnerList, Refusal, Reply};
 pub use step::Step;

@@ -11,7 +11,8 @@ ghost use Rattle.world.specs.declared.reply.Refusal.TheVariants as refusal;
 ghost use Rattle.world.specs.declared.step.Step.TheVariants as step;
 ghost use Rattle.world.specs.Troubles.{of_layer};
 ghost use Rattle.world.specs.Pasts.{Past};
-ghost use Rattle.world.specs.Worlds.{AreActors, Keeps, Played};
+ghost use Rattle.cluster.specs.Clusters.{AreActors};
+ghost use Rattle.world.specs.Worlds.{Keeps, Played};
 
 use crate::actors::{of_load, place_of};
 use crate::reply::{Refusal, Reply};

@@ -1,37 +1,77 @@
 //! The steps of the table and its assigners.
 
-ghost use Rattle.std.specs.Prelude.{◌≡◌, ◌∷◌};
-ghost use Rattle.machines.specs.Answers.{trouble_of};
-ghost use Rattle.machines.specs.Refusals.{first_of};
-ghost use Rattle.lease_table.specs.Steps.{propose_checks};
+ghost use Rattle.std.specs.Prelude.{◌≡◌};
+ghost use Rattle.lease_table.specs.declared.call.TableCall.TheVariants.{Propose};
+ghost use Rattle.cluster.specs.declared.call.ClusterCall.TheVariants as call;
+ghost use Rattle.cluster.specs.Pasts.{Past as ClusterPast};
+ghost use Rattle.cluster.specs.Runs.{IsRun as IsClusterRun};
+ghost use Rattle.cluster.specs.Clusters.{LeadsTo as LeadsToCluster};
 ghost use Rattle.world.specs.Jobs.{Job};
-ghost use Rattle.world.specs.declared.reply.Refusal.TheVariants as refusal;
-ghost use Rattle.world.specs.Troubles.{of_layer};
+ghost use Rattle.world.specs.declared.step.Step.{Step};
 ghost use Rattle.world.specs.declared.step.Step.TheVariants as step;
 ghost use Rattle.world.specs.Pasts.{Past};
 ghost use Rattle.world.specs.Worlds.{Keeps, Played};
+ghost use Rattle.world.specs.internals.Asking.{with_told, IsAsked};
 
-use crate::actors::{numbered, of_table, place_of};
+use crate::actors::{check_actor, place_of};
 use crate::reply::{Refusal, Reply};
+use crate::step::Step;
+use crate::told::ask;
 use crate::world::World;
-use assigner::View;
-use assignment::{Assignment, Listed, Slice, TaskId};
+use assigner::{Assigner, View};
+use assignment::{Assignment, Slice, TaskId};
+use cluster::{Cluster, ClusterCall};
+use lease_table::TableCall;
 use machines::Trouble;
+
+// Offers an assigner the term that it was told, if it was told one.
+fn adopt(assigner: &mut Assigner, reply: &Reply)
+    ensures { assigner.new ≡ with_told reply.now assigner.old }
+{
+    match reply {
+        Reply::Term(term) | Reply::Renewed(term) => {
+            let _ = assigner.adopt(*term);
+        }
+        _ => {}
+    }
+}
+
+// What is told of slices that make an assignment where there is no memory for it.
+fn unproposed(cluster: &Cluster, number: u64, generation: u64, slices: &[Slice], at: u64) -> Reply
+    ensures asked { (job : Job) (calls : ClusterPast) (s : Step) → LeadsToCluster job calls cluster.now → IsAsked job calls s
+        (call.Table (Propose number (record { generation = generation; slices = slices.now }) at)) result cluster.now }
+    ensures run { (job : Job) (calls : ClusterPast) → LeadsToCluster job calls cluster.now → IsClusterRun job calls }
+{
+    cluster.run_law();
+    cluster.refusal_law();
+    match cluster.proposal_refusal(number, generation, slices, at) {
+        Some(why) => Reply::Refused(Refusal::Table(why)),
+        None => Reply::NoMemory,
+    }
+}
 
 impl World {
     pub(crate) fn take(&mut self, assigner: u64, at: u64) -> Result<Reply, Trouble<Refusal>>
         ensures { (job : Job) (past : Past) → Keeps job past self.old
             → Played job past (step.Take assigner at) result self.new }
     {
-        lease_table::standing_law();
         let place = place_of(assigner, self.assigners.as_slice())?;
-        match self.table.job_take(assigner, at) {
-            Ok(term) => {
-                let _ = self.assigners[place].adopt(term);
-                Ok(Reply::Term(term))
-            }
-            Err(why) => Err(Trouble::Refused(Refusal::Table(why))),
-        }
+        let call = ClusterCall::Table(TableCall::JobTake { assigner, at });
+        let reply = ask(&mut self.cluster, &Step::Take { assigner, at }, &call);
+        adopt(&mut self.assigners[place], &reply);
+        Ok(reply)
+    }
+
+    pub(crate) fn renew(&mut self, assigner: u64, at: u64) -> Result<Reply, Trouble<Refusal>>
+        ensures { (job : Job) (past : Past) → Keeps job past self.old
+            → Played job past (step.Renew assigner at) result self.new }
+    {
+        let place = place_of(assigner, self.assigners.as_slice())?;
+        let number = self.assigners[place].number();
+        let call = ClusterCall::Table(TableCall::JobRenew { number, at });
+        let reply = ask(&mut self.cluster, &Step::Renew { assigner, at }, &call);
+        adopt(&mut self.assigners[place], &reply);
+        Ok(reply)
     }
 
     pub(crate) fn next(
@@ -46,73 +86,37 @@ impl World {
         let place = place_of(assigner, self.assigners.as_slice())?;
         let view = View {
             reading: at,
-            phase: self.table.phase(),
+            phase: self.cluster.phase(),
             wanted,
         };
         Ok(Reply::Next(self.assigners[place].next(&view)))
     }
 
-    pub(crate) fn renew(&mut self, assigner: u64, at: u64) -> Result<Reply, Trouble<Refusal>>
-        ensures { (job : Job) (past : Past) → Keeps job past self.old
-            → Played job past (step.Renew assigner at) result self.new }
-    {
-        lease_table::standing_law();
-        let place = place_of(assigner, self.assigners.as_slice())?;
-        match self.table.job_renew(self.assigners[place].number(), at) {
-            Ok(term) => {
-                let _ = self.assigners[place].adopt(term);
-                Ok(Reply::Renewed(term))
-            }
-            Err(why) => Err(Trouble::Refused(Refusal::Table(why))),
-        }
-    }
-
+    // `asked` is the `propose` itself.
     pub(crate) fn propose(
         &mut self,
+        asked: &Step,
         assigner: u64,
         generation: u64,
         slices: &[Slice],
         at: u64,
     ) -> Result<Reply, Trouble<Refusal>>
         ensures { (job : Job) (past : Past) → Keeps job past self.old
-            → Played job past (step.Propose assigner generation slices.now at) result self.new }
+            → asked.now ≡ step.Propose assigner generation slices.now at → Played job past asked.now result self.new }
     {
-        lease_table::standing_law();
         let place = place_of(assigner, self.assigners.as_slice())?;
         let number = self.assigners[place].number();
-        let next = match Assignment::build(self.alloc, generation, slices) {
-            Ok(next) => next,
-            Err(Trouble::NoMemory) => {
-                return Err(self.unproposed(number, generation, slices, at));
+        match Assignment::build(self.alloc, generation, slices) {
+            Ok(assignment) => {
+                let call = ClusterCall::Table(TableCall::Propose {
+                    number,
+                    assignment,
+                    at,
+                });
+                Ok(ask(&mut self.cluster, asked, &call))
             }
-            Err(Trouble::Refused(why)) => return Err(Trouble::Refused(Refusal::Slices(why))),
-        };
-        if self.proposals.reserve(1).is_err() {
-            return Err(self.unproposed(number, generation, slices, at));
-        }
-        match self.table.propose(number, &next, at) {
-            Ok(()) => {
-                self.proposals.push_reserved(next);
-                Ok(Reply::Proposed(generation))
-            }
-            Err(error) => Err(of_table(error)),
-        }
-    }
-
-    // Why slices that make an assignment are not proposed where there is no memory for it.
-    fn unproposed(
-        &self,
-        number: u64,
-        generation: u64,
-        slices: &[Slice],
-        at: u64,
-    ) -> Trouble<Refusal>
-        ensures { result ≡ of_layer refusal.Table (trouble_of (first_of
-            (propose_checks self.now.table number (record { generation = generation; slices = slices.now }) at))) }
-    {
-        match self.table.propose_refusal(number, generation, slices, at) {
-            Some(why) => Trouble::Refused(Refusal::Table(why)),
-            None => Trouble::NoMemory,
+            Err(Trouble::NoMemory) => Ok(unproposed(&self.cluster, number, generation, slices, at)),
+            Err(Trouble::Refused(why)) => Err(Trouble::Refused(Refusal::Slices(why))),
         }
     }
 
@@ -120,80 +124,60 @@ impl World {
         ensures { (job : Job) (past : Past) → Keeps job past self.old
             → Played job past (step.Commit assigner at) result self.new }
     {
-        lease_table::standing_law();
         let place = place_of(assigner, self.assigners.as_slice())?;
-        match self.table.commit(self.assigners[place].number(), at) {
-            Ok(generation) => Ok(Reply::Committed(generation)),
-            Err(why) => Err(Trouble::Refused(Refusal::Table(why))),
-        }
+        let number = self.assigners[place].number();
+        let call = ClusterCall::Table(TableCall::Commit { number, at });
+        Ok(ask(&mut self.cluster, &Step::Commit { assigner, at }, &call))
     }
 
-    pub(crate) fn phase(&self) -> Result<Reply, Trouble<Refusal>>
-        ensures { (job : Job) (past : Past) → Keeps job past self.now
-            → Played job past step.Phase result self.now }
-    {
-        Ok(Reply::Phase(self.table.phase()))
-    }
-
-    pub(crate) fn rows(&self) -> Result<Reply, Trouble<Refusal>>
-        ensures { (job : Job) (past : Past) → Keeps job past self.now
-            → Played job past step.Rows result self.now }
-    {
-        Ok(Reply::Rows(Listed::from_vec(self.table.rows()?)))
-    }
-
-    pub(crate) fn grant(&mut self, task: u64, life: u32, at: u64) -> Result<Reply, Trouble<Refusal>>
+    pub(crate) fn phase(&mut self) -> Result<Reply, Trouble<Refusal>>
         ensures { (job : Job) (past : Past) → Keeps job past self.old
-            → Played job past (step.Grant task life at) result self.new }
+            → Played job past step.Phase result self.new }
     {
-        lease_table::standing_law();
-        let _most = self.job.tasks();
-        place_of(task, self.tasks.as_slice())?;
-        let Some(of_job) = TaskId::new(task) else {
-            return Err(Trouble::Refused(Refusal::NoActor));
-        };
-        if self.grants.reserve(1).is_err() {
-            return match self.table.grant_refusal(at) {
-                Some(why) => Err(Trouble::Refused(Refusal::Table(why))),
-                None => Err(Trouble::NoMemory),
-            };
-        }
-        match self.table.grant(of_job, life, at) {
-            Ok(grant) => {
-                let reply = Reply::Granted {
-                    number: grant.number,
-                    kind: grant.lease.kind,
-                    generation: grant.lease.generation,
-                    table_ends: grant.table_ends,
-                    ends: grant.lease.ends,
-                };
-                self.grants.push_reserved(grant);
-                Ok(reply)
-            }
-            Err(error) => Err(of_table(error)),
-        }
+        Ok(ask(&mut self.cluster, &Step::Phase, &ClusterCall::Phase))
     }
 
-    pub(crate) fn free(&mut self, note: u64, at: u64) -> Result<Reply, Trouble<Refusal>>
+    pub(crate) fn rows(&mut self) -> Result<Reply, Trouble<Refusal>>
         ensures { (job : Job) (past : Past) → Keeps job past self.old
-            → Played job past (step.Free note at) result self.new }
+            → Played job past step.Rows result self.new }
     {
-        lease_table::standing_law();
-        let Some(note) = numbered(note, self.notes.as_slice()) else {
-            return Err(Trouble::Refused(Refusal::NotSent));
-        };
-        match self.table.free(note, at) {
-            Ok(rows) => Ok(Reply::Freed(rows)),
-            Err(why) => Err(Trouble::Refused(Refusal::Table(why))),
-        }
+        Ok(ask(&mut self.cluster, &Step::Rows, &ClusterCall::Rows))
     }
 
     pub(crate) fn lose(&mut self) -> Result<Reply, Trouble<Refusal>>
         ensures { (job : Job) (past : Past) → Keeps job past self.old
             → Played job past step.Lose result self.new }
     {
-        lease_table::standing_law();
-        Ok(Reply::Lost(self.table.restart()))
+        let call = ClusterCall::Table(TableCall::Restart);
+        Ok(ask(&mut self.cluster, &Step::Lose, &call))
+    }
+
+    pub(crate) fn grant(&mut self, task: u64, life: u32, at: u64) -> Result<Reply, Trouble<Refusal>>
+        ensures { (job : Job) (past : Past) → Keeps job past self.old
+            → Played job past (step.Grant task life at) result self.new }
+    {
+        let most = self.job.tasks();
+        check_actor(task, most)?;
+        let Some(of_job) = TaskId::new(task) else {
+            return Err(Trouble::Refused(Refusal::NoActor));
+        };
+        let call = ClusterCall::Table(TableCall::Grant {
+            task: of_job,
+            life,
+            at,
+        });
+        Ok(ask(&mut self.cluster, &Step::Grant { task, life, at }, &call))
+    }
+
+    pub(crate) fn free(&mut self, number: u64, at: u64) -> Result<Reply, Trouble<Refusal>>
+        ensures { (job : Job) (past : Past) → Keeps job past self.old
+            → Played job past (step.Free number at) result self.new }
+    {
+        let Some(note) = self.cluster.note(number) else {
+            return Err(Trouble::Refused(Refusal::NotSent));
+        };
+        let call = ClusterCall::Table(TableCall::Free { note: *note, at });
+        Ok(ask(&mut self.cluster, &Step::Free { note: number, at }, &call))
     }
 
     pub(crate) fn restart(&mut self, assigner: u64) -> Result<Reply, Trouble<Refusal>>

@@ -1,28 +1,32 @@
 //! The steps of tasks.
 
-ghost use Rattle.std.specs.Prelude.{◌≡◌, ◌∷◌};
+ghost use Rattle.std.specs.Prelude.{◌≡◌};
 ghost use Rattle.world.specs.Jobs.{Job};
 ghost use Rattle.world.specs.declared.step.Step.TheVariants as step;
 ghost use Rattle.world.specs.Pasts.{Past};
 ghost use Rattle.world.specs.Worlds.{Keeps, Played};
 
-use crate::actors::{numbered, of_slicelet, place_of};
+use crate::actors::check_actor;
 use crate::reply::{Refusal, Reply};
+use crate::step::Step;
+use crate::told::{NextNumbers, ask, told_of};
 use crate::world::World;
+use cluster::ClusterCall;
 use machines::Trouble;
-use policy_rules::{Kind, Verdict};
+use policy_rules::Kind;
 use slice_ranges::slice_key;
+use slicelet::SliceletCall;
 
 impl World {
     pub(crate) fn start(&mut self, task: u64, life: u32, at: u64) -> Result<Reply, Trouble<Refusal>>
         ensures { (job : Job) (past : Past) → Keeps job past self.old
             → Played job past (step.Start task life at) result self.new }
     {
-        let place = place_of(task, self.tasks.as_slice())?;
-        match self.tasks[place].start(life, at) {
-            Ok(()) => Ok(Reply::Started(life)),
-            Err(error) => Err(of_slicelet(error)),
-        }
+        let call = ClusterCall::Task {
+            task,
+            call: SliceletCall::Start { life, at },
+        };
+        Ok(ask(&mut self.cluster, &Step::Start { task, life, at }, &call))
     }
 
     pub(crate) fn hear(
@@ -34,15 +38,11 @@ impl World {
         ensures { (job : Job) (past : Past) → Keeps job past self.old
             → Played job past (step.Hear task number at) result self.new }
     {
-        lease_table::numbers_law();
-        let place = place_of(task, self.tasks.as_slice())?;
-        let Some(grant) = numbered(number, self.grants.as_slice()) else {
-            return Err(Trouble::Refused(Refusal::NotSent));
-        };
-        match self.tasks[place].hear(grant, at) {
-            Ok(()) => Ok(Reply::Heard(number)),
-            Err(error) => Err(of_slicelet(error)),
-        }
+        check_actor(task, self.job.tasks())?;
+        let next = NextNumbers::of(&self.cluster);
+        let answer = self.cluster.hear_numbered(task, number, at);
+        self.cluster.run_law();
+        Ok(told_of(&Step::Hear { task, number, at }, next, answer))
     }
 
     pub(crate) fn release(
@@ -54,71 +54,74 @@ impl World {
         ensures { (job : Job) (past : Past) → Keeps job past self.old
             → Played job past (step.Release task kind at) result self.new }
     {
-        let place = place_of(task, self.tasks.as_slice())?;
-        if self.notes.reserve(1).is_err() {
-            return match self.tasks[place].release_refusal(kind, at) {
-                Some(why) => Err(Trouble::Refused(Refusal::Slicelet(why))),
-                None => Err(Trouble::NoMemory),
-            };
-        }
-        let note = match self.tasks[place].release(kind, at) {
-            Ok(note) => note,
-            Err(error) => return Err(of_slicelet(error)),
+        let call = ClusterCall::Task {
+            task,
+            call: SliceletCall::Release { kind, at },
         };
-        let made = note;
-        self.notes.push_reserved(made);
-        let number = self.notes.as_slice().len() as u64;
-        Ok(Reply::Released { number, note })
+        Ok(ask(&mut self.cluster, &Step::Release { task, kind, at }, &call))
     }
 
-    pub(crate) fn serve(&self, task: u64, key: &[u8], at: u64) -> Result<Reply, Trouble<Refusal>>
-        ensures { (job : Job) (past : Past) → Keeps job past self.now
-            → Played job past (step.Serve task key.now at) result self.now }
+    // `asked` is the `serve` itself.
+    pub(crate) fn serve(
+        &mut self,
+        asked: &Step,
+        task: u64,
+        key: &[u8],
+        at: u64,
+    ) -> Result<Reply, Trouble<Refusal>>
+        ensures { (job : Job) (past : Past) → Keeps job past self.old → asked.now ≡ step.Serve task key.now at
+            → Played job past asked.now result self.new }
     {
-        lease_table::covers_law();
-        slicelet::agreement_law();
-        let place = place_of(task, self.tasks.as_slice())?;
-        let key = slice_key(key);
-        let _number = key.value();
-        Ok(Reply::Verdict(self.tasks[place].serve(key, at)))
+        let call = ClusterCall::Serve {
+            task,
+            key: slice_key(key),
+            at,
+        };
+        Ok(ask(&mut self.cluster, asked, &call))
     }
 
-    pub(crate) fn hold(&mut self, task: u64, key: &[u8], at: u64) -> Result<Reply, Trouble<Refusal>>
+    // `asked` is the `hold` itself.
+    pub(crate) fn hold(
+        &mut self,
+        asked: &Step,
+        task: u64,
+        key: &[u8],
+        at: u64,
+    ) -> Result<Reply, Trouble<Refusal>>
+        ensures { (job : Job) (past : Past) → Keeps job past self.old → asked.now ≡ step.Hold task key.now at
+            → Played job past asked.now result self.new }
+    {
+        let call = ClusterCall::Hold {
+            task,
+            key: slice_key(key),
+            at,
+        };
+        Ok(ask(&mut self.cluster, asked, &call))
+    }
+
+    pub(crate) fn check(
+        &mut self,
+        task: u64,
+        number: u64,
+        at: u64,
+    ) -> Result<Reply, Trouble<Refusal>>
         ensures { (job : Job) (past : Past) → Keeps job past self.old
-            → Played job past (step.Hold task key.now at) result self.new }
+            → Played job past (step.Check task number at) result self.new }
     {
-        lease_table::covers_law();
-        slicelet::agreement_law();
-        let place = place_of(task, self.tasks.as_slice())?;
-        let key = slice_key(key);
-        let _number = key.value();
-        let handle = match self.tasks[place].hold(key, at) {
-            Ok(handle) => handle,
-            Err(why) => return Ok(Reply::Verdict(Verdict::Deny(why))),
-        };
-        let made = handle;
-        if self.handles.push(made).is_err() {
-            return Err(Trouble::NoMemory);
-        }
-        let number = self.handles.as_slice().len() as u64;
-        Ok(Reply::Holding { number, handle })
-    }
-
-    pub(crate) fn check(&self, task: u64, handle: u64, at: u64) -> Result<Reply, Trouble<Refusal>>
-        ensures { (job : Job) (past : Past) → Keeps job past self.now
-            → Played job past (step.Check task handle at) result self.now }
-    {
-        lease_table::covers_law();
-        slicelet::agreement_law();
-        let place = place_of(task, self.tasks.as_slice())?;
-        let Some(handle) = numbered(handle, self.handles.as_slice()) else {
+        check_actor(task, self.job.tasks())?;
+        let Some(handle) = self.cluster.handle(number) else {
             return Err(Trouble::Refused(Refusal::NotSent));
         };
-        let _key = handle.key.value();
-        match self.tasks[place].continuous(handle, at) {
-            Ok(true) => Ok(Reply::Continuous),
-            Ok(false) => Ok(Reply::Broken),
-            Err(_) => Err(Trouble::Refused(Refusal::Stranger)),
-        }
+        let call = ClusterCall::Check {
+            task,
+            handle: *handle,
+            at,
+        };
+        let step = Step::Check {
+            task,
+            handle: number,
+            at,
+        };
+        Ok(ask(&mut self.cluster, &step, &call))
     }
 }

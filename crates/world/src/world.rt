@@ -1,22 +1,22 @@
 //! The step machine.
 
 ghost use Rattle.std.specs.Prelude.{◌≡◌, ℕ, List, ◌∷◌, ◌++◌, [], true, false, IsTrue, None, Some, length, IfOk, OnErr};
-ghost use Rattle.slicelet.specs.declared.handle.KeyHandle.{KeyHandle};
 ghost use Rattle.lease_table.specs.Policies.{is_policy};
 ghost use Rattle.machines.specs.Numbers.{is_within};
-ghost use Rattle.slicelet.specs.States.{opening};
 ghost use Rattle.slicelet.specs.Continuity.{is_strange};
-ghost use Rattle.world.specs.Jobs.{Job};
+ghost use Rattle.slicelet.specs.declared.handle.KeyHandle.{KeyHandle};
 ghost use Rattle.assigner.specs.Terms.{Keeping};
+ghost use Rattle.cluster.specs.Clusters.{AreActors};
+ghost use Rattle.cluster.specs.Numbered.{numbered};
+ghost use Rattle.world.specs.Jobs.{Job};
 ghost use Rattle.world.specs.declared.step.Step.{Step};
 ghost use Rattle.world.specs.declared.step.Step.TheVariants as step;
 ghost use Rattle.world.specs.declared.reply.Reply.{Reply};
 ghost use Rattle.world.specs.Pasts.{Past, event, steps_of, IsTimely};
-ghost use Rattle.world.specs.Told.{numbered, handles_made};
-ghost use Rattle.world.specs.Replies.{history};
+ghost use Rattle.world.specs.Calls.{handles_made, history};
 ghost use Rattle.world.specs.Runs.{IsRun, past_after};
 ghost use Rattle.world.specs.Headline.{IsServedByRule, IsCheckedByHistory, MayServe, IsOwner, IsWhileHeld};
-ghost use Rattle.world.specs.Worlds.{AreActors, Keeps, LeadsTo, Played};
+ghost use Rattle.world.specs.Worlds.{Keeps, LeadsTo, Played};
 
 use crate::judge::judge;
 use crate::laws::{handle_law, interval_law, owner_law, rule_law};
@@ -24,31 +24,22 @@ use crate::loads::shares_of;
 use crate::reply::{Refusal, Reply};
 use crate::step::Step;
 use assigner::Assigner;
-use assignment::{Assignment, TaskId};
-use clerk::Clerk;
-use cluster::Job;
-use lease_table::{Grant, LeaseTable, ReleaseNote, policy_law};
+use assignment::Assignment;
+use cluster::{Cluster, Job};
 use load_ledger::{LoadBook, LoadShare};
 use machines::Trouble;
 use slice_ranges::slice_key;
-use slicelet::{KeyHandle, Slicelet};
 use std::alloc::{AllocError, Global};
 
-/// Every actor of a job, and everything that was made so far: grants, notes, handles and committed
-/// assignments, each of which may be delivered later, again and in any order.
+/// A front on a job's cluster for scripts: it finds by its number what a step delivers, and keeps the
+/// job's assigners, the draft and loads.
 #[derive(Drop)]
 pub struct World {
     pub(crate) alloc: Global,
     pub(crate) job: Job,
+    pub(crate) cluster: Cluster,
     pub(crate) draft: Option<Assignment>,
-    pub(crate) table: LeaseTable,
     pub(crate) assigners: Vec<Assigner>,
-    pub(crate) tasks: Vec<Slicelet>,
-    pub(crate) clerks: Vec<Clerk>,
-    pub(crate) grants: Vec<Grant>,
-    pub(crate) notes: Vec<ReleaseNote>,
-    pub(crate) handles: Vec<KeyHandle>,
-    pub(crate) proposals: Vec<Assignment>,
     pub(crate) shares: Vec<LoadShare>,
     pub(crate) book: LoadBook,
 }
@@ -65,46 +56,18 @@ fn assigners_of(alloc: Global, job: Job) -> Result<Vec<Assigner>, AllocError>
     Ok(assigners)
 }
 
-fn tasks_of(alloc: Global, job: Job) -> Result<Vec<Slicelet>, AllocError>
-    ensures { IfOk result (λ tasks. AreActors opening job.tasks tasks.items) }
-{
-    let mut tasks = Vec::new(alloc);
-    for place in 0..job.tasks() {
-        tasks.push(Slicelet::new(alloc, TaskId::new(place + 1).unwrap()))?;
-    }
-    Ok(tasks)
-}
-
-fn clerks_of(alloc: Global, job: Job) -> Result<Vec<Clerk>, AllocError>
-    ensures { IfOk result (λ clerks. AreActors (λ n. None) job.clerks clerks.items) }
-{
-    let mut clerks = Vec::new(alloc);
-    for _place in 0..job.clerks() {
-        clerks.push(Clerk::new())?;
-    }
-    Ok(clerks)
-}
-
 impl World {
     /// A world before its first step.
     #[tactic(auto, unfolding(crate::specs::Worlds::LeadsTo))]
     pub fn new(alloc: Global, job: Job) -> Result<Self, AllocError>
         ensures { IfOk result (λ world. LeadsTo job [] world) }
     {
-        let policy = job.policy();
-        policy_law(policy);
         Ok(World {
             alloc,
             job,
+            cluster: Cluster::new(alloc, job)?,
             draft: None,
-            table: LeaseTable::new(alloc, policy),
             assigners: assigners_of(alloc, job)?,
-            tasks: tasks_of(alloc, job)?,
-            clerks: clerks_of(alloc, job)?,
-            grants: Vec::new(alloc),
-            notes: Vec::new(alloc),
-            handles: Vec::new(alloc),
-            proposals: Vec::new(alloc),
             shares: shares_of(alloc, job)?,
             book: LoadBook::new(),
         })
@@ -134,7 +97,9 @@ impl World {
     pub fn run_law(&self)
         ensures run { (job : Job) (past : Past) → LeadsTo job past self.now → IsRun job past }
         ensures within { (job : Job) (past : Past) → LeadsTo job past self.now → is_policy job.policy ≡ true }
-    {}
+    {
+        self.cluster.run_law();
+    }
 
     /// At every point of what led to this world: a request was served exactly when the written rule
     /// allowed its key on what its task had been told, and each denial named its ground; a handle was
@@ -146,7 +111,7 @@ impl World {
             → IsServedByRule job past task key at answer }
         ensures handle { (job : Job) (later past : Past) (task number at : ℕ) (handle : KeyHandle) (answer : Reply)
             → LeadsTo job (later ++ event (step.Check task number at) answer ∷ past) self.now
-            → IsTrue (is_within task job.tasks) → numbered number (handles_made past) ≡ Some handle
+            → IsTrue (is_within task job.tasks) → numbered number (handles_made job past) ≡ Some handle
             → is_strange (history job task past) handle ≡ false
             → IsCheckedByHistory job past task handle at answer }
         ensures owner { (job : Job) (later past : Past) (task : ℕ) (key : List ℕ) → LeadsTo job (later ++ past) self.now
@@ -204,7 +169,7 @@ impl World {
                 generation,
                 slices,
                 at,
-            } => self.propose(*assigner, *generation, slices.as_slice(), *at),
+            } => self.propose(step, *assigner, *generation, slices.as_slice(), *at),
             Step::Commit { assigner, at } => self.commit(*assigner, *at),
             Step::Phase => self.phase(),
             Step::Rows => self.rows(),
@@ -214,11 +179,11 @@ impl World {
             Step::Start { task, life, at } => self.start(*task, *life, *at),
             Step::Hear { task, number, at } => self.hear(*task, *number, *at),
             Step::Release { task, kind, at } => self.release(*task, *kind, *at),
-            Step::Serve { task, key, at } => self.serve(*task, key.as_slice(), *at),
-            Step::Hold { task, key, at } => self.hold(*task, key.as_slice(), *at),
+            Step::Serve { task, key, at } => self.serve(step, *task, key.as_slice(), *at),
+            Step::Hold { task, key, at } => self.hold(step, *task, key.as_slice(), *at),
             Step::Check { task, handle, at } => self.check(*task, *handle, *at),
             Step::Learn { clerk, generation } => self.learn(*clerk, *generation),
-            Step::Look { clerk, key } => self.look(*clerk, key.as_slice()),
+            Step::Look { clerk, key } => self.look(step, *clerk, key.as_slice()),
             Step::Forget { clerk } => self.forget(*clerk),
             Step::Load { task, key, weight } => self.load(*task, key.as_slice(), *weight),
             Step::Gather => self.gather(),

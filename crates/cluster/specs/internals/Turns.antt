@@ -1,5 +1,5 @@
 -- What one call of a machine makes of a cluster.
-use Rattle.std.specs.Prelude.{◌≡◌, Bool, true, false, List, Result, Ok, Err, alloc_error}
+use Rattle.std.specs.Prelude.{◌≡◌, Bool, true, false, List, Result, Ok, Err, IfErr, alloc_error}
 use Rattle.std.specs.declared.alloc.AllocError.{AllocError}
 use Rattle.machines.specs.declared.machine.Trouble.{Trouble}
 use Rattle.machines.specs.declared.machine.Trouble.TheVariants.{Refused, NoMemory}
@@ -10,6 +10,8 @@ use Rattle.lease_table.specs.declared.call.TableReply.{TableReply}
 use Rattle.lease_table.specs.declared.values.Grant.{Grant}
 use Rattle.lease_table.specs.declared.values.ReleaseNote.{ReleaseNote}
 use Rattle.lease_table.specs.Calls.{grants_after}
+use Rattle.lease_table.specs.Memory.{takes_memory}
+use Rattle.lease_table.specs.declared.error.TableError.{TableError}
 use Rattle.slicelet.specs.declared.call.SliceletReply.{SliceletReply}
 use Rattle.cluster.specs.declared.error.ClusterError.{ClusterError}
 use Rattle.cluster.specs.declared.reply.ClusterReply.{ClusterReply}
@@ -36,6 +38,10 @@ proposals_kept c (Err why) before = before
 abbrev pub notes_kept : {E : Type 0} → Result SliceletReply E → List ReleaseNote → List ReleaseNote
 notes_kept (Ok told) before = note_told (reply.Task told) before
 notes_kept (Err why) before = before
+
+-- a call of the table is out of memory only where it takes some
+abbrev pub OnlyTakes : TableCall → Result TableReply (Trouble TableError) → Type 0
+OnlyTakes c answer = IfErr answer (λ trouble. trouble ≡ NoMemory → takes_memory c ≡ true)
 
 -- all that is no part of the table is as it was
 abbrev pub IsSameBesideTable : Cluster → Cluster → Type 0

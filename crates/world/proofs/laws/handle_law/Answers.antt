@@ -1,4 +1,4 @@
-use Rattle.world.proofs.Ruling.{checked_by_history}
+use Rattle.world.proofs.Handles.{checked_by_history}
 use Rattle.world.proofs.laws.handle_law.Goals as goal
 
 pub returns : goal.returns

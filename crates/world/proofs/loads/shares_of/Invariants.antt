@@ -1,6 +1,6 @@
 use Rattle.std.specs.Prelude.{[]}
 use Rattle.load_ledger.specs.Shares.{Share}
-use Rattle.world.specs.Worlds.{AreActors}
+use Rattle.cluster.specs.Clusters.{AreActors}
 use Rattle.world.proofs.loads.shares_of.Given as goal
 
 -- the shares so far

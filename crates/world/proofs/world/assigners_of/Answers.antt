@@ -1,8 +1,8 @@
 use Rattle.std.proofs.Common.{List, ◌+◌, sym, subst}
 use Rattle.std.specs.Prelude.{None}
 use Rattle.assigner.specs.Terms.{Keeping}
-use Rattle.world.specs.Worlds.{AreActors}
-use Rattle.world.proofs.ActorLists.{actors_push}
+use Rattle.cluster.specs.Clusters.{AreActors}
+use Rattle.cluster.proofs.ActorLists.{actors_push}
 use Rattle.world.proofs.world.assigners_of.Goals as goal
 
 pub loop-place-preserved : goal.loop-place-preserved

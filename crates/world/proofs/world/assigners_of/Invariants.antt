@@ -1,6 +1,6 @@
 use Rattle.std.specs.Prelude.{None}
 use Rattle.assigner.specs.Terms.{Keeping}
-use Rattle.world.specs.Worlds.{AreActors}
+use Rattle.cluster.specs.Clusters.{AreActors}
 use Rattle.world.proofs.world.assigners_of.Given as goal
 
 -- the actors so far

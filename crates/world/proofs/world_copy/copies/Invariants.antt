@@ -1,5 +1,5 @@
 use Rattle.std.proofs.Common.{◌≡◌, take}
 use Rattle.world.proofs.world_copy.copies.Given as goal
 
-abbrev pub invariant-loop-part : goal.invariant-loop-part
-invariant-loop-part g l = l.copied.items ≡ take l.part-index l.parts
+abbrev pub invariant-loop-share : goal.invariant-loop-share
+invariant-loop-share l = l.copied.items ≡ take l.share-index l.shares

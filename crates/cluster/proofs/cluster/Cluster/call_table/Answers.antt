@@ -8,5 +8,5 @@ returns-in-Some c = λ job past k. table_stopped job past c.args.self.now k c.ar
 
 pub returns : goal.returns
 returns c = λ job past k.
-    table_turn job past c.args.call.now c.args.self.now _ k (sym (c.in_default.ensures job past k)) c.standing_law.ensures.next c.take_table.result c.take_table.ensures.step c.take_table.ensures.grants
+    table_turn job past c.args.call.now c.args.self.now _ k (sym (c.in_default.ensures job past k)) c.standing_law.ensures.next c.take_table.result c.take_table.ensures.step c.take_table.ensures.memory c.take_table.ensures.grants
     c.take_table.ensures.proposals c.take_table.ensures.others _ c.told_by_table.ensures

@@ -1,50 +1,24 @@
-use Rattle.std.proofs.Common.{◌≡◌, ℕ, ◌<◌, List, length, refl, sym, ap, subst, ◌∙◌}
-use Rattle.std.specs.Prelude.{Ok, Err}
-use Rattle.machines.specs.Answers.{with_named_reply}
-use Rattle.lease_table.specs.declared.call.TableCall.TheVariants as call
-use Rattle.lease_table.specs.declared.call.TableReply.TheVariants as told
-use Rattle.lease_table.specs.Tables.{Standing, last_number}
-use Rattle.lease_table.specs.Steps.{commit_step}
+use Rattle.std.proofs.Common.{◌≡◌, ℕ, ◌<◌, List, length, refl, sym, ◌∙◌, ap, subst}
+use Rattle.std.specs.Prelude.{Result, Ok}
+use Rattle.lease_table.specs.declared.call.TableCall.TheVariants as asked
+use Rattle.lease_table.specs.Tables.{last_number}
 use Rattle.assigner.specs.Terms.{Keeping}
-use Rattle.world.specs.declared.reply.Refusal.TheVariants as refusal
-use Rattle.world.specs.declared.reply.Reply.TheVariants as reply
+use Rattle.cluster.specs.declared.call.ClusterCall.{ClusterCall}
+use Rattle.cluster.specs.declared.call.ClusterCall.TheVariants as call
+use Rattle.world.specs.declared.reply.Refusal.{Refusal}
 use Rattle.world.specs.declared.step.Step.TheVariants as step
-use Rattle.world.specs.Told.{table_calls, standing, kept_number}
-use Rattle.world.specs.Replies.{assigner_of}
-use Rattle.world.proofs.ActorLists.{of_job}
-use Rattle.world.proofs.Answering.{by_own, answers, refuses}
+use Rattle.world.specs.Front.{kept_number}
+use Rattle.world.specs.Calls.{calls_in}
+use Rattle.world.proofs.Asking.{fits, actor_call, asked_on}
 use Rattle.world.proofs.AssignerTerms.{own_assigner}
-use Rattle.world.proofs.TableCalls.{stands_at, sends_at, proposes_at}
-use Rattle.world.proofs.Keeping.{moved}
 use Rattle.world.proofs.world.World.commit.Goals as goal
 
-pub returns-in-Ok : goal.returns-in-Ok
-returns-in-Ok c = λ job past k.
-    let calls = table_calls job.policy past in
-    let own = own_assigner job past c.args.self.now.assigners.items c.args.assigner c.in_ok-place.place c.index.result.now k.assigners c.in_ok-place.ensures.0 (subst (λ (xs : List Keeping). c.in_ok-place.place < length xs) c.as_slice.ensures.value c.in_ok-place.ensures.1) c.index.ensures in
-    let number : c.number.result ≡ kept_number c.args.assigner past = c.number.ensures ∙ ap (λ (a : Keeping). last_number a.term) own.keeps in
-    let done = subst (λ (t : Standing). commit_step t (kept_number c.args.assigner past) c.args.at ≡ Ok (c.commit.new.self, c.in-Ok.generation)) k.table (subst (λ (n : ℕ). commit_step c.args.self.now.table n c.args.at ≡ Ok (c.commit.new.self, c.in-Ok.generation)) number c.in-Ok.ensures) in
-    let whole = ap (with_named_reply told.Committed) done in
-    record {
-      run = (answers job past (step.Commit c.args.assigner c.args.at) tt refusal.Table reply.Committed (commit_step (standing job.policy past) (kept_number c.args.assigner past) c.args.at) (by_own c.args.assigner job.assigners _ own.inside) (c.commit.new.self, c.in-Ok.generation) done, k.run);
-      within = k.within;
-      same_job = k.same_job;
-      draft = k.draft;
-      table = stands_at job.policy calls (call.Commit (kept_number c.args.assigner past) c.args.at) c.commit.new.self (told.Committed c.in-Ok.generation) whole (c.standing_law.ensures.next job.policy calls (call.Commit (kept_number c.args.assigner past) c.args.at) k.within);
-      grants = k.grants ∙ sym (sends_at job.policy calls (call.Commit (kept_number c.args.assigner past) c.args.at) c.commit.new.self (told.Committed c.in-Ok.generation) whole);
-      notes = k.notes;
-      handles = k.handles;
-      proposals = k.proposals ∙ sym (proposes_at job.policy calls (call.Commit (kept_number c.args.assigner past) c.args.at) c.commit.new.self (told.Committed c.in-Ok.generation) whole);
-      assigners = k.assigners;
-      tasks = k.tasks;
-      clerks = k.clerks;
-      loads = k.loads;
-    }
-
-pub returns-in-Err : goal.returns-in-Err
-returns-in-Err c = λ job past k.
-    let number : c.number.result ≡ kept_number c.args.assigner past = c.number.ensures ∙ ap (λ (a : Keeping). last_number a.term) (own_assigner job past c.args.self.now.assigners.items c.args.assigner c.in_ok-place.place c.index.result.now k.assigners c.in_ok-place.ensures.0 (subst (λ (xs : List Keeping). c.in_ok-place.place < length xs) c.as_slice.ensures.value c.in_ok-place.ensures.1) c.index.ensures).keeps in
-    let refused = subst (λ (t : Standing). commit_step t (kept_number c.args.assigner past) c.args.at ≡ Err c.in-Err.why) k.table (subst (λ (n : ℕ). commit_step c.args.self.now.table n c.args.at ≡ Err c.in-Err.why) number c.in-Err.ensures.0) in (
-      moved job past c.args.self.now _ k refl refl c.in-Err.ensures.1 refl refl refl refl k.assigners k.tasks k.clerks k.loads.0 refl,
-      refuses job past (step.Commit c.args.assigner c.args.at) tt refusal.Table reply.Committed (commit_step (standing job.policy past) (kept_number c.args.assigner past) c.args.at) (by_own c.args.assigner job.assigners _ (of_job (assigner_of job past) job.assigners c.args.self.now.assigners.items k.assigners c.in_ok-place.place c.args.assigner c.in_ok-place.ensures.0 (subst (λ (xs : List Keeping). c.in_ok-place.place < length xs) c.as_slice.ensures.value c.in_ok-place.ensures.1))) c.in-Err.why refused,
-    )
+pub returns : goal.returns
+returns c = λ job past k.
+    let s = step.Commit c.args.assigner c.args.at in
+    let made = call.Table (asked.Commit c.number-number.result c.args.at) in
+    let within = subst (λ (xs : List Keeping). c.in_ok-place.place < length xs) c.as_slice.ensures.value c.in_ok-place.ensures.1 in
+    let own = own_assigner job past c.args.self.now.assigners.items c.args.assigner c.in_ok-place.place c.index.result.now k.assigners c.in_ok-place.ensures.0 within c.index.ensures in
+    let number : c.number-number.result ≡ kept_number c.args.assigner past = c.number-number.ensures ∙ ap (λ (a : Keeping). last_number a.term) own.keeps in
+    let is = actor_call c.args.assigner job.assigners _ own.inside ∙ ap (λ (n : ℕ). let one : Result ClusterCall Refusal = Ok (call.Table (asked.Commit n c.args.at)) in one) (sym number) in
+    asked_on job past s made c.args.self.now _ k is (record { job = refl; draft = refl; shares = refl; book = refl }) (fits s made (λ t. t) (λ r. refl) (λ r. refl)) c.ask.ensures.run s refl c.ask.result (c.ask.ensures.asked job (calls_in job past) k.cluster) refl (λ n before. refl)

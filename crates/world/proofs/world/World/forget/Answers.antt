@@ -1,28 +1,13 @@
-use Rattle.std.proofs.Common.{◌<◌, List, length, subst}
-use Rattle.std.specs.Prelude.{Option}
-use Rattle.assignment.specs.Slices.{Slicing}
+use Rattle.std.proofs.Common.{refl}
 use Rattle.clerk.specs.declared.call.ClerkCall.TheVariants.{Forget}
-use Rattle.world.specs.declared.reply.Reply.TheVariants as reply
+use Rattle.cluster.specs.declared.call.ClusterCall.TheVariants as call
 use Rattle.world.specs.declared.step.Step.TheVariants as step
-use Rattle.world.proofs.Answering.{by_own, replied_as}
-use Rattle.world.proofs.ClerkCalls.{own_clerk}
+use Rattle.world.specs.Calls.{calls_in}
+use Rattle.world.proofs.Asking.{fits, asked_on}
 use Rattle.world.proofs.world.World.forget.Goals as goal
 
 pub returns : goal.returns
 returns c = λ job past k.
-    let own = own_clerk job past c.args.self.now.clerks.items c.args.clerk c.in_ok-place.place c.index_mut.result.now k.clerks c.in_ok-place.ensures.0 (subst (λ (xs : List (Option Slicing)). c.in_ok-place.place < length xs) c.as_slice.ensures.value c.in_ok-place.ensures.1) c.index_mut.ensures.value in
-    record {
-      run = (replied_as job past (step.Forget c.args.clerk) tt reply.Forgotten (by_own c.args.clerk job.clerks _ own.inside), k.run);
-      within = k.within;
-      same_job = k.same_job;
-      draft = k.draft;
-      table = k.table;
-      grants = k.grants;
-      notes = k.notes;
-      handles = k.handles;
-      proposals = k.proposals;
-      assigners = k.assigners;
-      tasks = k.tasks;
-      clerks = own.called c.forget.new.self Forget c.forget.ensures;
-      loads = k.loads;
-    }
+    let s = step.Forget c.args.clerk in
+    let made = call.Clerk c.args.clerk Forget in
+    asked_on job past s made c.args.self.now _ k refl (record { job = refl; draft = refl; shares = refl; book = refl }) (fits s made (λ t. t) (λ r. refl) (λ r. refl)) c.ask.ensures.run s refl c.ask.result (c.ask.ensures.asked job (calls_in job past) k.cluster) refl (λ n before. refl)

@@ -8,34 +8,34 @@ use Rattle.load_ledger.specs.Books.{book_with, gather_checks, gather_step}
 use Rattle.world.specs.declared.reply.Refusal.TheVariants as refusal
 use Rattle.world.specs.declared.reply.Reply.TheVariants as reply
 use Rattle.world.specs.declared.step.Step.TheVariants as step
-use Rattle.world.specs.Told.{draft_of, share_of, shares_in, gathers_in}
+use Rattle.world.specs.Front.{draft_of, share_of, shares_in, gathers_in}
 use Rattle.world.specs.Replies.{book_in, totals_in, gather_reply}
 use Rattle.world.specs.Jobs.{Job}
 use Rattle.world.specs.Pasts.{event}
 use Rattle.world.specs.declared.reply.Reply.{Reply}
 use Rattle.world.specs.Runs.{IsReply}
-use Rattle.world.specs.Worlds.{AreActors}
+use Rattle.cluster.specs.Clusters.{AreActors}
 use Rattle.world.proofs.Answering.{answer_is, answers, troubled, unmade}
-use Rattle.world.proofs.Keeping.{moved}
+use Rattle.world.proofs.Keeping.{kept_same}
 use Rattle.world.proofs.TaskShares.{all_shares}
 use Rattle.world.proofs.world.World.gather.Goals as goal
 
 pub returns-in_default-room_for_gather : goal.returns-in_default-room_for_gather
 returns-in_default-room_for_gather c = λ job past k.
-    let shares = all_shares past job.tasks c.args.self.now.shares.items k.loads.0 in
+    let shares = all_shares past job.tasks c.args.self.now.shares.items k.shares in
     let draft : draft_of past ≡ Some c.in-Some.draft = sym k.draft ∙ c.in-Some.is in
-    let checks = ap (λ (xs : List Share). first_of (gather_checks xs c.args.self.now.book)) shares ∙ ap (λ (b : List ℕ). first_of (gather_checks (shares_in job.tasks past) b)) k.loads.1 in
+    let checks = ap (λ (xs : List Share). first_of (gather_checks xs c.args.self.now.book)) shares ∙ ap (λ (b : List ℕ). first_of (gather_checks (shares_in job.tasks past) b)) k.book in
     rw (c.ungathered.ensures, checks)
-    (unmade job past step.Gather _ refusal.Load (λ loads. reply.Gathered loads (totals_in job.tasks (book_with (shares_in job.tasks past) (book_in job past)))) (first_of (gather_checks (shares_in job.tasks past) (book_in job past))) _ tt
+    (unmade job past step.Gather _ refusal.Load (λ loads. reply.Gathered loads (totals_in job.tasks (book_with (shares_in job.tasks past) (book_in job past)))) (first_of (gather_checks (shares_in job.tasks past) (book_in job past))) _ tt (λ outcome. refl) refl
     (ap (λ (o : Option Slicing). gather_reply o job.tasks (shares_in job.tasks past) (book_in job past)) draft) refl (λ x. refl) k)
 
 pub returns-in-Ok-gather : goal.returns-in-Ok-gather
 returns-in-Ok-gather c = λ job past k.
-    let shares : c.from_vec-shares.result ≡ shares_in job.tasks past = c.from_vec-shares.ensures ∙ ap (λ v. v.items) c.replace.ensures.value ∙ all_shares past job.tasks c.args.self.now.shares.items k.loads.0 in
+    let shares : c.from_vec-shares.result ≡ shares_in job.tasks past = c.from_vec-shares.ensures ∙ ap (λ v. v.items) c.replace.ensures.value ∙ all_shares past job.tasks c.args.self.now.shares.items k.shares in
     let draft : draft_of past ≡ Some c.in-Some.draft = sym k.draft ∙ c.in-Some.is in
     let name : List ℕ → Reply = λ loads. reply.Gathered loads (totals_in job.tasks (book_with (shares_in job.tasks past) (book_in job past))) in
     let one = subst (λ (xs : List Share). gather_step xs c.in-Some.draft.slices c.args.self.now.book ≡ Ok (c.gather.new.self, c.in-Ok-gather.loads)) shares c.in-Ok-gather.ensures.gathers in
-    let done = subst (λ (b : List ℕ). gather_step (shares_in job.tasks past) c.in-Some.draft.slices b ≡ Ok (c.gather.new.self, c.in-Ok-gather.loads)) k.loads.1 one in
+    let done = subst (λ (b : List ℕ). gather_step (shares_in job.tasks past) c.in-Some.draft.slices b ≡ Ok (c.gather.new.self, c.in-Ok-gather.loads)) k.book one in
     let left : c.gather.new.self ≡ book_with (shares_in job.tasks past) (book_in job past) =
     sym (ap (λ (p : List ℕ × List ℕ). p.0) (answer_is (first_of (gather_checks (shares_in job.tasks past) (book_in job past))) _ (c.gather.new.self, c.in-Ok-gather.loads) done)) in
     let totals : c.from_vec.result ≡ totals_in job.tasks (book_with (shares_in job.tasks past) (book_in job past)) =
@@ -47,34 +47,25 @@ returns-in-Ok-gather c = λ job past k.
             (ap (λ (o : Option Slicing). gather_reply o job.tasks (shares_in job.tasks past) (book_in job past)) draft) (c.gather.new.self, c.in-Ok-gather.loads) done),
         k.run,
       );
-      within = k.within;
+      cluster = k.cluster;
       same_job = k.same_job;
       draft = k.draft;
-      table = k.table;
-      grants = k.grants;
-      notes = k.notes;
-      handles = k.handles;
-      proposals = k.proposals;
       assigners = k.assigners;
-      tasks = k.tasks;
-      clerks = k.clerks;
-      loads = (
-        subst (λ v. AreActors (λ n. let s : Share = record { task = n; records = [] } in s) job.tasks v.items) (sym c.replace.ensures.after)
-            (subst (λ (j : Job). AreActors (λ n. let s : Share = record { task = n; records = [] } in s) j.tasks c.in-Ok.fresh.items) k.same_job c.in-Ok.ensures.0),
-        left ∙ c.totals_law.ensures.next (shares_in job.tasks past) (gathers_in job.tasks past),
-      );
+      shares = subst (λ v. AreActors (λ n. let s : Share = record { task = n; records = [] } in s) job.tasks v.items) (sym c.replace.ensures.after)
+          (subst (λ (j : Job). AreActors (λ n. let s : Share = record { task = n; records = [] } in s) j.tasks c.in-Ok.fresh.items) k.same_job c.in-Ok.ensures.0);
+      book = left ∙ c.totals_law.ensures.next (shares_in job.tasks past) (gathers_in job.tasks past);
     }
 
 pub returns-in-Err : goal.returns-in-Err
 returns-in-Err c = λ job past k.
-    let shares : c.from_vec-shares.result ≡ shares_in job.tasks past = c.from_vec-shares.ensures ∙ ap (λ v. v.items) c.replace.ensures.value ∙ all_shares past job.tasks c.args.self.now.shares.items k.loads.0 in
+    let shares : c.from_vec-shares.result ≡ shares_in job.tasks past = c.from_vec-shares.ensures ∙ ap (λ v. v.items) c.replace.ensures.value ∙ all_shares past job.tasks c.args.self.now.shares.items k.shares in
     let draft : draft_of past ≡ Some c.in-Some.draft = sym k.draft ∙ c.in-Some.is in
     let back : c.into_vec.result.items ≡ c.args.self.now.shares.items = c.into_vec.ensures ∙ c.in-Err.ensures.handed_back ∙ c.from_vec-shares.ensures ∙ ap (λ v. v.items) c.replace.ensures.value in
     let one = subst (λ (xs : List Share). Takes (gather_step xs c.in-Some.draft.slices c.args.self.now.book) c.args.self.now.book (Err c.in-Err.ungathered.why) c.gather.new.self) shares c.in-Err.ensures.gathers in
     rw c.of_load.ensures
     (troubled job past step.Gather _ refusal.Load (λ loads. reply.Gathered loads (totals_in job.tasks (book_with (shares_in job.tasks past) (book_in job past))))
-    (gather_step (shares_in job.tasks past) c.in-Some.draft.slices (book_in job past)) c.args.self.now.book c.gather.new.self c.in-Err.ungathered.why tt
+    (gather_step (shares_in job.tasks past) c.in-Some.draft.slices (book_in job past)) c.args.self.now.book c.gather.new.self c.in-Err.ungathered.why tt (λ outcome. refl) refl
     (ap (λ (o : Option Slicing). gather_reply o job.tasks (shares_in job.tasks past) (book_in job past)) draft) refl (λ x. refl)
-    (subst (λ (b : List ℕ). Takes (gather_step (shares_in job.tasks past) c.in-Some.draft.slices b) c.args.self.now.book (Err c.in-Err.ungathered.why) c.gather.new.self) k.loads.1 one)
-    (λ e. moved job past c.args.self.now _ k refl refl refl refl refl refl refl k.assigners k.tasks k.clerks
-    (subst (λ (xs : List Share). AreActors (share_of past) job.tasks xs) (sym back) k.loads.0) e))
+    (subst (λ (b : List ℕ). Takes (gather_step (shares_in job.tasks past) c.in-Some.draft.slices b) c.args.self.now.book (Err c.in-Err.ungathered.why) c.gather.new.self) k.book one)
+    (λ e. kept_same job past c.args.self.now _ k k.cluster refl refl k.assigners
+    (subst (λ (xs : List Share). AreActors (share_of past) job.tasks xs) (sym back) k.shares) e))

@@ -1,33 +1,13 @@
-use Rattle.std.proofs.Common.{◌≡◌, length, refl, sym, ap, ◌∙◌}
-use Rattle.lease_table.specs.declared.call.TableCall.TheVariants as call
-use Rattle.lease_table.specs.declared.call.TableReply.TheVariants as told
-use Rattle.lease_table.specs.Tables.{Standing}
-use Rattle.lease_table.specs.Steps.{standing_after_restart}
-use Rattle.world.specs.declared.reply.Reply.TheVariants as reply
+use Rattle.std.proofs.Common.{refl}
+use Rattle.lease_table.specs.declared.call.TableCall.TheVariants as asked
+use Rattle.cluster.specs.declared.call.ClusterCall.TheVariants as call
 use Rattle.world.specs.declared.step.Step.TheVariants as step
-use Rattle.world.specs.Told.{table_calls, standing}
-use Rattle.world.proofs.Answering.{replied_as}
-use Rattle.world.proofs.TableCalls.{stands_at, sends_at, proposes_at}
+use Rattle.world.specs.Calls.{calls_in}
+use Rattle.world.proofs.Asking.{fits, asked_on}
 use Rattle.world.proofs.world.World.lose.Goals as goal
 
 pub returns : goal.returns
 returns c = λ job past k.
-    let calls = table_calls job.policy past in
-    let before : Standing = standing job.policy past in
-    let lost : c.restart.result ≡ length before.rows = c.restart.ensures.count ∙ ap (λ (t : Standing). length t.rows) k.table in
-    record {
-      run = (replied_as job past step.Lose tt (reply.Lost c.restart.result) (ap reply.Lost (sym lost)), k.run);
-      within = k.within;
-      same_job = k.same_job;
-      draft = k.draft;
-      table = c.restart.ensures.left ∙ ap standing_after_restart k.table
-          ∙ stands_at job.policy calls call.Restart (standing_after_restart before) (told.Lost (length before.rows)) refl (c.standing_law.ensures.next job.policy calls call.Restart k.within);
-      grants = k.grants ∙ sym (sends_at job.policy calls call.Restart (standing_after_restart before) (told.Lost (length before.rows)) refl);
-      notes = k.notes;
-      handles = k.handles;
-      proposals = k.proposals ∙ sym (proposes_at job.policy calls call.Restart (standing_after_restart before) (told.Lost (length before.rows)) refl);
-      assigners = k.assigners;
-      tasks = k.tasks;
-      clerks = k.clerks;
-      loads = k.loads;
-    }
+    let s = step.Lose in
+    let made = call.Table asked.Restart in
+    asked_on job past s made c.args.self.now _ k refl (record { job = refl; draft = refl; shares = refl; book = refl }) (fits s made (λ t. t) (λ r. refl) (λ r. refl)) c.ask.ensures.run s refl c.ask.result (c.ask.ensures.asked job (calls_in job past) k.cluster) refl (λ n before. refl)

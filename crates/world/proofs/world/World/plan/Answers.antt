@@ -4,7 +4,7 @@ use Rattle.lease_table.specs.Policies.{Terms}
 use Rattle.weighted_move.specs.Policies.{Limits, limits_of}
 use Rattle.weighted_move.specs.Plans.{CanPlan, IsPlan, plan_refusal}
 use Rattle.world.specs.Jobs.{Job}
-use Rattle.world.specs.Told.{draft_of}
+use Rattle.world.specs.Front.{draft_of}
 use Rattle.world.proofs.Planning.{planned_reply, unplanned_played}
 use Rattle.world.proofs.world.World.plan.Goals as goal
 
@@ -17,18 +17,12 @@ returns-in-Ok c = λ job past k.
     let is = subst (λ (l : Limits). IsPlan c.in-Some.draft.slices c.args.loads.now c.args.tasks.now l c.in-Ok.plan) held c.in-Ok.ensures.planned in
     record {
       run = (planned_reply job past c.args.loads.now c.args.tasks.now c.args.bounds c.in-Some.draft draft c.in-Ok.plan can.planned (can, is), k.run);
-      within = k.within;
+      cluster = k.cluster;
       same_job = k.same_job;
       draft = k.draft;
-      table = k.table;
-      grants = k.grants;
-      notes = k.notes;
-      handles = k.handles;
-      proposals = k.proposals;
       assigners = k.assigners;
-      tasks = k.tasks;
-      clerks = k.clerks;
-      loads = k.loads;
+      shares = k.shares;
+      book = k.book;
     }
 
 pub returns-in-Err : goal.returns-in-Err

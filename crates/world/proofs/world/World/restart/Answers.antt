@@ -12,16 +12,10 @@ returns c = λ job past k.
     let own = own_assigner job past c.args.self.now.assigners.items c.args.assigner c.in_ok-place.place c.index_mut.result.now k.assigners c.in_ok-place.ensures.0 (subst (λ (xs : List Keeping). c.in_ok-place.place < length xs) c.as_slice.ensures.value c.in_ok-place.ensures.1) c.index_mut.ensures.value in
     record {
       run = (replied_as job past (step.Restart c.args.assigner) tt reply.Restarted (by_own c.args.assigner job.assigners _ own.inside), k.run);
-      within = k.within;
+      cluster = k.cluster;
       same_job = k.same_job;
       draft = k.draft;
-      table = k.table;
-      grants = k.grants;
-      notes = k.notes;
-      handles = k.handles;
-      proposals = k.proposals;
       assigners = own.told c.restart.new.self (λ n before. None) c.restart.ensures;
-      tasks = k.tasks;
-      clerks = k.clerks;
-      loads = k.loads;
+      shares = k.shares;
+      book = k.book;
     }

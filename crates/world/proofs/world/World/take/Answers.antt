@@ -1,48 +1,25 @@
-use Rattle.std.proofs.Common.{◌≡◌, ◌<◌, List, length, refl, sym, ap, subst, ◌∙◌}
-use Rattle.std.specs.Prelude.{Ok, Err}
-use Rattle.machines.specs.Answers.{with_named_reply}
-use Rattle.lease_table.specs.declared.call.TableCall.TheVariants as call
-use Rattle.lease_table.specs.declared.call.TableReply.TheVariants as told
-use Rattle.lease_table.specs.Tables.{Standing}
-use Rattle.lease_table.specs.Steps.{take_step}
-use Rattle.assigner.specs.Terms.{Keeping, adopted_term}
-use Rattle.world.specs.declared.reply.Refusal.TheVariants as refusal
-use Rattle.world.specs.declared.reply.Reply.TheVariants as reply
+use Rattle.std.proofs.Common.{◌≡◌, ℕ, ◌<◌, List, length, refl, sym, ◌∙◌, ap, subst}
+use Rattle.std.specs.Prelude.{Result, Ok}
+use Rattle.lease_table.specs.declared.call.TableCall.TheVariants as asked
+use Rattle.lease_table.specs.Tables.{last_number}
+use Rattle.assigner.specs.Terms.{Keeping}
+use Rattle.cluster.specs.declared.call.ClusterCall.{ClusterCall}
+use Rattle.cluster.specs.declared.call.ClusterCall.TheVariants as call
+use Rattle.world.specs.declared.reply.Refusal.{Refusal}
 use Rattle.world.specs.declared.step.Step.TheVariants as step
-use Rattle.world.specs.Told.{table_calls, standing}
-use Rattle.world.specs.Replies.{assigner_of}
-use Rattle.world.proofs.ActorLists.{of_job}
-use Rattle.world.proofs.Answering.{by_own, answers, refuses}
-use Rattle.world.proofs.AssignerTerms.{own_assigner}
-use Rattle.world.proofs.TableCalls.{stands_at, sends_at, proposes_at}
-use Rattle.world.proofs.Keeping.{moved}
+use Rattle.world.specs.Front.{term_told, kept_number}
+use Rattle.world.specs.Calls.{calls_in}
+use Rattle.world.proofs.Asking.{fits, actor_call, played_on}
+use Rattle.world.proofs.AssignerTerms.{own_assigner, assigners_told}
 use Rattle.world.proofs.world.World.take.Goals as goal
 
-pub returns-in-Ok : goal.returns-in-Ok
-returns-in-Ok c = λ job past k.
-    let calls = table_calls job.policy past in
-    let own = own_assigner job past c.args.self.now.assigners.items c.args.assigner c.in_ok-place.place c.index_mut.result.now k.assigners c.in_ok-place.ensures.0 (subst (λ (xs : List Keeping). c.in_ok-place.place < length xs) c.as_slice.ensures.value c.in_ok-place.ensures.1) c.index_mut.ensures.value in
-    let done = subst (λ (t : Standing). take_step t c.args.assigner c.args.at ≡ Ok (c.job_take.new.self, c.in-Ok.term)) k.table c.in-Ok.ensures in
-    let whole = ap (with_named_reply told.Term) done in
-    record {
-      run = (answers job past (step.Take c.args.assigner c.args.at) tt refusal.Table reply.Term (take_step (standing job.policy past) c.args.assigner c.args.at) (by_own c.args.assigner job.assigners _ own.inside) (c.job_take.new.self, c.in-Ok.term) done, k.run);
-      within = k.within;
-      same_job = k.same_job;
-      draft = k.draft;
-      table = stands_at job.policy calls (call.JobTake c.args.assigner c.args.at) c.job_take.new.self (told.Term c.in-Ok.term) whole (c.standing_law.ensures.next job.policy calls (call.JobTake c.args.assigner c.args.at) k.within);
-      grants = k.grants ∙ sym (sends_at job.policy calls (call.JobTake c.args.assigner c.args.at) c.job_take.new.self (told.Term c.in-Ok.term) whole);
-      notes = k.notes;
-      handles = k.handles;
-      proposals = k.proposals ∙ sym (proposes_at job.policy calls (call.JobTake c.args.assigner c.args.at) c.job_take.new.self (told.Term c.in-Ok.term) whole);
-      assigners = own.told c.adopt.new.self (λ n before. adopted_term n c.in-Ok.term before) c.adopt.ensures.kept;
-      tasks = k.tasks;
-      clerks = k.clerks;
-      loads = k.loads;
-    }
-
-pub returns-in-Err : goal.returns-in-Err
-returns-in-Err c = λ job past k.
-    let refused = subst (λ (t : Standing). take_step t c.args.assigner c.args.at ≡ Err c.in-Err.why) k.table c.in-Err.ensures.0 in (
-      moved job past c.args.self.now _ k refl refl c.in-Err.ensures.1 refl refl refl refl k.assigners k.tasks k.clerks k.loads.0 refl,
-      refuses job past (step.Take c.args.assigner c.args.at) tt refusal.Table reply.Term (take_step (standing job.policy past) c.args.assigner c.args.at) (by_own c.args.assigner job.assigners _ (of_job (assigner_of job past) job.assigners c.args.self.now.assigners.items k.assigners c.in_ok-place.place c.args.assigner c.in_ok-place.ensures.0 (subst (λ (xs : List Keeping). c.in_ok-place.place < length xs) c.as_slice.ensures.value c.in_ok-place.ensures.1))) c.in-Err.why refused,
-    )
+pub returns : goal.returns
+returns c = λ job past k.
+    let s = step.Take c.args.assigner c.args.at in
+    let made = call.Table (asked.JobTake c.args.assigner c.args.at) in
+    let within = subst (λ (xs : List Keeping). c.in_ok-place.place < length xs) c.as_slice.ensures.value c.in_ok-place.ensures.1 in
+    let own = own_assigner job past c.args.self.now.assigners.items c.args.assigner c.in_ok-place.place c.index_mut.result.now k.assigners c.in_ok-place.ensures.0 within c.index_mut.ensures.value in
+    let told = c.ask-reply.ensures.asked job (calls_in job past) k.cluster in
+    let assigners = own.told c.adopt.new.assigner (λ n before. term_told n c.ask-reply.result before) c.adopt.ensures in
+    played_on job past s made c.args.self.now _ k (actor_call c.args.assigner job.assigners _ own.inside) (record { job = refl; draft = refl; shares = refl; book = refl }) (fits s made (λ t. t) (λ r. refl) (λ r. refl)) c.ask-reply.ensures.run told.0 told.1 c.ask-reply.result told.2
+    (assigners_told job past s c.args.assigner c.ask-reply.result _ (λ n before. refl) assigners)

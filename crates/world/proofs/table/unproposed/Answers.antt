@@ -1,0 +1,13 @@
+use Rattle.assignment.specs.Slices.{Slicing}
+use Rattle.world.proofs.Proposing.{proposal_refused, proposal_without_memory}
+use Rattle.world.proofs.table.unproposed.Goals as goal
+
+pub returns-in-Some-clause-asked : goal.returns-in-Some-clause-asked
+returns-in-Some-clause-asked c = λ job calls s leads.
+    let slicing : Slicing = record { generation = c.args.generation; slices = c.args.slices.now } in
+    proposal_refused job calls c.args.number c.args.at slicing s c.args.cluster.now leads c.refusal_law.ensures c.in-Some.why (c.in-Some.ensures job calls leads)
+
+pub returns-in-None-clause-asked : goal.returns-in-None-clause-asked
+returns-in-None-clause-asked c = λ job calls s leads.
+    let slicing : Slicing = record { generation = c.args.generation; slices = c.args.slices.now } in
+    proposal_without_memory job calls c.args.number c.args.at slicing s c.args.cluster.now leads (c.in-None.ensures job calls leads)
