@@ -149,7 +149,7 @@ pub(crate) fn sorted_points<'a>(
     records: &'a [CallRecord],
 ) -> Result<Vec<Point<'a>>, AllocError>
     ensures each { IfOk result (λ points. IsPermutation
-        (all_turns (evidence table.now tasks.now clerks.now records.now)) (map shown points.items)) }
+        (all_turns (evidence table.now tasks.now clerks.now records.now)) (map turn_of points.items)) }
     ensures order { IfOk result (λ points. IsNonDecreasingBy (λ p. (turn_of p).ticket) points.items) }
 {
     let mut points = points_of(alloc, table, tasks, clerks, records)?;

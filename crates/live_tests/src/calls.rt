@@ -1,53 +1,52 @@
 //! The calls of shared objects by one thread.
 
 ghost use Rattle.history_lock.specs.Passes.{IsPassOf};
-ghost use Rattle.tickets.specs.Tickets.{DrawsFrom};
 
 use crate::objects::{
     Objects, Passes, close_clerk, close_table, close_task, first_assignment, first_task, open_all,
-    policy,
+    open_ticket, policy,
 };
 use assignment::TaskId;
 use audit::{Audit, audit};
 use clerk::{Clerk, ClerkEvent};
 use cluster::{CallRecord, ClusterReply, Job};
 use history_lock::{History, Pass};
-use slice_ranges::slice_key;
 use lease_table::{LeaseTable, Phase, Row, TableEvent};
-use live_service::{SharedClerk, SharedSlicelet, SharedTable, When};
 use machines::Event;
 use policy_rules::{Kind, Verdict};
+use shared_objects::{Draws, Proposal, SharedClerk, SharedSlicelet, SharedTable, TaskLife, When};
+use slice_ranges::slice_key;
 use slicelet::{Slicelet, SliceletEvent};
 use std::alloc::Global;
 use std::sync::Wait;
 use std::test::Fail;
-use tickets::{Ticket, TicketPass};
 
 // Assigner 1 takes the job, and proposes and commits generation 1: its term's end, and the generation.
 pub fn commit_first<R: Wait>(
     rt: &R,
     alloc: Global,
     table: &SharedTable,
-    ticket: &Ticket,
     pass: &mut Pass<LeaseTable>,
-    draws: &mut TicketPass,
+    draws: &mut Draws<'_>,
 ) -> Result<(u64, u64), Fail>
     requires own { IsPassOf table.now pass.old }
-    requires draws { DrawsFrom ticket.now draws.old }
     ensures own { IsPassOf table.now pass.new }
-    ensures draws { DrawsFrom ticket.now draws.new }
 {
     let first = first_assignment(alloc)?;
     let term = table
-        .take(rt, ticket, pass, draws, 1, When::At(0))
+        .take(rt, pass, draws, 1, When::At(0))
         .ok()
         .ok_or("nobody holds the job")?;
+    let proposal = Proposal {
+        term: term.number,
+        assignment: first,
+    };
     table
-        .propose(rt, ticket, pass, draws, term.number, first, When::At(1))
+        .propose(rt, pass, draws, proposal, When::At(1))
         .ok()
         .ok_or("nothing is proposed")?;
     let generation = table
-        .commit(rt, ticket, pass, draws, term.number, When::At(2))
+        .commit(rt, pass, draws, term.number, When::At(2))
         .ok()
         .ok_or("no row holds it up")?;
     Ok((term.until, generation))
@@ -58,28 +57,28 @@ fn hear_first<R: Wait>(
     rt: &R,
     table: &SharedTable,
     task: &SharedSlicelet,
-    ticket: &Ticket,
     table_pass: &mut Pass<LeaseTable>,
     task_pass: &mut Pass<Slicelet>,
-    draws: &mut TicketPass,
+    draws: &mut Draws<'_>,
 ) -> Result<(u64, u64, u64), Fail>
     requires table { IsPassOf table.now table_pass.old }
     requires task { IsPassOf task.now task_pass.old }
-    requires draws { DrawsFrom ticket.now draws.old }
     ensures table { IsPassOf table.now table_pass.new }
     ensures task { IsPassOf task.now task_pass.new }
-    ensures draws { DrawsFrom ticket.now draws.new }
 {
-    let number = first_task()?;
-    task.start(rt, ticket, task_pass, draws, 1, When::At(3))
+    let life = TaskLife {
+        task: first_task()?,
+        life: 1,
+    };
+    task.start(rt, task_pass, draws, 1, When::At(3))
         .ok()
         .ok_or("no life was started")?;
     let grant = table
-        .grant(rt, ticket, table_pass, draws, number, 1, When::At(5))
+        .grant(rt, table_pass, draws, life, When::At(5))
         .ok()
         .ok_or("numbers are left")?;
     let granted = (grant.number, grant.lease.ends, grant.table_ends);
-    task.hear(rt, ticket, task_pass, draws, grant, When::At(6))
+    task.hear(rt, task_pass, draws, grant, When::At(6))
         .ok()
         .ok_or("the grant is the task's first")?;
     Ok(granted)
@@ -94,23 +93,20 @@ const SERVED: Verdict = Verdict::Allow {
 fn serve_twice<R: Wait>(
     rt: &R,
     task: &SharedSlicelet,
-    ticket: &Ticket,
     pass: &mut Pass<Slicelet>,
-    draws: &mut TicketPass,
+    draws: &mut Draws<'_>,
     records: &mut Vec<CallRecord>,
 ) -> Result<(Verdict, Verdict), Fail>
     requires own { IsPassOf task.now pass.old }
-    requires draws { DrawsFrom ticket.now draws.old }
     ensures own { IsPassOf task.now pass.new }
-    ensures draws { DrawsFrom ticket.now draws.new }
 {
     let key = slice_key(b"hello");
     let served = task
-        .serve(rt, ticket, pass, draws, key, When::At(7))
+        .serve(rt, pass, draws, key, When::At(7))
         .ok()
         .ok_or("a draw is left")?;
     let tried = task
-        .try_serve(ticket, pass, draws, key, When::At(7))
+        .try_serve(pass, draws, key, When::At(7))
         .ok()
         .ok_or("the lane is free")?;
     records.push(served.call)?;
@@ -122,25 +118,22 @@ fn serve_twice<R: Wait>(
 fn hold_and_check<R: Wait>(
     rt: &R,
     task: &SharedSlicelet,
-    ticket: &Ticket,
     pass: &mut Pass<Slicelet>,
-    draws: &mut TicketPass,
+    draws: &mut Draws<'_>,
     records: &mut Vec<CallRecord>,
 ) -> Result<(bool, bool), Fail>
     requires own { IsPassOf task.now pass.old }
-    requires draws { DrawsFrom ticket.now draws.old }
     ensures own { IsPassOf task.now pass.new }
-    ensures draws { DrawsFrom ticket.now draws.new }
 {
     let key = slice_key(b"hello");
     let held = task
-        .hold(rt, ticket, pass, draws, key, When::At(7))
+        .hold(rt, pass, draws, key, When::At(7))
         .ok()
         .ok_or("a draw is left")?;
     let handle = held.answer.ok().ok_or("the task may serve the key")?;
     records.push(held.call)?;
     let checked = task
-        .check(rt, ticket, pass, draws, handle, When::At(8))
+        .check(rt, pass, draws, handle, When::At(8))
         .ok()
         .ok_or("a draw is left")?;
     let told = matches!(checked.call.reply, ClusterReply::Continuous);
@@ -152,23 +145,17 @@ fn hold_and_check<R: Wait>(
 fn ask_table<R: Wait>(
     rt: &R,
     table: &SharedTable,
-    ticket: &Ticket,
     pass: &mut Pass<LeaseTable>,
-    draws: &mut TicketPass,
+    draws: &mut Draws<'_>,
     records: &mut Vec<CallRecord>,
 ) -> Result<(Phase, bool), Fail>
     requires own { IsPassOf table.now pass.old }
-    requires draws { DrawsFrom ticket.now draws.old }
     ensures own { IsPassOf table.now pass.new }
-    ensures draws { DrawsFrom ticket.now draws.new }
 {
-    let phase = table
-        .phase(rt, ticket, pass, draws)
-        .ok()
-        .ok_or("a draw is left")?;
+    let phase = table.phase(rt, pass, draws).ok().ok_or("a draw is left")?;
     records.push(phase.call)?;
     let rows = table
-        .rows(rt, ticket, pass, draws)
+        .rows(rt, pass, draws)
         .ok()
         .ok_or("a draw is left, and memory")?;
     records.push(rows.call)?;
@@ -183,17 +170,14 @@ fn is_grant_1(rows: &[Row]) -> bool {
 fn renew<R: Wait>(
     rt: &R,
     table: &SharedTable,
-    ticket: &Ticket,
     pass: &mut Pass<LeaseTable>,
-    draws: &mut TicketPass,
+    draws: &mut Draws<'_>,
 ) -> Result<u64, Fail>
     requires own { IsPassOf table.now pass.old }
-    requires draws { DrawsFrom ticket.now draws.old }
     ensures own { IsPassOf table.now pass.new }
-    ensures draws { DrawsFrom ticket.now draws.new }
 {
     let term = table
-        .renew(rt, ticket, pass, draws, 1, When::At(8))
+        .renew(rt, pass, draws, 1, When::At(8))
         .ok()
         .ok_or("assigner 1 holds the job")?;
     Ok(term.until)
@@ -204,23 +188,20 @@ fn learn<R: Wait>(
     rt: &R,
     table: &SharedTable,
     clerk: &SharedClerk,
-    ticket: &Ticket,
     table_pass: &mut Pass<LeaseTable>,
     clerk_pass: &mut Pass<Clerk>,
-    draws: &mut TicketPass,
+    draws: &mut Draws<'_>,
 ) -> Result<(), Fail>
     requires table { IsPassOf table.now table_pass.old }
     requires clerk { IsPassOf clerk.now.lock clerk_pass.old }
-    requires draws { DrawsFrom ticket.now draws.old }
     ensures table { IsPassOf table.now table_pass.new }
     ensures clerk { IsPassOf clerk.now.lock clerk_pass.new }
-    ensures draws { DrawsFrom ticket.now draws.new }
 {
     let committed = table
         .committed(rt, table_pass)?
         .ok_or("generation 1 is committed")?;
     clerk
-        .learn(rt, ticket, clerk_pass, draws, committed)
+        .learn(rt, clerk_pass, draws, committed)
         .ok()
         .ok_or("the clerk has learnt nothing")?;
     Ok(())
@@ -230,25 +211,22 @@ fn learn<R: Wait>(
 fn look<R: Wait>(
     rt: &R,
     clerk: &SharedClerk,
-    ticket: &Ticket,
     pass: &mut Pass<Clerk>,
-    draws: &mut TicketPass,
+    draws: &mut Draws<'_>,
     records: &mut Vec<CallRecord>,
 ) -> Result<(u64, bool), Fail>
     requires own { IsPassOf clerk.now.lock pass.old }
-    requires draws { DrawsFrom ticket.now draws.old }
     ensures own { IsPassOf clerk.now.lock pass.new }
-    ensures draws { DrawsFrom ticket.now draws.new }
 {
     let looked = clerk
-        .look(rt, ticket, pass, draws, slice_key(b"hello"))
+        .look(rt, pass, draws, slice_key(b"hello"))
         .ok()
         .ok_or("a draw is left")?;
     records.push(looked.call)?;
     let found = looked.answer.ok().ok_or("the clerk has learnt")?;
     let alone = is_task_1(found.owners.as_slice());
     clerk
-        .forget(rt, ticket, pass, draws)
+        .forget(rt, pass, draws)
         .ok()
         .ok_or("a clerk forgets at any time")?;
     Ok((found.generation, alone))
@@ -263,25 +241,22 @@ fn give_up<R: Wait>(
     rt: &R,
     table: &SharedTable,
     task: &SharedSlicelet,
-    ticket: &Ticket,
     table_pass: &mut Pass<LeaseTable>,
     task_pass: &mut Pass<Slicelet>,
-    draws: &mut TicketPass,
+    draws: &mut Draws<'_>,
 ) -> Result<u64, Fail>
     requires table { IsPassOf table.now table_pass.old }
     requires task { IsPassOf task.now task_pass.old }
-    requires draws { DrawsFrom ticket.now draws.old }
     ensures table { IsPassOf table.now table_pass.new }
     ensures task { IsPassOf task.now task_pass.new }
-    ensures draws { DrawsFrom ticket.now draws.new }
 {
     let note = task
-        .release(rt, ticket, task_pass, draws, Kind::Guard, When::At(9))
+        .release(rt, task_pass, draws, Kind::Guard, When::At(9))
         .ok()
         .ok_or("the task holds a guard")?;
     Ok(
         table
-            .free(rt, ticket, table_pass, draws, note, When::At(10))
+            .free(rt, table_pass, draws, note, When::At(10))
             .ok()
             .ok_or("the row is open")?,
     )
@@ -326,32 +301,25 @@ fn play<R: Wait>(
     alloc: Global,
     objects: &Objects,
     passes: &mut Passes,
+    draws: &mut Draws<'_>,
     records: &mut Vec<CallRecord>,
 ) -> Result<Seen, Fail>
-    requires own { IsPassOf objects.now.table passes.old.table × IsPassOf objects.now.task passes.old.task × IsPassOf objects.now.clerk.lock passes.old.clerk }
-    requires draws { DrawsFrom objects.now.ticket passes.old.draws }
-    ensures own { IsPassOf objects.now.table passes.new.table × IsPassOf objects.now.task passes.new.task × IsPassOf objects.now.clerk.lock passes.new.clerk }
-    ensures draws { DrawsFrom objects.now.ticket passes.new.draws }
+    requires { IsPassOf objects.now.table passes.old.table × IsPassOf objects.now.task passes.old.task × IsPassOf objects.now.clerk.lock passes.old.clerk }
+    ensures { IsPassOf objects.now.table passes.new.table × IsPassOf objects.now.task passes.new.task × IsPassOf objects.now.clerk.lock passes.new.clerk }
 {
-    let Objects {
-        table,
-        task,
-        clerk,
-        ticket,
-    } = objects;
+    let Objects { table, task, clerk } = objects;
     let Passes {
         table: p,
         task: q,
         clerk: r,
-        draws,
     } = passes;
-    let committed = commit_first(rt, alloc, table, ticket, p, draws)?;
-    let granted = hear_first(rt, table, task, ticket, p, q, draws)?;
-    let served = serve_twice(rt, task, ticket, q, draws, records)?;
-    let continuous = hold_and_check(rt, task, ticket, q, draws, records)?;
-    let answered = ask_table(rt, table, ticket, p, draws, records)?;
-    let renewed = renew(rt, table, ticket, p, draws)?;
-    learn(rt, table, clerk, ticket, p, r, draws)?;
+    let committed = commit_first(rt, alloc, table, p, draws)?;
+    let granted = hear_first(rt, table, task, p, q, draws)?;
+    let served = serve_twice(rt, task, q, draws, records)?;
+    let continuous = hold_and_check(rt, task, q, draws, records)?;
+    let answered = ask_table(rt, table, p, draws, records)?;
+    let renewed = renew(rt, table, p, draws)?;
+    learn(rt, table, clerk, p, r, draws)?;
     Ok(Seen {
         committed,
         granted,
@@ -359,8 +327,8 @@ fn play<R: Wait>(
         continuous,
         table: answered,
         renewed,
-        known: look(rt, clerk, ticket, r, draws, records)?,
-        freed: give_up(rt, table, task, ticket, p, q, draws)?,
+        known: look(rt, clerk, r, draws, records)?,
+        freed: give_up(rt, table, task, p, q, draws)?,
     })
 }
 
@@ -375,17 +343,11 @@ struct Histories {
 fn close(alloc: Global, objects: Objects, passes: Passes) -> Result<Histories, Fail>
     requires { IsPassOf objects.table passes.table × IsPassOf objects.task passes.task × IsPassOf objects.clerk.lock passes.clerk }
 {
-    let Objects {
-        table,
-        task,
-        clerk,
-        ticket: _,
-    } = objects;
+    let Objects { table, task, clerk } = objects;
     let Passes {
         table: p,
         task: q,
         clerk: r,
-        draws: _,
     } = passes;
     Ok(Histories {
         table: close_table(alloc, table, p)?,
@@ -405,11 +367,12 @@ fn audited(alloc: Global, played: Histories, records: &[CallRecord]) -> Result<A
 fn plays_the_calls_of_a_table_a_task_and_a_clerk(rt: HostRuntime) -> Result<(), Fail> {
     let alloc = rt.alloc();
     let (objects, mut passes) = open_all(alloc)?;
+    let (ticket, ticket_pass) = open_ticket(alloc, 18)?;
+    let mut draws = Draws::new(&ticket, ticket_pass);
     let mut records = Vec::new(alloc);
-    let seen = play(&rt, alloc, &objects, &mut passes, &mut records)?;
-    let left = passes.draws.left();
+    let seen = play(&rt, alloc, &objects, &mut passes, &mut draws, &mut records)?;
     let played = close(alloc, objects, passes)?;
-    assert_eq!(rt; (seen, left), (SEEN, 0));
+    assert_eq!(rt; (seen, draws.left()), (SEEN, 0));
     assert!(rt; tickets_of(&played.table, alloc)?.as_slice() == [0, 1, 2, 4, 12, 17].as_slice());
     assert!(rt; tickets_of(&played.task, alloc)?.as_slice() == [3, 5, 16].as_slice());
     assert!(rt; tickets_of(&played.clerk, alloc)?.as_slice() == [13, 15].as_slice());

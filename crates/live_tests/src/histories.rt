@@ -6,10 +6,10 @@ ghost use Rattle.history_lock.specs.Passes.{IsPassOf};
 use assignment::{Assignment, Listed, Slice, TaskId};
 use cluster::{CallRecord, ClusterCall, ClusterError, ClusterReply};
 use history_lock::{Closed, History, LaneLock, Pass};
-use slice_ranges::{Ranges, slice_key};
 use lease_table::{Grant, LeaseTable, Policy, TableCall, TableEvent};
 use machines::Machine;
 use policy_rules::{Kind, Lease};
+use slice_ranges::{Ranges, slice_key};
 use slicelet::{Slicelet, SliceletCall, SliceletEvent};
 use std::alloc::{AllocError, Global};
 

@@ -8,32 +8,29 @@ use crate::histories::halves;
 use crate::memory::{room_at_last, ticket_at_last};
 use clerk::{Clerk, ClerkError};
 use history_lock::{NewLockError, Pass};
+use shared_objects::{CallError, Draws, RefusedCall, SharedClerk};
 use slice_ranges::slice_key;
-use live_service::{CallError, RefusedCall, SharedClerk};
 use std::alloc::Global;
 use std::marker::Model;
 use std::sync::Wait;
 use std::test::Fail;
-use tickets::{Ticket, TicketPass};
 
-// A clerk of one lane and a ticket, and the pass of each.
+// A clerk of one lane and its pass, and the draws of its calls.
 #[derive(Drop)]
-struct ClerkDesk {
+struct ClerkDesk<'a> {
     clerk: SharedClerk,
-    ticket: Ticket,
     pass: Pass<Clerk>,
-    draws: TicketPass,
+    draws: Draws<'a>,
 }
 
-impl Model for ClerkDesk {
+impl<'a> Model for ClerkDesk<'a> {
     ghost use Rattle.history_lock.specs.Passes.{IsPassOf};
-    ghost use Rattle.tickets.specs.Tickets.{DrawsFrom};
 
     ghost Value = { Unit {0} };
 
     ghost view = { λ _. tt };
 
-    ghost invariant = { λ desk. IsPassOf desk.clerk.lock desk.pass × DrawsFrom desk.ticket desk.draws };
+    ghost invariant = { λ desk. IsPassOf desk.clerk.lock desk.pass };
 }
 
 #[derive(Clone, Copy, Debug)]
@@ -60,35 +57,25 @@ fn written(answer: Result<(), CallError<ClerkError>>) -> ClerkAnswer {
     }
 }
 
-impl ClerkDesk {
+impl ClerkDesk<'_> {
     fn ask<R: Wait>(&mut self, rt: &R, alloc: Global, act: ClerkAct) -> ClerkAnswer {
-        let ClerkDesk {
-            clerk,
-            ticket,
-            pass,
-            draws,
-        } = self;
+        let ClerkDesk { clerk, pass, draws } = self;
         match act {
             ClerkAct::Learn => {
                 let Some(first) = halves(alloc, &[1]) else {
                     return ClerkAnswer::NoMemory;
                 };
-                written(clerk.learn(rt, ticket, pass, draws, first))
+                written(clerk.learn(rt, pass, draws, first))
             }
-            ClerkAct::Forget => written(clerk.forget(rt, ticket, pass, draws)),
+            ClerkAct::Forget => written(clerk.forget(rt, pass, draws)),
         }
     }
 
     // The generation by which the clerk knows the owners of "hello", where it knows any and a draw is left.
     fn known<R: Wait>(&mut self, rt: &R) -> Option<u64> {
-        let ClerkDesk {
-            clerk,
-            ticket,
-            pass,
-            draws,
-        } = self;
+        let ClerkDesk { clerk, pass, draws } = self;
         let key = slice_key(b"hello");
-        let looked = clerk.look(rt, ticket, pass, draws, key).ok()?;
+        let looked = clerk.look(rt, pass, draws, key).ok()?;
         let found = looked.answer.ok()?;
         Some(found.generation)
     }
@@ -133,21 +120,16 @@ fn clerk_at_last(alloc: Global) -> Result<(SharedClerk, Pass<Clerk>), Fail>
     }
 }
 
-fn desk_at_last(alloc: Global) -> Result<ClerkDesk, Fail> {
+fn desk_at_last(alloc: Global, draws: Draws<'_>) -> Result<ClerkDesk<'_>, Fail> {
     let (clerk, pass) = clerk_at_last(alloc)?;
-    let (ticket, draws) = ticket_at_last(alloc, 64)?;
-    Ok(ClerkDesk {
-        clerk,
-        ticket,
-        pass,
-        draws,
-    })
+    Ok(ClerkDesk { clerk, pass, draws })
 }
 
 #[test]
 fn shares_a_clerk_as_before_without_memory(rt: HostRuntime) -> Result<(), Fail> {
     let alloc = rt.alloc();
-    let mut desk = desk_at_last(alloc)?;
+    let (ticket, pass) = ticket_at_last(alloc, 64)?;
+    let mut desk = desk_at_last(alloc, Draws::new(&ticket, pass))?;
     assert_eq!(rt;
         desk.ask_at_last(&rt, alloc, ClerkAct::Learn),
         ClerkAnswer::Done

@@ -10,33 +10,30 @@ use crate::objects::first_task;
 use assignment::TaskId;
 use history_lock::{NewLockError, Pass};
 use lease_table::{LeaseTable, Phase, ReleaseNote, TableError};
-use live_service::{CallError, RowsError, SharedTable, When};
 use policy_rules::Kind;
+use shared_objects::{CallError, Draws, Proposal, RowsError, SharedTable, TaskLife, When};
 use std::alloc::{AllocError, Global};
 use std::marker::Model;
 use std::sync::Wait;
 use std::test::Fail;
-use tickets::{Ticket, TicketPass};
 
-// A table of one lane and a ticket, and the pass of each.
+// A table of one lane and its pass, and the draws of its calls.
 #[derive(Drop)]
-struct Desk {
+struct Desk<'a> {
     task: TaskId,
     table: SharedTable,
-    ticket: Ticket,
     pass: Pass<LeaseTable>,
-    draws: TicketPass,
+    draws: Draws<'a>,
 }
 
-impl Model for Desk {
+impl<'a> Model for Desk<'a> {
     ghost use Rattle.history_lock.specs.Passes.{IsPassOf};
-    ghost use Rattle.tickets.specs.Tickets.{DrawsFrom};
 
     ghost Value = { Unit {0} };
 
     ghost view = { λ _. tt };
 
-    ghost invariant = { λ desk. IsPassOf desk.table desk.pass × DrawsFrom desk.ticket desk.draws };
+    ghost invariant = { λ desk. IsPassOf desk.table desk.pass };
 }
 
 // A call of the table, with its reading.
@@ -79,34 +76,37 @@ fn written(answer: Result<Answer, CallError<TableError>>) -> Answer {
     }
 }
 
-impl Desk {
+impl Desk<'_> {
     // Makes a call by the job lease; another call is one for task leases.
     fn ask<R: Wait>(&mut self, rt: &R, alloc: Global, act: Act) -> Answer {
         let Desk {
             task: _,
             table,
-            ticket,
             pass,
             draws,
         } = self;
         match act {
             Act::Take(at) => {
-                let term = table.take(rt, ticket, pass, draws, 1, When::At(at));
+                let term = table.take(rt, pass, draws, 1, When::At(at));
                 written(term.map(|term| Answer::Until(term.until)))
             }
             Act::Renew(at) => {
-                let term = table.renew(rt, ticket, pass, draws, 1, When::At(at));
+                let term = table.renew(rt, pass, draws, 1, When::At(at));
                 written(term.map(|term| Answer::Until(term.until)))
             }
             Act::Propose(at) => {
                 let Some(first) = halves(alloc, &[1]) else {
                     return Answer::NoMemory;
                 };
-                let proposed = table.propose(rt, ticket, pass, draws, 1, first, When::At(at));
+                let proposal = Proposal {
+                    term: 1,
+                    assignment: first,
+                };
+                let proposed = table.propose(rt, pass, draws, proposal, When::At(at));
                 written(proposed.map(|()| Answer::Proposed))
             }
             Act::Commit(at) => {
-                let committed = table.commit(rt, ticket, pass, draws, 1, When::At(at));
+                let committed = table.commit(rt, pass, draws, 1, When::At(at));
                 written(committed.map(Answer::Committed))
             }
             other => self.ask_for_leases(rt, other),
@@ -118,13 +118,16 @@ impl Desk {
         let Desk {
             task,
             table,
-            ticket,
             pass,
             draws,
         } = self;
         match act {
             Act::Grant(at) => {
-                let grant = table.grant(rt, ticket, pass, draws, *task, 1, When::At(at));
+                let life = TaskLife {
+                    task: *task,
+                    life: 1,
+                };
+                let grant = table.grant(rt, pass, draws, life, When::At(at));
                 written(grant.map(|grant| Answer::Granted {
                     number: grant.number,
                     ends: grant.table_ends,
@@ -137,11 +140,11 @@ impl Desk {
                     kind: Kind::Guard,
                     number: 1,
                 };
-                let freed = table.free(rt, ticket, pass, draws, note, When::At(at));
+                let freed = table.free(rt, pass, draws, note, When::At(at));
                 written(freed.map(Answer::Freed))
             }
             Act::Restart => {
-                let lost = table.restart(rt, ticket, pass, draws);
+                let lost = table.restart(rt, pass, draws);
                 written(lost.map(Answer::Lost))
             }
             other => self.read(rt, other),
@@ -153,7 +156,6 @@ impl Desk {
         let Desk {
             task: _,
             table,
-            ticket,
             pass,
             draws,
         } = self;
@@ -163,7 +165,7 @@ impl Desk {
                 Err(AllocError) => Answer::NoMemory,
             };
         }
-        match table.rows(rt, ticket, pass, draws) {
+        match table.rows(rt, pass, draws) {
             Ok(rows) => Answer::Rows(rows.answer.as_slice().len()),
             Err(RowsError::NoMemory) => Answer::NoMemory,
             Err(RowsError::Spent) => Answer::Closed,
@@ -175,11 +177,10 @@ impl Desk {
         let Desk {
             task: _,
             table,
-            ticket,
             pass,
             draws,
         } = self;
-        let phase = table.phase(rt, ticket, pass, draws).ok()?;
+        let phase = table.phase(rt, pass, draws).ok()?;
         Some(phase.answer)
     }
 
@@ -240,14 +241,12 @@ fn table_at_last(alloc: Global) -> Result<(SharedTable, Pass<LeaseTable>), Fail>
     }
 }
 
-fn desk_at_last(alloc: Global) -> Result<Desk, Fail> {
+fn desk_at_last(alloc: Global, draws: Draws<'_>) -> Result<Desk<'_>, Fail> {
     let task = first_task()?;
     let (table, pass) = table_at_last(alloc)?;
-    let (ticket, draws) = ticket_at_last(alloc, 64)?;
     Ok(Desk {
         task,
         table,
-        ticket,
         pass,
         draws,
     })
@@ -286,7 +285,8 @@ const STORY: [(Act, Answer); 12] = [
 
 #[test]
 fn shares_a_table_as_before_without_memory(rt: HostRuntime) -> Result<(), Fail> {
-    let mut desk = desk_at_last(rt.alloc())?;
+    let (ticket, pass) = ticket_at_last(rt.alloc(), 64)?;
+    let mut desk = desk_at_last(rt.alloc(), Draws::new(&ticket, pass))?;
     let other = desk.first_other(&rt, rt.alloc(), &STORY);
     assert!(rt; other.is_none(), "{other:?}");
     assert_eq!(rt; desk.close_at_last(rt.alloc())?, (8, Phase::Steady(1)));

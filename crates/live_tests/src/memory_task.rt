@@ -9,35 +9,32 @@ use crate::memory::{room_at_last, ticket_at_last};
 use crate::objects::first_task;
 use assignment::TaskId;
 use history_lock::{NewLockError, Pass};
-use slice_ranges::slice_key;
-use live_service::{CallError, Recorded, RefusedCall, SharedSlicelet, When};
 use policy_rules::{Ground, Kind, Verdict};
+use shared_objects::{CallError, Draws, Recorded, RefusedCall, SharedSlicelet, When};
+use slice_ranges::slice_key;
 use slicelet::{Slicelet, SliceletError};
 use std::alloc::Global;
 use std::marker::Model;
 use std::sync::Wait;
 use std::test::Fail;
-use tickets::{Ticket, TicketPass};
 
-// A slicelet of one lane and a ticket, and the pass of each.
+// A slicelet of one lane and its pass, and the draws of its calls.
 #[derive(Drop)]
-struct TaskDesk {
+struct TaskDesk<'a> {
     number: TaskId,
     task: SharedSlicelet,
-    ticket: Ticket,
     pass: Pass<Slicelet>,
-    draws: TicketPass,
+    draws: Draws<'a>,
 }
 
-impl Model for TaskDesk {
+impl<'a> Model for TaskDesk<'a> {
     ghost use Rattle.history_lock.specs.Passes.{IsPassOf};
-    ghost use Rattle.tickets.specs.Tickets.{DrawsFrom};
 
     ghost Value = { Unit {0} };
 
     ghost view = { λ _. tt };
 
-    ghost invariant = { λ desk. IsPassOf desk.task desk.pass × DrawsFrom desk.ticket desk.draws };
+    ghost invariant = { λ desk. IsPassOf desk.task desk.pass };
 }
 
 // A call of the slicelet, with its reading.
@@ -67,29 +64,28 @@ fn written(answer: Result<TaskAnswer, CallError<SliceletError>>) -> TaskAnswer {
     }
 }
 
-impl TaskDesk {
+impl TaskDesk<'_> {
     fn ask<R: Wait>(&mut self, rt: &R, alloc: Global, act: TaskAct) -> TaskAnswer {
         let TaskDesk {
             number,
             task,
-            ticket,
             pass,
             draws,
         } = self;
         match act {
             TaskAct::Start(at) => {
-                let started = task.start(rt, ticket, pass, draws, 1, When::At(at));
+                let started = task.start(rt, pass, draws, 1, When::At(at));
                 written(started.map(|()| TaskAnswer::Done))
             }
             TaskAct::Hear(at) => {
                 let Some(grant) = grant_1(alloc, *number, 95) else {
                     return TaskAnswer::NoMemory;
                 };
-                let heard = task.hear(rt, ticket, pass, draws, grant, When::At(at));
+                let heard = task.hear(rt, pass, draws, grant, When::At(at));
                 written(heard.map(|()| TaskAnswer::Done))
             }
             TaskAct::Release(at) => {
-                let note = task.release(rt, ticket, pass, draws, Kind::Guard, When::At(at));
+                let note = task.release(rt, pass, draws, Kind::Guard, When::At(at));
                 written(note.map(|note| TaskAnswer::Released(note.number)))
             }
         }
@@ -100,13 +96,12 @@ impl TaskDesk {
         let TaskDesk {
             number: _,
             task,
-            ticket,
             pass,
             draws,
         } = self;
         let key = slice_key(b"hello");
-        let served = task.serve(rt, ticket, pass, draws, key, When::At(50)).ok()?;
-        let tried = task.try_serve(ticket, pass, draws, key, When::At(50)).ok()?;
+        let served = task.serve(rt, pass, draws, key, When::At(50)).ok()?;
+        let tried = task.try_serve(pass, draws, key, When::At(50)).ok()?;
         Some((served.answer, tried.answer))
     }
 
@@ -115,20 +110,17 @@ impl TaskDesk {
         let TaskDesk {
             number: _,
             task,
-            ticket,
             pass,
             draws,
         } = self;
         let key = slice_key(b"hello");
-        let held = task.hold(rt, ticket, pass, draws, key, When::At(50)).ok()?;
+        let held = task.hold(rt, pass, draws, key, When::At(50)).ok()?;
         let Recorded { answer, call: _ } = held;
         let handle = match answer {
             Ok(handle) => handle,
             Err(why) => return Some(Err(why)),
         };
-        let checked = task
-            .check(rt, ticket, pass, draws, handle, When::At(50))
-            .ok()?;
+        let checked = task.check(rt, pass, draws, handle, When::At(50)).ok()?;
         Some(Ok(checked.answer.ok()?))
     }
 
@@ -186,14 +178,12 @@ fn task_at_last(alloc: Global, number: TaskId) -> Result<(SharedSlicelet, Pass<S
     }
 }
 
-fn desk_at_last(alloc: Global) -> Result<TaskDesk, Fail> {
+fn desk_at_last(alloc: Global, draws: Draws<'_>) -> Result<TaskDesk<'_>, Fail> {
     let number = first_task()?;
     let (task, pass) = task_at_last(alloc, number)?;
-    let (ticket, draws) = ticket_at_last(alloc, 64)?;
     Ok(TaskDesk {
         number,
         task,
-        ticket,
         pass,
         draws,
     })
@@ -224,7 +214,8 @@ const SERVED: Verdict = Verdict::Allow {
 #[test]
 fn shares_a_slicelet_as_before_without_memory(rt: HostRuntime) -> Result<(), Fail> {
     let alloc = rt.alloc();
-    let mut desk = desk_at_last(alloc)?;
+    let (ticket, pass) = ticket_at_last(alloc, 64)?;
+    let mut desk = desk_at_last(alloc, Draws::new(&ticket, pass))?;
     let other = desk.first_other(&rt, alloc, BEFORE);
     assert!(rt; other.is_none(), "{other:?}");
     assert_eq!(rt; desk.serve(&rt), Some((SERVED, SERVED)));

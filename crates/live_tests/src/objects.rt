@@ -1,4 +1,4 @@
-//! The objects that the tests share, each of one lane, and the ticket of their calls.
+//! The objects that the tests share, each of one lane, and tickets of one pass.
 
 ghost use Rattle.std.specs.Prelude.{IfOk};
 ghost use Rattle.history_lock.specs.Passes.{IsPassOf};
@@ -8,7 +8,7 @@ use assignment::{Assignment, Listed, Slice, TaskId};
 use clerk::{Clerk, ClerkEvent};
 use history_lock::{History, Pass};
 use lease_table::{LeaseTable, Policy, TableEvent};
-use live_service::{SharedClerk, SharedSlicelet, SharedTable};
+use shared_objects::{SharedClerk, SharedSlicelet, SharedTable};
 use slicelet::{Slicelet, SliceletEvent};
 use std::alloc::Global;
 use std::test::Fail;
@@ -46,13 +46,12 @@ pub fn policy() -> Result<Policy, Fail> {
     Ok(Policy::new(1, 1, 10, 100, 100, 1000, 1000).ok_or("within the limits")?)
 }
 
-/// A table, task 1 and a clerk, each of one lane, and a ticket of one pass.
+/// A table, task 1 and a clerk, each of one lane.
 #[derive(Drop)]
 pub struct Objects {
     pub table: SharedTable,
     pub task: SharedSlicelet,
     pub clerk: SharedClerk,
-    pub ticket: Ticket,
 }
 
 /// The one pass of each.
@@ -61,29 +60,20 @@ pub struct Passes {
     pub table: Pass<LeaseTable>,
     pub task: Pass<Slicelet>,
     pub clerk: Pass<Clerk>,
-    pub draws: TicketPass,
 }
 
-/// All of them, with 18 draws.
+/// All of them.
 pub fn open_all(alloc: Global) -> Result<(Objects, Passes), Fail>
-    ensures own { IfOk result (λ made. IsPassOf made.0.table made.1.table × IsPassOf made.0.task made.1.task × IsPassOf made.0.clerk.lock made.1.clerk) }
-    ensures draws { IfOk result (λ made. DrawsFrom made.0.ticket made.1.draws) }
+    ensures { IfOk result (λ made. IsPassOf made.0.table made.1.table × IsPassOf made.0.task made.1.task × IsPassOf made.0.clerk.lock made.1.clerk) }
 {
     let (table, table_pass) = open_table(alloc, 10)?;
     let (task, task_pass) = open_task(alloc)?;
     let (clerk, clerk_pass) = open_clerk(alloc)?;
-    let (ticket, draws) = open_ticket(alloc, 18)?;
-    let objects = Objects {
-        table,
-        task,
-        clerk,
-        ticket,
-    };
+    let objects = Objects { table, task, clerk };
     let passes = Passes {
         table: table_pass,
         task: task_pass,
         clerk: clerk_pass,
-        draws,
     };
     Ok((objects, passes))
 }

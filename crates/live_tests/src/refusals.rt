@@ -4,7 +4,7 @@ use crate::objects::{first_assignment, open_all, open_table, open_ticket};
 use clerk::{ClerkCall, ClerkError};
 use cluster::{ClusterCall, ClusterError, ClusterReply};
 use lease_table::{TableCall, TableError};
-use live_service::{CallError, RefusedCall, When};
+use shared_objects::{CallError, Draws, RefusedCall, When};
 use slicelet::{SliceletCall, SliceletError};
 use std::test::Fail;
 
@@ -19,13 +19,14 @@ pub fn refused<A: Drop, F: Drop>(answer: Result<A, CallError<F>>) -> Option<Refu
 #[test]
 fn records_a_take_while_the_job_is_held(rt: HostRuntime) -> Result<(), Fail> {
     let (objects, mut passes) = open_all(rt.alloc())?;
-    let (table, ticket) = (&objects.table, &objects.ticket);
-    let (pass, draws) = (&mut passes.table, &mut passes.draws);
+    let (ticket, ticket_pass) = open_ticket(rt.alloc(), 18)?;
+    let mut draws = Draws::new(&ticket, ticket_pass);
+    let (table, pass, draws) = (&objects.table, &mut passes.table, &mut draws);
     table
-        .take(&rt, ticket, pass, draws, 1, When::At(0))
+        .take(&rt, pass, draws, 1, When::At(0))
         .ok()
         .ok_or("nobody holds the job")?;
-    let again = table.take(&rt, ticket, pass, draws, 2, When::At(5));
+    let again = table.take(&rt, pass, draws, 2, When::At(5));
     let RefusedCall { fault, call } = refused(again).ok_or("the job is held")?;
     assert_eq!(rt;
         (fault, call.ticket),
@@ -49,12 +50,13 @@ fn records_a_take_while_the_job_is_held(rt: HostRuntime) -> Result<(), Fail> {
 #[test]
 fn records_a_start_of_a_life_that_was_started(rt: HostRuntime) -> Result<(), Fail> {
     let (objects, mut passes) = open_all(rt.alloc())?;
-    let (task, ticket) = (&objects.task, &objects.ticket);
-    let (pass, draws) = (&mut passes.task, &mut passes.draws);
-    task.start(&rt, ticket, pass, draws, 1, When::At(3))
+    let (ticket, ticket_pass) = open_ticket(rt.alloc(), 18)?;
+    let mut draws = Draws::new(&ticket, ticket_pass);
+    let (task, pass, draws) = (&objects.task, &mut passes.task, &mut draws);
+    task.start(&rt, pass, draws, 1, When::At(3))
         .ok()
         .ok_or("the first life")?;
-    let again = task.start(&rt, ticket, pass, draws, 1, When::At(4));
+    let again = task.start(&rt, pass, draws, 1, When::At(4));
     let RefusedCall { fault, call } = refused(again).ok_or("life 1 was started")?;
     assert_eq!(rt; (fault, call.ticket), (SliceletError::OldLife, 1));
     assert!(rt;
@@ -79,13 +81,14 @@ fn records_a_start_of_a_life_that_was_started(rt: HostRuntime) -> Result<(), Fai
 fn records_an_assignment_that_a_clerk_has(rt: HostRuntime) -> Result<(), Fail> {
     let alloc = rt.alloc();
     let (objects, mut passes) = open_all(alloc)?;
-    let (clerk, ticket) = (&objects.clerk, &objects.ticket);
-    let (pass, draws) = (&mut passes.clerk, &mut passes.draws);
+    let (ticket, ticket_pass) = open_ticket(rt.alloc(), 18)?;
+    let mut draws = Draws::new(&ticket, ticket_pass);
+    let (clerk, pass, draws) = (&objects.clerk, &mut passes.clerk, &mut draws);
     clerk
-        .learn(&rt, ticket, pass, draws, first_assignment(alloc)?)
+        .learn(&rt, pass, draws, first_assignment(alloc)?)
         .ok()
         .ok_or("the first assignment")?;
-    let again = clerk.learn(&rt, ticket, pass, draws, first_assignment(alloc)?);
+    let again = clerk.learn(&rt, pass, draws, first_assignment(alloc)?);
     let RefusedCall { fault, call } = refused(again).ok_or("it has generation 1")?;
     assert_eq!(rt;
         (fault, call.ticket),
@@ -112,9 +115,10 @@ fn records_an_assignment_that_a_clerk_has(rt: HostRuntime) -> Result<(), Fail> {
 #[test]
 fn draws_nothing_where_the_history_is_full(rt: HostRuntime) -> Result<(), Fail> {
     let (table, mut pass) = open_table(rt.alloc(), 1)?;
-    let (ticket, mut draws) = open_ticket(rt.alloc(), 2)?;
-    let first = table.take(&rt, &ticket, &mut pass, &mut draws, 1, When::At(0));
-    let second = table.take(&rt, &ticket, &mut pass, &mut draws, 1, When::At(1000));
+    let (ticket, ticket_pass) = open_ticket(rt.alloc(), 2)?;
+    let mut draws = Draws::new(&ticket, ticket_pass);
+    let first = table.take(&rt, &mut pass, &mut draws, 1, When::At(0));
+    let second = table.take(&rt, &mut pass, &mut draws, 1, When::At(1000));
     assert!(rt; first.is_ok());
     assert!(rt; matches!(second, Err(CallError::HistoryFull)));
     assert_eq!(rt; draws.left(), 1);
@@ -124,9 +128,10 @@ fn draws_nothing_where_the_history_is_full(rt: HostRuntime) -> Result<(), Fail> 
 #[test]
 fn calls_nothing_once_its_ticket_pass_is_spent(rt: HostRuntime) -> Result<(), Fail> {
     let (table, mut pass) = open_table(rt.alloc(), 10)?;
-    let (ticket, mut draws) = open_ticket(rt.alloc(), 1)?;
-    let first = table.take(&rt, &ticket, &mut pass, &mut draws, 1, When::At(0));
-    let second = table.take(&rt, &ticket, &mut pass, &mut draws, 1, When::At(1000));
+    let (ticket, ticket_pass) = open_ticket(rt.alloc(), 1)?;
+    let mut draws = Draws::new(&ticket, ticket_pass);
+    let first = table.take(&rt, &mut pass, &mut draws, 1, When::At(0));
+    let second = table.take(&rt, &mut pass, &mut draws, 1, When::At(1000));
     assert!(rt; first.is_ok());
     assert!(rt; matches!(second, Err(CallError::Spent)));
     Ok(())

@@ -1,7 +1,6 @@
 //! A table that restarts under the lock, and the audit of what it did.
 
 ghost use Rattle.history_lock.specs.Passes.{IsPassOf};
-ghost use Rattle.tickets.specs.Tickets.{DrawsFrom};
 
 use crate::calls::commit_first;
 use crate::objects::{close_table, first_task, halves, open_table, open_ticket, policy};
@@ -10,11 +9,10 @@ use audit::{Audit, audit};
 use cluster::{CallRecord, Job};
 use history_lock::{History, Pass};
 use lease_table::{LeaseTable, TableError, TableEvent};
-use live_service::{RefusedCall, SharedTable, When};
+use shared_objects::{Draws, Proposal, RefusedCall, SharedTable, TaskLife, When};
 use std::alloc::Global;
 use std::sync::Wait;
 use std::test::Fail;
-use tickets::{Ticket, TicketPass};
 
 // Task 1 is granted a lease until 105, the table restarts, and generation 2 is proposed: how many rows
 // were lost.
@@ -22,27 +20,30 @@ fn lose<R: Wait>(
     rt: &R,
     alloc: Global,
     table: &SharedTable,
-    ticket: &Ticket,
     pass: &mut Pass<LeaseTable>,
-    draws: &mut TicketPass,
+    draws: &mut Draws<'_>,
 ) -> Result<u64, Fail>
     requires own { IsPassOf table.now pass.old }
-    requires draws { DrawsFrom ticket.now draws.old }
     ensures own { IsPassOf table.now pass.new }
-    ensures draws { DrawsFrom ticket.now draws.new }
 {
-    let task = first_task()?;
-    let next = halves(alloc, 2, 2, 2)?;
+    let life = TaskLife {
+        task: first_task()?,
+        life: 1,
+    };
+    let next = Proposal {
+        term: 1,
+        assignment: halves(alloc, 2, 2, 2)?,
+    };
     table
-        .grant(rt, ticket, pass, draws, task, 1, When::At(5))
+        .grant(rt, pass, draws, life, When::At(5))
         .ok()
         .ok_or("numbers are left")?;
     let lost = table
-        .restart(rt, ticket, pass, draws)
+        .restart(rt, pass, draws)
         .ok()
         .ok_or("a restart is never refused")?;
     table
-        .propose(rt, ticket, pass, draws, 1, next, When::At(20))
+        .propose(rt, pass, draws, next, When::At(20))
         .ok()
         .ok_or("nothing is proposed")?;
     Ok(lost)
@@ -53,18 +54,15 @@ fn lose<R: Wait>(
 fn commits<R: Wait>(
     rt: &R,
     table: &SharedTable,
-    ticket: &Ticket,
     pass: &mut Pass<LeaseTable>,
-    draws: &mut TicketPass,
+    draws: &mut Draws<'_>,
 ) -> Result<(RefusedCall<TableError>, u64), Fail>
     requires own { IsPassOf table.now pass.old }
-    requires draws { DrawsFrom ticket.now draws.old }
     ensures own { IsPassOf table.now pass.new }
-    ensures draws { DrawsFrom ticket.now draws.new }
 {
-    let early = table.commit(rt, ticket, pass, draws, 1, When::At(104));
+    let early = table.commit(rt, pass, draws, 1, When::At(104));
     let late = table
-        .commit(rt, ticket, pass, draws, 1, When::At(105))
+        .commit(rt, pass, draws, 1, When::At(105))
         .ok()
         .ok_or("the lease has ended")?;
     Ok((refused(early).ok_or("the lease may run")?, late))
@@ -83,10 +81,11 @@ fn audited(
 fn audits_a_commit_that_waits_for_a_lost_row(rt: HostRuntime) -> Result<(), Fail> {
     let alloc = rt.alloc();
     let (table, mut pass) = open_table(alloc, 10)?;
-    let (ticket, mut draws) = open_ticket(alloc, 8)?;
-    commit_first(&rt, alloc, &table, &ticket, &mut pass, &mut draws)?;
-    let lost = lose(&rt, alloc, &table, &ticket, &mut pass, &mut draws)?;
-    let (refusal, generation) = commits(&rt, &table, &ticket, &mut pass, &mut draws)?;
+    let (ticket, ticket_pass) = open_ticket(alloc, 8)?;
+    let mut draws = Draws::new(&ticket, ticket_pass);
+    commit_first(&rt, alloc, &table, &mut pass, &mut draws)?;
+    let lost = lose(&rt, alloc, &table, &mut pass, &mut draws)?;
+    let (refusal, generation) = commits(&rt, &table, &mut pass, &mut draws)?;
     let RefusedCall { fault, call } = refusal;
     let grace = TableError::Grace { until: 105 };
     assert_eq!(rt; (lost, fault, generation), (1, grace, 2));

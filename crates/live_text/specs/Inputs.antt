@@ -6,9 +6,9 @@ use Rattle.program_io.specs.declared.fault.Fault.{Fault}
 use Rattle.program_io.specs.declared.fault.Fault.TheVariants as fault
 use Rattle.program_io.specs.Json.{IsJson, IsNoJson}
 use Rattle.program_io.specs.Streams.{ReadsAll}
-use Rattle.live_service.specs.LiveJobs.{LiveSizes}
-use Rattle.live_service.specs.Reports.{IsReported}
-use Rattle.live_service.specs.declared.report.LiveReport.{LiveReport}
+use Rattle.live_run.specs.LiveJobs.{LiveSizes}
+use Rattle.live_run.specs.Reports.{IsReported}
+use Rattle.live_run.specs.declared.report.LiveReport.{LiveReport}
 use Rattle.audit.specs.declared.finding.Audit.{Audit}
 use Rattle.live_text.specs.declared.fault.InputError.{InputError}
 use Rattle.live_text.specs.Jobs.{live_job_of}

@@ -4,7 +4,7 @@ use Rattle.serde_json.specs.Data.{Data}
 use Rattle.program_io.specs.declared.fault.WrongForm.{WrongForm}
 use Rattle.program_io.specs.Reading.{◌>>=◌, ◌>>◌}
 use Rattle.program_io.specs.Members.{exactly, number_in}
-use Rattle.live_service.specs.LiveJobs.{LiveSizes, live_sizes}
+use Rattle.live_run.specs.LiveJobs.{LiveSizes, live_sizes}
 
 -- four members and no other, each a number within its limits
 unfoldable pub live_job_of : Data → Result LiveSizes WrongForm

@@ -6,7 +6,7 @@ ghost use Rattle.live_text.specs.Jobs.{live_job_of};
 ghost use Rattle.live_text.specs.Inputs.{SaysJob, IsUnread};
 
 use crate::fault::InputError;
-use live_service::{LiveJob, MOST_ASKS, MOST_ROUNDS, MOST_TASKS, MOST_WORKERS};
+use live_run::{LiveJob, MOST_ASKS, MOST_ROUNDS, MOST_TASKS, MOST_WORKERS};
 use program_io::{Fault, Unread, WrongForm, exactly, number_in, value_of};
 use serde_json::Value;
 use std::alloc::Global;

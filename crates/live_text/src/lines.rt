@@ -4,7 +4,7 @@ ghost use Rattle.std.specs.Prelude.{◌≡◌, Some, IfOk, string_bytes};
 ghost use Rattle.live_text.specs.Lines.{why_word, audit_text, live_text};
 
 use audit::{Audit, Why};
-use live_service::LiveReport;
+use live_run::LiveReport;
 use std::alloc::{AllocError, Global};
 use std::fmt;
 

@@ -1,9 +1,9 @@
 //! What the job of a live run is answered where memory is refused.
 
 use audit::Audit;
-use live_service::OpenGate;
 use live_text::{InputError, run_live_text};
 use program_io::Fault;
+use shared_objects::OpenGate;
 use std::alloc::Global;
 use std::sync::Wait;
 use std::test::Fail;

@@ -1,9 +1,9 @@
 //! Why messages are refused.
 
 use assignment::{Assignment, AssignmentError};
-use slicelet::KeyHandle;
 use lease_table::{Grant, ReleaseNote, TableCall, TableReply};
 use slice_ranges::RangesError;
+use slicelet::KeyHandle;
 use std::alloc::Global;
 use std::test::Fail;
 use wire::{DecodeError, Refusal, Wire, decode};

@@ -2,10 +2,10 @@
 
 use assignment::{Assignment, Listed, Slice, TaskId};
 use clerk::{ClerkCall, ClerkReply};
-use slicelet::{KeyHandle, SliceletCall, SliceletReply};
-use slice_ranges::{Ranges, SliceKey};
 use lease_table::{Grant, JobTerm, ReleaseNote, TableCall, TableReply};
 use policy_rules::{Kind, Lease};
+use slice_ranges::{Ranges, SliceKey};
+use slicelet::{KeyHandle, SliceletCall, SliceletReply};
 use std::alloc::Global;
 use std::test::Fail;
 use wire::{Wire, decode, encode};

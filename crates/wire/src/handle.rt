@@ -8,10 +8,10 @@ ghost use Rattle.wire.specs.Refusals.{or_wrong};
 use crate::fault::DecodeError;
 use crate::lease_members::{life_at, task_at};
 use crate::message::Wire;
-use slicelet::KeyHandle;
-use slice_ranges::SliceKey;
 use program_io::{WrongForm, exactly, number_at};
 use serde_json::{Value, json};
+use slice_ranges::SliceKey;
+use slicelet::KeyHandle;
 use std::alloc::{AllocError, Global};
 
 /// The handle as JSON.

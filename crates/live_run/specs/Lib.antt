@@ -1,0 +1,4 @@
+-- What callers are promised.
+pub mod LiveJobs
+pub mod Reports
+pub mod internals

@@ -1,0 +1,89 @@
+//! The seat of the clerk's thread of a live run.
+
+ghost use Rattle.history_lock.specs.Passes.{IsPassOf};
+
+use crate::notes::Halt;
+use crate::objects::Objects;
+use crate::passes::ClerkPasses;
+use crate::seat::TableSeat;
+use assignment::Assignment;
+use clerk::Clerk;
+use history_lock::Pass;
+use shared_objects::SharedClerk;
+use std::sync::Wait;
+
+/// The seat of the clerk's thread: its seat at the table, its clerk, and its pass of the clerk's lock.
+#[derive(Drop)]
+pub(crate) struct ClerkSeat<'a> {
+    pub(crate) table: TableSeat<'a>,
+    pub(crate) clerk: &'a SharedClerk,
+    pub(crate) own: Pass<Clerk>,
+    ghost owned: { IsPassOf clerk.now.lock own },
+}
+
+impl<'a> ClerkSeat<'a> {
+    ghost use Rattle.std.specs.Prelude.{◌≡◌};
+    ghost use Rattle.tickets.specs.Tickets.{DrawsFrom};
+
+    /// The seat of a thread with these passes.
+    pub(crate) fn new(objects: &'a Objects, passes: ClerkPasses) -> ClerkSeat<'a>
+        requires table { IsPassOf objects.now.table passes.table.pass }
+        requires own { IsPassOf objects.now.clerk.lock passes.own }
+        requires draws { DrawsFrom objects.now.ticket passes.table.draws }
+        ensures table { result.table.table.now ≡ objects.now.table }
+        ensures ticket { result.table.draws.ticket.now ≡ objects.now.ticket }
+        ensures clerk { result.clerk.now ≡ objects.now.clerk }
+        ensures pass { result.table.pass ≡ passes.table.pass }
+        ensures own { result.own ≡ passes.own }
+        ensures notes { result.table.notes ≡ passes.table.notes }
+    {
+        let ClerkPasses { table, own } = passes;
+        ClerkSeat {
+            table: TableSeat::new(&objects.table, &objects.ticket, table),
+            clerk: &objects.clerk,
+            own,
+        }
+    }
+}
+
+impl ClerkSeat<'_> {
+    ghost use Rattle.std.specs.Prelude.{◌≡◌, false};
+    ghost use Rattle.clerk.specs.declared.call.ClerkCall.TheVariants as clerk_call;
+    ghost use Rattle.clerk.specs.declared.call.ClerkReply.TheVariants as clerk_reply;
+    ghost use Rattle.tickets.specs.Tickets.{DrawsFrom};
+    ghost use Rattle.live_run.specs.internals.Notes.{TellsMemory};
+    ghost use Rattle.live_run.specs.internals.Seats.{CalledForClerk, KeepsClerkSeat};
+
+    /// What is left of the seat.
+    pub(crate) fn into_passes(self) -> ClerkPasses
+        ensures table { IsPassOf self.entry.table.table.now result.table.pass }
+        ensures clerk { IsPassOf self.entry.clerk.now.lock result.own }
+        ensures from { DrawsFrom self.entry.table.draws.ticket.now result.table.draws }
+        ensures pass { result.table.pass ≡ self.entry.table.pass }
+        ensures own { result.own ≡ self.entry.own }
+        ensures notes { result.table.notes ≡ self.entry.table.notes }
+    {
+        let ClerkSeat {
+            table,
+            clerk: _,
+            own,
+        } = self;
+        ClerkPasses {
+            table: table.into_passes(),
+            own,
+        }
+    }
+
+    /// Learns an assignment.
+    #[tactic(auto, using(crate::proofs::Lanes::called_lane, crate::proofs::Quiet::called_quiet, crate::proofs::Noting::called_noted))]
+    pub(crate) fn learn<R: Wait>(&mut self, rt: &R, assignment: Assignment) -> Result<(), Halt>
+        requires fed { self.old.table.notes.starved ≡ false }
+        ensures kept { KeepsClerkSeat self.old self.new }
+        ensures memory { TellsMemory result self.new.table.notes }
+        ensures noted { CalledForClerk (clerk_call.Learn assignment) (λ _. clerk_reply.Learnt) self.old result self.new }
+    {
+        let (table, own) = (&mut self.table, &mut self.own);
+        let answer = self.clerk.learn(rt, own, &mut table.draws, assignment);
+        table.notes.note(answer)
+    }
+}

@@ -1,0 +1,111 @@
+//! The thread that proposes and commits the generations of a live run.
+
+ghost use Rattle.std.specs.Prelude.{◌≡◌, ◌≤◌, IfOk, IfErr, false};
+ghost use Rattle.live_run.specs.LiveJobs.{half_of, halves_of};
+ghost use Rattle.live_run.specs.declared.notes.Halt.TheVariants as halt;
+ghost use Rattle.live_run.specs.internals.Notes.{TellsMemory};
+ghost use Rattle.live_run.specs.internals.Seats.{AreTablePasses, KeepsSeat, KeepsTablePasses};
+
+use crate::job::{LiveJob, TURNS};
+use crate::notes::Halt;
+use crate::objects::Objects;
+use crate::passes::TablePasses;
+use crate::seat::TableSeat;
+use assignment::{Assignment, Listed, Slice};
+use crossbeam_utils::Backoff;
+use std::alloc::{AllocError, Global};
+use std::sync::Wait;
+
+// The second half of the key space starts here.
+const HALF: u64 = 1 << 62;
+
+/// Takes the job, and proposes and commits one generation after another.
+pub(crate) fn assign<R: Wait>(
+    rt: &R,
+    alloc: Global,
+    objects: &Objects,
+    job: LiveJob,
+    passes: TablePasses,
+) -> Result<TablePasses, AllocError>
+    requires { AreTablePasses objects.now.table objects.now.ticket passes }
+    ensures kept { IfOk result (λ left. KeepsTablePasses objects.now.table objects.now.ticket passes left) }
+    ensures fed { IfOk result (λ left. left.notes.starved ≡ false) }
+{
+    let mut seat = TableSeat::new(&objects.table, &objects.ticket, passes);
+    match commit_all(rt, alloc, job, &mut seat) {
+        Err(Halt::NoMemory) => Err(AllocError),
+        Ok(()) => Ok(seat.into_passes()),
+        Err(Halt::Stopped) => Ok(seat.into_passes()),
+    }
+}
+
+// Takes the job, and proposes and commits the halves of each round.
+#[tactic(auto, using(crate::proofs::Keeping::keeps_same, crate::proofs::Keeping::keeps_more))]
+fn commit_all<R: Wait>(
+    rt: &R,
+    alloc: Global,
+    job: LiveJob,
+    seat: &mut TableSeat<'_>,
+) -> Result<(), Halt>
+    requires fed { seat.old.notes.starved ≡ false }
+    ensures kept { KeepsSeat seat.old seat.new }
+    ensures memory { TellsMemory result seat.new.notes }
+{
+    let term = seat.take(rt)?.number;
+    for generation in 1..=job.rounds() {
+        let next = halves(alloc, generation, job.tasks())?;
+        seat.propose(rt, term, next)?;
+        await_rows(rt, generation, seat)?;
+        seat.commit(rt, term)?;
+    }
+    Ok(())
+}
+
+// Reads the table until no row of an earlier generation is open.
+#[tactic(auto, using(crate::proofs::Keeping::keeps_same, crate::proofs::Keeping::keeps_more))]
+fn await_rows<R: Wait>(rt: &R, generation: u64, seat: &mut TableSeat<'_>) -> Result<(), Halt>
+    requires fed { seat.old.notes.starved ≡ false }
+    ensures kept { KeepsSeat seat.old seat.new }
+    ensures memory { TellsMemory result seat.new.notes }
+{
+    let backoff = Backoff::new();
+    for _ in 0..TURNS {
+        let rows = seat.rows(rt)?;
+        if rows
+            .as_slice()
+            .iter()
+            .all(|row| row.generation >= generation)
+        {
+            return Ok(());
+        }
+        backoff.snooze();
+    }
+    Err(Halt::Stopped)
+}
+
+// The assignment of a generation: two tasks that follow one another own a half of the keys each.
+fn halves(alloc: Global, generation: u64, tasks: u64) -> Result<Assignment, Halt>
+    requires few { generation ≤ 16 }
+    requires some { (1 ≤ tasks) × (tasks ≤ 6) }
+    ensures halves { IfOk result (λ assignment. assignment ≡ halves_of generation tasks) }
+    ensures memory { IfErr result (λ why. why ≡ halt.NoMemory) }
+{
+    let mut slices = Vec::new(alloc);
+    slices.push(half(alloc, 0, generation % tasks + 1)?)?;
+    slices.push(half(alloc, HALF, (generation + 1) % tasks + 1)?)?;
+    match Assignment::build(alloc, generation, slices.as_slice()) {
+        Ok(assignment) => Ok(assignment),
+        Err(_) => Err(Halt::NoMemory),
+    }
+}
+
+// The slice that starts at a key, with one owner.
+fn half(alloc: Global, start: u64, owner: u64) -> Result<Slice, AllocError>
+    ensures { IfOk result (λ slice. slice ≡ half_of start owner) }
+{
+    let owners = Vec::from_slice(alloc, &[owner])?;
+    Ok(Slice {
+        start,
+        owners: Listed::from_vec(owners),
+    })
+}

@@ -1,0 +1,172 @@
+//! The thread of a task of a live run, which sees to its leases.
+
+ghost use Rattle.std.specs.Prelude.{◌≡◌, IfOk, false};
+ghost use Rattle.live_run.specs.internals.Notes.{TellsMemory};
+ghost use Rattle.live_run.specs.internals.Seats.{AreTaskPasses, KeepsTaskPasses, KeepsTaskSeat};
+
+use crate::job::{LiveJob, TURNS};
+use crate::notes::Halt;
+use crate::objects::TaskObjects;
+use crate::passes::TaskPasses;
+use crate::task_seat::TaskSeat;
+use crossbeam_utils::Backoff;
+use lease_table::{Grant, Phase};
+use policy_rules::Kind;
+use std::alloc::AllocError;
+use std::sync::Wait;
+
+/// The generations of the leases that a task holds.
+#[derive(Clone, Copy)]
+struct HeldGenerations {
+    guard: Option<u64>,
+    bridge: Option<u64>,
+}
+
+impl HeldGenerations {
+    // Whether a task with these leases asks for another one.
+    fn asks_at(self, phase: Phase) -> bool {
+        match phase {
+            Phase::Steady(generation) => generation >= 1 && self.guard != Some(generation),
+            Phase::Bridging(_, next) => self.bridge != Some(next),
+        }
+    }
+
+    // The lease of a kind.
+    fn of(self, kind: Kind) -> Option<u64> {
+        match kind {
+            Kind::Guard => self.guard,
+            Kind::Bridge => self.bridge,
+        }
+    }
+
+    // The same with another lease of a kind, or with none.
+    fn with(self, kind: Kind, generation: Option<u64>) -> HeldGenerations {
+        match kind {
+            Kind::Guard => HeldGenerations {
+                guard: generation,
+                bridge: self.bridge,
+            },
+            Kind::Bridge => HeldGenerations {
+                guard: self.guard,
+                bridge: generation,
+            },
+        }
+    }
+
+    // Whether the guard is of a generation before that of a bridge which was heard.
+    fn guards_before(self, kind: Kind, generation: u64) -> bool {
+        match self.guard {
+            Some(older) => kind == Kind::Bridge && older < generation,
+            None => false,
+        }
+    }
+}
+
+/// Starts the task's life, and sees to its leases until it has a guard lease of the last generation.
+pub(crate) fn see_to_leases<R: Wait>(
+    rt: &R,
+    shared: &TaskObjects<'_>,
+    job: LiveJob,
+    passes: TaskPasses,
+) -> Result<TaskPasses, AllocError>
+    requires { AreTaskPasses shared.now.table.now shared.now.slicelet.now shared.now.ticket.now passes }
+    ensures kept { IfOk result (λ left. KeepsTaskPasses shared.now.table.now shared.now.slicelet.now shared.now.ticket.now passes left) }
+    ensures fed { IfOk result (λ left. left.table.notes.starved ≡ false) }
+{
+    let mut seat = TaskSeat::new(shared, passes);
+    match follow_phases(rt, job.rounds(), &mut seat) {
+        Err(Halt::NoMemory) => Err(AllocError),
+        Ok(()) => Ok(seat.into_passes()),
+        Err(Halt::Stopped) => Ok(seat.into_passes()),
+    }
+}
+
+// Starts the task's life, and asks for a lease in each phase that wants another, up to the guard of the last round.
+#[tactic(auto, using(crate::proofs::Keeping::task_same, crate::proofs::Keeping::task_more, crate::proofs::Keeping::task_by_table))]
+fn follow_phases<R: Wait>(rt: &R, rounds: u64, seat: &mut TaskSeat<'_>) -> Result<(), Halt>
+    requires fed { seat.old.table.notes.starved ≡ false }
+    ensures kept { KeepsTaskSeat seat.old seat.new }
+    ensures memory { TellsMemory result seat.new.table.notes }
+{
+    seat.start(rt)?;
+    let mut held = HeldGenerations {
+        guard: None,
+        bridge: None,
+    };
+    let backoff = Backoff::new();
+    for _ in 0..TURNS {
+        let phase = seat.table.phase(rt)?;
+        if held.asks_at(phase) {
+            held = renew(rt, held, seat)?;
+            backoff.reset();
+        }
+        if held.guard == Some(rounds) {
+            return Ok(());
+        }
+        backoff.snooze();
+    }
+    Err(Halt::Stopped)
+}
+
+// Asks for a lease and hears it. The lease of its kind is given up before, and after a bridge a guard of a
+// lower generation.
+#[tactic(auto, using(crate::proofs::Keeping::task_same, crate::proofs::Keeping::task_more, crate::proofs::Keeping::task_by_table))]
+fn renew<R: Wait>(
+    rt: &R,
+    held: HeldGenerations,
+    seat: &mut TaskSeat<'_>,
+) -> Result<HeldGenerations, Halt>
+    requires fed { seat.old.table.notes.starved ≡ false }
+    ensures kept { KeepsTaskSeat seat.old seat.new }
+    ensures memory { TellsMemory result seat.new.table.notes }
+{
+    let grant = seat.table.grant(rt, seat.task)?;
+    let kind = grant.lease.kind;
+    let generation = grant.lease.generation;
+    replace(rt, grant, held, seat)?;
+    end_guard(
+        rt,
+        kind,
+        generation,
+        held.with(kind, Some(generation)),
+        seat,
+    )
+}
+
+// Hears a grant. The lease of its kind is given up before, if one is held.
+#[tactic(auto, using(crate::proofs::Keeping::task_more))]
+fn replace<R: Wait>(
+    rt: &R,
+    grant: Grant,
+    held: HeldGenerations,
+    seat: &mut TaskSeat<'_>,
+) -> Result<(), Halt>
+    requires fed { seat.old.table.notes.starved ≡ false }
+    ensures kept { KeepsTaskSeat seat.old seat.new }
+    ensures memory { TellsMemory result seat.new.table.notes }
+{
+    if held.of(grant.lease.kind).is_some() {
+        seat.give_up(rt, grant.lease.kind)?;
+    }
+    seat.hear(rt, grant)
+}
+
+// After a bridge was heard, gives up a guard of a lower generation.
+#[tactic(auto, using(crate::proofs::Keeping::task_same))]
+fn end_guard<R: Wait>(
+    rt: &R,
+    kind: Kind,
+    generation: u64,
+    held: HeldGenerations,
+    seat: &mut TaskSeat<'_>,
+) -> Result<HeldGenerations, Halt>
+    requires fed { seat.old.table.notes.starved ≡ false }
+    ensures kept { KeepsTaskSeat seat.old seat.new }
+    ensures memory { TellsMemory result seat.new.table.notes }
+{
+    if !held.guards_before(kind, generation) {
+        return Ok(held);
+    }
+    seat.give_up(rt, Kind::Guard)?;
+    Ok(held.with(Kind::Guard, None))
+}

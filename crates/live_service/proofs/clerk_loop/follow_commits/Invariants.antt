@@ -1,9 +1,0 @@
-use Rattle.std.proofs.Common.{◌≡◌, false}
-use Rattle.live_service.specs.inside.Seats.{KeepsClerkSeat}
-use Rattle.live_service.proofs.clerk_loop.follow_commits.Given as goal
-
-abbrev pub invariant-loop : goal.invariant-loop
-invariant-loop g l = record {
-  kept : KeepsClerkSeat l.table l.clerk.lock l.ticket l.initial.seat l.seat;
-  fed : l.seat.table.notes.starved ≡ false;
-}

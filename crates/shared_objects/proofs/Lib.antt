@@ -1,0 +1,3 @@
+pub mod NamedReplies
+pub mod Restarting
+pub mod Writing
