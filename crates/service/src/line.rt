@@ -15,7 +15,7 @@ use world::Reply;
 
 /// A number in 16 hexadecimal digits.
 #[derive(Clone, Copy)]
-struct Hex(u64);
+pub struct Hex(pub u64);
 
 impl fmt::Display for Hex {
     ghost output = { λ h. Some (hex_16 h.0) };

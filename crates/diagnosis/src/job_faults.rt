@@ -1,0 +1,123 @@
+//! What to mend in a job line.
+
+use crate::found::Found;
+use crate::step_faults::{MembersText, missing_member, unknown_member};
+use crate::wanted::{Wanted, WrongMember};
+use serde_json::Value;
+use std::alloc::{AllocError, Global};
+
+/// The members of a job, in the order in which they are looked at.
+const MEMBERS: &[&str] = &[
+    "redundancy",
+    "skew",
+    "guard",
+    "bridge",
+    "job",
+    "numbers",
+    "assigners",
+    "tasks",
+    "clerks",
+];
+
+/// What to mend in a value that is no job line: an object with the one member `job`.
+pub fn job_line_mend(alloc: Global, line: &Value) -> Result<String, AllocError> {
+    let wanted = "the job line is an object with the one member \"job\"";
+    let Some(object) = line.as_object() else {
+        return format!(in alloc; "{}; {wanted}", Found(line));
+    };
+    match unknown_member(object, &[], "job") {
+        Some(unknown) => format!(in alloc; "unknown member {unknown:?}; {wanted}"),
+        None => format!(in alloc; "\"job\" is missing; {wanted}"),
+    }
+}
+
+// What a number of the job has to be. How far clocks may be apart is a number of any size here.
+fn wanted_of(member: &str) -> Wanted {
+    match member {
+        "skew" => Wanted::Between(0, u64::MAX),
+        "assigners" => Wanted::Between(1, 8),
+        "tasks" => Wanted::Between(1, 64),
+        "clerks" => Wanted::Between(1, 16),
+        _ => Wanted::Between(1, 1 << 32),
+    }
+}
+
+// The number of this member, where it is one.
+fn number_of(job: &Value, member: &str) -> Option<u64> {
+    job.get(member).and_then(Value::as_u64)
+}
+
+// The first number of the job that is not within its limits.
+fn wrong_number<'v>(
+    alloc: Global,
+    job: &'v Value,
+) -> Result<Option<WrongMember<'v>>, AllocError> {
+    for name in MEMBERS {
+        let Some(value) = job.get(*name) else {
+            continue;
+        };
+        let wanted = wanted_of(name);
+        if *name != "redundancy" && !wanted.is_met(alloc, value)? {
+            return Ok(Some(WrongMember {
+                name: *name,
+                value,
+                wanted,
+            }));
+        }
+    }
+    Ok(None)
+}
+
+// Whether a value says how many tasks own a slice: a number, or a pair of them, from 1 to 5.
+fn is_redundancy(value: &Value) -> bool {
+    let (low, high) = match value.as_array() {
+        None => (value.as_u64(), value.as_u64()),
+        Some(list) => match list.as_slice() {
+            [low, high] => (low.as_u64(), high.as_u64()),
+            _ => (None, None),
+        },
+    };
+    match (low, high) {
+        (Some(low), Some(high)) => 1 <= low && low <= high && high <= 5,
+        _ => false,
+    }
+}
+
+// What to mend where each member is there and no other: the first that is not as it has to be.
+fn values_mend(alloc: Global, job: &Value) -> Result<String, AllocError> {
+    if !job.get("redundancy").is_some_and(is_redundancy) {
+        return String::from_str(
+            alloc,
+            "\"redundancy\" is wrong; a number from 1 to 5 or a pair [low, high] of them is wanted",
+        );
+    }
+    if let Some(wrong) = wrong_number(alloc, job)? {
+        return format!(in alloc; "{wrong}");
+    }
+    let skew = number_of(job, "skew").unwrap_or(0);
+    for name in ["guard", "bridge"] {
+        let term = number_of(job, name).unwrap_or(0);
+        if term <= skew {
+            return format!(in alloc; "\"skew\" {skew} is not below \"{name}\" {term}");
+        }
+    }
+    String::from_str(alloc, "a member is not within its limits")
+}
+
+/// What to mend in a value that is no job.
+pub fn job_mend(alloc: Global, job: &Value) -> Result<String, AllocError> {
+    let Some(object) = job.as_object() else {
+        return format!(in alloc; "{}; a job is an object", Found(job));
+    };
+    let text = MembersText {
+        kind: "job",
+        members: MEMBERS,
+    };
+    if let Some(unknown) = unknown_member(object, MEMBERS, "job") {
+        return format!(in alloc; "unknown member {unknown:?}; {text}");
+    }
+    match missing_member(job, MEMBERS) {
+        Some(missing) => format!(in alloc; "\"{missing}\" is missing; {text}"),
+        None => values_mend(alloc, job),
+    }
+}

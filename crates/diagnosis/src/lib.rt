@@ -1,0 +1,19 @@
+//! The faults of a script, each with what to mend.
+#![tactic(auto)]
+
+mod error;
+mod faults;
+mod found;
+mod job_faults;
+mod json_faults;
+mod laws;
+mod step_faults;
+mod steps;
+mod wanted;
+
+pub use error::InputError;
+pub use faults::{MOST_FAULTS, ScriptFault, faults_of};
+pub use job_faults::{job_line_mend, job_mend};
+pub use json_faults::json_mend;
+pub use laws::first_fault_law;
+pub use step_faults::step_mend;
