@@ -1,0 +1,11 @@
+//! The command `hourstable`: its arguments, and what its subcommands read and write.
+#![tactic(auto)]
+
+mod arguments;
+mod program;
+mod script_run;
+mod step_word;
+
+pub use arguments::{Request, Source, request};
+pub use program::hourstable;
+pub use script_run::run_lines;
