@@ -36,6 +36,15 @@ pub enum Request<'a> {
     },
 }
 
+impl<'a> Request<'a> {
+    /// Where its input comes from.
+    pub fn source(self) -> Source<'a> {
+        match self {
+            Request::Run { source, .. } | Request::Session { source, .. } => source,
+        }
+    }
+}
+
 fn file_argument<'a>(alloc: Global, help: &'a str) -> Arg<'a> {
     Arg::new(alloc, "FILE").help(help).action(ArgAction::Set)
 }
@@ -93,7 +102,7 @@ fn source_of<'a>(matches: &ArgMatches<'a>) -> Source<'a> {
 
 /// What the words of a command line ask for, the name of the program first; or the text for help, for the version
 /// or for words that ask for nothing.
-pub fn request<'a>(alloc: Global, words: &'a [String]) -> Result<Request<'a>, Error> {
+pub fn parse_words<'a>(alloc: Global, words: &'a [String]) -> Result<Request<'a>, Error> {
     let matches = command(alloc)?.try_get_matches_from(words)?;
     match matches.subcommand() {
         Some(("session", matches)) => Ok(Request::Session {

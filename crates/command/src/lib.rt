@@ -6,6 +6,6 @@ mod program;
 mod script_run;
 mod step_word;
 
-pub use arguments::{Request, Source, request};
-pub use program::hourstable;
+pub use arguments::{Request, Source, parse_words};
+pub use program::{do_words, hourstable};
 pub use script_run::run_lines;

@@ -1,14 +1,17 @@
 //! The program.
 
-use crate::arguments::{Request, Source, request};
+use crate::arguments::{Request, Source, parse_words};
 use crate::script_run::run_lines;
 use diagnosis::InputError;
 use session::run_session;
 use std::env::{self, Env};
 use std::fs::File;
-use std::io::{self, BufReader, Eprint, Print, Read, Write};
+use std::io::{BufReader, Read, Write};
 use std::process::ExitCode;
 use std::rt::Files;
+
+/// The status where what was asked for is done.
+const DONE: u8 = 0;
 
 /// The status where the arguments or the input are refused.
 const REFUSED: u8 = 2;
@@ -33,85 +36,104 @@ fn answer<R: Read + Drop, W: Write>(
     }
 }
 
-// Says on the standard error why input of this name is not answered.
-fn say(rt: &impl Eprint, name: &str, error: &InputError) {
+// Says why input of this name is not answered.
+fn say<E: Write>(errors: &mut E, name: &str, error: &InputError) {
     match error {
         InputError::Refused(faults) => {
             for fault in faults.iter() {
-                let _ = eprintln!(rt; "hourstable: {name}: {fault}");
+                let _ = writeln!(errors, "hourstable: {name}: {fault}");
             }
         }
         InputError::Read => {
-            let _ = eprintln!(rt; "hourstable: {name}: read fault");
+            let _ = writeln!(errors, "hourstable: {name}: read fault");
         }
         InputError::Write => {
-            let _ = eprintln!(rt; "hourstable: write fault");
+            let _ = writeln!(errors, "hourstable: write fault");
         }
         InputError::Memory => {
-            let _ = eprintln!(rt; "hourstable: out of memory");
+            let _ = writeln!(errors, "hourstable: out of memory");
         }
     }
 }
 
 // The status for how input of this name was answered; what there is to say is said.
-fn ended(rt: &impl Eprint, name: &str, answer: Result<(), InputError>) -> ExitCode {
+fn ended<E: Write>(errors: &mut E, name: &str, answer: Result<(), InputError>) -> u8 {
     match answer {
-        Ok(()) => ExitCode::SUCCESS,
+        Ok(()) => DONE,
         Err(error) => {
-            say(rt, name, &error);
-            ExitCode::from(error.status())
+            say(errors, name, &error);
+            error.status()
         }
     }
 }
 
 // Does what is asked for, with the standard input or with a file.
-fn asked<R: Read + Drop, W: Write>(
-    rt: &(impl Files + Eprint + AllocGlobal),
+fn do_request<R: Read + Drop, W: Write, E: Write>(
+    rt: &(impl Files + AllocGlobal),
     request: Request<'_>,
-    reader: R,
-    writer: &mut W,
-) -> ExitCode {
-    let source = match request {
-        Request::Run { source, .. } | Request::Session { source, .. } => source,
-    };
-    match source {
-        Source::Standard => ended(
-            rt,
-            "standard input",
-            answer(rt, request, reader, writer),
-        ),
+    input: R,
+    output: &mut W,
+    errors: &mut E,
+) -> u8 {
+    match request.source() {
+        Source::Standard => {
+            let answer = answer(rt, request, input, output);
+            ended(errors, "standard input", answer)
+        }
         Source::File(name) => match File::open(rt, name) {
-            Ok(file) => ended(rt, name, answer(rt, request, file, writer)),
+            Ok(file) => {
+                let answer = answer(rt, request, file, output);
+                ended(errors, name, answer)
+            }
             Err(error) => {
-                let _ = eprintln!(rt; "hourstable: {name}: {error}");
-                ExitCode::from(REFUSED)
+                let _ = writeln!(errors, "hourstable: {name}: {error}");
+                REFUSED
             }
         },
     }
 }
 
-/// The program: does what its arguments ask for, and says on the standard error why it does not.
-pub fn hourstable<R: Read + Drop, W: Write>(
-    rt: &(impl Env + Files + Print + Eprint + AllocGlobal),
-    reader: R,
-    writer: &mut W,
-) -> ExitCode {
-    let words: Vec<String> = match env::args(rt).and_then(|words| Ok(words.collect(rt.alloc())?)) {
-        Ok(words) => words,
-        Err(_) => {
-            let _ = eprintln!(rt; "hourstable: out of memory");
-            return ExitCode::from(FAILED);
-        }
-    };
-    match request(rt.alloc(), words.as_slice()) {
-        Ok(request) => asked(rt, request, reader, writer),
+/// Does what the words of a command line ask for, the name of the program first, and gives the exit status.
+///
+/// Nothing but results goes to `output`; why there are none goes to `errors`, each line after the name of the
+/// program. The status is 0 where it is done, 2 where the words or the input are refused or a file cannot be
+/// opened, and 3 where a stream fails or memory runs out.
+pub fn do_words<R: Read + Drop, W: Write, E: Write>(
+    rt: &(impl Files + AllocGlobal),
+    words: &[String],
+    input: R,
+    output: &mut W,
+    errors: &mut E,
+) -> u8 {
+    match parse_words(rt.alloc(), words) {
+        Ok(request) => do_request(rt, request, input, output, errors),
         Err(error) if error.use_stderr() => {
-            let _ = eprint!(rt; "hourstable: {error}");
-            ExitCode::from(REFUSED)
+            let _ = write!(errors, "hourstable: {error}");
+            REFUSED
         }
-        Err(error) => match print!(rt; "{error}") {
-            Ok(()) => ExitCode::SUCCESS,
-            Err(_) => ExitCode::from(FAILED),
+        Err(error) => match write!(output, "{error}") {
+            Ok(()) => DONE,
+            Err(_) => FAILED,
         },
+    }
+}
+
+/// The program: does what its arguments ask for.
+pub fn hourstable<R: Read + Drop, W: Write, E: Write>(
+    rt: &(impl Env + Files + AllocGlobal),
+    input: R,
+    output: &mut W,
+    errors: &mut E,
+) -> ExitCode {
+    let words: Option<Vec<String>> = match env::args(rt) {
+        Ok(words) => words.collect(rt.alloc()).ok(),
+        Err(_) => None,
+    };
+    match words {
+        Some(words) => ExitCode::from(do_words(rt, words.as_slice(), input, output, errors)),
+        None => {
+            let _ = writeln!(errors, "hourstable: the arguments cannot be read");
+            ExitCode::from(FAILED)
+        }
     }
 }

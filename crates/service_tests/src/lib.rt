@@ -1,7 +1,9 @@
-//! Tests of messages, of scripts and of the jobs of live runs, from the bytes that are read to the bytes that are
+//! Tests of messages, of scripts and their faults, of sessions and of the jobs of live runs, from the bytes that are read to the bytes that are
 //! written.
 #![tactic(auto)]
 
+#[cfg(test)]
+mod faults;
 #[cfg(test)]
 mod live;
 #[cfg(test)]
@@ -12,5 +14,7 @@ mod message_refusals;
 mod messages;
 #[cfg(test)]
 mod scripts;
+#[cfg(test)]
+mod sessions;
 #[cfg(test)]
 mod streams;

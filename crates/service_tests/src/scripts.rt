@@ -16,8 +16,8 @@ fn outcome(alloc: Global, script: &str) -> (Result<(), Fault<ScriptError>>, Vec<
     (answer, written)
 }
 
-// Steps that are refused for their members.
-const MALFORMED_STEPS: &[&str] = &[
+/// Steps that are refused for their members.
+pub const MALFORMED_STEPS: &[&str] = &[
     "5",
     "[]",
     "{}",

@@ -13,13 +13,23 @@ use Rattle.session.specs.declared.answer.ReplyForm.{ReplyForm}
 use Rattle.session.specs.Answers.{answer_text, error_text}
 use Rattle.session.specs.Lines.{SaysJob, SaysStep, SaysNoStep, IsNoJob, is_blank}
 
--- these bytes were read, nothing but spaces only where the reader came to its end
-pub record IsNextLine (before after : Option (List ℕ)) (line : List ℕ) : Type 0 where
-  pub gave : Consumes before after line
-  pub ended : is_blank line ≡ true → IsAtEnd after
+-- these bytes were read, and the reader came to its end
+pub record EndsAfter (before : Option (List ℕ)) (bytes : List ℕ) : Type 0 where
+  pub at_end : Option (List ℕ)
+  pub reads : Consumes before at_end bytes
+  pub ended : IsAtEnd at_end
 
--- a line, what was written for it, and the past after it
+-- spaces and a line were read, an empty one only where the reader came to its end
+pub record IsNextLine (before after : Option (List ℕ)) (line : List ℕ) : Type 0 where
+  pub spaces : List ℕ
+  pub blank : is_blank spaces ≡ true
+  pub gave : Consumes before after (spaces ++ line)
+  pub ended : line ≡ [] → EndsAfter before spaces
+
+-- a line with the spaces before it, what was written for it, and the past after it
 pub record Turn : Type 0 where
+  pub spaces : List ℕ
+  pub blank : is_blank spaces ≡ true
   pub line : List ℕ
   pub text : List ℕ
   pub past : Past
@@ -29,10 +39,10 @@ abbrev pub past_of : List Turn → Past
 past_of [] = []
 past_of (t ∷ turns) = t.past
 
--- the lines of turns, in the order in which they were read
+-- the lines of turns, with the spaces before them, in the order in which they were read
 abbrev pub lines_of : List Turn → List ℕ
 lines_of [] = []
-lines_of (t ∷ turns) = lines_of turns ++ t.line
+lines_of (t ∷ turns) = lines_of turns ++ (t.spaces ++ t.line)
 
 -- what was written in them
 abbrev pub text_of : List Turn → List ℕ
@@ -66,16 +76,17 @@ pub record IsConversation (form : ReplyForm) (first : List ℕ) (job : Job) (tur
   pub are : AreTurns form job turns
   pub run : IsRun job (past_of turns)
 
--- all was read: the job line, the lines of the turns, and spaces; the answers were written in their order
-pub record IsTalked (form : ReplyForm) (before after held holds : Option (List ℕ)) : Type 0 where
+-- all was read: the job line, the lines of the turns, and spaces before them and at the end; the answers were written in their order
+pub record IsTalked (form : ReplyForm) (before held holds : Option (List ℕ)) : Type 0 where
   pub first : List ℕ
   pub job : Job
   pub turns : List Turn
   pub conversation : IsConversation form first job turns
   pub spaces : List ℕ
   pub blank : is_blank spaces ≡ true
-  pub reads : Consumes before after (first ++ lines_of turns ++ spaces)
-  pub ended : IsAtEnd after
+  pub rest : List ℕ
+  pub blank_rest : is_blank rest ≡ true
+  pub reads : EndsAfter before ((spaces ++ first) ++ lines_of turns ++ rest)
   pub wrote : Appends held holds (text_of turns)
 
 -- the answers were written in their order, up to a place
@@ -90,7 +101,7 @@ pub record IsCut (form : ReplyForm) (held holds : Option (List ℕ)) : Type 0 wh
 -- no session was opened, and nothing was written
 pub record IsRefused (before after held holds : Option (List ℕ)) (why : InputError) : Type 0 where
   pub first : List ℕ
-  pub reads : Consumes before after first
+  pub reads : IsNextLine before after first
   pub says : IsNoJob first why
   pub kept : Keeps held holds
 

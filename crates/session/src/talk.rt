@@ -21,8 +21,7 @@ fn is_blank(line: &[u8]) -> bool
         .all(|byte| *byte == b' ' || *byte == b'\t' || *byte == b'\r' || *byte == b'\n')
 }
 
-// The bytes up to the end of the next line that has more than spaces, with it; at the end of the reader what
-// is left.
+// The next line that has more than spaces, with its end; nothing at the end of the reader.
 fn next_line<R: BufRead>(alloc: Global, reader: &mut R) -> Result<Vec<u8>, ReadError>
     ensures { IfOk result (λ line. IsNextLine (R.remaining reader.old) (R.remaining reader.new) line.items) }
 {
@@ -34,6 +33,7 @@ fn next_line<R: BufRead>(alloc: Global, reader: &mut R) -> Result<Vec<u8>, ReadE
                 if !is_blank(line.as_slice()) {
                     return Ok(line);
                 }
+                line.clear();
             }
             Err(error) if error.kind() == ErrorKind::OutOfMemory => return Err(ReadError::Memory),
             Err(_) => return Err(ReadError::Failed),
@@ -53,7 +53,7 @@ pub fn run_session<R: BufRead, W: Write>(
     reader: &mut R,
     writer: &mut W,
 ) -> Result<(), InputError>
-    ensures ok { OnOk result (IsTalked form (R.remaining reader.old) (R.remaining reader.new)
+    ensures ok { OnOk result (IsTalked form (R.remaining reader.old)
         (W.contents writer.old) (W.contents writer.new)) }
     ensures err { IfErr result (IsBroken form (R.remaining reader.old) (R.remaining reader.new)
         (W.contents writer.old) (W.contents writer.new)) }
@@ -62,7 +62,7 @@ pub fn run_session<R: BufRead, W: Write>(
     let mut session = Session::open(alloc, form, first.as_slice())?;
     'lines: for _ in 0..u64::MAX {
         let line = next_line(alloc, reader)?;
-        if is_blank(line.as_slice()) {
+        if line.is_empty() {
             return Ok(());
         }
         let text = session.answer(line.as_slice())?;
