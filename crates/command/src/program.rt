@@ -3,7 +3,8 @@
 use crate::arguments::{Request, Source, parse_words};
 use crate::script_run::run_lines;
 use diagnosis::InputError;
-use session::run_session;
+use session::{ReplyForm, run_session};
+use std::alloc::Global;
 use std::env::{self, Env};
 use std::fs::File;
 use std::io::{BufReader, Read, Write};
@@ -19,20 +20,29 @@ const REFUSED: u8 = 2;
 /// The status where a stream fails, or memory runs out.
 const FAILED: u8 = 3;
 
-// Does what is asked for with what a reader gives.
-fn answer<R: Read + Drop, W: Write>(
-    rt: &impl AllocGlobal,
-    request: Request<'_>,
+// Answers the lines of a reader that need not be buffered.
+fn talk<R: Read + Drop, W: Write>(
+    alloc: Global,
+    form: ReplyForm,
     reader: R,
     writer: &mut W,
 ) -> Result<(), InputError> {
-    let mut reader = match BufReader::new(rt.alloc(), reader) {
-        Ok(reader) => reader,
-        Err(_) => return Err(InputError::Memory),
-    };
+    match BufReader::new(alloc, reader) {
+        Ok(mut reader) => run_session(alloc, form, &mut reader, writer),
+        Err(_) => Err(InputError::Memory),
+    }
+}
+
+// Does what is asked for with what a reader gives.
+fn answer<R: Read + Drop, W: Write>(
+    alloc: Global,
+    request: Request<'_>,
+    mut reader: R,
+    writer: &mut W,
+) -> Result<(), InputError> {
     match request {
-        Request::Run { numbers, .. } => run_lines(rt.alloc(), numbers, &mut reader, writer),
-        Request::Session { form, .. } => run_session(rt.alloc(), form, &mut reader, writer),
+        Request::Run { numbers, .. } => run_lines(alloc, numbers, &mut reader, writer),
+        Request::Session { form, .. } => talk(alloc, form, reader, writer),
     }
 }
 
@@ -77,12 +87,12 @@ fn do_request<R: Read + Drop, W: Write, E: Write>(
 ) -> u8 {
     match request.source() {
         Source::Standard => {
-            let answer = answer(rt, request, input, output);
+            let answer = answer(rt.alloc(), request, input, output);
             ended(errors, "standard input", answer)
         }
         Source::File(name) => match File::open(rt, name) {
             Ok(file) => {
-                let answer = answer(rt, request, file, output);
+                let answer = answer(rt.alloc(), request, file, output);
                 ended(errors, name, answer)
             }
             Err(error) => {

@@ -16,6 +16,9 @@ use Rattle.diagnosis.specs.Faults.{before, bad_steps, bad_steps_in, refusals_aft
 abbrev pub BeginsWith : ScriptError → List ScriptError → Type 0
 BeginsWith why faults = (others : List ScriptError) × (faults ≡ why ∷ others)
 
+abbrev script_with : Job → List Step → Script
+script_with job steps = record { job = job; steps = steps }
+
 -- one element, and those after it
 first_at : (job : Job) (place : ℕ) (why : ScriptError) (rest : Result (List Step) ScriptError) (others : List ScriptError) (r : Result Step WrongForm)
     → (rest ≡ Err why → BeginsWith why others) → (or_refuse (BadStep place) r >>= λ y. rest >>= λ ys. Ok (y ∷ ys)) ≡ Err why → BeginsWith why (before r place others)
@@ -42,7 +45,7 @@ none_bad job place (d ∷ ds) steps e =
     none_at job place steps (in_turn (step_at job) (suc place) ds) (bad_steps job (suc place) ds) (step_of job d) (none_bad job (suc place) ds) e
 
 refused_steps : (job : Job) (elements : List Data) (r : Result (List Step) ScriptError) (why : ScriptError) → r ≡ steps_of job elements
-    → (r >>= λ steps. Ok (record { job = job; steps = steps })) ≡ Err {A = Script} why → BeginsWith why (bad_steps_in job elements)
+    → (r >>= λ steps. Ok (script_with job steps)) ≡ Err why → BeginsWith why (bad_steps_in job elements)
 unfolding steps_of bad_steps_in
 refused_steps job elements (Ok steps) why is e = absurd (cc)
 refused_steps job elements (Err f) why is e =
@@ -51,7 +54,7 @@ refused_steps job elements (Err f) why is e =
     (take 19 others, ap (take 20) bad)
 
 refused_head : (head : Result (Job × List Data) ScriptError) (why : ScriptError)
-    → (head >>= λ h. steps_of h.0 h.1 >>= λ steps. Ok (record { job = h.0; steps = steps })) ≡ Err {A = Script} why → BeginsWith why (refusals_after head)
+    → (head >>= λ h. steps_of h.0 h.1 >>= λ steps. Ok (script_with h.0 steps)) ≡ Err why → BeginsWith why (refusals_after head)
 refused_head (Ok h) why e = refused_steps h.0 h.1 (steps_of h.0 h.1) why refl e
 refused_head (Err f) why e =
     let same : f ≡ why = cc in
@@ -62,13 +65,13 @@ unfolding script_of refusals_of
 refused_first d why e = refused_head (head_of d) why e
 
 read_steps : (job : Job) (elements : List Data) (r : Result (List Step) ScriptError) (script : Script) → r ≡ steps_of job elements
-    → (r >>= λ steps. Ok (record { job = job; steps = steps })) ≡ Ok {E = ScriptError} script → bad_steps_in job elements ≡ []
+    → (r >>= λ steps. Ok (script_with job steps)) ≡ Ok script → bad_steps_in job elements ≡ []
 unfolding steps_of bad_steps_in
 read_steps job elements (Ok steps) script is e = ap (take 20) (none_bad job 1 elements steps (sym is))
 read_steps job elements (Err f) script is e = absurd (cc)
 
 read_head : (head : Result (Job × List Data) ScriptError) (script : Script)
-    → (head >>= λ h. steps_of h.0 h.1 >>= λ steps. Ok (record { job = h.0; steps = steps })) ≡ Ok {E = ScriptError} script → refusals_after head ≡ []
+    → (head >>= λ h. steps_of h.0 h.1 >>= λ steps. Ok (script_with h.0 steps)) ≡ Ok script → refusals_after head ≡ []
 read_head (Ok h) script e = read_steps h.0 h.1 (steps_of h.0 h.1) script refl e
 read_head (Err f) script e = absurd (cc)
 

@@ -1,6 +1,6 @@
 -- The first faults of the elements, as a loop over them tells them.
-use Rattle.std.proofs.Common.{◌≡◌, ℕ, suc, ◌+◌, ◌-◌, ◌≤◌, ◌<◌, List, [], ◌∷◌, ◌++◌, map, length, take, drop, get_or, Result, Ok, Err, refl, sym, ap, ◌∙◌, append_assoc, arith, add-one, drop-cons, length-append}
-use Rattle.std.proofs.lemmas.List.{append-nil, drop_all}
+use Rattle.std.proofs.Common.{◌≡◌, ℕ, zero, suc, ◌+◌, ◌-◌, ◌≤◌, ◌<◌, List, [], ◌∷◌, ◌++◌, map, length, take, drop, get_or, IsOk, Result, Ok, Err, refl, sym, ap, ◌∙◌, append_assoc, arith, add-one, drop-cons, length-append}
+use Rattle.std.proofs.lemmas.List.{append-nil, drop_all, length-map, map-append}
 use Rattle.serde_json.specs.Data.{Data}
 use Rattle.world.specs.Jobs.{Job}
 use Rattle.world.specs.declared.step.Step.{Step}
@@ -23,10 +23,15 @@ opened v job k xs x lt is =
     let next : 1 + (k + 1) ≡ suc (1 + k) = omega arith in
     rw (first, next) refl
 
-pub passes : {V : Type 0} (v : V → Data) (most : ℕ) (job : Job) (front : List ScriptError) (k : ℕ) (xs : List V) (x : V) (s : Step) (total : List ScriptError)
-    → k < length xs → x ≡ get_or xs k x → step_of job (v x) ≡ Ok s → told_of v most job front k xs ≡ total → told_of v most job front (k + 1) xs ≡ total
-passes v most job front k xs x s total lt is read so_far =
-    let one : bad_steps job (1 + k) (map v (drop k xs)) ≡ bad_steps job (1 + (k + 1)) (map v (drop (k + 1) xs)) = rw (opened v job k xs x lt is, read) refl in
+passed : (r : Result Step WrongForm) (place : ℕ) (others : List ScriptError) → IsOk r → before r place others ≡ others
+passed (Ok step) place others ok = refl
+passed (Err e) place others ok = absurd (cc)
+
+pub passes : {V : Type 0} (v : V → Data) (most : ℕ) (job : Job) (front : List ScriptError) (k : ℕ) (xs : List V) (x : V) (total : List ScriptError)
+    → k < length xs → x ≡ get_or xs k x → IsOk (step_of job (v x)) → told_of v most job front k xs ≡ total → told_of v most job front (k + 1) xs ≡ total
+passes v most job front k xs x total lt is read so_far =
+    let one : bad_steps job (1 + k) (map v (drop k xs)) ≡ bad_steps job (1 + (k + 1)) (map v (drop (k + 1) xs)) =
+      opened v job k xs x lt is ∙ passed (step_of job (v x)) (1 + k) (bad_steps job (1 + (k + 1)) (map v (drop (k + 1) xs))) read in
     rw (← one) so_far
 
 taken : (n m : ℕ) (front : List ScriptError) (x : ScriptError) (rest : List ScriptError) → n ≡ suc m → front ++ take n (x ∷ rest) ≡ (front ++ x ∷ []) ++ take m rest
@@ -43,6 +48,16 @@ tells v most job front k xs x total lt is read room so_far =
     sym (taken (most - length front) (most - length (front ++ BadStep (1 + k) ∷ [])) front (BadStep (1 + k)) rest less)
     ∙ sym (ap (λ (bad : List ScriptError). front ++ take (most - length front) bad) one) ∙ so_far
 
+-- the same of faults that hold their refusals
+pub tells_fault : {V F : Type 0} (v : V → Data) (refusal : F → ScriptError) (most : ℕ) (job : Job) (faults faults_new : List F) (fault : F) (place k : ℕ) (xs : List V) (x : V) (total : List ScriptError)
+    → k < length xs → x ≡ get_or xs k x → step_of job (v x) ≡ Err wrong → length faults < most → faults_new ≡ faults ++ fault ∷ [] → refusal fault ≡ BadStep place → place ≡ 1 + k
+    → told_of v most job (map refusal faults) k xs ≡ total → told_of v most job (map refusal faults_new) (k + 1) xs ≡ total
+tells_fault v refusal most job faults faults_new fault place k xs x total lt is read room grown named at so_far =
+    let fits : length (map refusal faults) < most = rw (length-map faults refusal) room in
+    let more : map refusal faults_new ≡ map refusal faults ++ BadStep (1 + k) ∷ [] =
+      ap (map refusal) grown ∙ map-append refusal faults (fault ∷ []) ∙ ap (λ (f : ScriptError). map refusal faults ++ f ∷ []) (named ∙ ap BadStep at) in
+    rw more (tells v most job (map refusal faults) k xs x total lt is read fits so_far)
+
 pub is_full : {V : Type 0} (v : V → Data) (most : ℕ) (job : Job) (front : List ScriptError) (k : ℕ) (xs : List V) (total : List ScriptError)
     → most ≤ length front → told_of v most job front k xs ≡ total → front ≡ total
 is_full v most job front k xs total full so_far =
@@ -50,7 +65,7 @@ is_full v most job front k xs total full so_far =
     sym (append-nil front) ∙ rw none at so_far
 
 take_none : (n : ℕ) → take {A = ScriptError} n [] ≡ []
-take_none 0 = refl
+take_none zero = refl
 take_none (suc n) = refl
 
 pub is_done : {V : Type 0} (v : V → Data) (most : ℕ) (job : Job) (front : List ScriptError) (k : ℕ) (xs : List V) (total : List ScriptError)

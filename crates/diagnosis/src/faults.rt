@@ -1,7 +1,9 @@
 //! The faults of a script.
 
-ghost use Rattle.std.specs.Prelude.{◌≡◌, IfOk, map};
+ghost use Rattle.std.specs.Prelude.{◌≡◌, Err, IfOk, IsOk, MatchOption, map};
 ghost use Rattle.serde_json.specs.View.{view};
+ghost use Rattle.program_io.specs.Members.{wrong};
+ghost use Rattle.service.specs.Steps.{step_of};
 ghost use Rattle.diagnosis.specs.Faults.{bad_steps_in, refusals_of};
 
 use crate::found::Found;
@@ -9,7 +11,7 @@ use crate::job_faults::{job_line_mend, job_mend};
 use crate::step_faults::step_mend;
 use program_io::Unread;
 use serde_json::Value;
-use service::{ScriptError, head_of, job_member, step_of};
+use service::{ScriptError, head_of, job_member};
 use std::alloc::{AllocError, Global};
 use std::fmt;
 use world::Job;
@@ -38,6 +40,18 @@ impl fmt::Display for ScriptFault {
     }
 }
 
+// What to mend in an element, if it is no step of the job.
+fn mend_of(alloc: Global, job: Job, element: &Value) -> Result<Option<String>, AllocError>
+    ensures { IfOk result (λ mend. MatchOption mend (IsOk (step_of job (view element.now)))
+        (λ _. step_of job (view element.now) ≡ Err wrong)) }
+{
+    match service::step_of(alloc, job, element) {
+        Ok(_step) => Ok(None),
+        Err(Unread::WrongForm) => Ok(Some(step_mend(alloc, job, element)?)),
+        Err(Unread::Memory) => Err(AllocError),
+    }
+}
+
 // The first elements after the job line that are no steps, each with what to mend.
 fn bad_steps_of(
     alloc: Global,
@@ -51,14 +65,13 @@ fn bad_steps_of(
         if faults.len() >= MOST_FAULTS {
             return Ok(faults);
         }
-        match step_of(alloc, job, element) {
-            Ok(_step) => {}
-            Err(Unread::WrongForm) => faults.push(ScriptFault {
-                refusal: ScriptError::BadStep(i + 1),
-                mend: step_mend(alloc, job, element)?,
-            })?,
-            Err(Unread::Memory) => return Err(AllocError),
-        }
+        let Some(mend) = mend_of(alloc, job, element)? else {
+            continue;
+        };
+        faults.push(ScriptFault {
+            refusal: ScriptError::BadStep(i + 1),
+            mend,
+        })?;
     }
     Ok(faults)
 }

@@ -1,13 +1,20 @@
 //! What to mend in a job line.
 
 use crate::found::Found;
-use crate::step_faults::{MembersText, missing_member, unknown_member};
+use crate::step_faults::{missing_member, unknown_member};
+use crate::steps::Members;
 use crate::wanted::{Wanted, WrongMember};
 use serde_json::Value;
 use std::alloc::{AllocError, Global};
 
-/// The members of a job, in the order in which they are looked at.
-const MEMBERS: &[&str] = &[
+/// The one member of a job line.
+const LINE: Members = Members {
+    kind: "job line",
+    names: &["job"],
+};
+
+/// The members of a job.
+const NAMES: &[&str] = &[
     "redundancy",
     "skew",
     "guard",
@@ -25,7 +32,7 @@ pub fn job_line_mend(alloc: Global, line: &Value) -> Result<String, AllocError> 
     let Some(object) = line.as_object() else {
         return format!(in alloc; "{}; {wanted}", Found(line));
     };
-    match unknown_member(object, &[], "job") {
+    match unknown_member(object, LINE, "job") {
         Some(unknown) => format!(in alloc; "unknown member {unknown:?}; {wanted}"),
         None => format!(in alloc; "\"job\" is missing; {wanted}"),
     }
@@ -47,22 +54,20 @@ fn number_of(job: &Value, member: &str) -> Option<u64> {
     job.get(member).and_then(Value::as_u64)
 }
 
-// The first number of the job that is not within its limits.
-fn wrong_number<'v>(
-    alloc: Global,
-    job: &'v Value,
-) -> Result<Option<WrongMember<'v>>, AllocError> {
-    for name in MEMBERS {
+// What is said of the first number of the job that is not within its limits.
+fn wrong_number(alloc: Global, job: &Value) -> Result<Option<String>, AllocError> {
+    for name in NAMES {
         let Some(value) = job.get(*name) else {
             continue;
         };
         let wanted = wanted_of(name);
         if *name != "redundancy" && !wanted.is_met(alloc, value)? {
-            return Ok(Some(WrongMember {
+            let wrong = WrongMember {
                 name: *name,
                 value,
                 wanted,
-            }));
+            };
+            return Ok(Some(format!(in alloc; "{wrong}")?));
         }
     }
     Ok(None)
@@ -92,7 +97,7 @@ fn values_mend(alloc: Global, job: &Value) -> Result<String, AllocError> {
         );
     }
     if let Some(wrong) = wrong_number(alloc, job)? {
-        return format!(in alloc; "{wrong}");
+        return Ok(wrong);
     }
     let skew = number_of(job, "skew").unwrap_or(0);
     for name in ["guard", "bridge"] {
@@ -109,15 +114,15 @@ pub fn job_mend(alloc: Global, job: &Value) -> Result<String, AllocError> {
     let Some(object) = job.as_object() else {
         return format!(in alloc; "{}; a job is an object", Found(job));
     };
-    let text = MembersText {
+    let members = Members {
         kind: "job",
-        members: MEMBERS,
+        names: NAMES,
     };
-    if let Some(unknown) = unknown_member(object, MEMBERS, "job") {
-        return format!(in alloc; "unknown member {unknown:?}; {text}");
+    if let Some(unknown) = unknown_member(object, members, "job") {
+        return format!(in alloc; "unknown member {unknown:?}; {members}");
     }
-    match missing_member(job, MEMBERS) {
-        Some(missing) => format!(in alloc; "\"{missing}\" is missing; {text}"),
+    match missing_member(job, members) {
+        Some(missing) => format!(in alloc; "\"{missing}\" is missing; {members}"),
         None => values_mend(alloc, job),
     }
 }

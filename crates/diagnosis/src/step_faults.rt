@@ -1,47 +1,21 @@
 //! What to mend in an element that is no step.
 
 use crate::found::Found;
-use crate::steps::members_of;
+use crate::steps::{Members, members_of};
 use crate::wanted::{Wanted, WrongMember};
 use serde_json::{Map, Value};
 use std::alloc::{AllocError, Global};
-use std::fmt;
 use world::Job;
 
-/// The members that an object of a kind has, for a reader.
-#[derive(Clone, Copy)]
-pub struct MembersText<'v> {
-    pub kind: &'v str,
-    pub members: &'v [&'v str],
-}
-
-impl fmt::Display for MembersText<'_> {
-    fn fmt<W: fmt::Write>(&self, f: &mut fmt::Formatter<W>) -> fmt::Result {
-        let article = match self.kind {
-            "assign" | "owners" => "an",
-            _ => "a",
-        };
-        write!(f, "{article} {} has ", self.kind)?;
-        let [first, others @ ..] = self.members else {
-            return f.write_str("no other member");
-        };
-        f.write_str(first)?;
-        for member in others {
-            write!(f, ", {member}")?;
-        }
-        Ok(())
-    }
-}
-
-/// The first member of an object that is none of these.
+/// The first member of an object that is neither of these nor of the other name.
 pub fn unknown_member<'v>(
     object: &'v Map<String, Value>,
-    members: &[&str],
+    members: Members,
     other: &str,
 ) -> Option<&'v str> {
     for name in object.keys() {
         let name = name.as_str();
-        if name != other && !members.contains(&name) {
+        if name != other && !members.has(name) {
             return Some(name);
         }
     }
@@ -49,8 +23,8 @@ pub fn unknown_member<'v>(
 }
 
 /// The first of these members that an object does not have.
-pub fn missing_member<'m>(value: &Value, members: &[&'m str]) -> Option<&'m str> {
-    for name in members {
+pub fn missing_member(value: &Value, members: Members) -> Option<&'static str> {
+    for name in members.names {
         if value.get(*name).is_none() {
             return Some(*name);
         }
@@ -58,53 +32,49 @@ pub fn missing_member<'m>(value: &Value, members: &[&'m str]) -> Option<&'m str>
     None
 }
 
-// The first of these members that is not what is wanted of it.
-fn wrong_member<'v>(
+// What is said of the first of these members that is not what is wanted of it.
+fn wrong_member(
     alloc: Global,
     job: Job,
-    value: &'v Value,
-    members: &[&'v str],
-) -> Result<Option<WrongMember<'v>>, AllocError> {
-    for name in members {
+    value: &Value,
+    members: Members,
+) -> Result<Option<String>, AllocError> {
+    for name in members.names {
         let Some(member) = value.get(*name) else {
             continue;
         };
         let wanted = Wanted::of(job, name);
         if !wanted.is_met(alloc, member)? {
-            return Ok(Some(WrongMember {
+            let wrong = WrongMember {
                 name: *name,
                 value: member,
                 wanted,
-            }));
+            };
+            return Ok(Some(format!(in alloc; "{wrong}")?));
         }
     }
     Ok(None)
 }
 
-// What to mend in a step of this name, which has these members.
+// What to mend in the members of a step.
 fn members_mend(
     alloc: Global,
     job: Job,
-    name: &str,
-    members: &[&str],
-    value: &Value,
+    members: Members,
+    step: &Value,
 ) -> Result<String, AllocError> {
-    let text = MembersText {
-        kind: name,
-        members,
-    };
-    let unknown = value
-        .as_object()
-        .and_then(|object| unknown_member(object, members, "do"));
-    if let Some(unknown) = unknown {
-        return format!(in alloc; "{name}: unknown member {unknown:?}; {text}");
+    let name = members.kind;
+    if let Some(object) = step.as_object() {
+        if let Some(unknown) = unknown_member(object, members, "do") {
+            return format!(in alloc; "{name}: unknown member {unknown:?}; {members}");
+        }
     }
-    if let Some(missing) = missing_member(value, members) {
-        return format!(in alloc; "{name}: \"{missing}\" is missing; {text}");
+    if let Some(missing) = missing_member(step, members) {
+        return format!(in alloc; "{name}: \"{missing}\" is missing; {members}");
     }
-    match wrong_member(alloc, job, value, members)? {
+    match wrong_member(alloc, job, step, members)? {
         Some(wrong) => format!(in alloc; "{name}: {wrong}"),
-        None => format!(in alloc; "{name}: {text}"),
+        None => format!(in alloc; "{name}: {members}"),
     }
 }
 
@@ -120,7 +90,7 @@ pub fn step_mend(alloc: Global, job: Job, value: &Value) -> Result<String, Alloc
         return format!(in alloc; "\"do\" is {}; the name of a step is wanted", Found(word));
     };
     match members_of(name) {
-        Some(members) => members_mend(alloc, job, name, members, value),
+        Some(members) => members_mend(alloc, job, members, value),
         None => format!(in alloc; "unknown step {name:?}"),
     }
 }

@@ -147,7 +147,7 @@ impl fmt::Display for Wanted {
 /// A member with a value that is not wanted, and what is wanted of it.
 #[derive(Clone, Copy)]
 pub struct WrongMember<'v> {
-    pub name: &'v str,
+    pub name: &'static str,
     pub value: &'v Value,
     pub wanted: Wanted,
 }
