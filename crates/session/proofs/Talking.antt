@@ -54,8 +54,8 @@ record IsNext (form : ReplyForm) (job : Job) (turns : List Turn) (new : Session)
 
 turned : (form : ReplyForm) (before mid held was : Option (List ℕ)) (line text : List ℕ) (job : Job) (old new : Session)
     → (t : IsTalking form before mid held was job old) → new.job ≡ old.job → IsTurned line old new text → IsNext form job t.turns new line text
-turned form before mid held was line text job old new t kept turned =
-    elim turned [
+turned form before mid held was line text job old new t kept answer =
+    elim answer [
       | inl answered ↦
         let past : Past = event answered.step answered.played.reply ∷ past_of t.turns in
         record {

@@ -16,18 +16,15 @@ use Rattle.service.specs.Lines.{hex_16, action_word}
 use Rattle.wire.specs.Assignments.{slice_data}
 use Rattle.wire.specs.LeaseMembers.{kind_data}
 use Rattle.wire.specs.Objects.{number_data, object_data, list_data}
-use Rattle.session.specs.Refusals.{word_data, refusal_data}
+use Rattle.session.specs.Refusals.{refusal_data}
 
 -- a reply of this name, with nothing more
 abbrev pub plain_data : List ℕ → Data
 plain_data name = object_data ((codes "reply", string name) ∷ [])
 
--- a reply of this name, with one number
+-- a reply of this name, with a generation or a number of rows
 abbrev pub generation_data : List ℕ → ℕ → Data
 generation_data name generation = object_data ((codes "generation", number_data generation) ∷ (codes "reply", string name) ∷ [])
-
-abbrev pub number_reply_data : List ℕ → ℕ → Data
-number_reply_data name number = object_data ((codes "number", number_data number) ∷ (codes "reply", string name) ∷ [])
 
 abbrev pub rows_reply_data : List ℕ → ℕ → Data
 rows_reply_data name rows = object_data ((codes "reply", string name) ∷ (codes "rows", number_data rows) ∷ [])
@@ -79,6 +76,15 @@ move_of None None move = object_data
 abbrev pub move_data : Move → Data
 move_data move = move_of move.giver move.taker move
 
+-- a note of this number, for the grant of the other one
+abbrev pub released_data : ℕ → ℕ → Data
+released_data note number = object_data
+    ((codes "note", number_data note) ∷ (codes "number", number_data number) ∷ (codes "reply", string (codes "released")) ∷ [])
+
+-- the handle of this number
+abbrev pub handle_data : ℕ → Data
+handle_data handle = object_data ((codes "handle", number_data handle) ∷ (codes "reply", string (codes "handle")) ∷ [])
+
 -- a reply; the last is never written
 abbrev pub reply_data : Reply → Data
 reply_data (reply.Key key) = object_data ((codes "key", string (hex_16 key)) ∷ (codes "reply", string (codes "key")) ∷ [])
@@ -98,10 +104,9 @@ reply_data (reply.Granted number kind generation table_ends ends) = object_data
 reply_data (reply.Freed rows) = rows_reply_data (codes "freed") rows
 reply_data (reply.Lost rows) = rows_reply_data (codes "lost") rows
 reply_data (reply.Started life) = object_data ((codes "life", number_data life) ∷ (codes "reply", string (codes "started")) ∷ [])
-reply_data (reply.Heard number) = number_reply_data (codes "heard") number
-reply_data (reply.Released note_number note) = object_data
-    ((codes "note", number_data note_number) ∷ (codes "number", number_data note.number) ∷ (codes "reply", string (codes "released")) ∷ [])
-reply_data (reply.Holding number handle) = object_data ((codes "handle", number_data number) ∷ (codes "reply", string (codes "handle")) ∷ [])
+reply_data (reply.Heard number) = object_data ((codes "number", number_data number) ∷ (codes "reply", string (codes "heard")) ∷ [])
+reply_data (reply.Released note_number note) = released_data note_number note.number
+reply_data (reply.Holding number handle) = handle_data number
 reply_data reply.Continuous = plain_data (codes "continuous")
 reply_data reply.Broken = plain_data (codes "broken")
 reply_data (reply.Learnt generation) = generation_data (codes "learnt") generation
@@ -116,4 +121,4 @@ reply_data (reply.Planned plan) = object_data
 reply_data (reply.Next action) = object_data ((codes "next", string (action_word action)) ∷ (codes "reply", string (codes "next")) ∷ [])
 reply_data reply.Restarted = plain_data (codes "restarted")
 reply_data (reply.Refused refusal) = refusal_data refusal
-reply_data reply.NoMemory = word_data (codes "no-memory")
+reply_data reply.NoMemory = plain_data (codes "no-memory")

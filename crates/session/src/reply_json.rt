@@ -4,19 +4,21 @@ ghost use Rattle.std.specs.Prelude.{◌≡◌, IfOk, map};
 ghost use Rattle.serde_json.specs.View.{view};
 ghost use Rattle.wire.specs.Assignments.{slice_data};
 ghost use Rattle.wire.specs.Objects.{list_data, number_data};
-ghost use Rattle.session.specs.Replies.{plain_data, generation_data, number_reply_data, rows_reply_data, denied_data, verdict_data, term_data, phase_data, row_data, move_data, reply_data};
+ghost use Rattle.session.specs.Replies.{plain_data, generation_data, rows_reply_data, denied_data, verdict_data, term_data, phase_data, row_data, move_data, released_data, handle_data, reply_data};
 
 use crate::refusal_json::refusal_json;
+use assigner::Action;
 use assignment::{Slice, TaskId};
 use clerk::Found;
 use lease_table::{JobTerm, Phase, Row};
-use policy_rules::{Ground, Verdict};
+use policy_rules::{Ground, Kind, Verdict};
 use serde_json::{Value, json};
 use service::{Hex, action_word};
+use slice_ranges::SliceKey;
 use std::alloc::{AllocError, Global};
 use weighted_move::{Move, Plan};
 use wire::kind_word;
-use world::{Refusal, Reply};
+use world::{OwnerList, Reply};
 
 // A reply of this name, with nothing more.
 fn plain_json(alloc: Global, name: &str) -> Result<Value, AllocError>
@@ -186,73 +188,139 @@ fn found_json(alloc: Global, found: &Found) -> Result<Value, AllocError>
     json!(in alloc; {"generation": found.generation, "owners": owners, "reply": "found"})
 }
 
-/// The reply as JSON: the first word of its line, and what the line names. No line is for want of memory.
+fn key_json(alloc: Global, key: SliceKey) -> Result<Value, AllocError>
+    ensures { IfOk result (λ v. view v ≡ reply_data (Reply.Key key)) }
+{
+    let key = format!(in alloc; "{}", Hex(key.value()))?;
+    json!(in alloc; {"key": key, "reply": "key"})
+}
+
+fn assigned_json(alloc: Global, generation: u64, slices: usize) -> Result<Value, AllocError>
+    ensures { IfOk result (λ v. view v ≡ reply_data (Reply.Assigned generation slices)) }
+{
+    json!(in alloc; {"generation": generation, "reply": "assigned", "slices": slices})
+}
+
+fn owners_json(alloc: Global, owners: &OwnerList) -> Result<Value, AllocError>
+    ensures { IfOk result (λ v. view v ≡ reply_data (Reply.Owners owners.now)) }
+{
+    let owners = tasks_json(alloc, owners.as_slice())?;
+    json!(in alloc; {"owners": owners, "reply": "owners"})
+}
+
+fn rows_line_json(alloc: Global, rows: &[Row]) -> Result<Value, AllocError>
+    ensures { IfOk result (λ v. view v ≡ reply_data (Reply.Rows rows.now)) }
+{
+    let rows = rows_json(alloc, rows)?;
+    json!(in alloc; {"reply": "rows", "rows": rows})
+}
+
+fn started_json(alloc: Global, life: u32) -> Result<Value, AllocError>
+    ensures { IfOk result (λ v. view v ≡ reply_data (Reply.Started life)) }
+{
+    json!(in alloc; {"life": life, "reply": "started"})
+}
+
+fn heard_json(alloc: Global, number: u64) -> Result<Value, AllocError>
+    ensures { IfOk result (λ v. view v ≡ reply_data (Reply.Heard number)) }
+{
+    json!(in alloc; {"number": number, "reply": "heard"})
+}
+
+fn released_json(alloc: Global, note: u64, number: u64) -> Result<Value, AllocError>
+    ensures { IfOk result (λ v. view v ≡ released_data note number) }
+{
+    json!(in alloc; {"note": note, "number": number, "reply": "released"})
+}
+
+fn holding_json(alloc: Global, handle: u64) -> Result<Value, AllocError>
+    ensures { IfOk result (λ v. view v ≡ handle_data handle) }
+{
+    json!(in alloc; {"handle": handle, "reply": "handle"})
+}
+
+fn recorded_json(alloc: Global, total: u64) -> Result<Value, AllocError>
+    ensures { IfOk result (λ v. view v ≡ reply_data (Reply.Recorded total)) }
+{
+    json!(in alloc; {"reply": "recorded", "total": total})
+}
+
+fn gathered_json(alloc: Global, loads: &[u64], totals: &[u64]) -> Result<Value, AllocError>
+    ensures { IfOk result (λ v. view v ≡ reply_data (Reply.Gathered loads.now totals.now)) }
+{
+    let loads = numbers_json(alloc, loads)?;
+    let totals = numbers_json(alloc, totals)?;
+    json!(in alloc; {"loads": loads, "reply": "loads", "totals": totals})
+}
+
+fn next_json(alloc: Global, action: Action) -> Result<Value, AllocError>
+    ensures { IfOk result (λ v. view v ≡ reply_data (Reply.Next action)) }
+{
+    json!(in alloc; {"next": action_word(action), "reply": "next"})
+}
+
+// A grant: the deadline of the table, and that of the task.
+fn granted_json(
+    alloc: Global,
+    number: u64,
+    kind: Kind,
+    generation: u64,
+    until: u64,
+    ends: u64,
+) -> Result<Value, AllocError>
+    ensures { IfOk result (λ v. view v ≡ reply_data (Reply.Granted number kind generation until ends)) }
+{
+    json!(in alloc; {
+        "ends": ends,
+        "generation": generation,
+        "kind": kind_word(kind),
+        "number": number,
+        "reply": "grant",
+        "until": until
+    })
+}
+
+/// The reply as JSON: the first word of its line, and what the line names. No line is written out of memory.
 pub fn reply_json(alloc: Global, reply: &Reply) -> Result<Value, AllocError>
     ensures { IfOk result (λ v. view v ≡ reply_data reply.now) }
 {
     match reply {
-        Reply::Key(key) => {
-            let key = format!(in alloc; "{}", Hex(key.value()))?;
-            json!(in alloc; {"key": key, "reply": "key"})
-        }
-        Reply::Assigned { generation, slices } => {
-            json!(in alloc; {"generation": *generation, "reply": "assigned", "slices": *slices})
-        }
-        Reply::Owners(owners) => {
-            let owners = tasks_json(alloc, owners.as_slice())?;
-            json!(in alloc; {"owners": owners, "reply": "owners"})
-        }
+        Reply::Key(key) => key_json(alloc, *key),
+        Reply::Assigned { generation, slices } => assigned_json(alloc, *generation, *slices),
+        Reply::Owners(owners) => owners_json(alloc, owners),
         Reply::Verdict(verdict) => verdict_json(alloc, *verdict),
         Reply::Term(term) => term_json(alloc, "term", *term),
         Reply::Renewed(term) => term_json(alloc, "renewed", *term),
         Reply::Proposed(generation) => generation_json(alloc, "proposed", *generation),
         Reply::Committed(generation) => generation_json(alloc, "committed", *generation),
         Reply::Phase(phase) => phase_json(alloc, *phase),
-        Reply::Rows(rows) => {
-            let rows = rows_json(alloc, rows.as_slice())?;
-            json!(in alloc; {"reply": "rows", "rows": rows})
-        }
+        Reply::Rows(rows) => rows_line_json(alloc, rows.as_slice()),
         Reply::Granted {
             number,
             kind,
             generation,
             table_ends,
             ends,
-        } => json!(in alloc; {
-            "ends": *ends,
-            "generation": *generation,
-            "kind": kind_word(*kind),
-            "number": *number,
-            "reply": "grant",
-            "until": *table_ends
-        }),
+        } => granted_json(alloc, *number, *kind, *generation, *table_ends, *ends),
         Reply::Freed(rows) => rows_reply_json(alloc, "freed", *rows),
         Reply::Lost(rows) => rows_reply_json(alloc, "lost", *rows),
-        Reply::Started(life) => json!(in alloc; {"life": *life, "reply": "started"}),
-        Reply::Heard(number) => json!(in alloc; {"number": *number, "reply": "heard"}),
-        Reply::Released { number, note } => {
-            json!(in alloc; {"note": *number, "number": note.number, "reply": "released"})
-        }
-        Reply::Holding { number, handle: _ } => {
-            json!(in alloc; {"handle": *number, "reply": "handle"})
-        }
+        Reply::Started(life) => started_json(alloc, *life),
+        Reply::Heard(number) => heard_json(alloc, *number),
+        Reply::Released { number, note } => released_json(alloc, *number, note.number),
+        Reply::Holding { number, handle: _ } => holding_json(alloc, *number),
         Reply::Continuous => plain_json(alloc, "continuous"),
         Reply::Broken => plain_json(alloc, "broken"),
         Reply::Learnt(generation) => generation_json(alloc, "learnt", *generation),
         Reply::Found(found) => found_json(alloc, found),
         Reply::Forgotten => plain_json(alloc, "forgotten"),
-        Reply::Recorded(total) => json!(in alloc; {"reply": "recorded", "total": *total}),
+        Reply::Recorded(total) => recorded_json(alloc, *total),
         Reply::Gathered { loads, totals } => {
-            let loads = numbers_json(alloc, loads.as_slice())?;
-            let totals = numbers_json(alloc, totals.as_slice())?;
-            json!(in alloc; {"loads": loads, "reply": "loads", "totals": totals})
+            gathered_json(alloc, loads.as_slice(), totals.as_slice())
         }
         Reply::Planned(plan) => plan_json(alloc, plan),
-        Reply::Next(action) => {
-            json!(in alloc; {"next": action_word(*action), "reply": "next"})
-        }
+        Reply::Next(action) => next_json(alloc, *action),
         Reply::Restarted => plain_json(alloc, "restarted"),
         Reply::Refused(refusal) => refusal_json(alloc, *refusal),
-        Reply::NoMemory => json!(in alloc; {"refused": "no-memory"}),
+        Reply::NoMemory => plain_json(alloc, "no-memory"),
     }
 }
