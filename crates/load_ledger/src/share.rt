@@ -6,8 +6,8 @@ ghost use Rattle.load_ledger.specs.Shares.{add_step, share_total, total_weight};
 
 use crate::error::LoadError;
 use assignment::TaskId;
-use slice_ranges::SliceKey;
 use machines::{Duplicate, Trouble};
+use slice_ranges::SliceKey;
 use std::alloc::{AllocError, Global};
 use std::marker::Model;
 
