@@ -9,8 +9,8 @@ use assignment::TaskId;
 use program_io::{Form, Number, Unread, WrongForm, exactly, list_at, number_at, number_of};
 use serde_json::Value;
 use std::alloc::Global;
-use weighted_move::TaskSet;
-use world::{PlanBounds, Step};
+use weighted_move::{PlanBounds, TaskSet};
+use world::Step;
 
 /// The number of a task that there may be.
 struct TaskForm;

@@ -3,8 +3,8 @@
 use assignment::{Listed, Slice, TaskId};
 use policy_rules::Kind;
 use std::alloc::{AllocError, Global};
-use weighted_move::TaskSet;
-use world::{PlanBounds, Question, Step, WrittenLease};
+use weighted_move::{PlanBounds, TaskSet};
+use world::{Question, Step, WrittenLease};
 
 // Slices: the start of each, and its owners.
 pub type Slices = &'static [(u64, &'static [u64])];
