@@ -30,7 +30,7 @@ use Rattle.cluster.specs.declared.reply.ClusterReply.TheVariants as reply
 use Rattle.cluster.specs.declared.cluster.Cluster.{Cluster}
 use Rattle.cluster.specs.Pasts.{event, Past, history, learnt_by, newest_learnt}
 use Rattle.cluster.specs.Deliveries.{clerk_refusal}
-use Rattle.cluster.specs.Replies.{unless, from_machine, looked, reply_to}
+use Rattle.cluster.specs.Replies.{unless, from_machine, look_reply, reply_to}
 use Rattle.cluster.specs.Clusters.{AreActors, LeadsTo, IsPlayed}
 use Rattle.cluster.specs.internals.Keys.{note_key, handle_key}
 use Rattle.cluster.specs.internals.Turns.{told_as}
@@ -139,7 +139,7 @@ inside_job job past clerk place cluster k number within = of_job (λ n. newest_l
 
 -- a clerk is asked for a key
 pub look_played : (job : Job) (past : Past) (clerk key place : ℕ) (cluster : Cluster) → LeadsTo job past cluster → place + 1 ≡ clerk → place < length cluster.clerks.items
-    → (known : Option Slicing) → known ≡ get_or cluster.clerks.items place known → (told : ClusterReply) → told ≡ looked (look_at known key)
+    → (known : Option Slicing) → known ≡ get_or cluster.clerks.items place known → (told : ClusterReply) → told ≡ look_reply (look_at known key)
     → IsPlayed job past (call.Look clerk key) (Ok told) cluster
 unfolding LeadsTo
 look_played job past clerk key place cluster k number within known found told is =
@@ -147,5 +147,5 @@ look_played job past clerk key place cluster k number within known found told is
     let kept : known ≡ newest_learnt clerk past =
     actor_at (λ n. newest_learnt n past) (λ n. newest_learnt n past) job.clerks cluster.clerks.items k.clerks place within known found ∙ ap (λ (n : ℕ). newest_learnt n past) number in
     only_told job past (call.Look clerk key) told cluster k
-    (true, tt, is ∙ ap (λ (o : Option Slicing). looked (look_at o key)) kept ∙ sym (by_own clerk job.clerks (looked (look_at (newest_learnt clerk past) key)) own))
+    (true, tt, is ∙ ap (λ (o : Option Slicing). look_reply (look_at o key)) kept ∙ sym (by_own clerk job.clerks (look_reply (look_at (newest_learnt clerk past) key)) own))
     refl (λ n. refl) (λ n. refl) refl refl

@@ -23,7 +23,7 @@ use Rattle.cluster.specs.declared.cluster.Cluster.{Cluster}
 use Rattle.cluster.specs.Pasts.{event, Past, task_calls, history, newest_learnt}
 use Rattle.cluster.specs.Deliveries.{handles_made, same_handle, is_given}
 use Rattle.cluster.specs.internals.Keys.{Key, key_eq, note_key, handle_key}
-use Rattle.cluster.specs.Replies.{covers, rule_in, holding, familiar, checked, reply_to}
+use Rattle.cluster.specs.Replies.{covers, rule_in, hold_reply, familiar, check_reply, reply_to}
 use Rattle.cluster.specs.Memory.{gives_handle, MayRunOut}
 use Rattle.cluster.specs.Runs.{IsReply}
 use Rattle.cluster.specs.Clusters.{AreActors, LeadsTo}
@@ -63,11 +63,11 @@ module _ (job : Job) (past : Past) (task key at : ℕ) (s : SliceletState) (own 
   serve_reply verdict e =
       (true, tt, ap (λ (v : Verdict). reply.Verdict v) (e ∙ rule_is) ∙ sym (by_own task job.tasks (reply.Verdict (rule_in past task key at)) own.inside))
 
-  pub hold_reply : (answer : Result KeyHandle Ground) → answer ≡ held_by (rule_in_state (covers_key key) s at) (handle_on key s)
-      → (kept : Bool) → reply_to job past (call.Hold task key at) kept ≡ holding answer
-  hold_reply answer e kept =
+  pub hold_answer : (answer : Result KeyHandle Ground) → answer ≡ held_by (rule_in_state (covers_key key) s at) (handle_on key s)
+      → (kept : Bool) → reply_to job past (call.Hold task key at) kept ≡ hold_reply answer
+  hold_answer answer e kept =
       by_own task job.tasks _ own.inside
-      ∙ sym (ap holding e ∙ ap (λ (v : Verdict). holding (held_by v (handle_on key s))) rule_is ∙ ap (λ (x : SliceletState). holding (held_by (rule_in past task key at) (handle_on key x))) own.is)
+      ∙ sym (ap hold_reply e ∙ ap (λ (v : Verdict). hold_reply (held_by v (handle_on key s))) rule_is ∙ ap (λ (x : SliceletState). hold_reply (held_by (rule_in past task key at) (handle_on key x))) own.is)
 
 -- a check of a handle
 module _ (job : Job) (past : Past) (task at : ℕ) (handle : KeyHandle) (s : SliceletState) (own : OwnTask job past task s) (given : is_given past handle ≡ true) (kept : Result Bool Stranger)
@@ -77,7 +77,7 @@ module _ (job : Job) (past : Past) (task at : ℕ) (handle : KeyHandle) (s : Sli
 
   check_is : (strange outcome : Bool) → is_strange (history task past) handle ≡ strange → reply_to job past (call.Check task handle at) outcome ≡ familiar strange outcome
   check_is strange outcome e =
-      by_own task job.tasks _ own.inside ∙ ap (λ (b : Bool). checked b (is_strange (history task past) handle) outcome) given ∙ ap (λ (b : Bool). familiar b outcome) e
+      by_own task job.tasks _ own.inside ∙ ap (λ (b : Bool). check_reply b (is_strange (history task past) handle) outcome) given ∙ ap (λ (b : Bool). familiar b outcome) e
 
   pub kept_reply : kept ≡ Ok true → (IsContinuous (covers_key handle.key) (task_calls task past) handle at ↔ IsContinuous (covers past handle.key) (task_calls task past) handle at)
       → IsReply job past (event (call.Check task handle at) reply.Continuous)

@@ -7,7 +7,7 @@ ghost use Rattle.cluster.specs.Deliveries.{is_given, is_made, is_published, is_s
 ghost use Rattle.cluster.specs.Clusters.{LeadsTo};
 ghost use Rattle.cluster.specs.internals.Proposals.{published_of};
 
-use crate::actors::numbered;
+use crate::actors::with_number;
 use crate::cluster::Cluster;
 use crate::keys::{handle_key, note_key};
 use assignment::Assignment;
@@ -24,7 +24,7 @@ pub(crate) fn published<'a>(
 {
     let (Phase::Steady(committed) | Phase::Bridging(committed, _)) = table.phase();
     if generation <= committed {
-        numbered(generation, proposals)
+        with_number(generation, proposals)
     } else {
         None
     }
@@ -36,7 +36,7 @@ impl Cluster {
         ensures { (job : Job) (past : Past) → LeadsTo job past self.now → result ≡ is_sent past grant.now }
     {
         lease_table::numbers_law();
-        match numbered(grant.number, self.grants.as_slice()) {
+        match with_number(grant.number, self.grants.as_slice()) {
             Some(sent) => grant == sent,
             None => false,
         }
