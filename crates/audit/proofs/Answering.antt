@@ -18,7 +18,7 @@ use Rattle.cluster.specs.declared.reply.ClusterReply.TheVariants as reply
 use Rattle.cluster.specs.Pasts.{event, Past, readings, task_calls, history}
 use Rattle.cluster.specs.Timing.{IsTimely}
 use Rattle.cluster.specs.Deliveries.{is_given}
-use Rattle.cluster.specs.Replies.{covers, rule_in, holding, checked}
+use Rattle.cluster.specs.Replies.{covers, rule_in, hold_reply, check_reply}
 use Rattle.cluster.specs.Runs.{IsReply}
 use Rattle.cluster.specs.Headline.{MayServe}
 use Rattle.audit.specs.OneRun.{Turn, Fits}
@@ -29,19 +29,19 @@ ruled : (within : Bool) (said verdict : Verdict) → reply.Verdict said ≡ (if 
 ruled true said verdict e = cc
 ruled false said verdict e = absurd (cc)
 
-given_out : (within : Bool) (handle : KeyHandle) (r : Result KeyHandle Ground) → reply.Holding handle ≡ (if within then holding r else reply.Refused error.NoActor) → r ≡ Ok handle
+given_out : (within : Bool) (handle : KeyHandle) (r : Result KeyHandle Ground) → reply.Holding handle ≡ (if within then hold_reply r else reply.Refused error.NoActor) → r ≡ Ok handle
 given_out true handle (Ok other) e = cc
 given_out true handle (Err why) e = absurd (cc)
 given_out false handle r e = absurd (cc)
 
-denied_for : (within : Bool) (why : Ground) (r : Result KeyHandle Ground) → reply.Verdict (Deny why) ≡ (if within then holding r else reply.Refused error.NoActor) → r ≡ Err why
+denied_for : (within : Bool) (why : Ground) (r : Result KeyHandle Ground) → reply.Verdict (Deny why) ≡ (if within then hold_reply r else reply.Refused error.NoActor) → r ≡ Err why
 denied_for true why (Ok handle) e = absurd (cc)
 denied_for true why (Err other) e = cc
 denied_for false why r e = absurd (cc)
 
 module _ (C : Type 0) where
   kept : (within given strange found : Bool) → (within ≡ true → given ≡ true → strange ≡ false → IsTrue found ↔ C)
-      → reply.Continuous ≡ (if within then checked given strange found else reply.Refused error.NoActor) → C
+      → reply.Continuous ≡ (if within then check_reply given strange found else reply.Refused error.NoActor) → C
   kept false given strange found means e = absurd (cc)
   kept true false strange found means e = absurd (cc)
   kept true true true found means e = absurd (cc)
@@ -49,7 +49,7 @@ module _ (C : Type 0) where
   kept true true false true means e = (means refl refl refl).0 refl
 
   lost : (within given strange found : Bool) → (within ≡ true → given ≡ true → strange ≡ false → IsTrue found ↔ C)
-      → reply.Broken ≡ (if within then checked given strange found else reply.Refused error.NoActor) → C → ⊥
+      → reply.Broken ≡ (if within then check_reply given strange found else reply.Refused error.NoActor) → C → ⊥
   lost false given strange found means e h = absurd (cc)
   lost true false strange found means e h = absurd (cc)
   lost true true true found means e h = absurd (cc)

@@ -14,7 +14,7 @@ use Rattle.cluster.specs.declared.reply.ClusterReply.TheVariants as reply
 use Rattle.cluster.specs.Pasts.{Event, event, Past, readings, history}
 use Rattle.cluster.specs.Timing.{IsTimely}
 use Rattle.cluster.specs.Deliveries.{is_given}
-use Rattle.cluster.specs.Replies.{checked, reply_to}
+use Rattle.cluster.specs.Replies.{check_reply, reply_to}
 use Rattle.cluster.specs.Runs.{IsOutcome, IsReply, IsRun}
 use Rattle.cluster.proofs.Ruling.{run_before}
 use Rattle.cluster.proofs.LaterPoints.{timely_at_point}
@@ -31,11 +31,11 @@ one_outcome false true p q = p.1 (q.0 refl)
 
 module _ {C : Type 0} (a b : Bool) where
   one_check : (within given strange : Bool) → (within ≡ true → given ≡ true → strange ≡ false → IsTrue a ↔ C) → (within ≡ true → given ≡ true → strange ≡ false → IsTrue b ↔ C)
-      → (if within then checked given strange a else reply.Refused error.NoActor) ≡ (if within then checked given strange b else reply.Refused error.NoActor)
+      → (if within then check_reply given strange a else reply.Refused error.NoActor) ≡ (if within then check_reply given strange b else reply.Refused error.NoActor)
   one_check false given strange p q = refl
   one_check true false strange p q = refl
   one_check true true true p q = refl
-  one_check true true false p q = ap (checked true false) (one_outcome a b (p refl refl refl) (q refl refl refl))
+  one_check true true false p q = ap (check_reply true false) (one_outcome a b (p refl refl refl) (q refl refl refl))
 
 one_reply : (job : Job) (past : Past) (c : ClusterCall) (a b : Bool) → IsOutcome job past c a → IsOutcome job past c b → reply_to job past c a ≡ reply_to job past c b
 one_reply job past (call.Check task handle at) a b p q = one_check a b (is_within task job.tasks) (is_given past handle) (is_strange (history task past) handle) p q

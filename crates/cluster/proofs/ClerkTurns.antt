@@ -30,9 +30,8 @@ use Rattle.cluster.specs.declared.reply.ClusterReply.TheVariants as reply
 use Rattle.cluster.specs.declared.cluster.Cluster.{Cluster}
 use Rattle.cluster.specs.Pasts.{event, Past, history, learnt_by, newest_learnt}
 use Rattle.cluster.specs.Deliveries.{clerk_refusal}
-use Rattle.cluster.specs.Replies.{unless, from_machine, looked, reply_to}
+use Rattle.cluster.specs.Replies.{unless, from_machine, look_reply, reply_to}
 use Rattle.cluster.specs.Clusters.{AreActors, LeadsTo, IsPlayed}
-use Rattle.cluster.specs.internals.Keys.{note_key, handle_key}
 use Rattle.cluster.specs.internals.Turns.{told_as}
 use Rattle.cluster.proofs.ActorLists.{of_job, actor_at, actors_set}
 use Rattle.cluster.proofs.Playing.{IsSameBesideClerks, taken, untaken, only_told}
@@ -102,8 +101,8 @@ module _ (job : Job) (past : Past) (clerk place : ℕ) (c : ClerkCall) (old new 
         grants = same.grants ∙ k.grants;
         notes = same.notes ∙ k.notes;
         handles = same.handles ∙ k.handles;
-        note_keys = λ note. same.note_keys (note_key note) ∙ k.note_keys note;
-        handle_keys = λ handle. same.handle_keys (handle_key handle) ∙ k.handle_keys handle;
+        known_notes = λ note. same.known_notes note ∙ k.known_notes note;
+        known_handles = λ handle. same.known_handles handle ∙ k.known_handles handle;
         proposals = same.proposals ∙ k.proposals;
       }
   clerk_played (Err trouble) took memory clerks same =
@@ -116,8 +115,8 @@ module _ (job : Job) (past : Past) (clerk place : ℕ) (c : ClerkCall) (old new 
         grants = same.grants;
         notes = same.notes;
         handles = same.handles;
-        note_keys = same.note_keys;
-        handle_keys = same.handle_keys;
+        known_notes = same.known_notes;
+        known_handles = same.known_handles;
         proposals = same.proposals;
       }) (subst (λ (s : Option Slicing). Takes (clerk_step s c) before (Err trouble) after) at_place took) memory (λ r. refl)
 
@@ -139,7 +138,7 @@ inside_job job past clerk place cluster k number within = of_job (λ n. newest_l
 
 -- a clerk is asked for a key
 pub look_played : (job : Job) (past : Past) (clerk key place : ℕ) (cluster : Cluster) → LeadsTo job past cluster → place + 1 ≡ clerk → place < length cluster.clerks.items
-    → (known : Option Slicing) → known ≡ get_or cluster.clerks.items place known → (told : ClusterReply) → told ≡ looked (look_at known key)
+    → (known : Option Slicing) → known ≡ get_or cluster.clerks.items place known → (told : ClusterReply) → told ≡ look_reply (look_at known key)
     → IsPlayed job past (call.Look clerk key) (Ok told) cluster
 unfolding LeadsTo
 look_played job past clerk key place cluster k number within known found told is =
@@ -147,5 +146,5 @@ look_played job past clerk key place cluster k number within known found told is
     let kept : known ≡ newest_learnt clerk past =
     actor_at (λ n. newest_learnt n past) (λ n. newest_learnt n past) job.clerks cluster.clerks.items k.clerks place within known found ∙ ap (λ (n : ℕ). newest_learnt n past) number in
     only_told job past (call.Look clerk key) told cluster k
-    (true, tt, is ∙ ap (λ (o : Option Slicing). looked (look_at o key)) kept ∙ sym (by_own clerk job.clerks (looked (look_at (newest_learnt clerk past) key)) own))
+    (true, tt, is ∙ ap (λ (o : Option Slicing). look_reply (look_at o key)) kept ∙ sym (by_own clerk job.clerks (look_reply (look_at (newest_learnt clerk past) key)) own))
     refl (λ n. refl) (λ n. refl) refl refl

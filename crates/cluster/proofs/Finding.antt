@@ -10,7 +10,7 @@ use Rattle.std.proofs.lemmas.Option.{slice_get-get_or, slice_get_within, get_or_
 use Rattle.lease_table.specs.declared.values.Grant.{Grant}
 use Rattle.lease_table.specs.Equality.{grant_eq, grant_equivalence}
 use Rattle.lease_table.specs.OpenRows.{grant_numbered}
-use Rattle.cluster.specs.Numbered.{numbered}
+use Rattle.cluster.specs.Numbers.{with_number}
 use Rattle.cluster.proofs.Sameness.{equal_grants, is_member}
 
 -- a test finds the same in a list and in its reverse
@@ -25,7 +25,7 @@ is_grant grant (Some other) = grant_eq grant other
 same_grant : (grant : Grant) → grant_eq grant grant ≡ true
 same_grant grant = grant_equivalence.refl grant
 
-among_numbered : (grants : List Grant) (number : ℕ) (other : Grant) → numbered number grants ≡ Some other → Contains grants other
+among_numbered : (grants : List Grant) (number : ℕ) (other : Grant) → with_number number grants ≡ Some other → Contains grants other
 among_numbered grants number other e = by_test (number == 0) e
   where
     by_test : (b : Bool) → (if b then None else slice_get grants (number - 1)) ≡ Some other → Contains grants other
@@ -33,13 +33,13 @@ among_numbered grants number other e = by_test (number == 0) e
     by_test false e = (number - 1, slice_get_within grants (number - 1) other e, get_or_from_slice_get grants (number - 1) other other e)
 
 -- a grant that has a number was sent
-pub numbered_sent : (grants : List Grant) (number : ℕ) (grant : Grant) → numbered number grants ≡ Some grant → list_any (grant_eq grant) grants ≡ true
+pub numbered_sent : (grants : List Grant) (number : ℕ) (grant : Grant) → with_number number grants ≡ Some grant → list_any (grant_eq grant) grants ≡ true
 numbered_sent grants number grant e = list_any-from_Contains grant_equivalence grant grants (among_numbered grants number grant e)
 
 module _ (grants : List Grant) (place : (i : ℕ) → grant_numbered (i + 1) grants ≡ slice_get grants i)
     (found : (number : ℕ) (grant : Grant) → grant_numbered number grants ≡ Some grant → Contains grants grant × (grant.number ≡ number)) where
   -- a grant of the list has its place by its number
-  numbered_own : (grant : Grant) → Contains grants grant → numbered grant.number grants ≡ Some grant
+  numbered_own : (grant : Grant) → Contains grants grant → with_number grant.number grants ≡ Some grant
   numbered_own grant among =
       let i = among.0 in
       let here : slice_get grants i ≡ Some grant = slice_get-get_or grants i grant among.1 ∙ ap (λ (g : Grant). Some g) among.2 in
@@ -48,10 +48,10 @@ module _ (grants : List Grant) (place : (i : ℕ) → grant_numbered (i + 1) gra
       let same : grant.number - 1 ≡ i = omega (arith, number) in
       rw (some, same) here
 
-  pub sent_by_number : (grant : Grant) → is_grant grant (numbered grant.number grants) ≡ list_any (grant_eq grant) grants
+  pub sent_by_number : (grant : Grant) → is_grant grant (with_number grant.number grants) ≡ list_any (grant_eq grant) grants
   sent_by_number grant = by_test (list_any (grant_eq grant) grants) refl
     where
-      by_found : (o : Option Grant) → o ≡ numbered grant.number grants → false ≡ list_any (grant_eq grant) grants → is_grant grant o ≡ false
+      by_found : (o : Option Grant) → o ≡ with_number grant.number grants → false ≡ list_any (grant_eq grant) grants → is_grant grant o ≡ false
       by_found None e none = refl
       by_found (Some other) e none = by_same (grant_eq grant other) refl
         where
@@ -65,8 +65,8 @@ module _ (grants : List Grant) (place : (i : ℕ) → grant_numbered (i + 1) gra
               let some : list_any (grant_eq grant) grants ≡ true = list_any_at (grant_eq grant) grants among.0 other among.1 hit in
               absurd (let f : false ≡ true = none ∙ some in cc)
 
-      by_test : (b : Bool) → b ≡ list_any (grant_eq grant) grants → is_grant grant (numbered grant.number grants) ≡ b
+      by_test : (b : Bool) → b ≡ list_any (grant_eq grant) grants → is_grant grant (with_number grant.number grants) ≡ b
       by_test true t =
           let among : Contains grants grant = is_member grant_eq equal_grants grant grants (sym t) in
           ap (is_grant grant) (numbered_own grant among) ∙ same_grant grant
-      by_test false t = by_found (numbered grant.number grants) refl t
+      by_test false t = by_found (with_number grant.number grants) refl t

@@ -18,7 +18,7 @@ use Rattle.cluster.specs.declared.reply.ClusterReply.TheVariants as reply
 use Rattle.cluster.specs.Timing.{IsTimely}
 use Rattle.cluster.specs.Pasts.{Event, event, Past, readings, task_calls, history}
 use Rattle.cluster.specs.Deliveries.{is_given}
-use Rattle.cluster.specs.Replies.{covers, rule_in, holding, checked}
+use Rattle.cluster.specs.Replies.{covers, rule_in, hold_reply, check_reply}
 use Rattle.cluster.specs.Runs.{IsReply, IsRun}
 use Rattle.cluster.specs.Headline.{MayServe, IsWhileHeld}
 use Rattle.cluster.proofs.Ruling.{run_before}
@@ -74,7 +74,7 @@ module _ (job : Job) (laws : HasLaws job) (rest since before : Past) (task at : 
 
 -- FROM A HOLD TO A CHECK
 
-hold_told : (b : Bool) (v : Verdict) (made handle : KeyHandle) → reply.Holding handle ≡ (if b then holding (held_by v made) else reply.Refused error.NoActor)
+hold_told : (b : Bool) (v : Verdict) (made handle : KeyHandle) → reply.Holding handle ≡ (if b then hold_reply (held_by v made) else reply.Refused error.NoActor)
     → made ≡ handle
 hold_told true (Allow kind generation) made handle e = cc
 hold_told true (Deny why) made handle e = absurd (cc)
@@ -85,7 +85,7 @@ hold_taken : (job : Job) (past : Past) (task key at : ℕ) (handle : KeyHandle) 
     → handle_on key (history task past) ≡ handle
 hold_taken job past task key at handle h = hold_told (is_within task job.tasks) (rule_in past task key at) (handle_on key (history task past)) handle h.2
 
-check_told : (b given strange kept : Bool) → reply.Continuous ≡ (if b then checked given strange kept else reply.Refused error.NoActor)
+check_told : (b given strange kept : Bool) → reply.Continuous ≡ (if b then check_reply given strange kept else reply.Refused error.NoActor)
     → (b ≡ true) × (given ≡ true) × (strange ≡ false) × (kept ≡ true)
 check_told true true false true e = (refl, refl, refl, refl)
 check_told true true false false e = absurd (cc)

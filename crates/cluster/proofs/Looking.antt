@@ -22,12 +22,11 @@ use Rattle.cluster.specs.declared.reply.ClusterReply.TheVariants as reply
 use Rattle.cluster.specs.declared.cluster.Cluster.{Cluster}
 use Rattle.cluster.specs.Pasts.{event, Past, task_calls, history, newest_learnt}
 use Rattle.cluster.specs.Deliveries.{handles_made, same_handle, is_given}
-use Rattle.cluster.specs.internals.Keys.{Key, key_eq, note_key, handle_key}
-use Rattle.cluster.specs.Replies.{covers, rule_in, holding, familiar, checked, reply_to}
+use Rattle.cluster.specs.Replies.{covers, rule_in, hold_reply, familiar, check_reply, reply_to}
 use Rattle.cluster.specs.Memory.{gives_handle, MayRunOut}
 use Rattle.cluster.specs.Runs.{IsReply}
 use Rattle.cluster.specs.Clusters.{AreActors, LeadsTo}
-use Rattle.cluster.proofs.Keying.{handle_keys_same}
+use Rattle.cluster.proofs.Knowing.{same_handle_turned}
 use Rattle.cluster.proofs.Playing.{IsSame, IsSameBesideHandles, kept_same}
 use Rattle.cluster.proofs.Turning.{reversed_more}
 use Rattle.cluster.proofs.ActorLists.{of_job, actor_at}
@@ -63,11 +62,11 @@ module _ (job : Job) (past : Past) (task key at : ℕ) (s : SliceletState) (own 
   serve_reply verdict e =
       (true, tt, ap (λ (v : Verdict). reply.Verdict v) (e ∙ rule_is) ∙ sym (by_own task job.tasks (reply.Verdict (rule_in past task key at)) own.inside))
 
-  pub hold_reply : (answer : Result KeyHandle Ground) → answer ≡ held_by (rule_in_state (covers_key key) s at) (handle_on key s)
-      → (kept : Bool) → reply_to job past (call.Hold task key at) kept ≡ holding answer
-  hold_reply answer e kept =
+  pub hold_answer : (answer : Result KeyHandle Ground) → answer ≡ held_by (rule_in_state (covers_key key) s at) (handle_on key s)
+      → (kept : Bool) → reply_to job past (call.Hold task key at) kept ≡ hold_reply answer
+  hold_answer answer e kept =
       by_own task job.tasks _ own.inside
-      ∙ sym (ap holding e ∙ ap (λ (v : Verdict). holding (held_by v (handle_on key s))) rule_is ∙ ap (λ (x : SliceletState). holding (held_by (rule_in past task key at) (handle_on key x))) own.is)
+      ∙ sym (ap hold_reply e ∙ ap (λ (v : Verdict). hold_reply (held_by v (handle_on key s))) rule_is ∙ ap (λ (x : SliceletState). hold_reply (held_by (rule_in past task key at) (handle_on key x))) own.is)
 
 -- a check of a handle
 module _ (job : Job) (past : Past) (task at : ℕ) (handle : KeyHandle) (s : SliceletState) (own : OwnTask job past task s) (given : is_given past handle ≡ true) (kept : Result Bool Stranger)
@@ -77,7 +76,7 @@ module _ (job : Job) (past : Past) (task at : ℕ) (handle : KeyHandle) (s : Sli
 
   check_is : (strange outcome : Bool) → is_strange (history task past) handle ≡ strange → reply_to job past (call.Check task handle at) outcome ≡ familiar strange outcome
   check_is strange outcome e =
-      by_own task job.tasks _ own.inside ∙ ap (λ (b : Bool). checked b (is_strange (history task past) handle) outcome) given ∙ ap (λ (b : Bool). familiar b outcome) e
+      by_own task job.tasks _ own.inside ∙ ap (λ (b : Bool). check_reply b (is_strange (history task past) handle) outcome) given ∙ ap (λ (b : Bool). familiar b outcome) e
 
   pub kept_reply : kept ≡ Ok true → (IsContinuous (covers_key handle.key) (task_calls task past) handle at ↔ IsContinuous (covers past handle.key) (task_calls task past) handle at)
       → IsReply job past (event (call.Check task handle at) reply.Continuous)
@@ -97,16 +96,16 @@ module _ (job : Job) (past : Past) (task at : ℕ) (handle : KeyHandle) (s : Sli
       (false, λ within made known. absurd (let f : true ≡ false = sym h ∙ known in cc), sym (check_is true false h))
 
 given_more : (handle other : KeyHandle) (before : Bool) (handles : List KeyHandle) → before ≡ list_any (same_handle other) handles
-    → (key_eq (handle_key handle) (handle_key other) || before) ≡ list_any (same_handle other) (handle ∷ handles)
-given_more handle other before handles e = rw (e, handle_keys_same handle other) refl
+    → (same_handle handle other || before) ≡ list_any (same_handle other) (handle ∷ handles)
+given_more handle other before handles e = rw (e, same_handle_turned handle other) refl
 
 -- a handle that is taken is one more
 pub held_leads : (job : Job) (past : Past) (task key at : ℕ) (handle : KeyHandle) (old new : Cluster) → LeadsTo job past old
     → new.handles.items ≡ old.handles.items ++ handle ∷ [] → IsSameBesideHandles old new
-    → ((key : Key) → contains key_eq new.handle_keys key ≡ (key_eq (handle_key handle) key || contains key_eq old.handle_keys key)) → reply.Holding handle ≡ reply_to job past (call.Hold task key at) true
+    → ((other : KeyHandle) → contains same_handle new.known_handles other ≡ (same_handle handle other || contains same_handle old.known_handles other)) → reply.Holding handle ≡ reply_to job past (call.Hold task key at) true
     → LeadsTo job (event (call.Hold task key at) (reply.Holding handle) ∷ past) new
 unfolding LeadsTo
-held_leads job past task key at handle old new k more same keys is = record {
+held_leads job past task key at handle old new k more same known is = record {
   run = ((true, tt, is), k.run);
   within = k.within;
   same_job = same.job ∙ k.same_job;
@@ -116,8 +115,8 @@ held_leads job past task key at handle old new k more same keys is = record {
   grants = same.grants ∙ k.grants;
   notes = same.notes ∙ k.notes;
   handles = ap (λ (xs : List KeyHandle). reverse xs) more ∙ reversed_more old.handles.items handle ∙ ap (λ (xs : List KeyHandle). handle ∷ xs) k.handles;
-  note_keys = λ note. same.note_keys (note_key note) ∙ k.note_keys note;
-  handle_keys = λ other. keys (handle_key other) ∙ given_more handle other (contains key_eq old.handle_keys (handle_key other)) (handles_made past) (k.handle_keys other);
+  known_notes = λ note. same.known_notes note ∙ k.known_notes note;
+  known_handles = λ other. known other ∙ given_more handle other (contains same_handle old.known_handles other) (handles_made past) (k.known_handles other);
   proposals = same.proposals ∙ k.proposals;
 }
 

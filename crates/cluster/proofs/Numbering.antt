@@ -28,7 +28,7 @@ use Rattle.cluster.specs.Pasts.{Past, table_calls, grants, published}
 use Rattle.cluster.specs.Deliveries.{is_sent, is_published, is_published_as, task_refusal, clerk_refusal}
 use Rattle.cluster.specs.Replies.{by_actor}
 use Rattle.cluster.specs.Clusters.{LeadsTo, IsPlayed, IsPlayedOr}
-use Rattle.cluster.specs.Numbered.{numbered}
+use Rattle.cluster.specs.Numbers.{with_number}
 use Rattle.cluster.proofs.Finding.{numbered_sent}
 use Rattle.cluster.proofs.Publishing.{known_generation}
 use Rattle.cluster.proofs.Stopping.{call_of_none, clerk_of_none, few_tasks, few_clerks}
@@ -63,7 +63,7 @@ unrefused : {E : Type 0} (b : Bool) (why : E) → b ≡ true → when (not b) wh
 unrefused true why e = refl
 unrefused false why e = absurd (cc)
 
-pub sent_comes : (past : Past) (number : ℕ) (grant : Grant) (at : ℕ) → numbered number (grants past) ≡ Some grant → task_refusal past (Hear grant at) ≡ None
+pub sent_comes : (past : Past) (number : ℕ) (grant : Grant) (at : ℕ) → with_number number (grants past) ≡ Some grant → task_refusal past (Hear grant at) ≡ None
 sent_comes past number grant at e = unrefused (is_sent past grant) error.NotSent (numbered_sent (grants past) number grant e)
 
 -- a grant that has the number is heard

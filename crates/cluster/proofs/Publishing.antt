@@ -16,7 +16,7 @@ use Rattle.lease_table.specs.Runs.{IsRun, commits_in}
 use Rattle.lease_table.specs.Generations.{published_in}
 use Rattle.lease_table.proofs.Acceptance.{IsAccepted}
 use Rattle.lease_table.proofs.Induction.{after_run}
-use Rattle.cluster.specs.Numbered.{numbered}
+use Rattle.cluster.specs.Numbers.{with_number}
 use Rattle.cluster.proofs.ActorLists.{get_left, get_last}
 use Rattle.cluster.specs.internals.Proposals.{proposals_in, published_of}
 
@@ -41,12 +41,12 @@ published_list (e ∷ past) = if is_ok e.answer then published_with e.call past 
 record IsPublished (calls : List AnsweredTableCall) : Type 0 where
   all : proposals_in calls ≡ published_list calls ++ waiting (pending_in calls)
   many : length (published_list calls) ≡ commits_in calls
-  each : (generation : ℕ) → published_in generation calls ≡ numbered generation (published_list calls)
+  each : (generation : ℕ) → published_in generation calls ≡ with_number generation (published_list calls)
 
 -- one more is published
 more : (published : List Slicing) (slicing : Slicing) (commits generation : ℕ) (before : Option Slicing) → length published ≡ commits
-    → before ≡ numbered generation published
-    → (if commits + 1 == generation then Some slicing else before) ≡ numbered generation (published ++ slicing ∷ [])
+    → before ≡ with_number generation published
+    → (if commits + 1 == generation then Some slicing else before) ≡ with_number generation (published ++ slicing ∷ [])
 more published slicing commits zero before many e =
     let other : (commits + 1 == 0) ≡ false = grind (arith, nat_tests) in
     rw other e
@@ -58,13 +58,13 @@ more published slicing commits (suc i) before many e = by_test (commits + 1 == s
     here : (suc i == 0) ≡ false
     here = grind (arith, nat_tests)
 
-    now : numbered (suc i) (published ++ slicing ∷ []) ≡ slice_get (published ++ slicing ∷ []) i
+    now : with_number (suc i) (published ++ slicing ∷ []) ≡ slice_get (published ++ slicing ∷ []) i
     now = rw (here, place) refl
 
-    old : numbered (suc i) published ≡ slice_get published i
+    old : with_number (suc i) published ≡ slice_get published i
     old = rw (here, place) refl
 
-    by_test : (b : Bool) → b ≡ (commits + 1 == suc i) → (if b then Some slicing else before) ≡ numbered (suc i) (published ++ slicing ∷ [])
+    by_test : (b : Bool) → b ≡ (commits + 1 == suc i) → (if b then Some slicing else before) ≡ with_number (suc i) (published ++ slicing ∷ [])
     by_test true t =
         let same : i ≡ length published = grind (arith, nat_tests) in
         sym (now ∙ ap (slice_get (published ++ slicing ∷ [])) same ∙ get_last published slicing)
@@ -92,7 +92,7 @@ accepted_step policy past (call.Commit number at) reply run h a = by_pending (pe
       many =
           ap (λ (p : Option Slicing). length (published_list past ++ waiting p)) (sym e) ∙ length-append (published_list past) (slicing ∷ []) ∙ ap (λ (n : ℕ). n + 1) h.many;
       each = λ generation.
-          subst (λ (p : Option Slicing). (if commits_in past + 1 == generation then p else published_in generation past) ≡ numbered generation (published_list past ++ waiting p)) e
+          subst (λ (p : Option Slicing). (if commits_in past + 1 == generation then p else published_in generation past) ≡ with_number generation (published_list past ++ waiting p)) e
           (more (published_list past) slicing (commits_in past) generation (published_in generation past) h.many (h.each generation));
     }
 accepted_step policy past (call.JobTake assigner at) reply run h a = record { all = h.all; many = h.many; each = h.each }
@@ -110,7 +110,7 @@ refused_step past (call.Grant task life at) refusal h = record { all = h.all; ma
 refused_step past (call.Free note at) refusal h = record { all = h.all; many = h.many; each = h.each }
 refused_step past call.Restart refusal h = record { all = h.all; many = h.many; each = h.each }
 
-start_is : (generation : ℕ) → published_in generation [] ≡ numbered generation []
+start_is : (generation : ℕ) → published_in generation [] ≡ with_number generation []
 start_is zero = refl
 start_is (suc i) = let here : (suc i == 0) ≡ false = grind (arith, nat_tests) in rw here refl
 
@@ -118,14 +118,14 @@ are_published : (policy : Terms) (calls : List AnsweredTableCall) → IsRun poli
 are_published policy = after_run policy IsPublished (record { all = refl; many = refl; each = start_is }) (λ past c refusal h. refused_step past c refusal h) (λ past c reply run h a. accepted_step policy past c reply run h a)
 
 -- a number up to the length is found before what is added
-numbered_left : (xs ys : List Slicing) (number : ℕ) → number ≤ length xs → numbered number (xs ++ ys) ≡ numbered number xs
+numbered_left : (xs ys : List Slicing) (number : ℕ) → number ≤ length xs → with_number number (xs ++ ys) ≡ with_number number xs
 numbered_left xs ys zero l = refl
 numbered_left xs ys (suc i) l =
     let here : (suc i == 0) ≡ false = grind (arith, nat_tests) in
     let place : suc i - 1 ≡ i = omega arith in
     rw (here, place) (get_left xs ys i (omega arith))
 
-numbered_past : (xs : List Slicing) (number : ℕ) → length xs < number → numbered number xs ≡ None
+numbered_past : (xs : List Slicing) (number : ℕ) → length xs < number → with_number number xs ≡ None
 numbered_past xs zero l = refl
 numbered_past xs (suc i) l =
     let here : (suc i == 0) ≡ false = grind (arith, nat_tests) in
@@ -141,12 +141,12 @@ published_is policy calls run counted generation = by_test (nat_le generation (g
     h = are_published policy calls run
 
     by_test : (b : Bool) → b ≡ nat_le generation (generation_of (committed_in calls))
-        → (if b then numbered generation (proposals_in calls) else None) ≡ published_in generation calls
+        → (if b then with_number generation (proposals_in calls) else None) ≡ published_in generation calls
     by_test true t =
         let low : generation ≤ generation_of (committed_in calls) = grind (arith, nat_tests) in
         let many : length (published_list calls) ≡ commits_in calls = h.many in
         let few : generation ≤ length (published_list calls) = omega (arith, low, counted, many) in
-        ap (numbered generation) h.all ∙ numbered_left (published_list calls) (waiting (pending_in calls)) generation few ∙ sym (h.each generation)
+        ap (with_number generation) h.all ∙ numbered_left (published_list calls) (waiting (pending_in calls)) generation few ∙ sym (h.each generation)
     by_test false t =
         let high : generation_of (committed_in calls) < generation = grind (arith, nat_tests) in
         let many : length (published_list calls) ≡ commits_in calls = h.many in

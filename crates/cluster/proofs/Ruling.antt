@@ -11,7 +11,7 @@ use Rattle.cluster.specs.declared.reply.ClusterReply.{ClusterReply}
 use Rattle.cluster.specs.declared.reply.ClusterReply.TheVariants as reply
 use Rattle.cluster.specs.Pasts.{event, Past, task_calls, history}
 use Rattle.cluster.specs.Deliveries.{is_given}
-use Rattle.cluster.specs.Replies.{covers, rule_in, holding, checked}
+use Rattle.cluster.specs.Replies.{covers, rule_in, hold_reply, check_reply}
 use Rattle.cluster.specs.Runs.{IsReply, IsRun}
 use Rattle.cluster.specs.Promises.{IsServedByRule, IsHeldByRule, IsCheckedByHistory}
 
@@ -32,11 +32,11 @@ served_by_rule job past task key at told h inside = h.2 ∙ own_answer (is_withi
 pub held_by_rule : (job : Job) (past : Past) (task key at : ℕ) (told : ClusterReply) → IsReply job past (event (call.Hold task key at) told)
     → IsHeldByRule job past task key at told
 held_by_rule job past task key at told h inside =
-    h.2 ∙ own_answer (is_within task job.tasks) (holding (held_by (rule_in past task key at) (handle_on key (history task past)))) inside
+    h.2 ∙ own_answer (is_within task job.tasks) (hold_reply (held_by (rule_in past task key at) (handle_on key (history task past)))) inside
 
 module _ (job : Job) (past : Past) (task : ℕ) (handle : KeyHandle) (at : ℕ) where
   told_as : (told : ClusterReply) (kept : Bool) → (IsTrue kept ↔ IsContinuous (covers past handle.key) (task_calls task past) handle at)
-      → told ≡ checked true false kept → IsCheckedByHistory past task handle at told
+      → told ≡ check_reply true false kept → IsCheckedByHistory past task handle at told
   told_as told true same e = record { continuous = (λ q. same.0 refl, λ k. e); broken = (λ q. absurd (cc), λ n. absurd (n (same.0 refl))) }
   told_as told false same e = record {
     continuous = (λ q. absurd (cc), λ k. absurd (let f : false ≡ true = same.1 k in cc));
@@ -48,5 +48,5 @@ module _ (job : Job) (past : Past) (task : ℕ) (handle : KeyHandle) (at : ℕ) 
       → IsCheckedByHistory past task handle at told
   checked_by_history told h inside given familiar =
       told_as told h.0 (h.1 inside given familiar)
-      (h.2 ∙ (own_answer (is_within task job.tasks) (checked (is_given past handle) (is_strange (history task past) handle) h.0) inside
-      ∙ (ap (λ (b : Bool). checked b (is_strange (history task past) handle) h.0) given ∙ ap (λ (b : Bool). checked true b h.0) familiar)))
+      (h.2 ∙ (own_answer (is_within task job.tasks) (check_reply (is_given past handle) (is_strange (history task past) handle) h.0) inside
+      ∙ (ap (λ (b : Bool). check_reply b (is_strange (history task past) handle) h.0) given ∙ ap (λ (b : Bool). check_reply true b h.0) familiar)))

@@ -18,7 +18,7 @@ use Rattle.cluster.specs.declared.reply.ClusterReply.TheVariants as reply
 use Rattle.cluster.specs.declared.cluster.Cluster.{Cluster}
 use Rattle.cluster.specs.Pasts.{Past, standing, history, newest_learnt}
 use Rattle.cluster.specs.Deliveries.{table_refusal, task_refusal, clerk_refusal, is_given}
-use Rattle.cluster.specs.Replies.{unless, checked, from_machine}
+use Rattle.cluster.specs.Replies.{unless, check_reply, from_machine}
 use Rattle.cluster.specs.Clusters.{LeadsTo, IsPlayed}
 use Rattle.cluster.proofs.Playing.{stopped}
 use Rattle.cluster.proofs.TaskTurns.{by_own, by_none}
@@ -72,5 +72,5 @@ module _ (job : Job) (past : Past) (cluster : Cluster) (k : LeadsTo job past clu
   pub not_given : (task : ℕ) (handle : KeyHandle) (at : ℕ) → is_within task job.tasks ≡ true → is_given past handle ≡ false
       → IsPlayed job past (call.Check task handle at) (Ok (reply.Refused error.NotSent)) cluster
   not_given task handle at own e =
-      stopped job past (call.Check task handle at) error.NotSent cluster k (λ kept. by_own task job.tasks _ own ∙ ap (λ (b : Bool). checked b (is_strange (history task past) handle) kept) e)
+      stopped job past (call.Check task handle at) error.NotSent cluster k (λ kept. by_own task job.tasks _ own ∙ ap (λ (b : Bool). check_reply b (is_strange (history task past) handle) kept) e)
       (λ within made known. absurd (let f : true ≡ false = sym made ∙ e in cc))

@@ -7,7 +7,7 @@ pub mod Memory
 pub mod Runs
 pub mod Headline
 pub mod Promises
-pub mod Numbered
+pub mod Numbers
 pub mod Clusters
 pub mod internals
 pub mod Timeliness

@@ -10,7 +10,7 @@ use Rattle.cluster.specs.declared.reply.ClusterReply.{ClusterReply}
 use Rattle.cluster.specs.declared.reply.ClusterReply.TheVariants as reply
 use Rattle.cluster.specs.declared.timing.Reading.TheVariants.{TableClock}
 use Rattle.cluster.specs.Pasts.{Past, readings, task_calls, history}
-use Rattle.cluster.specs.Replies.{covers, rule_in, holding}
+use Rattle.cluster.specs.Replies.{covers, rule_in, hold_reply}
 
 -- a `serve` is told what the written rule says of its key, on the calls that its task accepted
 abbrev pub IsServedByRule : Job → Past → ℕ → ℕ → ℕ → ClusterReply → Type 0
@@ -19,7 +19,7 @@ IsServedByRule job past task key at told = IsTrue (is_within task job.tasks) →
 -- a `hold` is told a handle where the written rule allows its key, and else why it does not
 abbrev pub IsHeldByRule : Job → Past → ℕ → ℕ → ℕ → ClusterReply → Type 0
 IsHeldByRule job past task key at told =
-    IsTrue (is_within task job.tasks) → told ≡ holding (held_by (rule_in past task key at) (handle_on key (history task past)))
+    IsTrue (is_within task job.tasks) → told ≡ hold_reply (held_by (rule_in past task key at) (handle_on key (history task past)))
 
 -- a `check` finds its handle continuous exactly when no call since took its key away, and else broken
 pub record IsCheckedByHistory (past : Past) (task : ℕ) (handle : KeyHandle) (at : ℕ) (told : ClusterReply) : Type 0 where

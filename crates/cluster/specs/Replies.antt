@@ -49,9 +49,9 @@ abbrev pub rule_in : Past → ℕ → ℕ → ℕ → Verdict
 rule_in past task key at = rule_after (covers past key) (task_calls task past) at
 
 -- `hold`: a handle, or why the key is not served
-abbrev pub holding : Result KeyHandle Ground → ClusterReply
-holding (Ok handle) = reply.Holding handle
-holding (Err why) = reply.Verdict (Deny why)
+abbrev pub hold_reply : Result KeyHandle Ground → ClusterReply
+hold_reply (Ok handle) = reply.Holding handle
+hold_reply (Err why) = reply.Verdict (Deny why)
 
 -- `check` of a handle that was given or not, and that the task can have given or not, where it is continuous or not
 abbrev pub familiar : Bool → Bool → ClusterReply
@@ -59,14 +59,14 @@ familiar true kept = reply.Refused error.Stranger
 familiar false true = reply.Continuous
 familiar false false = reply.Broken
 
-abbrev pub checked : Bool → Bool → Bool → ClusterReply
-checked false strange kept = reply.Refused error.NotSent
-checked true strange kept = familiar strange kept
+abbrev pub check_reply : Bool → Bool → Bool → ClusterReply
+check_reply false strange kept = reply.Refused error.NotSent
+check_reply true strange kept = familiar strange kept
 
 -- `look`
-abbrev pub looked : Result Found Unknown → ClusterReply
-looked (Ok found) = reply.Found found
-looked (Err unknown) = reply.Refused error.Unknown
+abbrev pub look_reply : Result Found Unknown → ClusterReply
+look_reply (Ok found) = reply.Found found
+look_reply (Err unknown) = reply.Refused error.Unknown
 
 -- what a call is answered; the reply to a `check`, and no other, rests on whether its handle is continuous
 abbrev pub reply_to : Job → Past → ClusterCall → Bool → ClusterReply
@@ -76,6 +76,6 @@ reply_to job past (call.Clerk clerk c) kept = by_actor clerk job.clerks (unless 
 reply_to job past call.Phase kept = reply.Phase (phase_of (standing job.policy past))
 reply_to job past call.Rows kept = reply.Rows (standing job.policy past).rows
 reply_to job past (call.Serve task key at) kept = by_actor task job.tasks (reply.Verdict (rule_in past task key at))
-reply_to job past (call.Hold task key at) kept = by_actor task job.tasks (holding (held_by (rule_in past task key at) (handle_on key (history task past))))
-reply_to job past (call.Check task handle at) kept = by_actor task job.tasks (checked (is_given past handle) (is_strange (history task past) handle) kept)
-reply_to job past (call.Look clerk key) kept = by_actor clerk job.clerks (looked (look_at (newest_learnt clerk past) key))
+reply_to job past (call.Hold task key at) kept = by_actor task job.tasks (hold_reply (held_by (rule_in past task key at) (handle_on key (history task past))))
+reply_to job past (call.Check task handle at) kept = by_actor task job.tasks (check_reply (is_given past handle) (is_strange (history task past) handle) kept)
+reply_to job past (call.Look clerk key) kept = by_actor clerk job.clerks (look_reply (look_at (newest_learnt clerk past) key))

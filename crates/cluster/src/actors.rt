@@ -3,7 +3,7 @@
 ghost use Rattle.std.specs.Prelude.{◌≡◌, ◌+◌, ◌<◌, false, not, length, MatchOption, option_map};
 ghost use Rattle.machines.specs.Numbers.{is_within};
 ghost use Rattle.machines.specs.Refusals.{when};
-ghost use Rattle.cluster.specs.Numbered.{numbered};
+ghost use Rattle.cluster.specs.Numbers.{with_number};
 
 use crate::error::ClusterError;
 
@@ -28,8 +28,8 @@ pub fn is_within(number: u64, most: u64) -> bool
 }
 
 /// The thing of this number among those that were made.
-pub(crate) fn numbered<T>(number: u64, made: &[T]) -> Option<&T>
-    ensures { option_map (λ thing. thing.now) result ≡ numbered number made.now }
+pub(crate) fn with_number<T>(number: u64, made: &[T]) -> Option<&T>
+    ensures { option_map (λ thing. thing.now) result ≡ with_number number made.now }
 {
     if number == 0 {
         return None;

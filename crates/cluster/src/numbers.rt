@@ -4,7 +4,7 @@ ghost use Rattle.std.specs.Prelude.{◌≡◌, ◌+◌, length, option_map, reve
 ghost use Rattle.cluster.specs.Jobs.{Job};
 ghost use Rattle.cluster.specs.Pasts.{Past, standing, grants, published};
 ghost use Rattle.cluster.specs.Deliveries.{notes_made, handles_made};
-ghost use Rattle.cluster.specs.Numbered.{numbered};
+ghost use Rattle.cluster.specs.Numbers.{with_number};
 ghost use Rattle.machines.specs.Answers.{Takes};
 ghost use Rattle.machines.specs.Refusals.{first_of};
 ghost use Rattle.lease_table.specs.Tables.{phase_of};
@@ -19,7 +19,7 @@ ghost use Rattle.cluster.specs.declared.reply.ClusterReply.TheVariants as reply;
 ghost use Rattle.cluster.specs.Replies.{by_actor};
 ghost use Rattle.cluster.specs.Clusters.{LeadsTo, IsPlayedOr};
 
-use crate::actors::{numbered, place_of};
+use crate::actors::{place_of, with_number};
 use crate::clerks::told_by_clerk;
 use crate::cluster::Cluster;
 use crate::deliveries::published;
@@ -38,25 +38,25 @@ impl Cluster {
     /// order in which they were made.
     pub fn grant(&self, number: u64) -> Option<&Grant>
         ensures { (job : Job) (past : Past) → LeadsTo job past self.now
-            → option_map (λ grant. grant.now) result ≡ numbered number (grants past) }
+            → option_map (λ grant. grant.now) result ≡ with_number number (grants past) }
     {
-        numbered(number, self.grants.as_slice())
+        with_number(number, self.grants.as_slice())
     }
 
     /// The note of this number.
     pub fn note(&self, number: u64) -> Option<&ReleaseNote>
         ensures { (job : Job) (past : Past) → LeadsTo job past self.now
-            → option_map (λ note. note.now) result ≡ numbered number (reverse (notes_made past)) }
+            → option_map (λ note. note.now) result ≡ with_number number (reverse (notes_made past)) }
     {
-        numbered(number, self.notes.as_slice())
+        with_number(number, self.notes.as_slice())
     }
 
     /// The handle of this number.
     pub fn handle(&self, number: u64) -> Option<&KeyHandle>
         ensures { (job : Job) (past : Past) → LeadsTo job past self.now
-            → option_map (λ handle. handle.now) result ≡ numbered number (reverse (handles_made past)) }
+            → option_map (λ handle. handle.now) result ≡ with_number number (reverse (handles_made past)) }
     {
-        numbered(number, self.handles.as_slice())
+        with_number(number, self.handles.as_slice())
     }
 
     /// The published assignment of this generation.
@@ -114,14 +114,14 @@ impl Cluster {
         at: u64,
     ) -> Result<ClusterReply, AllocError>
         ensures { (job : Job) (past : Past) → LeadsTo job past self.old → IsPlayedOr job past
-            (option_map (λ grant. asked.Task task (Hear grant at)) (numbered number (grants past)))
+            (option_map (λ grant. asked.Task task (Hear grant at)) (with_number number (grants past)))
             (by_actor task job.tasks (reply.Refused error.NotSent)) result self.new }
     {
         lease_table::numbers_law();
         let Some(place) = place_of(task, self.tasks.as_slice()) else {
             return Ok(ClusterReply::Refused(ClusterError::NoActor));
         };
-        let Some(grant) = numbered(number, self.grants.as_slice()) else {
+        let Some(grant) = with_number(number, self.grants.as_slice()) else {
             return Ok(ClusterReply::Refused(ClusterError::NotSent));
         };
         told_by_task(hear(&mut self.tasks[place], grant, at))

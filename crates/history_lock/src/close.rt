@@ -9,6 +9,7 @@ ghost use Rattle.history_lock.specs.internals.Gathering.{AreAt, IsGathered, IsEn
 use crate::entry::{History, history_of};
 use crate::pass::{LaneLock, Pass};
 use crate::rule::{Board, Common, Gather, Place};
+use crate::shared_machine::SharedMachine;
 use crate::view::Book;
 use machines::Machine;
 use std::alloc::AllocError;
@@ -18,7 +19,7 @@ use std::marker::Model;
 #[derive(Drop)]
 pub struct Closed<M: Machine> {
     /// The machine after the whole history.
-    pub machine: M,
+    pub machine: SharedMachine<M>,
     /// The history, which is legal from the machine that the lock was opened with.
     pub history: History<M::Event>,
 }
@@ -29,7 +30,7 @@ impl<M: Machine> Closed<M> {
         ensures { IfOk result (λ copied. copied ≡ self.now) }
     {
         Ok(Closed {
-            machine: self.machine.copy()?,
+            machine: self.machine.share()?,
             history: history_of::<M>(&self.history)?,
         })
     }

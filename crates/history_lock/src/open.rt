@@ -10,6 +10,7 @@ ghost use Rattle.history_lock.specs.internals.Seats.{IsDealing, IsBlank};
 use crate::error::NewLockError;
 use crate::pass::{LaneLock, Pass};
 use crate::rule::{Board, Common, Deal, Place, WORDS_A_LANE};
+use crate::shared_machine::SharedMachine;
 use crate::view::{Book, Opened};
 use atomic_table::{Refused, Table};
 use machines::Machine;
@@ -105,16 +106,17 @@ fn blank<M: Machine>(
     requires { (0 < lanes) × (lanes ≤ MOST_LANES) }
     ensures { IfOk result (λ made. IsBlank machine lanes made.items) }
 {
+    let shared = SharedMachine::new(alloc, machine)?;
     let mut slots = Vec::new(alloc);
     for done in 1..lanes {
         let _count = done;
         slots.push(Some(Book {
-            machine: machine.copy()?,
+            machine: shared.share()?,
             history: Vec::new(alloc),
         }))?;
     }
     slots.push(Some(Book {
-        machine,
+        machine: shared,
         history: Vec::new(alloc),
     }))?;
     Ok(slots)

@@ -13,12 +13,13 @@ ghost use Rattle.history_lock.specs.declared.open.TheConstants.{MOST_LANES};
 use crate::entry::Entry;
 use crate::error::{Busy, WriteError};
 use crate::rule::{Common, Meet, Place, Tell};
+use crate::shared_machine::SharedMachine;
 use crate::steps::{claim, claim_all, give_all_back, give_back, hand_back, publish, take_book};
 use crate::view::Book;
 use machines::Machine;
 use std::alloc::{AllocError, Global};
 
-// Adds the event that `make` answers to the book, if the machine takes it, and makes machines for so many other lanes.
+// Adds the event that `make` answers to the book, if the machine takes it, and shares the machine with so many other lanes.
 fn take_event<M: Machine, F: FnMut() -> M::Event>(
     alloc: Global,
     book: &mut Book<M, M::Event>,
@@ -26,7 +27,7 @@ fn take_event<M: Machine, F: FnMut() -> M::Event>(
     limit: usize,
     others: u64,
     make: &mut F,
-) -> Result<(M::Reply, Vec<M>), WriteError<M::Fault>>
+) -> Result<(M::Reply, Vec<SharedMachine<M>>), WriteError<M::Fault>>
     requires { F.pre make.old }
     ensures turn { IsTurn M.step lane limit (λ event. F.step make.old event make.new) (make.new ≡ make.old) book.old (only_reply result) book.new }
     ensures others { IfOk result (λ r. AreCopies book.new.machine others r.1.items) }
@@ -35,23 +36,28 @@ fn take_event<M: Machine, F: FnMut() -> M::Event>(
         return Err(WriteError::HistoryFull);
     }
     book.history.reserve(1)?;
-    let mut machine = book.machine.copy()?;
+    let mut machine = book.machine.get().copy()?;
     let event = make();
     let reply = machine.apply(&event)?;
-    let machines = copies(alloc, &machine, others)?;
+    let machine = SharedMachine::new(alloc, machine)?;
+    let machines = owners(&machine, alloc, others)?;
     book.machine = machine;
     book.history.push_reserved(Entry { lane, event });
     Ok((reply, machines))
 }
 
-// So many machines that equal this one.
-fn copies<M: Machine>(alloc: Global, machine: &M, count: u64) -> Result<Vec<M>, AllocError>
+// So many owners more of a machine.
+fn owners<M: Machine>(
+    machine: &SharedMachine<M>,
+    alloc: Global,
+    count: u64,
+) -> Result<Vec<SharedMachine<M>>, AllocError>
     ensures { IfOk result (λ made. AreCopies machine.now count made.items) }
 {
-    let mut made = Vec::new(alloc);
+    let mut made = Vec::with_capacity(alloc, count as usize)?;
     for done in 0..count {
         let _count = done;
-        made.push(machine.copy()?)?;
+        made.push(machine.share()?)?;
     }
     Ok(made)
 }
@@ -61,7 +67,7 @@ fn spread<M: Machine>(
     alloc: Global,
     common: &Common<M, M::Event>,
     place: &mut Place<M, M::Event>,
-    mut machines: Vec<M>,
+    mut machines: Vec<SharedMachine<M>>,
     _lanes: u64,
 )
     requires table { (place.old.table_id ≡ common.now.table_id) × (_lanes + 1 ≡ common.now.key.value.lanes) × (spot _lanes ≤ common.now.table_id.words) × (_lanes ≤ common.now.table_id.slots) × (_lanes ≤ MOST_LANES) }
@@ -145,7 +151,7 @@ pub(crate) fn share_at<M: Machine, T, F: FnMut(&M) -> T>(
 {
     claim(common, place, lane)?;
     let book = place.slot_mut(common, lane as usize).as_ref().unwrap();
-    let answer = f(&book.machine);
+    let answer = f(book.machine.get());
     hand_back(common, place, lane);
     Ok(answer)
 }

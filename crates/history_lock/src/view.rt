@@ -2,6 +2,7 @@
 
 use crate::entry::Entry;
 use crate::error::Busy;
+use crate::shared_machine::SharedMachine;
 use std::collections::LinkedList;
 
 /// What a lock is opened with.
@@ -18,7 +19,7 @@ pub struct Opened<M> {
 /// A machine and, in the last lane, the events that led to it. In the other lanes `history` is empty.
 #[derive(Drop)]
 pub struct Book<M, E> {
-    pub machine: M,
+    pub machine: SharedMachine<M>,
     pub history: Vec<Entry<E>>,
 }
 

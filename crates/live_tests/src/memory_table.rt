@@ -218,7 +218,7 @@ impl Desk<'_> {
             .close(passes)
             .ok()
             .ok_or("its one pass is there")?;
-        Ok((closed.history.len(), closed.machine.phase()))
+        Ok((closed.history.len(), closed.machine.get().phase()))
     }
 }
 

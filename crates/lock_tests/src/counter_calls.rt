@@ -8,10 +8,10 @@ use crate::locks::{
     two_lanes,
 };
 use crate::outcomes::{Outcome, try_write, write, written};
-use history_lock::{Busy, Closed, Holder, LaneLock, NewLockError, Pass};
+use history_lock::{Busy, Closed, Holder, LaneLock, Pass};
 use std::alloc::Global;
 use std::sync::Wait;
-use std::sync::atomic::AtomicU64;
+use std::sync::atomic::{AtomicU64, Ordering};
 use std::test::Fail;
 
 fn try_shared(lock: &LaneLock<Counter>, pass: &mut Pass<Counter>) -> Result<u64, Busy>
@@ -64,7 +64,7 @@ fn answers_in_the_order_of_the_calls(rt: HostRuntime) -> Result<(), Fail> {
         Outcome::Full,
     ];
     assert_eq!(rt; outcomes, wanted);
-    assert_eq!(rt; closed.machine.count, 12);
+    assert_eq!(rt; closed.machine.get().count, 12);
     assert!(rt; has_entries(&closed.history, &[(0, 5), (1, 7)]));
     Ok(())
 }
@@ -74,7 +74,7 @@ fn copies_what_a_closed_lock_leaves(rt: HostRuntime) -> Result<(), Fail> {
     let (_, closed) = writes_and_end(&rt, rt.alloc())?;
     let copied = closed.copy()?;
     drop(closed);
-    assert_eq!(rt; copied.machine.count, 12);
+    assert_eq!(rt; copied.machine.get().count, 12);
     assert!(rt; has_entries(&copied.history, &[(0, 5), (1, 7)]));
     Ok(())
 }
@@ -264,20 +264,19 @@ const THIRD: [Outcome; 3] = [Outcome::Reply(0), Outcome::Reply(10), Outcome::NoM
 
 const ALL: [Outcome; 3] = [Outcome::Reply(0), Outcome::Reply(10), Outcome::Reply(11)];
 
-// Lanes, the number of the copy that is refused, what the writes come to, and the events in the history. Of two lanes
-// the first has a copy from the start, and each write makes one for itself and one for the first.
+// Lanes, the number of the copy that is refused, what the writes come to, and the events in the history. The lanes
+// share their machine, and each write makes one copy.
 const CASES: &[(u64, u64, [Outcome; 3], &[u16])] = &[
     (1, 0, FIRST, &[11, 12]),
     (1, 1, SECOND, &[10, 12]),
     (1, 2, THIRD, &[10, 11]),
     (1, 3, ALL, &[10, 11, 12]),
-    (2, 1, FIRST, &[11, 12]),
-    (2, 2, FIRST, &[11, 12]),
-    (2, 3, SECOND, &[10, 12]),
-    (2, 4, SECOND, &[10, 12]),
-    (2, 5, THIRD, &[10, 11]),
-    (2, 6, THIRD, &[10, 11]),
-    (2, 7, ALL, &[10, 11, 12]),
+    (2, 0, FIRST, &[11, 12]),
+    (2, 1, SECOND, &[10, 12]),
+    (2, 2, THIRD, &[10, 11]),
+    (2, 3, ALL, &[10, 11, 12]),
+    (8, 0, FIRST, &[11, 12]),
+    (8, 3, ALL, &[10, 11, 12]),
 ];
 
 #[test]
@@ -294,10 +293,9 @@ fn a_refused_copy_adds_nothing(rt: HostRuntime) -> Result<(), Fail> {
 }
 
 #[test]
-fn opens_no_lock_where_a_lane_gets_no_copy(rt: HostRuntime) -> Result<(), Fail> {
+fn opens_a_lock_without_a_copy(rt: HostRuntime) -> Result<(), Fail> {
     let copies = AtomicU64::new(0);
-    let first = LaneLock::new(rt.alloc(), reluctant(&copies, 0), 2, 3);
-    assert!(rt; matches!(first, Err(NewLockError::NoMemory)));
-    assert!(rt; LaneLock::new(rt.alloc(), reluctant(&copies, 0), 2, 3).is_ok());
+    assert!(rt; LaneLock::new(rt.alloc(), reluctant(&copies, 0), 8, 3).is_ok());
+    assert_eq!(rt; copies.load(Ordering::SeqCst), 0);
     Ok(())
 }

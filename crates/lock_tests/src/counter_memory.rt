@@ -145,7 +145,7 @@ fn writes_as_before_without_memory(rt: HostRuntime) -> Result<(), Fail> {
     let wanted = [Outcome::Reply(5), Outcome::Reply(12), Outcome::Reply(13)];
     assert_eq!(rt; (outcomes, counts), (wanted, [Some(13), Some(13)]));
     assert!(rt; has_entries(&closed.history, &[(0, 5), (1, 7), (1, 1)]));
-    assert_eq!(rt; closed.machine.count, 13);
+    assert_eq!(rt; closed.machine.get().count, 13);
     Ok(())
 }
 

@@ -75,7 +75,7 @@ fn has_as_many_entries_as_replies(rt: HostRuntime) -> Result<(), Fail> {
         let (replies, closed) = added_in_two_threads(&rt, rt.alloc(), limit)?;
         assert_eq!(rt; replies, limit.min(200) as u64);
         assert_eq!(rt; closed.history.len() as u64, replies);
-        assert_eq!(rt; closed.machine.count, replies);
+        assert_eq!(rt; closed.machine.get().count, replies);
     }
     Ok(())
 }
@@ -164,7 +164,7 @@ fn has_just_the_writes_of_many_threads(rt: HostRuntime) -> Result<(), Fail> {
         for lane in 0..threads {
             assert_eq!(rt; entries_of(&closed.history, lane), times);
         }
-        assert_eq!(rt; closed.machine.count, 10_000);
+        assert_eq!(rt; closed.machine.get().count, 10_000);
     }
     Ok(())
 }

@@ -10,7 +10,7 @@ ghost use Rattle.history_lock.specs.Passes.{AreNewFrom, ArePassesOf, IsPassOf, i
 ghost use Rattle.history_lock.specs.declared.error.NewLockError.TheVariants as new_lock_error;
 ghost use Rattle.cluster.specs.declared.call.ClusterCall.TheVariants as recorded_call;
 ghost use Rattle.shared_objects.specs.Calls.{CalledToAsk, CalledToWrite, AsksFor};
-ghost use Rattle.cluster.specs.Replies.{looked};
+ghost use Rattle.cluster.specs.Replies.{look_reply};
 ghost use Rattle.shared_objects.specs.Objects.{CalledClerk, clerk_told};
 
 use crate::ask::{Question, read};
@@ -141,7 +141,7 @@ impl SharedClerk {
         ensures own { IsPassOf self.now.lock pass.new }
         ensures ticket { draws.new.ticket ≡ draws.old.ticket }
         ensures answer { CalledToAsk draws.old.pass draws.new.pass
-            (AsksFor event_step self.now.lock draws.old.pass draws.new.pass (λ clerk _ answer. answer ≡ look_at clerk key) (λ _. recorded_call.Look self.now.number key) looked)
+            (AsksFor event_step self.now.lock draws.old.pass draws.new.pass (λ clerk _ answer. answer ≡ look_at clerk key) (λ _. recorded_call.Look self.now.number key) look_reply)
             pass.old result pass.new }
     {
         let (drawn, answer) = read(rt, &self.lock, pass, draws, &Look { key })?;

@@ -15,7 +15,7 @@ ghost use Rattle.cluster.specs.declared.call.ClusterCall.TheVariants as recorded
 ghost use Rattle.cluster.specs.declared.reply.ClusterReply.TheVariants as told;
 ghost use Rattle.shared_objects.specs.Readings.{reading_at};
 ghost use Rattle.shared_objects.specs.Calls.{CalledToAsk, AsksFor, AsksAtOnceFor, TriedToAsk};
-ghost use Rattle.cluster.specs.Replies.{holding};
+ghost use Rattle.cluster.specs.Replies.{hold_reply};
 ghost use Rattle.shared_objects.specs.Checks.{check_told};
 ghost use Rattle.shared_objects.specs.Objects.{CalledSlicelet};
 
@@ -286,7 +286,7 @@ impl SharedSlicelet {
         ensures answer { CalledToAsk draws.old.pass draws.new.pass
             (AsksFor event_step self.now draws.old.pass draws.new.pass
             (λ slicelet number answer. answer ≡ held_by (rule_in_state (covers_key key) slicelet (reading_at when number)) (handle_on key slicelet))
-            (λ number. recorded_call.Hold self.now.opened.machine.task key (reading_at when number)) holding)
+            (λ number. recorded_call.Hold self.now.opened.machine.task key (reading_at when number)) hold_reply)
             pass.old result pass.new }
     {
         let question = AskHold { key, when };

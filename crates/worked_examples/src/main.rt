@@ -1,6 +1,6 @@
 //! Plays the scripts of `data/`, and compares what each gives with the files beside it: NAME.json
 //! is the script, NAME.stdout the text that is written, NAME.stderr what is said of a fault, and
-//! NAME.status the exit status. The stories of `examples/` are among them, under the same names.
+//! NAME.status the exit status. The link `examples` at the top of the repository leads to them.
 #![tactic(auto)]
 
 use anyhow::Result;

@@ -19,7 +19,7 @@ use Rattle.cluster.specs.declared.reply.ClusterReply.{ClusterReply}
 use Rattle.cluster.specs.declared.reply.ClusterReply.TheVariants as machine
 use Rattle.cluster.specs.Pasts.{Event as ClusterEvent, event as cluster_event, Past as ClusterPast, is_accepted as is_accepted_call, history}
 use Rattle.cluster.specs.Deliveries.{is_given}
-use Rattle.cluster.specs.Replies.{checked, reply_to as cluster_reply}
+use Rattle.cluster.specs.Replies.{check_reply, reply_to as cluster_reply}
 use Rattle.cluster.specs.Memory.{takes_memory as call_takes_memory, gives_handle as gives_handle_itself, needs_memory as call_needs_memory}
 use Rattle.cluster.specs.Runs.{IsOutcome as IsClusterOutcome, IsRun as IsClusterRun}
 use Rattle.cluster.specs.Clusters.{AreActors, LeadsTo as LeadsToCluster, IsPlayed, IsPlayedOr}
@@ -68,8 +68,8 @@ faithful s next (machine.Clerk clerk.Forgotten) = record { accepts = refl; gives
 faithful s next _ = record { accepts = refl; gives = refl; calls = λ e calls. refl }
 
 -- the reply to a `check` by a task of the job or not
-abbrev pub check_reply : Bool → Bool → Bool → Bool → ClusterReply
-check_reply own given strange kept = if own then checked given strange kept else machine.Refused error.NoActor
+abbrev pub own_check_reply : Bool → Bool → Bool → Bool → ClusterReply
+own_check_reply own given strange kept = if own then check_reply given strange kept else machine.Refused error.NoActor
 
 module _ (job : Job) (calls : ClusterPast) (s : Step) where
   abbrev told_reply : ClusterCall → Bool → Reply
@@ -79,7 +79,7 @@ module _ (job : Job) (calls : ClusterPast) (s : Step) where
   pub reply_again : (made : ClusterCall) (kept : Bool) → cluster_reply job calls made (is_continuous (told_reply made kept)) ≡ cluster_reply job calls made kept
   reply_again (call.Check task handle at) kept = by_tests (is_within task job.tasks) (is_given calls handle) (is_strange (history task calls) handle) kept
     where
-      by_tests : (own given strange kept : Bool) → check_reply own given strange (is_continuous (told_as s (next_numbers calls) (check_reply own given strange kept))) ≡ check_reply own given strange kept
+      by_tests : (own given strange kept : Bool) → own_check_reply own given strange (is_continuous (told_as s (next_numbers calls) (own_check_reply own given strange kept))) ≡ own_check_reply own given strange kept
       by_tests false given strange kept = refl
       by_tests true false strange kept = refl
       by_tests true true true kept = refl

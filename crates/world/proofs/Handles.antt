@@ -18,10 +18,10 @@ use Rattle.cluster.specs.declared.call.ClusterCall.TheVariants as call
 use Rattle.cluster.specs.declared.error.ClusterError.TheVariants as error
 use Rattle.cluster.specs.declared.reply.ClusterReply.{ClusterReply}
 use Rattle.cluster.specs.declared.reply.ClusterReply.TheVariants as machine
-use Rattle.cluster.specs.Numbered.{numbered}
+use Rattle.cluster.specs.Numbers.{with_number}
 use Rattle.cluster.specs.Pasts.{Event as ClusterEvent, event as cluster_event, Past as ClusterPast, history, task_calls}
 use Rattle.cluster.specs.Deliveries.{same_handle, handle_told, with_handle, handles_made as handles_given, is_given}
-use Rattle.cluster.specs.Replies.{covers, rule_in, holding}
+use Rattle.cluster.specs.Replies.{covers, rule_in, hold_reply}
 use Rattle.cluster.proofs.ActorLists.{get_left, get_last}
 use Rattle.cluster.proofs.Finding.{any_reversed}
 use Rattle.cluster.proofs.Noting.{same_number}
@@ -38,15 +38,15 @@ use Rattle.world.specs.Calls.{if_actor, if_sent, call_of, with_call, calls_in, h
 use Rattle.world.specs.Replies.{is_continuous_in, next_numbers, told_as, reply_by_call}
 use Rattle.world.specs.Runs.{IsReply}
 use Rattle.world.specs.Headline.{IsCheckedByHistory}
-use Rattle.world.proofs.Asking.{check_reply, replied_by_call, outcome_of_call, calls_after}
+use Rattle.world.proofs.Asking.{own_check_reply, replied_by_call, outcome_of_call, calls_after}
 
 -- A HANDLE KEEPS ITS NUMBER
 
 module _ (number : ℕ) (handle : KeyHandle) where
   abbrev pub IsNumbered : List KeyHandle → Type 0
-  IsNumbered made = numbered number (reverse made) ≡ Some handle
+  IsNumbered made = with_number number (reverse made) ≡ Some handle
 
-  numbered_left : (made more : List KeyHandle) → numbered number made ≡ Some handle → numbered number (made ++ more) ≡ Some handle
+  numbered_left : (made more : List KeyHandle) → with_number number made ≡ Some handle → with_number number (made ++ more) ≡ Some handle
   numbered_left made more e = by_test (number == 0) e
     where
       by_test : (b : Bool) → (if b then None else slice_get made (number - 1)) ≡ Some handle
@@ -55,7 +55,7 @@ module _ (number : ℕ) (handle : KeyHandle) where
       by_test false e = get_left made more (number - 1) (slice_get_within made (number - 1) handle e) ∙ e
 
   one_more : (new : KeyHandle) (made : List KeyHandle) → IsNumbered made → IsNumbered (new ∷ made)
-  one_more new made e = ap (λ (hs : List KeyHandle). numbered number hs) (reverse-cons new made) ∙ numbered_left (reverse made) (new ∷ []) e
+  one_more new made e = ap (λ (hs : List KeyHandle). with_number number hs) (reverse-cons new made) ∙ numbered_left (reverse made) (new ∷ []) e
 
   told_more : (r : ClusterReply) (made : List KeyHandle) → IsNumbered made → IsNumbered (handle_told r made)
   told_more (machine.Holding new) made e = one_more new made e
@@ -70,7 +70,7 @@ module _ (number : ℕ) (handle : KeyHandle) where
   handle_stays (e ∷ later) calls made = call_more e.call e.reply (handles_given (later ++ calls)) (handle_stays later calls made)
 
   -- what has a number was made
-  made_of_number : (made : List KeyHandle) → numbered number made ≡ Some handle → Contains made handle
+  made_of_number : (made : List KeyHandle) → with_number number made ≡ Some handle → Contains made handle
   made_of_number made e = by_test (number == 0) e
     where
       by_test : (b : Bool) → (if b then None else slice_get made (number - 1)) ≡ Some handle → Contains made handle
@@ -90,14 +90,14 @@ last_numbered : (made : List KeyHandle) (handle : KeyHandle) → IsNumbered (len
 last_numbered made handle =
     let some : (length made + 1 == 0) ≡ false = grind (arith, nat_tests) in
     let place : length made + 1 - 1 ≡ length (reverse made) = (let same = length-reverse made in omega (arith, same)) in
-    ap (λ (hs : List KeyHandle). numbered (length made + 1) hs) (reverse-cons handle made)
+    ap (λ (hs : List KeyHandle). with_number (length made + 1) hs) (reverse-cons handle made)
     ∙ (let last : slice_get (reverse made ++ handle ∷ []) (length (reverse made)) ≡ Some handle = get_last (reverse made) handle in rw (some, place) last)
 
 -- THE HOLD
 
 module _ (s : Step) (next : NextNumbers) where
   abbrev told_hold : Bool → Verdict → KeyHandle → ClusterReply
-  told_hold b v made = if b then holding (held_by v made) else machine.Refused error.NoActor
+  told_hold b v made = if b then hold_reply (held_by v made) else machine.Refused error.NoActor
 
   hold_told : (b : Bool) (v : Verdict) (made handle : KeyHandle) (number : ℕ) → reply.Holding number handle ≡ told_as s next (told_hold b v made)
       → (number ≡ next.handle) × (made ≡ handle) × (machine.Holding handle ≡ told_hold b v made)
@@ -136,14 +136,14 @@ module _ (job : Job) (past : Past) (task : ℕ) (key : List ℕ) (at number : �
 -- THE CHECK
 
 module _ (s : Step) (next : NextNumbers) where
-  check_told : (b given strange kept : Bool) → reply.Continuous ≡ told_as s next (check_reply b given strange kept) → machine.Continuous ≡ check_reply b given strange kept
+  check_told : (b given strange kept : Bool) → reply.Continuous ≡ told_as s next (own_check_reply b given strange kept) → machine.Continuous ≡ own_check_reply b given strange kept
   check_told true true false true e = refl
   check_told true true false false e = absurd (cc)
   check_told true true true kept e = absurd (cc)
   check_told true false strange kept e = absurd (cc)
   check_told false given strange kept e = absurd (cc)
 
-  pub familiar_told : (b given strange kept : Bool) → b ≡ true → given ≡ true → strange ≡ false → told_as s next (check_reply b given strange kept) ≡ (if kept then reply.Continuous else reply.Broken)
+  pub familiar_told : (b given strange kept : Bool) → b ≡ true → given ≡ true → strange ≡ false → told_as s next (own_check_reply b given strange kept) ≡ (if kept then reply.Continuous else reply.Broken)
   familiar_told true true false true e f g = refl
   familiar_told true true false false e f g = refl
   familiar_told true true true kept e f g = absurd (let h : true ≡ false = g in cc)
@@ -176,7 +176,7 @@ module _ (job : Job) (past : Past) (task number at : ℕ) (handle : KeyHandle) w
         | inl answered ↦ (
             let s = step.Check task number at in
             let kept = is_continuous_in answered.0 in
-            let given = numbered number (reverse (handles_given before_check)) in
+            let given = with_number number (reverse (handles_given before_check)) in
             let inside = inside_job (is_within task job.tasks) given kept answered.2 in
             let is : call_of job past before_check s ≡ Ok (deliver handle) = check_call (is_within task job.tasks) given inside made in
             let told = answered.2 ∙ replied_by_call job past before_check (deliver handle) s answered.0 is refl in
@@ -195,14 +195,14 @@ module _ (job : Job) (past : Past) (task number at : ℕ) (handle : KeyHandle) w
 
   -- a `check` takes no memory
   pub checked_by_history : (answer : Reply) → IsReply job past (event (step.Check task number at) answer)
-      → IsTrue (is_within task job.tasks) → numbered number (handles_made job past) ≡ Some handle → is_strange (history task before_check) handle ≡ false
+      → IsTrue (is_within task job.tasks) → with_number number (handles_made job past) ≡ Some handle → is_strange (history task before_check) handle ≡ false
       → IsCheckedByHistory job past task handle at answer
   checked_by_history answer h inside made familiar =
       elim h [
         | inl answered ↦ (
             let s = step.Check task number at in
             let kept = is_continuous_in answered.0 in
-            let is : call_of job past before_check s ≡ Ok (deliver handle) = check_call (is_within task job.tasks) (numbered number (reverse (handles_given before_check))) inside made in
+            let is : call_of job past before_check s ≡ Ok (deliver handle) = check_call (is_within task job.tasks) (with_number number (reverse (handles_given before_check))) inside made in
             let given = given_of_number number handle before_check made in
             let told = answered.2 ∙ (replied_by_call job past before_check (deliver handle) s answered.0 is refl
             ∙ familiar_told s (next_numbers before_check) (is_within task job.tasks) (is_given before_check handle) (is_strange (history task before_check) handle) kept inside given familiar) in

@@ -7,7 +7,7 @@ use Rattle.assignment.specs.declared.error.AssignmentError.{AssignmentError}
 use Rattle.assignment.specs.Slices.{refusal_of}
 use Rattle.cluster.specs.declared.call.ClusterCall.{ClusterCall}
 use Rattle.cluster.specs.declared.timing.Reading.{Reading}
-use Rattle.cluster.specs.Numbered.{numbered}
+use Rattle.cluster.specs.Numbers.{with_number}
 use Rattle.cluster.specs.Timing.{IsNear, IsTimely as AreTimely}
 use Rattle.cluster.specs.Pasts.{Event as ClusterEvent, Past as ClusterPast, reading, readings, grants, published}
 use Rattle.world.specs.Jobs.{Job}
@@ -58,7 +58,7 @@ call_read job past calls (step.Grant task life at) = actor_read (step.Grant task
 call_read job past calls (step.Free number at) = sent_read (step.Free number at) _ _ (λ note. refl)
 call_read job past calls step.Lose = refl
 call_read job past calls (step.Start task life at) = refl
-call_read job past calls (step.Hear task number at) = actor_read (step.Hear task number at) task job.tasks _ (sent_read (step.Hear task number at) (numbered number (grants calls)) _ (λ grant. refl))
+call_read job past calls (step.Hear task number at) = actor_read (step.Hear task number at) task job.tasks _ (sent_read (step.Hear task number at) (with_number number (grants calls)) _ (λ grant. refl))
 call_read job past calls (step.Release task kind at) = refl
 call_read job past calls (step.Serve task key at) = refl
 call_read job past calls (step.Hold task key at) = refl

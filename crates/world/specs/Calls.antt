@@ -11,7 +11,7 @@ use Rattle.slicelet.specs.States.{SliceletState}
 use Rattle.clerk.specs.declared.call.ClerkCall.TheVariants.{Learn, Forget}
 use Rattle.cluster.specs.declared.call.ClusterCall.{ClusterCall}
 use Rattle.cluster.specs.declared.call.ClusterCall.TheVariants as call
-use Rattle.cluster.specs.Numbered.{numbered}
+use Rattle.cluster.specs.Numbers.{with_number}
 use Rattle.cluster.specs.Pasts.{Event as ClusterEvent, event as cluster_event, Past as ClusterPast, grants, published, history as history_in}
 use Rattle.cluster.specs.Deliveries.{notes_made, handles_made as handles_given}
 use Rattle.cluster.specs.Replies.{reply_to as cluster_reply}
@@ -50,14 +50,14 @@ call_of job past calls (step.Commit assigner at) = if_actor assigner job.assigne
 call_of job past calls step.Phase = Ok call.Phase
 call_of job past calls step.Rows = Ok call.Rows
 call_of job past calls (step.Grant task life at) = if_actor task job.tasks (Ok (call.Table (asked.Grant task life at)))
-call_of job past calls (step.Free number at) = if_sent (numbered number (reverse (notes_made calls))) (λ note. call.Table (asked.Free note at))
+call_of job past calls (step.Free number at) = if_sent (with_number number (reverse (notes_made calls))) (λ note. call.Table (asked.Free note at))
 call_of job past calls step.Lose = Ok (call.Table asked.Restart)
 call_of job past calls (step.Start task life at) = Ok (call.Task task (Start life at))
-call_of job past calls (step.Hear task number at) = if_actor task job.tasks (if_sent (numbered number (grants calls)) (λ grant. call.Task task (Hear grant at)))
+call_of job past calls (step.Hear task number at) = if_actor task job.tasks (if_sent (with_number number (grants calls)) (λ grant. call.Task task (Hear grant at)))
 call_of job past calls (step.Release task kind at) = Ok (call.Task task (Release kind at))
 call_of job past calls (step.Serve task key at) = Ok (call.Serve task (slice_key key) at)
 call_of job past calls (step.Hold task key at) = Ok (call.Hold task (slice_key key) at)
-call_of job past calls (step.Check task number at) = if_actor task job.tasks (if_sent (numbered number (reverse (handles_given calls))) (λ handle. call.Check task handle at))
+call_of job past calls (step.Check task number at) = if_actor task job.tasks (if_sent (with_number number (reverse (handles_given calls))) (λ handle. call.Check task handle at))
 call_of job past calls (step.Learn clerk generation) = if_actor clerk job.clerks (if_sent (published generation calls) (λ slicing. call.Clerk clerk (Learn slicing)))
 call_of job past calls (step.Look clerk key) = Ok (call.Look clerk (slice_key key))
 call_of job past calls (step.Forget clerk) = Ok (call.Clerk clerk Forget)

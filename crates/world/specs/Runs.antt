@@ -67,12 +67,12 @@ needs_memory (step.Hold task key at) answer = gives_handle answer
 needs_memory _ answer = is_accepted answer
 
 -- a step is out of memory where it takes some, and where its reply would need some, whatever its outcome
-abbrev pub WantsMemory : Job → Past → Event → Type 0
-WantsMemory job past e = (e.reply ≡ reply.NoMemory) × IsTrue (takes_memory e.step) × ((outcome : Outcome) → IsTrue (needs_memory e.step (reply_to job past e.step outcome)))
+abbrev pub IsOutOfMemory : Job → Past → Event → Type 0
+IsOutOfMemory job past e = (e.reply ≡ reply.NoMemory) × IsTrue (takes_memory e.step) × ((outcome : Outcome) → IsTrue (needs_memory e.step (reply_to job past e.step outcome)))
 
 -- a reply is the one that the steps before it give, or the step is out of memory
 abbrev pub IsReply : Job → Past → Event → Type 0
-IsReply job past e = IsAnswer job past e ⊎ WantsMemory job past e
+IsReply job past e = IsAnswer job past e ⊎ IsOutOfMemory job past e
 
 abbrev pub IsRun : Job → Past → Type 0
 IsRun job [] = ⊤

@@ -6,7 +6,7 @@ ghost use Rattle.lease_table.specs.Policies.{is_policy};
 ghost use Rattle.slicelet.specs.Continuity.{is_strange};
 ghost use Rattle.slicelet.specs.declared.handle.KeyHandle.{KeyHandle};
 ghost use Rattle.weighted_move.specs.declared.made.Plan.{Plan};
-ghost use Rattle.cluster.specs.Numbered.{numbered};
+ghost use Rattle.cluster.specs.Numbers.{with_number};
 ghost use Rattle.cluster.specs.Pasts.{readings};
 ghost use Rattle.cluster.specs.Runs.{IsRun as IsClusterRun};
 ghost use Rattle.cluster.specs.Timing.{IsTimely as AreTimely};
@@ -40,7 +40,7 @@ pub fn rule_law()
 pub fn handle_law()
     ensures { (job : Job) (past : Past) (task number at : ℕ) (handle : KeyHandle) (answer : Reply)
         → IsRun job (event (step.Check task number at) answer ∷ past) → IsTrue (is_within task job.tasks)
-        → numbered number (handles_made job past) ≡ Some handle → is_strange (history job task past) handle ≡ false
+        → with_number number (handles_made job past) ≡ Some handle → is_strange (history job task past) handle ≡ false
         → IsCheckedByHistory job past task handle at answer }
 {}
 

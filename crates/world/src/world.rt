@@ -7,7 +7,7 @@ ghost use Rattle.slicelet.specs.Continuity.{is_strange};
 ghost use Rattle.slicelet.specs.declared.handle.KeyHandle.{KeyHandle};
 ghost use Rattle.assigner.specs.Terms.{Keeping};
 ghost use Rattle.cluster.specs.Clusters.{AreActors};
-ghost use Rattle.cluster.specs.Numbered.{numbered};
+ghost use Rattle.cluster.specs.Numbers.{with_number};
 ghost use Rattle.world.specs.Jobs.{Job};
 ghost use Rattle.world.specs.declared.step.Step.{Step};
 ghost use Rattle.world.specs.declared.step.Step.TheVariants as step;
@@ -111,7 +111,7 @@ impl World {
             → IsServedByRule job past task key at answer }
         ensures handle { (job : Job) (later past : Past) (task number at : ℕ) (handle : KeyHandle) (answer : Reply)
             → LeadsTo job (later ++ event (step.Check task number at) answer ∷ past) self.now
-            → IsTrue (is_within task job.tasks) → numbered number (handles_made job past) ≡ Some handle
+            → IsTrue (is_within task job.tasks) → with_number number (handles_made job past) ≡ Some handle
             → is_strange (history job task past) handle ≡ false
             → IsCheckedByHistory job past task handle at answer }
         ensures owner { (job : Job) (later past : Past) (task : ℕ) (key : List ℕ) → LeadsTo job (later ++ past) self.now

@@ -5,7 +5,7 @@ use Rattle.lease_table.specs.declared.call.TableCall.{TableCall}
 use Rattle.lease_table.specs.declared.call.TableCall.TheVariants as call
 use Rattle.lease_table.specs.Tables.{Standing, generation_of}
 use Rattle.lease_table.specs.Calls.{AnsweredTableCall}
-use Rattle.cluster.specs.Numbered.{numbered}
+use Rattle.cluster.specs.Numbers.{with_number}
 
 -- the assignments of the accepted proposals, in order
 abbrev pub proposals_with : TableCall → Bool → List Slicing → List Slicing
@@ -18,4 +18,4 @@ proposals_in (e ∷ past) = proposals_with e.call (is_ok e.answer) (proposals_in
 
 -- the committed assignment of a generation: that of the proposal of this place
 abbrev pub published_of : ℕ → Standing → List Slicing → Option Slicing
-published_of generation t proposals = if nat_le generation (generation_of t.committed) then numbered generation proposals else None
+published_of generation t proposals = if nat_le generation (generation_of t.committed) then with_number generation proposals else None

@@ -10,34 +10,34 @@ use Rattle.cluster.specs.declared.reply.ClusterReply.TheVariants as reply
 use Rattle.cluster.specs.Pasts.{grants}
 use Rattle.cluster.specs.Replies.{by_actor}
 use Rattle.cluster.specs.Clusters.{LeadsTo}
-use Rattle.cluster.specs.internals.Keys.{key_eq}
-use Rattle.cluster.specs.Numbered.{numbered}
+use Rattle.cluster.specs.Deliveries.{same_note}
+use Rattle.cluster.specs.Numbers.{with_number}
 use Rattle.cluster.proofs.TaskTurns.{inside_job, task_turn}
-use Rattle.cluster.proofs.Turning.{heard_no_note, heard_no_key}
+use Rattle.cluster.proofs.Turning.{heard_no_note, heard_none_known}
 use Rattle.cluster.proofs.Numbering.{hear_of_none, hear_unsent, hear_played, sent_comes}
 use Rattle.cluster.proofs.cluster.Cluster.hear_numbered.Goals as goal
 
 pub returns-in_default : goal.returns-in_default
 returns-in_default c = λ job past k.
-    hear_of_none job past c.args.self.now k c.args.task c.args.at (numbered c.args.number (grants past))
+    hear_of_none job past c.args.self.now k c.args.task c.args.at (with_number c.args.number (grants past))
     (subst (λ (xs : List SliceletState). is_within c.args.task (length xs) ≡ false) c.as_slice.ensures.value c.in_default.ensures)
 
-pub returns-in_default-numbered : goal.returns-in_default-numbered
+pub returns-in_default-with_number : goal.returns-in_default-with_number
 unfolding LeadsTo
-returns-in_default-numbered c = λ job past k.
+returns-in_default-with_number c = λ job past k.
     let inside = subst (λ (xs : List SliceletState). c.in-Some.place < length xs) c.as_slice.ensures.value c.in-Some.ensures.1 in
     let nothing : Option Grant = None in
-    let none : nothing ≡ numbered c.args.number (grants past) = c.in_default-numbered.ensures ∙ ap (λ (xs : List Grant). numbered c.args.number xs) (c.as_slice-2.ensures.value ∙ k.grants) in
-    hear_unsent job past c.args.self.now k c.args.task c.args.at (numbered c.args.number (grants past)) (inside_job job past c.args.task c.in-Some.place c.args.self.now k c.in-Some.ensures.0 inside) none
+    let none : nothing ≡ with_number c.args.number (grants past) = c.in_default-with_number.ensures ∙ ap (λ (xs : List Grant). with_number c.args.number xs) (c.as_slice-2.ensures.value ∙ k.grants) in
+    hear_unsent job past c.args.self.now k c.args.task c.args.at (with_number c.args.number (grants past)) (inside_job job past c.args.task c.in-Some.place c.args.self.now k c.in-Some.ensures.0 inside) none
 
 pub returns : goal.returns
 unfolding LeadsTo
 returns c = λ job past k.
     let inside = subst (λ (xs : List SliceletState). c.in-Some.place < length xs) c.as_slice.ensures.value c.in-Some.ensures.1 in
-    let found : Some c.in-Some-numbered.grant.now ≡ numbered c.args.number (grants past) = c.in-Some-numbered.ensures ∙ ap (λ (xs : List Grant). numbered c.args.number xs) (c.as_slice-2.ensures.value ∙ k.grants) in
-    hear_played job past c.args.task c.args.at c.in-Some-numbered.grant.now (numbered c.args.number (grants past)) (by_actor c.args.task job.tasks (reply.Refused error.NotSent)) _ _ found
-    (task_turn job past c.args.task c.in-Some.place (Hear c.in-Some-numbered.grant.now c.args.at) c.args.self.now _ c.in-Some.ensures.0
-    (sent_comes past c.args.number c.in-Some-numbered.grant.now c.args.at (sym found)) k c.index_mut.result.now c.hear.new.slicelet c.index_mut.ensures.value inside refl
-    (record { job = refl; table = refl; clerks = refl; grants = refl; handles = refl; handle_keys = λ key. refl; proposals = refl }) c.hear.result c.hear.ensures
-    (heard_no_note c.index_mut.result.now c.in-Some-numbered.grant.now c.args.at c.hear.new.slicelet c.hear.result _ c.hear.ensures)
-    (heard_no_key c.index_mut.result.now c.in-Some-numbered.grant.now c.args.at c.hear.new.slicelet c.hear.result c.hear.ensures (contains key_eq c.args.self.now.note_keys)) _ c.told_by_task.ensures)
+    let found : Some c.in-Some-with_number.grant.now ≡ with_number c.args.number (grants past) = c.in-Some-with_number.ensures ∙ ap (λ (xs : List Grant). with_number c.args.number xs) (c.as_slice-2.ensures.value ∙ k.grants) in
+    hear_played job past c.args.task c.args.at c.in-Some-with_number.grant.now (with_number c.args.number (grants past)) (by_actor c.args.task job.tasks (reply.Refused error.NotSent)) _ _ found
+    (task_turn job past c.args.task c.in-Some.place (Hear c.in-Some-with_number.grant.now c.args.at) c.args.self.now _ c.in-Some.ensures.0
+    (sent_comes past c.args.number c.in-Some-with_number.grant.now c.args.at (sym found)) k c.index_mut.result.now c.hear.new.slicelet c.index_mut.ensures.value inside refl
+    (record { job = refl; table = refl; clerks = refl; grants = refl; handles = refl; known_handles = λ key. refl; proposals = refl }) c.hear.result c.hear.ensures
+    (heard_no_note c.index_mut.result.now c.in-Some-with_number.grant.now c.args.at c.hear.new.slicelet c.hear.result _ c.hear.ensures)
+    (heard_none_known c.index_mut.result.now c.in-Some-with_number.grant.now c.args.at c.hear.new.slicelet c.hear.result c.hear.ensures (contains same_note c.args.self.now.known_notes)) _ c.told_by_task.ensures)

@@ -11,7 +11,7 @@ use Rattle.cluster.specs.Pasts.{task_calls}
 use Rattle.cluster.specs.Replies.{covers}
 use Rattle.cluster.specs.Clusters.{LeadsTo}
 use Rattle.cluster.proofs.Playing.{only_told}
-use Rattle.cluster.proofs.Looking.{own_task, hold_reply, held_leads, hold_out_of_memory}
+use Rattle.cluster.proofs.Looking.{own_task, hold_answer, held_leads, hold_out_of_memory}
 use Rattle.cluster.proofs.Stopping.{hold_of_none}
 use Rattle.cluster.proofs.cluster.Cluster.hold.Goals as goal
 
@@ -26,7 +26,7 @@ returns-in-Err c = λ job past k.
     let low : c.args.key < 2 ^ 63 = subst (λ (n : ℕ). n < 2 ^ 63) c.value-number.ensures.value c.value-number.ensures.in_range in
     let own = own_task job past c.args.task c.in-Some.place c.args.self.now c.index.result.now k c.in-Some.ensures.0 inside c.index.ensures in
     let agree = c.covers_law.ensures job past c.args.task c.args.key k.within k.run low in
-    let is = hold_reply job past c.args.task c.args.key c.args.at c.index.result.now own agree
+    let is = hold_answer job past c.args.task c.args.key c.args.at c.index.result.now own agree
     (c.agreement_law.ensures.rule (covers_key c.args.key) (covers past c.args.key) (task_calls c.args.task past) c.args.at) (Err c.in-Err.why) c.in-Err.ensures.state in
     only_told job past (call.Hold c.args.task c.args.key c.args.at) (reply.Verdict (Deny c.in-Err.why)) c.args.self.now k (true, tt, sym (is true)) refl (λ n. refl) (λ n. refl) refl refl
 
@@ -37,7 +37,7 @@ returns-in-Err-keep c = λ job past k.
     let low : c.args.key < 2 ^ 63 = subst (λ (n : ℕ). n < 2 ^ 63) c.value-number.ensures.value c.value-number.ensures.in_range in
     let own = own_task job past c.args.task c.in-Some.place c.args.self.now c.index.result.now k c.in-Some.ensures.0 inside c.index.ensures in
     let agree = c.covers_law.ensures job past c.args.task c.args.key k.within k.run low in
-    let is = hold_reply job past c.args.task c.args.key c.args.at c.index.result.now own agree
+    let is = hold_answer job past c.args.task c.args.key c.args.at c.index.result.now own agree
     (c.agreement_law.ensures.rule (covers_key c.args.key) (covers past c.args.key) (task_calls c.args.task past) c.args.at) (Ok c.in-Ok.handle) c.in-Ok.ensures.state in
     hold_out_of_memory job past c.args.task c.args.key c.args.at c.in-Ok.handle c.args.self.now _ k (record {
       job = refl;
@@ -47,8 +47,8 @@ returns-in-Err-keep c = λ job past k.
       grants = refl;
       notes = refl;
       handles = ap (λ (xs : List KeyHandle). reverse xs) c.in-Err-keep.ensures.err;
-      note_keys = λ key. refl;
-      handle_keys = c.in-Err-keep.ensures.keys_err;
+      known_notes = λ key. refl;
+      known_handles = c.in-Err-keep.ensures.known_err;
       proposals = refl;
     }) is
 
@@ -59,7 +59,7 @@ returns-in-Ok-keep c = λ job past k.
     let low : c.args.key < 2 ^ 63 = subst (λ (n : ℕ). n < 2 ^ 63) c.value-number.ensures.value c.value-number.ensures.in_range in
     let own = own_task job past c.args.task c.in-Some.place c.args.self.now c.index.result.now k c.in-Some.ensures.0 inside c.index.ensures in
     let agree = c.covers_law.ensures job past c.args.task c.args.key k.within k.run low in
-    let is = hold_reply job past c.args.task c.args.key c.args.at c.index.result.now own agree
+    let is = hold_answer job past c.args.task c.args.key c.args.at c.index.result.now own agree
     (c.agreement_law.ensures.rule (covers_key c.args.key) (covers past c.args.key) (task_calls c.args.task past) c.args.at) (Ok c.in-Ok.handle) c.in-Ok.ensures.state in
     held_leads job past c.args.task c.args.key c.args.at c.in-Ok.handle c.args.self.now _ k c.in-Ok-keep.ensures.ok
-    (record { job = refl; table = refl; tasks = refl; clerks = refl; grants = refl; notes = refl; note_keys = λ key. refl; proposals = refl }) c.in-Ok-keep.ensures.keys_ok (sym (is true))
+    (record { job = refl; table = refl; tasks = refl; clerks = refl; grants = refl; notes = refl; known_notes = λ key. refl; proposals = refl }) c.in-Ok-keep.ensures.known_ok (sym (is true))

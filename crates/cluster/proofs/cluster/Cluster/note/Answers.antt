@@ -2,10 +2,10 @@ use Rattle.std.proofs.Common.{List, sym, ◌∙◌, ap}
 use Rattle.std.specs.Prelude.{reverse}
 use Rattle.std.proofs.lemmas.List.{reverse-reverse}
 use Rattle.lease_table.specs.declared.values.ReleaseNote.{ReleaseNote}
-use Rattle.cluster.specs.Numbered.{numbered}
+use Rattle.cluster.specs.Numbers.{with_number}
 use Rattle.cluster.specs.Clusters.{LeadsTo}
 use Rattle.cluster.proofs.cluster.Cluster.note.Goals as goal
 
 pub returns : goal.returns
 unfolding LeadsTo
-returns c = λ job past k. c.numbered.ensures ∙ ap (λ (xs : List ReleaseNote). numbered c.args.number xs) (c.as_slice.ensures.value ∙ sym (reverse-reverse c.args.self.now.notes.items) ∙ ap (λ (xs : List ReleaseNote). reverse xs) k.notes)
+returns c = λ job past k. c.with_number.ensures ∙ ap (λ (xs : List ReleaseNote). with_number c.args.number xs) (c.as_slice.ensures.value ∙ sym (reverse-reverse c.args.self.now.notes.items) ∙ ap (λ (xs : List ReleaseNote). reverse xs) k.notes)

@@ -1,0 +1,83 @@
+//! What a thread reads and writes by.
+
+use crate::table::TERM;
+use history_lock::{LaneLock, Pass};
+use lease_table::{LeaseTable, Phase, TableCall, TableEvent};
+use machines::Event;
+use std::marker::Model;
+use std::sync::{Mutex, RwLock, Wait};
+
+/// Which lock a run is of.
+#[derive(Clone, Copy, Debug)]
+pub(crate) enum Kind {
+    /// The lock that keeps the history, with a lane for each thread.
+    Lanes,
+    /// The kit's `RwLock`.
+    ReadWrite,
+    /// The kit's `Mutex`.
+    Mutex,
+}
+
+/// A lane of the lock that keeps the history.
+#[derive(Drop)]
+pub(crate) struct LaneSeat<'a> {
+    pub(crate) lock: &'a LaneLock<LeaseTable>,
+    pub(crate) pass: Pass<LeaseTable>,
+}
+
+impl<'a> Model for LaneSeat<'a> {
+    ghost use Rattle.history_lock.specs.Passes.{PassView, IsPassOf};
+    ghost use Rattle.lease_table.specs.Tables.{Standing};
+    ghost use Rattle.machines.specs.declared.event.Event.{Event};
+    ghost use Rattle.lease_table.specs.declared.call.TableCall.{TableCall};
+
+    ghost Value = { PassView Standing (Event TableCall) };
+
+    ghost view = { λ s. s.pass };
+
+    ghost invariant = { λ s. IsPassOf s.lock.now s.pass };
+}
+
+/// What a thread has of a lock.
+#[derive(Drop)]
+pub(crate) enum Seat<'a> {
+    Lanes(LaneSeat<'a>),
+    ReadWrite(&'a RwLock<LeaseTable>),
+    Mutex(&'a Mutex<LeaseTable>),
+}
+
+impl Seat<'_> {
+    /// The generation that is committed.
+    pub(crate) fn read<R: Wait>(&mut self, rt: &R) -> u64 {
+        match self {
+            Seat::Lanes(seat) => seat.lock.shared(rt, &mut seat.pass, &mut committed),
+            Seat::ReadWrite(lock) => committed(&lock.read(rt)),
+            Seat::Mutex(lock) => committed(&lock.lock(rt)),
+        }
+    }
+
+    /// Renews the job lease. Whether the table took it.
+    pub(crate) fn write<R: Wait>(&mut self, rt: &R, at: u64) -> bool {
+        match self {
+            Seat::Lanes(seat) => seat
+                .lock
+                .write(rt, &mut seat.pass, &mut || renewal(at))
+                .is_ok(),
+            Seat::ReadWrite(lock) => lock.write(rt).job_renew(TERM, at).is_ok(),
+            Seat::Mutex(lock) => lock.lock(rt).job_renew(TERM, at).is_ok(),
+        }
+    }
+}
+
+fn committed(table: &LeaseTable) -> u64 {
+    match table.phase() {
+        Phase::Steady(generation) | Phase::Bridging(generation, _) => generation,
+    }
+}
+
+fn renewal(at: u64) -> TableEvent {
+    Event {
+        ticket: at,
+        call: TableCall::JobRenew { number: TERM, at },
+    }
+}
