@@ -32,7 +32,6 @@ use Rattle.cluster.specs.Pasts.{event, Past, history, learnt_by, newest_learnt}
 use Rattle.cluster.specs.Deliveries.{clerk_refusal}
 use Rattle.cluster.specs.Replies.{unless, from_machine, look_reply, reply_to}
 use Rattle.cluster.specs.Clusters.{AreActors, LeadsTo, IsPlayed}
-use Rattle.cluster.specs.internals.Keys.{note_key, handle_key}
 use Rattle.cluster.specs.internals.Turns.{told_as}
 use Rattle.cluster.proofs.ActorLists.{of_job, actor_at, actors_set}
 use Rattle.cluster.proofs.Playing.{IsSameBesideClerks, taken, untaken, only_told}
@@ -102,8 +101,8 @@ module _ (job : Job) (past : Past) (clerk place : ℕ) (c : ClerkCall) (old new 
         grants = same.grants ∙ k.grants;
         notes = same.notes ∙ k.notes;
         handles = same.handles ∙ k.handles;
-        note_keys = λ note. same.note_keys (note_key note) ∙ k.note_keys note;
-        handle_keys = λ handle. same.handle_keys (handle_key handle) ∙ k.handle_keys handle;
+        known_notes = λ note. same.known_notes note ∙ k.known_notes note;
+        known_handles = λ handle. same.known_handles handle ∙ k.known_handles handle;
         proposals = same.proposals ∙ k.proposals;
       }
   clerk_played (Err trouble) took memory clerks same =
@@ -116,8 +115,8 @@ module _ (job : Job) (past : Past) (clerk place : ℕ) (c : ClerkCall) (old new 
         grants = same.grants;
         notes = same.notes;
         handles = same.handles;
-        note_keys = same.note_keys;
-        handle_keys = same.handle_keys;
+        known_notes = same.known_notes;
+        known_handles = same.known_handles;
         proposals = same.proposals;
       }) (subst (λ (s : Option Slicing). Takes (clerk_step s c) before (Err trouble) after) at_place took) memory (λ r. refl)
 

@@ -14,7 +14,7 @@ pub mod LaterPoints
 pub mod Holding
 pub mod ActorLists
 pub mod Publishing
-pub mod Keying
+pub mod Knowing
 pub mod Playing
 pub mod Turning
 pub mod TableTurns

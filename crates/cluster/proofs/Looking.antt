@@ -22,12 +22,11 @@ use Rattle.cluster.specs.declared.reply.ClusterReply.TheVariants as reply
 use Rattle.cluster.specs.declared.cluster.Cluster.{Cluster}
 use Rattle.cluster.specs.Pasts.{event, Past, task_calls, history, newest_learnt}
 use Rattle.cluster.specs.Deliveries.{handles_made, same_handle, is_given}
-use Rattle.cluster.specs.internals.Keys.{Key, key_eq, note_key, handle_key}
 use Rattle.cluster.specs.Replies.{covers, rule_in, hold_reply, familiar, check_reply, reply_to}
 use Rattle.cluster.specs.Memory.{gives_handle, MayRunOut}
 use Rattle.cluster.specs.Runs.{IsReply}
 use Rattle.cluster.specs.Clusters.{AreActors, LeadsTo}
-use Rattle.cluster.proofs.Keying.{handle_keys_same}
+use Rattle.cluster.proofs.Knowing.{same_handle_turned}
 use Rattle.cluster.proofs.Playing.{IsSame, IsSameBesideHandles, kept_same}
 use Rattle.cluster.proofs.Turning.{reversed_more}
 use Rattle.cluster.proofs.ActorLists.{of_job, actor_at}
@@ -97,16 +96,16 @@ module _ (job : Job) (past : Past) (task at : ℕ) (handle : KeyHandle) (s : Sli
       (false, λ within made known. absurd (let f : true ≡ false = sym h ∙ known in cc), sym (check_is true false h))
 
 given_more : (handle other : KeyHandle) (before : Bool) (handles : List KeyHandle) → before ≡ list_any (same_handle other) handles
-    → (key_eq (handle_key handle) (handle_key other) || before) ≡ list_any (same_handle other) (handle ∷ handles)
-given_more handle other before handles e = rw (e, handle_keys_same handle other) refl
+    → (same_handle handle other || before) ≡ list_any (same_handle other) (handle ∷ handles)
+given_more handle other before handles e = rw (e, same_handle_turned handle other) refl
 
 -- a handle that is taken is one more
 pub held_leads : (job : Job) (past : Past) (task key at : ℕ) (handle : KeyHandle) (old new : Cluster) → LeadsTo job past old
     → new.handles.items ≡ old.handles.items ++ handle ∷ [] → IsSameBesideHandles old new
-    → ((key : Key) → contains key_eq new.handle_keys key ≡ (key_eq (handle_key handle) key || contains key_eq old.handle_keys key)) → reply.Holding handle ≡ reply_to job past (call.Hold task key at) true
+    → ((other : KeyHandle) → contains same_handle new.known_handles other ≡ (same_handle handle other || contains same_handle old.known_handles other)) → reply.Holding handle ≡ reply_to job past (call.Hold task key at) true
     → LeadsTo job (event (call.Hold task key at) (reply.Holding handle) ∷ past) new
 unfolding LeadsTo
-held_leads job past task key at handle old new k more same keys is = record {
+held_leads job past task key at handle old new k more same known is = record {
   run = ((true, tt, is), k.run);
   within = k.within;
   same_job = same.job ∙ k.same_job;
@@ -116,8 +115,8 @@ held_leads job past task key at handle old new k more same keys is = record {
   grants = same.grants ∙ k.grants;
   notes = same.notes ∙ k.notes;
   handles = ap (λ (xs : List KeyHandle). reverse xs) more ∙ reversed_more old.handles.items handle ∙ ap (λ (xs : List KeyHandle). handle ∷ xs) k.handles;
-  note_keys = λ note. same.note_keys (note_key note) ∙ k.note_keys note;
-  handle_keys = λ other. keys (handle_key other) ∙ given_more handle other (contains key_eq old.handle_keys (handle_key other)) (handles_made past) (k.handle_keys other);
+  known_notes = λ note. same.known_notes note ∙ k.known_notes note;
+  known_handles = λ other. known other ∙ given_more handle other (contains same_handle old.known_handles other) (handles_made past) (k.known_handles other);
   proposals = same.proposals ∙ k.proposals;
 }
 

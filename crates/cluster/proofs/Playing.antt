@@ -12,6 +12,8 @@ use Rattle.machines.specs.Answers.{Takes}
 use Rattle.assignment.specs.Slices.{Slicing}
 use Rattle.slicelet.specs.declared.call.SliceletCall.{SliceletCall}
 use Rattle.slicelet.specs.States.{SliceletState, state_after}
+use Rattle.lease_table.specs.declared.values.ReleaseNote.{ReleaseNote}
+use Rattle.slicelet.specs.declared.handle.KeyHandle.{KeyHandle}
 use Rattle.cluster.specs.Jobs.{Job}
 use Rattle.cluster.specs.declared.error.ClusterError.{ClusterError}
 use Rattle.cluster.specs.declared.call.ClusterCall.{ClusterCall}
@@ -21,7 +23,6 @@ use Rattle.cluster.specs.declared.reply.ClusterReply.TheVariants as reply
 use Rattle.cluster.specs.declared.cluster.Cluster.{Cluster}
 use Rattle.cluster.specs.Pasts.{event, Past, table_calls, task_calls, history, learnt_by, newest_learnt}
 use Rattle.cluster.specs.Deliveries.{notes_made, handles_made, same_note, same_handle}
-use Rattle.cluster.specs.internals.Keys.{Key, key_eq, note_key, handle_key}
 use Rattle.cluster.specs.Replies.{from_machine, reply_to}
 use Rattle.cluster.specs.Memory.{takes_memory, needs_memory}
 use Rattle.cluster.specs.Runs.{IsReply, IsOutcome}
@@ -30,11 +31,11 @@ use Rattle.cluster.specs.internals.Turns.{told_as}
 use Rattle.cluster.proofs.ActorLists.{actors_same}
 
 -- notes, and handles, are found as before
-abbrev pub SameNoteKeys : Cluster → Cluster → Type 0
-SameNoteKeys old new = (key : Key) → contains key_eq new.note_keys key ≡ contains key_eq old.note_keys key
+abbrev pub KnowsSameNotes : Cluster → Cluster → Type 0
+KnowsSameNotes old new = (note : ReleaseNote) → contains same_note new.known_notes note ≡ contains same_note old.known_notes note
 
-abbrev pub SameHandleKeys : Cluster → Cluster → Type 0
-SameHandleKeys old new = (key : Key) → contains key_eq new.handle_keys key ≡ contains key_eq old.handle_keys key
+abbrev pub KnowsSameHandles : Cluster → Cluster → Type 0
+KnowsSameHandles old new = (handle : KeyHandle) → contains same_handle new.known_handles handle ≡ contains same_handle old.known_handles handle
 
 -- all of which a past tells is as it was
 pub record IsSame (old new : Cluster) : Type 0 where
@@ -45,8 +46,8 @@ pub record IsSame (old new : Cluster) : Type 0 where
   pub grants : new.grants.items ≡ old.grants.items
   pub notes : reverse new.notes.items ≡ reverse old.notes.items
   pub handles : reverse new.handles.items ≡ reverse old.handles.items
-  pub note_keys : SameNoteKeys old new
-  pub handle_keys : SameHandleKeys old new
+  pub known_notes : KnowsSameNotes old new
+  pub known_handles : KnowsSameHandles old new
   pub proposals : new.proposals.items ≡ old.proposals.items
 
 -- all but the slicelets and the notes, all but the clerks, and all but the handles
@@ -56,7 +57,7 @@ pub record IsSameBesideTasks (old new : Cluster) : Type 0 where
   pub clerks : new.clerks.items ≡ old.clerks.items
   pub grants : new.grants.items ≡ old.grants.items
   pub handles : reverse new.handles.items ≡ reverse old.handles.items
-  pub handle_keys : SameHandleKeys old new
+  pub known_handles : KnowsSameHandles old new
   pub proposals : new.proposals.items ≡ old.proposals.items
 
 pub record IsSameBesideClerks (old new : Cluster) : Type 0 where
@@ -66,8 +67,8 @@ pub record IsSameBesideClerks (old new : Cluster) : Type 0 where
   pub grants : new.grants.items ≡ old.grants.items
   pub notes : reverse new.notes.items ≡ reverse old.notes.items
   pub handles : reverse new.handles.items ≡ reverse old.handles.items
-  pub note_keys : SameNoteKeys old new
-  pub handle_keys : SameHandleKeys old new
+  pub known_notes : KnowsSameNotes old new
+  pub known_handles : KnowsSameHandles old new
   pub proposals : new.proposals.items ≡ old.proposals.items
 
 pub record IsSameBesideHandles (old new : Cluster) : Type 0 where
@@ -77,7 +78,7 @@ pub record IsSameBesideHandles (old new : Cluster) : Type 0 where
   pub clerks : new.clerks.items ≡ old.clerks.items
   pub grants : new.grants.items ≡ old.grants.items
   pub notes : reverse new.notes.items ≡ reverse old.notes.items
-  pub note_keys : SameNoteKeys old new
+  pub known_notes : KnowsSameNotes old new
   pub proposals : new.proposals.items ≡ old.proposals.items
 
 pub kept_same : (job : Job) (past : Past) (old new : Cluster) → Keeps job past old → IsSame old new → Keeps job past new
@@ -91,8 +92,8 @@ kept_same job past old new k s = record {
   grants = s.grants ∙ k.grants;
   notes = s.notes ∙ k.notes;
   handles = s.handles ∙ k.handles;
-  note_keys = λ note. s.note_keys (note_key note) ∙ k.note_keys note;
-  handle_keys = λ handle. s.handle_keys (handle_key handle) ∙ k.handle_keys handle;
+  known_notes = λ note. s.known_notes note ∙ k.known_notes note;
+  known_handles = λ handle. s.known_handles handle ∙ k.known_handles handle;
   proposals = s.proposals ∙ k.proposals;
 }
 
@@ -140,8 +141,8 @@ only_told job past c told cluster k answered table tasks clerks notes handles =
       grants = k.grants ∙ ap grants_sent (sym table);
       notes = k.notes ∙ sym notes;
       handles = k.handles ∙ sym handles;
-      note_keys = λ note. k.note_keys note ∙ ap (list_any (same_note note)) (sym notes);
-      handle_keys = λ handle. k.handle_keys handle ∙ ap (list_any (same_handle handle)) (sym handles);
+      known_notes = λ note. k.known_notes note ∙ ap (list_any (same_note note)) (sym notes);
+      known_handles = λ handle. k.known_handles handle ∙ ap (list_any (same_handle handle)) (sym handles);
       proposals = k.proposals ∙ ap proposals_in (sym table);
     }
 

@@ -27,7 +27,7 @@ use Rattle.cluster.specs.Pasts.{Past, table_calls, standing, history, newest_lea
 use Rattle.cluster.specs.Deliveries.{table_refusal}
 use Rattle.cluster.specs.Replies.{unless, from_machine, reply_to}
 use Rattle.cluster.specs.Clusters.{AreActors, LeadsTo, IsPlayed}
-use Rattle.cluster.specs.internals.Keys.{key_eq, note_key, handle_key}
+use Rattle.cluster.specs.Deliveries.{same_note, same_handle}
 use Rattle.cluster.specs.internals.Proposals.{proposals_with}
 use Rattle.cluster.specs.internals.Turns.{told_as, grants_kept, proposals_kept, OnlyTakes, IsSameBesideTable}
 use Rattle.cluster.proofs.Playing.{taken, untaken}
@@ -55,8 +55,8 @@ module _ (job : Job) (past : Past) (c : TableCall) (old new : Cluster) (came : t
         grants = grants ∙ ap (grants_after (Ok told)) k.grants;
         notes = ap (λ (xs : List ReleaseNote). reverse xs) others.3 ∙ k.notes;
         handles = ap (λ (xs : List KeyHandle). reverse xs) others.4 ∙ k.handles;
-        note_keys = λ note. ap (λ keys. contains key_eq keys (note_key note)) others.5 ∙ k.note_keys note;
-        handle_keys = λ handle. ap (λ keys. contains key_eq keys (handle_key handle)) others.6 ∙ k.handle_keys handle;
+        known_notes = λ note. ap (λ known. contains same_note known note) others.5 ∙ k.known_notes note;
+        known_handles = λ handle. ap (λ known. contains same_handle known handle) others.6 ∙ k.known_handles handle;
         proposals = proposals ∙ ap (proposals_with c true) k.proposals;
       }
   table_played (Err trouble) k took memory grants proposals others =
@@ -68,8 +68,8 @@ module _ (job : Job) (past : Past) (c : TableCall) (old new : Cluster) (came : t
         grants = grants;
         notes = ap (λ (xs : List ReleaseNote). reverse xs) others.3;
         handles = ap (λ (xs : List KeyHandle). reverse xs) others.4;
-        note_keys = λ key. ap (λ keys. contains key_eq keys key) others.5;
-        handle_keys = λ key. ap (λ keys. contains key_eq keys key) others.6;
+        known_notes = λ note. ap (λ known. contains same_note known note) others.5;
+        known_handles = λ handle. ap (λ known. contains same_handle known handle) others.6;
         proposals = proposals;
       }) (subst (λ (t : Standing). Takes (table_step t c) old.table (Err trouble) new.table) k.table took) memory (λ r. refl)
 

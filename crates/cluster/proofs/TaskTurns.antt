@@ -28,10 +28,10 @@ use Rattle.cluster.specs.Pasts.{event, Past, task_calls, history, newest_learnt}
 use Rattle.cluster.specs.Deliveries.{notes_made, note_told, same_note, task_refusal}
 use Rattle.cluster.specs.Replies.{by_actor, unless, from_machine, reply_to}
 use Rattle.cluster.specs.Clusters.{AreActors, LeadsTo, IsPlayed}
-use Rattle.cluster.specs.internals.Keys.{Key, key_eq, note_key, handle_key, kept_after}
+use Rattle.cluster.specs.internals.Turns.{known_after}
 use Rattle.cluster.specs.internals.Turns.{told_as, notes_kept}
 use Rattle.cluster.proofs.ActorLists.{of_job, actor_at, actors_set}
-use Rattle.cluster.proofs.Keying.{note_keys_same}
+use Rattle.cluster.proofs.Knowing.{same_note_turned}
 use Rattle.cluster.proofs.Playing.{IsSameBesideTasks, taken, untaken}
 use Rattle.cluster.proofs.Turning.{stays}
 use Rattle.cluster.proofs.TaskStates.{next_history}
@@ -52,10 +52,10 @@ inside_job job past task place cluster k number within = of_job (λ n. history n
 
 -- a note that is found was made
 kept_made : (told : SliceletReply) (note : ReleaseNote) (before : Bool) (notes : List ReleaseNote) → before ≡ list_any (same_note note) notes
-    → kept_after (let answer : Result SliceletReply (Trouble SliceletError) = Ok told in answer) (note_key note) before ≡ list_any (same_note note) (note_told (reply.Task told) notes)
+    → known_after (let answer : Result SliceletReply (Trouble SliceletError) = Ok told in answer) note before ≡ list_any (same_note note) (note_told (reply.Task told) notes)
 kept_made Started note before notes e = e
 kept_made Heard note before notes e = e
-kept_made (Released made) note before notes e = rw (e, note_keys_same made note) refl
+kept_made (Released made) note before notes e = rw (e, same_note_turned made note) refl
 
 own_next : (past : Past) (task n : ℕ) (c : SliceletCall) (told : SliceletReply) → n ≡ task
     → state_after n (c ∷ task_calls n past) ≡ history n (event (call.Task task c) (reply.Task told) ∷ past)
@@ -79,9 +79,9 @@ module _ (job : Job) (past : Past) (task place : ℕ) (c : SliceletCall) (old ne
 
   pub task_played : (answer : Result SliceletReply (Trouble SliceletError)) → Takes (slicelet_step before c) before answer after
       → reverse new.notes.items ≡ notes_kept answer (reverse old.notes.items)
-      → ((key : Key) → contains key_eq new.note_keys key ≡ kept_after answer key (contains key_eq old.note_keys key)) → IsPlayed job past (call.Task task c) (told_as error.Slicelet reply.Task answer) new
+      → ((note : ReleaseNote) → contains same_note new.known_notes note ≡ known_after answer note (contains same_note old.known_notes note)) → IsPlayed job past (call.Task task c) (told_as error.Slicelet reply.Task answer) new
   unfolding LeadsTo
-  task_played (Ok told) took notes keys =
+  task_played (Ok told) took notes known =
       let later : Past = event (call.Task task c) (reply.Task told) ∷ past in
       let done : slicelet_step (history task past) c ≡ Ok (after, told) = subst (λ (s : SliceletState). slicelet_step s c ≡ Ok (after, told)) at_place took in
       let now : after ≡ history (place + 1) later =
@@ -97,11 +97,11 @@ module _ (job : Job) (past : Past) (task place : ℕ) (c : SliceletCall) (old ne
         grants = others.grants ∙ k.grants;
         notes = notes ∙ ap (note_told (reply.Task told)) k.notes;
         handles = others.handles ∙ k.handles;
-        note_keys = λ note. keys (note_key note) ∙ kept_made told note (contains key_eq old.note_keys (note_key note)) (notes_made past) (k.note_keys note);
-        handle_keys = λ handle. others.handle_keys (handle_key handle) ∙ k.handle_keys handle;
+        known_notes = λ note. known note ∙ kept_made told note (contains same_note old.known_notes note) (notes_made past) (k.known_notes note);
+        known_handles = λ handle. others.known_handles handle ∙ k.known_handles handle;
         proposals = others.proposals ∙ k.proposals;
       }
-  task_played (Err trouble) took notes keys =
+  task_played (Err trouble) took notes known =
       untaken job past (call.Task task c) error.Slicelet reply.Task (slicelet_step (history task past) c) reply_is tt old new before after trouble k (record {
         job = others.job;
         table = others.table;
@@ -110,8 +110,8 @@ module _ (job : Job) (past : Past) (task place : ℕ) (c : SliceletCall) (old ne
         grants = others.grants;
         notes = notes;
         handles = others.handles;
-        note_keys = keys;
-        handle_keys = others.handle_keys;
+        known_notes = known;
+        known_handles = others.known_handles;
         proposals = others.proposals;
       }) (subst (λ (s : SliceletState). Takes (slicelet_step s c) before (Err trouble) after) at_place took) (λ none. refl) (λ r. refl)
 
@@ -120,7 +120,7 @@ pub task_turn : (job : Job) (past : Past) (task place : ℕ) (c : SliceletCall) 
     → (before after : SliceletState) → before ≡ get_or old.tasks.items place before → place < length old.tasks.items
     → new.tasks.items ≡ set old.tasks.items place after → IsSameBesideTasks old new → (answer : Result SliceletReply (Trouble SliceletError))
     → Takes (slicelet_step before c) before answer after → reverse new.notes.items ≡ notes_kept answer (reverse old.notes.items)
-    → ((key : Key) → contains key_eq new.note_keys key ≡ kept_after answer key (contains key_eq old.note_keys key)) → (result : Result ClusterReply AllocError) → result ≡ told_as error.Slicelet reply.Task answer → IsPlayed job past (call.Task task c) result new
-task_turn job past task place c old new number came k before after found within tasks others answer took notes keys result is =
+    → ((note : ReleaseNote) → contains same_note new.known_notes note ≡ known_after answer note (contains same_note old.known_notes note)) → (result : Result ClusterReply AllocError) → result ≡ told_as error.Slicelet reply.Task answer → IsPlayed job past (call.Task task c) result new
+task_turn job past task place c old new number came k before after found within tasks others answer took notes known result is =
     subst (λ (r : Result ClusterReply AllocError). IsPlayed job past (call.Task task c) r new) (sym is)
-    (task_played job past task place c old new number came k before after found within tasks others answer took notes keys)
+    (task_played job past task place c old new number came k before after found within tasks others answer took notes known)

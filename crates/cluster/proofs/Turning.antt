@@ -15,8 +15,7 @@ use Rattle.slicelet.specs.States.{SliceletState}
 use Rattle.slicelet.specs.Steps.{hear_step, slicelet_step}
 use Rattle.cluster.specs.declared.reply.ClusterReply.TheVariants as reply
 use Rattle.cluster.specs.Deliveries.{note_told}
-use Rattle.cluster.specs.internals.Keys.{Key, kept_after}
-use Rattle.cluster.specs.internals.Turns.{notes_kept}
+use Rattle.cluster.specs.internals.Turns.{notes_kept, known_after}
 
 -- a machine that does not take a call stays as it is
 pub stays : {M R E : Type 0} (step : Result (M × R) E) (old new : M) (trouble : Trouble E) → Takes step old (Err trouble) new → new ≡ old
@@ -47,9 +46,9 @@ pub heard_no_note : (s : SliceletState) (grant : Grant) (at : ℕ) (left : Slice
 heard_no_note s grant at left (Ok told) notes h = ap (λ (r : SliceletReply). note_told (reply.Task r) notes) (sym (heard_reply s left grant at told h))
 heard_no_note s grant at left (Err trouble) notes h = refl
 
-pub heard_no_key : (s : SliceletState) (grant : Grant) (at : ℕ) (left : SliceletState) (answer : Result SliceletReply (Trouble SliceletError))
-    → Takes (slicelet_step s (Hear grant at)) s answer left → (found : Key → Bool) → (key : Key) → found key ≡ kept_after answer key (found key)
-heard_no_key s grant at left (Ok told) h found key =
+pub heard_none_known : (s : SliceletState) (grant : Grant) (at : ℕ) (left : SliceletState) (answer : Result SliceletReply (Trouble SliceletError))
+    → Takes (slicelet_step s (Hear grant at)) s answer left → (known : ReleaseNote → Bool) → (note : ReleaseNote) → known note ≡ known_after answer note (known note)
+heard_none_known s grant at left (Ok told) h known note =
     let told_by : SliceletReply → Result SliceletReply (Trouble SliceletError) = λ r. Ok r in
-    ap (λ (r : SliceletReply). kept_after (told_by r) key (found key)) (sym (heard_reply s left grant at told h))
-heard_no_key s grant at left (Err trouble) h found key = refl
+    ap (λ (r : SliceletReply). known_after (told_by r) note (known note)) (sym (heard_reply s left grant at told h))
+heard_none_known s grant at left (Err trouble) h known note = refl

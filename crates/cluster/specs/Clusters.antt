@@ -10,10 +10,9 @@ use Rattle.cluster.specs.declared.call.ClusterCall.{ClusterCall}
 use Rattle.cluster.specs.declared.reply.ClusterReply.{ClusterReply}
 use Rattle.cluster.specs.declared.cluster.Cluster.{Cluster}
 use Rattle.cluster.specs.Pasts.{event, Past, table_calls, standing, grants, history, newest_learnt}
-use Rattle.cluster.specs.Deliveries.{notes_made, handles_made, is_made, is_given}
+use Rattle.cluster.specs.Deliveries.{notes_made, handles_made, same_note, same_handle, is_made, is_given}
 use Rattle.cluster.specs.Memory.{MayRunOut}
 use Rattle.cluster.specs.Runs.{IsRun}
-use Rattle.cluster.specs.internals.Keys.{key_eq, note_key, handle_key}
 use Rattle.cluster.specs.internals.Proposals.{proposals_in}
 
 -- each actor of a list, the first of number 1, is what the past made of it
@@ -31,8 +30,8 @@ pub record Keeps (job : Job) (past : Past) (cluster : Cluster) : Type 0 where
   pub grants : cluster.grants.items ≡ grants past
   pub notes : reverse cluster.notes.items ≡ notes_made past
   pub handles : reverse cluster.handles.items ≡ handles_made past
-  pub note_keys : (note : ReleaseNote) → contains key_eq cluster.note_keys (note_key note) ≡ is_made past note
-  pub handle_keys : (handle : KeyHandle) → contains key_eq cluster.handle_keys (handle_key handle) ≡ is_given past handle
+  pub known_notes : (note : ReleaseNote) → contains same_note cluster.known_notes note ≡ is_made past note
+  pub known_handles : (handle : KeyHandle) → contains same_handle cluster.known_handles handle ≡ is_given past handle
   pub proposals : cluster.proposals.items ≡ proposals_in (table_calls past)
 
 -- the calls of a past, with their replies, lead from a new cluster to this one

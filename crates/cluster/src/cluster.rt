@@ -22,7 +22,7 @@ ghost use Rattle.cluster.specs.Clusters.{AreActors, LeadsTo, IsPlayed};
 
 use crate::call::ClusterCall;
 use crate::job::Job;
-use crate::keys::Key;
+use crate::known::{KnownHandle, KnownNote};
 use crate::laws::{handle_law, interval_law, owner_law, rule_law};
 use crate::reply::ClusterReply;
 use assignment::{Assignment, TaskId};
@@ -45,8 +45,8 @@ pub struct Cluster {
     pub(crate) notes: Vec<ReleaseNote>,
     pub(crate) handles: Vec<KeyHandle>,
     // The same notes and handles, by what they say.
-    pub(crate) note_keys: IndexSet<Key>,
-    pub(crate) handle_keys: IndexSet<Key>,
+    pub(crate) known_notes: IndexSet<KnownNote>,
+    pub(crate) known_handles: IndexSet<KnownHandle>,
     pub(crate) proposals: Vec<Assignment>,
 }
 
@@ -87,8 +87,8 @@ impl Cluster {
             grants: Vec::new(alloc),
             notes: Vec::new(alloc),
             handles: Vec::new(alloc),
-            note_keys: IndexSet::new(alloc),
-            handle_keys: IndexSet::new(alloc),
+            known_notes: IndexSet::new(alloc),
+            known_handles: IndexSet::new(alloc),
             proposals: Vec::new(alloc),
         })
     }

@@ -71,8 +71,8 @@ impl Cluster {
             grants: copies(self.alloc, self.grants.as_slice())?,
             notes: Vec::from_slice(self.alloc, self.notes.as_slice())?,
             handles: Vec::from_slice(self.alloc, self.handles.as_slice())?,
-            note_keys: self.note_keys.clone()?,
-            handle_keys: self.handle_keys.clone()?,
+            known_notes: self.known_notes.clone()?,
+            known_handles: self.known_handles.clone()?,
             proposals: copies(self.alloc, self.proposals.as_slice())?,
         })
     }

@@ -9,7 +9,7 @@ ghost use Rattle.cluster.specs.internals.Proposals.{published_of};
 
 use crate::actors::with_number;
 use crate::cluster::Cluster;
-use crate::keys::{handle_key, note_key};
+use crate::known::{KnownHandle, KnownNote};
 use assignment::Assignment;
 use lease_table::{Grant, LeaseTable, Phase, ReleaseNote};
 use slicelet::KeyHandle;
@@ -46,14 +46,14 @@ impl Cluster {
     pub(crate) fn is_made(&self, note: &ReleaseNote) -> bool
         ensures { (job : Job) (past : Past) → LeadsTo job past self.now → result ≡ is_made past note.now }
     {
-        self.note_keys.contains(&note_key(note))
+        self.known_notes.contains(&KnownNote::new(note))
     }
 
     /// Whether a handle was given.
     pub(crate) fn is_given(&self, handle: &KeyHandle) -> bool
         ensures { (job : Job) (past : Past) → LeadsTo job past self.now → result ≡ is_given past handle.now }
     {
-        self.handle_keys.contains(&handle_key(handle))
+        self.known_handles.contains(&KnownHandle::new(handle))
     }
 
     /// Whether an assignment was published.

@@ -12,7 +12,7 @@ mod cluster_copy;
 mod deliveries;
 mod error;
 mod job;
-mod keys;
+mod known;
 mod laws;
 mod numbers;
 mod record;

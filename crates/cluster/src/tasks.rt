@@ -12,12 +12,15 @@ ghost use Rattle.cluster.specs.Deliveries.{task_refusal};
 ghost use Rattle.cluster.specs.Clusters.{LeadsTo, IsPlayed};
 ghost use Rattle.cluster.specs.internals.Turns.{told_as, notes_kept};
 ghost use Rattle.indexmap.specs.IndexSet.{contains};
-ghost use Rattle.cluster.specs.internals.Keys.{Key as NoteKey, key_eq, note_key, handle_key, kept_after};
+ghost use Rattle.cluster.specs.Deliveries.{same_note, same_handle};
+ghost use Rattle.cluster.specs.internals.Turns.{known_after};
+ghost use Rattle.lease_table.specs.declared.values.ReleaseNote.{ReleaseNote as Note};
+ghost use Rattle.slicelet.specs.declared.handle.KeyHandle.{KeyHandle as Handle};
 
 use crate::actors::{place_of, unless};
 use crate::cluster::Cluster;
 use crate::error::ClusterError;
-use crate::keys::{Key, handle_key, insert_reserved, note_key};
+use crate::known::{KnownHandle, KnownNote, insert_reserved};
 use crate::laws::covers_law;
 use crate::reply::ClusterReply;
 use indexmap::IndexSet;
@@ -45,12 +48,12 @@ pub(crate) fn told_by_task(
 fn take(
     slicelet: &mut Slicelet,
     notes: &mut Vec<ReleaseNote>,
-    keys: &mut IndexSet<Key>,
+    known: &mut IndexSet<KnownNote>,
     call: &SliceletCall,
 ) -> Result<SliceletReply, Trouble<SliceletError>>
     ensures step { Takes (slicelet_step slicelet.old call.now) slicelet.old result slicelet.new }
     ensures notes { reverse notes.new.items ≡ notes_kept result (reverse notes.old.items) }
-    ensures keys { (key : NoteKey) → contains key_eq keys.new key ≡ kept_after result key (contains key_eq keys.old key) }
+    ensures known { (note : Note) → contains same_note known.new note ≡ known_after result note (contains same_note known.old note) }
 {
     match call {
         SliceletCall::Start { life, at } => {
@@ -62,7 +65,7 @@ fn take(
             Ok(SliceletReply::Heard)
         }
         SliceletCall::Release { kind, at } => {
-            Ok(SliceletReply::Released(release(slicelet, notes, keys, *kind, *at)?))
+            Ok(SliceletReply::Released(release(slicelet, notes, known, *kind, *at)?))
         }
     }
 }
@@ -71,45 +74,45 @@ fn take(
 fn release(
     slicelet: &mut Slicelet,
     notes: &mut Vec<ReleaseNote>,
-    keys: &mut IndexSet<Key>,
+    known: &mut IndexSet<KnownNote>,
     kind: Kind,
     at: u64,
 ) -> Result<ReleaseNote, Trouble<SliceletError>>
     ensures step { Takes (release_step slicelet.old kind at) slicelet.old result slicelet.new }
     ensures ok { IfOk result (λ note. reverse notes.new.items ≡ note ∷ reverse notes.old.items) }
     ensures err { OnErr result (notes.new.items ≡ notes.old.items) }
-    ensures keys_ok { IfOk result (λ note. (key : NoteKey) → contains key_eq keys.new key ≡ (key_eq (note_key note) key || contains key_eq keys.old key)) }
-    ensures keys_err { OnErr result ((key : NoteKey) → contains key_eq keys.new key ≡ contains key_eq keys.old key) }
+    ensures known_ok { IfOk result (λ note. (other : Note) → contains same_note known.new other ≡ (same_note note other || contains same_note known.old other)) }
+    ensures known_err { OnErr result ((other : Note) → contains same_note known.new other ≡ contains same_note known.old other) }
 {
     if let Some(why) = slicelet.release_refusal(kind, at) {
         return Err(Trouble::Refused(why));
     }
     notes.reserve(1)?;
-    keys.reserve(1)?;
+    known.reserve(1)?;
     let note = slicelet.release(kind, at)?;
-    let key = note_key(&note);
+    let member = KnownNote::new(&note);
     let made = note;
     notes.push_reserved(made);
-    insert_reserved(keys, key);
+    insert_reserved(known, member);
     Ok(note)
 }
 
 // Keeps a handle.
 fn keep(
     handles: &mut Vec<KeyHandle>,
-    keys: &mut IndexSet<Key>,
+    known: &mut IndexSet<KnownHandle>,
     handle: KeyHandle,
 ) -> Result<(), AllocError>
     ensures ok { OnOk result (handles.new.items ≡ handles.old.items ++ handle ∷ []) }
     ensures err { OnErr result (handles.new.items ≡ handles.old.items) }
-    ensures keys_ok { OnOk result ((key : NoteKey) → contains key_eq keys.new key ≡ (key_eq (handle_key handle) key || contains key_eq keys.old key)) }
-    ensures keys_err { OnErr result ((key : NoteKey) → contains key_eq keys.new key ≡ contains key_eq keys.old key) }
+    ensures known_ok { OnOk result ((other : Handle) → contains same_handle known.new other ≡ (same_handle handle other || contains same_handle known.old other)) }
+    ensures known_err { OnErr result ((other : Handle) → contains same_handle known.new other ≡ contains same_handle known.old other) }
 {
     handles.reserve(1)?;
-    keys.reserve(1)?;
-    let key = handle_key(&handle);
+    known.reserve(1)?;
+    let member = KnownHandle::new(&handle);
     handles.push_reserved(handle);
-    insert_reserved(keys, key);
+    insert_reserved(known, member);
     Ok(())
 }
 
@@ -128,7 +131,7 @@ impl Cluster {
         told_by_task(take(
             &mut self.tasks[place],
             &mut self.notes,
-            &mut self.note_keys,
+            &mut self.known_notes,
             call,
         ))
     }
@@ -178,7 +181,7 @@ impl Cluster {
             Err(why) => return Ok(ClusterReply::Verdict(Verdict::Deny(why))),
         };
         let made = handle;
-        match keep(&mut self.handles, &mut self.handle_keys, made) {
+        match keep(&mut self.handles, &mut self.known_handles, made) {
             Ok(()) => Ok(ClusterReply::Holding(handle)),
             Err(error) => Err(error),
         }

@@ -1,5 +1,5 @@
 -- What one call of a machine makes of a cluster.
-use Rattle.std.specs.Prelude.{◌≡◌, Bool, true, false, List, Result, Ok, Err, IfErr, alloc_error}
+use Rattle.std.specs.Prelude.{◌≡◌, Bool, ◌||◌, true, false, List, Result, Ok, Err, IfErr, alloc_error}
 use Rattle.std.specs.declared.alloc.AllocError.{AllocError}
 use Rattle.machines.specs.declared.machine.Trouble.{Trouble}
 use Rattle.machines.specs.declared.machine.Trouble.TheVariants.{Refused, NoMemory}
@@ -13,11 +13,12 @@ use Rattle.lease_table.specs.Calls.{grants_after}
 use Rattle.lease_table.specs.Memory.{takes_memory}
 use Rattle.lease_table.specs.declared.error.TableError.{TableError}
 use Rattle.slicelet.specs.declared.call.SliceletReply.{SliceletReply}
+use Rattle.slicelet.specs.declared.call.SliceletReply.TheVariants.{Released}
 use Rattle.cluster.specs.declared.error.ClusterError.{ClusterError}
 use Rattle.cluster.specs.declared.reply.ClusterReply.{ClusterReply}
 use Rattle.cluster.specs.declared.reply.ClusterReply.TheVariants as reply
 use Rattle.cluster.specs.declared.cluster.Cluster.{Cluster}
-use Rattle.cluster.specs.Deliveries.{note_told}
+use Rattle.cluster.specs.Deliveries.{note_told, same_note}
 use Rattle.cluster.specs.internals.Proposals.{proposals_with}
 
 -- what a machine answers, as the reply of the cluster
@@ -39,6 +40,11 @@ abbrev pub notes_kept : {E : Type 0} → Result SliceletReply E → List Release
 notes_kept (Ok told) before = note_told (reply.Task told) before
 notes_kept (Err why) before = before
 
+-- whether a note is known after an answer, where it was known before or not
+abbrev pub known_after : {E : Type 0} → Result SliceletReply E → ReleaseNote → Bool → Bool
+known_after (Ok (Released made)) note before = same_note made note || before
+known_after _ note before = before
+
 -- a call of the table is out of memory only where it takes some
 abbrev pub OnlyTakes : TableCall → Result TableReply (Trouble TableError) → Type 0
 OnlyTakes c answer = IfErr answer (λ trouble. trouble ≡ NoMemory → takes_memory c ≡ true)
@@ -47,7 +53,7 @@ OnlyTakes c answer = IfErr answer (λ trouble. trouble ≡ NoMemory → takes_me
 abbrev pub IsSameBesideTable : Cluster → Cluster → Type 0
 IsSameBesideTable old new =
     (new.job ≡ old.job) × (new.tasks.items ≡ old.tasks.items) × (new.clerks.items ≡ old.clerks.items) × (new.notes.items ≡ old.notes.items) × (new.handles.items ≡ old.handles.items)
-    × (new.note_keys ≡ old.note_keys) × (new.handle_keys ≡ old.handle_keys)
+    × (new.known_notes ≡ old.known_notes) × (new.known_handles ≡ old.known_handles)
 
 -- a call by which the table makes nothing that is kept
 abbrev pub makes_nothing : TableCall → Bool

@@ -47,8 +47,8 @@ returns-in-Err-keep c = λ job past k.
       grants = refl;
       notes = refl;
       handles = ap (λ (xs : List KeyHandle). reverse xs) c.in-Err-keep.ensures.err;
-      note_keys = λ key. refl;
-      handle_keys = c.in-Err-keep.ensures.keys_err;
+      known_notes = λ key. refl;
+      known_handles = c.in-Err-keep.ensures.known_err;
       proposals = refl;
     }) is
 
@@ -62,4 +62,4 @@ returns-in-Ok-keep c = λ job past k.
     let is = hold_answer job past c.args.task c.args.key c.args.at c.index.result.now own agree
     (c.agreement_law.ensures.rule (covers_key c.args.key) (covers past c.args.key) (task_calls c.args.task past) c.args.at) (Ok c.in-Ok.handle) c.in-Ok.ensures.state in
     held_leads job past c.args.task c.args.key c.args.at c.in-Ok.handle c.args.self.now _ k c.in-Ok-keep.ensures.ok
-    (record { job = refl; table = refl; tasks = refl; clerks = refl; grants = refl; notes = refl; note_keys = λ key. refl; proposals = refl }) c.in-Ok-keep.ensures.keys_ok (sym (is true))
+    (record { job = refl; table = refl; tasks = refl; clerks = refl; grants = refl; notes = refl; known_notes = λ key. refl; proposals = refl }) c.in-Ok-keep.ensures.known_ok (sym (is true))

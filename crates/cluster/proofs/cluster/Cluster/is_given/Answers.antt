@@ -1,9 +1,9 @@
 use Rattle.std.proofs.Common.{◌∙◌, ap}
 use Rattle.indexmap.specs.IndexSet.{contains}
+use Rattle.cluster.specs.Deliveries.{same_handle}
 use Rattle.cluster.specs.Clusters.{LeadsTo}
-use Rattle.cluster.specs.internals.Keys.{key_eq}
 use Rattle.cluster.proofs.cluster.Cluster.is_given.Goals as goal
 
 pub returns : goal.returns
 unfolding LeadsTo
-returns c = λ job past k. c.contains.ensures ∙ ap (contains key_eq c.args.self.now.handle_keys) c.handle_key.ensures ∙ k.handle_keys c.args.handle.now
+returns c = λ job past k. c.contains.ensures ∙ ap (contains same_handle c.args.self.now.known_handles) c.new.ensures ∙ k.known_handles c.args.handle.now

@@ -1,9 +1,9 @@
 use Rattle.std.proofs.Common.{◌∙◌, ap}
 use Rattle.indexmap.specs.IndexSet.{contains}
+use Rattle.cluster.specs.Deliveries.{same_note}
 use Rattle.cluster.specs.Clusters.{LeadsTo}
-use Rattle.cluster.specs.internals.Keys.{key_eq}
 use Rattle.cluster.proofs.cluster.Cluster.is_made.Goals as goal
 
 pub returns : goal.returns
 unfolding LeadsTo
-returns c = λ job past k. c.contains.ensures ∙ ap (contains key_eq c.args.self.now.note_keys) c.note_key.ensures ∙ k.note_keys c.args.note.now
+returns c = λ job past k. c.contains.ensures ∙ ap (contains same_note c.args.self.now.known_notes) c.new.ensures ∙ k.known_notes c.args.note.now

@@ -47,4 +47,4 @@ returns c = λ job past k.
     (clerk_turn job past c.args.clerk c.in-Some.place (Learn c.in-Some-published.assignment.now) c.args.self.now _ c.in-Some.ensures.0
     (published_comes job past c.args.generation c.in-Some-published.assignment.now run c.assignments_law.ensures.published c.generations_law.ensures.named (sym found)) k c.index_mut.result.now c.learn.new.clerk
     c.index_mut.ensures.value inside c.learn.result c.learn.ensures (learn_takes c.in-Some-published.assignment.now c.learn.result) refl
-    (record { job = refl; table = refl; tasks = refl; grants = refl; notes = refl; handles = refl; note_keys = λ key. refl; handle_keys = λ key. refl; proposals = refl }) _ c.told_by_clerk.ensures)
+    (record { job = refl; table = refl; tasks = refl; grants = refl; notes = refl; handles = refl; known_notes = λ key. refl; known_handles = λ key. refl; proposals = refl }) _ c.told_by_clerk.ensures)

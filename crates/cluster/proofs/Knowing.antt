@@ -1,0 +1,37 @@
+-- Notes and handles are found by what they say.
+use Rattle.std.proofs.Common.{◌≡◌, ℕ, Bool, List, [], ◌∷◌, refl, ◌∙◌, ap}
+use Rattle.std.specs.Prelude.{◌&&◌, nat_eq}
+use Rattle.std.specs.List.{AllZip}
+use Rattle.std.specs.Cmp.{nat_eq_equiv}
+use Rattle.policy_rules.specs.declared.lease.Kind.{Kind}
+use Rattle.policy_rules.specs.declared.lease.Kind.TheVariants.{Guard, Bridge}
+use Rattle.policy_rules.specs.Leases.{same_kind}
+use Rattle.lease_table.specs.declared.values.ReleaseNote.{ReleaseNote}
+use Rattle.slicelet.specs.declared.handle.KeyHandle.{KeyHandle}
+use Rattle.cluster.specs.Deliveries.{same_note, same_handle}
+
+four : (a b c d p q r s : Bool) → a ≡ p → b ≡ q → c ≡ r → d ≡ s → (a && (b && (c && d))) ≡ (p && (q && (r && s)))
+four a b c d p q r s e f g h = rw (e, f, g, h) refl
+
+swapped : (a b : ℕ) → nat_eq a b ≡ nat_eq b a
+swapped a b = nat_eq_equiv.symm a b
+
+kinds : (a b : Kind) → same_kind a b ≡ same_kind b a
+kinds Guard Guard = refl
+kinds Guard Bridge = refl
+kinds Bridge Guard = refl
+kinds Bridge Bridge = refl
+
+pub same_note_turned : (a b : ReleaseNote) → same_note a b ≡ same_note b a
+same_note_turned a b =
+    four _ _ _ _ _ _ _ _ (swapped a.task b.task) (swapped a.life b.life) (kinds a.kind b.kind) (swapped a.number b.number)
+
+pub same_handle_turned : (a b : KeyHandle) → same_handle a b ≡ same_handle b a
+same_handle_turned a b = four _ _ _ _ _ _ _ _ (swapped a.task b.task) (swapped a.life b.life) (swapped a.key b.key) (swapped a.position b.position)
+
+-- clones that are the same, one by one
+pub same_clones : {T : Type 0} (xs ys : List T) → AllZip (λ x y. y ≡ x) xs ys → ys ≡ xs
+same_clones [] [] e = refl
+same_clones [] (y ∷ ys) e = absurd e
+same_clones (x ∷ xs) [] e = absurd e
+same_clones (x ∷ xs) (y ∷ ys) e = ap (λ k. k ∷ ys) e.0 ∙ ap (λ ks. x ∷ ks) (same_clones xs ys e.1)
