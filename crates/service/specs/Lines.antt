@@ -173,7 +173,7 @@ unfoldable pub slices_text : List Slice → List ℕ
 slices_text [] = []
 slices_text (slice ∷ slices) = slice_text slice ++ flat_map next_slice slices
 
--- whom a slice leaves and where it goes to, where it only gets an owner, or where it only loses one; no plan has the last
+-- how a move changes the owners of a slice: from one task to another, one more, or one fewer; no move changes none
 abbrev pub owner_change_text : Option ℕ → Option ℕ → List ℕ
 owner_change_text (Some giver) (Some taker) = decimal giver ++ codes ">" ++ decimal taker
 owner_change_text None (Some taker) = codes "+" ++ decimal taker

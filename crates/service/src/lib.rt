@@ -21,6 +21,12 @@ mod task_steps;
 mod words;
 
 pub use fault::{ProgramError, ScriptError};
+pub use job::{job_member, job_of};
 pub use laws::printed_law;
+pub use line::Line;
+pub use output::{is_timely, output_of, replies_of};
 pub use program::slicer_run;
+pub use question::LeaseForm;
 pub use run::run_script;
+pub use script::{Script, head_of, script_of};
+pub use step::step_of;

@@ -13,8 +13,8 @@ use lease_table::policy_law;
 use std::alloc::{AllocError, Global};
 use world::{Job, Reply, Step, World, timely};
 
-// The replies to the steps, which are the first of their job.
-fn replies_of(alloc: Global, job: Job, steps: &[Step]) -> Result<Vec<Reply>, AllocError>
+/// The replies to the steps, which are the first of their job. Out of memory, there are none.
+pub fn replies_of(alloc: Global, job: Job, steps: &[Step]) -> Result<Vec<Reply>, AllocError>
     ensures many { IfOk result (λ replies. length replies.items ≡ length steps.now) }
     ensures run { IfOk result (λ replies. IsRun job (past_after [] steps.now replies.items)) }
 {
@@ -23,8 +23,8 @@ fn replies_of(alloc: Global, job: Job, steps: &[Step]) -> Result<Vec<Reply>, All
     Ok(replies)
 }
 
-// Whether the steps of a script are timely, by the skew of its job.
-fn is_timely(script: &Script) -> bool
+/// Whether the steps of a script are timely, by the skew of its job.
+pub fn is_timely(script: &Script) -> bool
     ensures { MatchBool result (IsTimely script.now.job.policy.skew (reverse script.now.steps))
         (IsTimely script.now.job.policy.skew (reverse script.now.steps) → ⊥) }
 {

@@ -15,7 +15,7 @@ use wire::kind_at;
 use world::{Question, WrittenLease};
 
 /// A lease, as a `judge` writes it.
-struct LeaseForm;
+pub struct LeaseForm;
 
 impl Form for LeaseForm {
     type Output = WrittenLease;

@@ -23,9 +23,10 @@ pub struct Script {
     pub steps: Listed<Step>,
 }
 
-// The job, and the elements after the job line.
+/// The job, and the elements after the job line, or why there are none: in this order `NotArray`, `NoJob`,
+/// `BadJob` and `TooManySteps`.
 #[tactic(auto, unfolding(crate::specs::Scripts::head_of))]
-fn head_of(value: &Value) -> Result<(Job, &[Value]), ScriptError>
+pub fn head_of(value: &Value) -> Result<(Job, &[Value]), ScriptError>
     ensures { IsReadOrRefused (λ p. (p.0, map view p.1.now)) result (head_of (view value.now)) }
 {
     let Ok(elements) = array_of(value) else {
