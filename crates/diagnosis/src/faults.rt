@@ -1,0 +1,113 @@
+//! The faults of a script.
+
+ghost use Rattle.std.specs.Prelude.{◌≡◌, Err, IfOk, IsOk, MatchOption, map};
+ghost use Rattle.serde_json.specs.View.{view};
+ghost use Rattle.program_io.specs.Members.{wrong};
+ghost use Rattle.service.specs.Steps.{step_of};
+ghost use Rattle.diagnosis.specs.Faults.{bad_steps_in, refusals_of};
+
+use crate::found::Found;
+use crate::job_faults::{job_line_mend, job_mend};
+use crate::step_faults::step_mend;
+use program_io::Unread;
+use serde_json::Value;
+use service::{ScriptError, head_of, job_member};
+use std::alloc::{AllocError, Global};
+use std::fmt;
+use world::Job;
+
+/// How many faults of one script are told at the most.
+pub const MOST_FAULTS: usize = 20;
+
+/// A fault of a script: what it is refused for, and what to mend.
+#[derive(Debug, Drop)]
+pub struct ScriptFault {
+    pub refusal: ScriptError,
+    pub mend: String,
+}
+
+impl fmt::Display for ScriptFault {
+    fn fmt<W: fmt::Write>(&self, f: &mut fmt::Formatter<W>) -> fmt::Result {
+        match self.refusal {
+            ScriptError::NotJson => f.write_str("not JSON")?,
+            ScriptError::NotArray => f.write_str("not an array")?,
+            ScriptError::NoJob => f.write_str("no job")?,
+            ScriptError::BadJob => f.write_str("bad job")?,
+            ScriptError::TooManySteps => f.write_str("too many steps")?,
+            ScriptError::BadStep(place) => write!(f, "bad step {place}")?,
+        }
+        write!(f, ": {}", self.mend)
+    }
+}
+
+// What to mend in an element, if it is no step of the job.
+fn mend_of(alloc: Global, job: Job, element: &Value) -> Result<Option<String>, AllocError>
+    ensures { IfOk result (λ mend. MatchOption mend (IsOk (step_of job (view element.now)))
+        (λ _. step_of job (view element.now) ≡ Err wrong)) }
+{
+    match service::step_of(alloc, job, element) {
+        Ok(_step) => Ok(None),
+        Err(Unread::WrongForm) => Ok(Some(step_mend(alloc, job, element)?)),
+        Err(Unread::Memory) => Err(AllocError),
+    }
+}
+
+// The first elements after the job line that are no steps, each with what to mend.
+fn bad_steps_of(alloc: Global, job: Job, elements: &[Value]) -> Result<Vec<ScriptFault>, AllocError>
+    ensures { IfOk result (λ faults. map (λ f. f.refusal) faults.items ≡ bad_steps_in job (map view elements.now)) }
+{
+    let mut faults = Vec::new(alloc);
+    for (i, element) in elements.iter().enumerate() {
+        if faults.len() >= MOST_FAULTS {
+            return Ok(faults);
+        }
+        let Some(mend) = mend_of(alloc, job, element)? else {
+            continue;
+        };
+        faults.push(ScriptFault {
+            refusal: ScriptError::BadStep(i + 1),
+            mend,
+        })?;
+    }
+    Ok(faults)
+}
+
+// What to mend in a value whose job line or whose number of steps is refused.
+fn head_mend(alloc: Global, value: &Value) -> Result<String, AllocError> {
+    let Some(elements) = value.as_array() else {
+        return format!(in alloc;
+            "{}; a script is an array of a job line and steps",
+            Found(value)
+        );
+    };
+    let [line, steps @ ..] = elements.as_slice() else {
+        return String::from_str(
+            alloc,
+            "the array is empty; its first element is the job line",
+        );
+    };
+    match job_member(line) {
+        Err(_) => job_line_mend(alloc, line),
+        Ok(job) => match service::job_of(job) {
+            Err(_) => job_mend(alloc, job),
+            Ok(_job) => format!(in alloc; "{}; a script has at most 4096", steps.len()),
+        },
+    }
+}
+
+/// The faults of the script that a value says, the lowest element first: one where the job line or the number
+/// of steps is refused, else the first [`MOST_FAULTS`] elements that are no steps. A script has none.
+#[tactic(auto, unfolding(crate::specs::Faults::refusals_of))]
+pub fn faults_of(alloc: Global, value: &Value) -> Result<Vec<ScriptFault>, AllocError>
+    ensures { IfOk result (λ faults. map (λ f. f.refusal) faults.items ≡ refusals_of (view value.now)) }
+{
+    match head_of(value) {
+        Ok((job, elements)) => bad_steps_of(alloc, job, elements),
+        Err(refusal) => {
+            let mend = head_mend(alloc, value)?;
+            let mut faults = Vec::new(alloc);
+            faults.push(ScriptFault { refusal, mend })?;
+            Ok(faults)
+        }
+    }
+}

@@ -1,0 +1,96 @@
+//! What to mend in a job line.
+
+use crate::found::Found;
+use crate::step_faults::{missing_member, unknown_member};
+use crate::steps::Members;
+use crate::wanted::{Wanted, WrongMember};
+use serde_json::Value;
+use std::alloc::{AllocError, Global};
+
+/// The one member of a job line.
+const LINE: Members = Members {
+    kind: "job line",
+    names: &["job"],
+};
+
+/// The members of a job.
+const NAMES: &[&str] = &[
+    "redundancy",
+    "skew",
+    "guard",
+    "bridge",
+    "job",
+    "numbers",
+    "assigners",
+    "tasks",
+    "clerks",
+];
+
+/// What to mend in a value that is no job line: an object with the one member `job`.
+pub fn job_line_mend(alloc: Global, line: &Value) -> Result<String, AllocError> {
+    let wanted = "the job line is an object with the one member \"job\"";
+    let Some(object) = line.as_object() else {
+        return format!(in alloc; "{}; {wanted}", Found(line));
+    };
+    match unknown_member(object, LINE, "job") {
+        Some(unknown) => format!(in alloc; "unknown member {unknown:?}; {wanted}"),
+        None => format!(in alloc; "\"job\" is missing; {wanted}"),
+    }
+}
+
+// The number of this member, where it is one.
+fn number_of(job: &Value, member: &str) -> Option<u64> {
+    job.get(member).and_then(Value::as_u64)
+}
+
+// What is said of the first of the job's members that is not what is wanted of it.
+fn wrong_member(alloc: Global, job: &Value) -> Result<Option<String>, AllocError> {
+    for name in NAMES {
+        let Some(value) = job.get(*name) else {
+            continue;
+        };
+        let wanted = Wanted::of_job(name);
+        if !wanted.is_met(alloc, value)? {
+            let wrong = WrongMember {
+                name: *name,
+                value,
+                wanted,
+            };
+            return Ok(Some(format!(in alloc; "{wrong}")?));
+        }
+    }
+    Ok(None)
+}
+
+// What to mend where each member is there and no other: the first that is not as it has to be.
+fn values_mend(alloc: Global, job: &Value) -> Result<String, AllocError> {
+    if let Some(wrong) = wrong_member(alloc, job)? {
+        return Ok(wrong);
+    }
+    let skew = number_of(job, "skew").unwrap_or(0);
+    for name in ["guard", "bridge"] {
+        let term = number_of(job, name).unwrap_or(0);
+        if term <= skew {
+            return format!(in alloc; "\"skew\" {skew} is not below \"{name}\" {term}");
+        }
+    }
+    String::from_str(alloc, "a member is not within its limits")
+}
+
+/// What to mend in a value that is no job.
+pub fn job_mend(alloc: Global, job: &Value) -> Result<String, AllocError> {
+    let Some(object) = job.as_object() else {
+        return format!(in alloc; "{}; a job is an object", Found(job));
+    };
+    let members = Members {
+        kind: "job",
+        names: NAMES,
+    };
+    if let Some(unknown) = unknown_member(object, members, "job") {
+        return format!(in alloc; "unknown member {unknown:?}; {members}");
+    }
+    match missing_member(job, members) {
+        Some(missing) => format!(in alloc; "\"{missing}\" is missing; {members}"),
+        None => values_mend(alloc, job),
+    }
+}

@@ -1,0 +1,15 @@
+//! What holds of the faults of every script.
+
+ghost use Rattle.std.specs.Prelude.{◌≡◌, List, [], ◌∷◌, Ok, Err};
+ghost use Rattle.serde_json.specs.Data.{Data};
+ghost use Rattle.service.specs.declared.fault.ScriptError.{ScriptError};
+ghost use Rattle.service.specs.declared.script.Script.{Script};
+ghost use Rattle.service.specs.Scripts.{script_of};
+ghost use Rattle.diagnosis.specs.Faults.{refusals_of};
+
+/// The first fault that is told of a value is the one that its script is refused for; a script has none.
+pub fn first_fault_law()
+    ensures refused { (value : Data) (why : ScriptError) → script_of value ≡ Err why
+        → (others : List ScriptError) × (refusals_of value ≡ why ∷ others) }
+    ensures script { (value : Data) (script : Script) → script_of value ≡ Ok script → refusals_of value ≡ [] }
+{}

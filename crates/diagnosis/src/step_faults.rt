@@ -1,0 +1,96 @@
+//! What to mend in an element that is no step.
+
+use crate::found::Found;
+use crate::steps::{Members, members_of};
+use crate::wanted::{Wanted, WrongMember};
+use serde_json::{Map, Value};
+use std::alloc::{AllocError, Global};
+use world::Job;
+
+/// The first member of an object that is neither of these nor of the other name.
+pub fn unknown_member<'v>(
+    object: &'v Map<String, Value>,
+    members: Members,
+    other: &str,
+) -> Option<&'v str> {
+    for name in object.keys() {
+        let name = name.as_str();
+        if name != other && !members.has(name) {
+            return Some(name);
+        }
+    }
+    None
+}
+
+/// The first of these members that an object does not have.
+pub fn missing_member(value: &Value, members: Members) -> Option<&'static str> {
+    for name in members.names {
+        if value.get(*name).is_none() {
+            return Some(*name);
+        }
+    }
+    None
+}
+
+// What is said of the first of these members that is not what is wanted of it.
+fn wrong_member(
+    alloc: Global,
+    job: Job,
+    value: &Value,
+    members: Members,
+) -> Result<Option<String>, AllocError> {
+    for name in members.names {
+        let Some(member) = value.get(*name) else {
+            continue;
+        };
+        let wanted = Wanted::of(job, name);
+        if !wanted.is_met(alloc, member)? {
+            let wrong = WrongMember {
+                name: *name,
+                value: member,
+                wanted,
+            };
+            return Ok(Some(format!(in alloc; "{wrong}")?));
+        }
+    }
+    Ok(None)
+}
+
+// What to mend in the members of a step.
+fn members_mend(
+    alloc: Global,
+    job: Job,
+    members: Members,
+    step: &Value,
+) -> Result<String, AllocError> {
+    let name = members.kind;
+    if let Some(object) = step.as_object() {
+        if let Some(unknown) = unknown_member(object, members, "do") {
+            return format!(in alloc; "{name}: unknown member {unknown:?}; {members}");
+        }
+    }
+    if let Some(missing) = missing_member(step, members) {
+        return format!(in alloc; "{name}: \"{missing}\" is missing; {members}");
+    }
+    match wrong_member(alloc, job, step, members)? {
+        Some(wrong) => format!(in alloc; "{name}: {wrong}"),
+        None => format!(in alloc; "{name}: {members}"),
+    }
+}
+
+/// What to mend in a value that is no step of this job.
+pub fn step_mend(alloc: Global, job: Job, value: &Value) -> Result<String, AllocError> {
+    if !value.is_object() {
+        return format!(in alloc; "{}; a step is an object", Found(value));
+    }
+    let Some(word) = value.get("do") else {
+        return String::from_str(alloc, "\"do\" is missing; it names the step");
+    };
+    let Some(name) = word.as_str() else {
+        return format!(in alloc; "\"do\" is {}; the name of a step is wanted", Found(word));
+    };
+    match members_of(name) {
+        Some(members) => members_mend(alloc, job, members, value),
+        None => format!(in alloc; "unknown step {name:?}"),
+    }
+}
