@@ -1,0 +1,127 @@
+-- What `hourstable run` writes for what it reads.
+use Rattle.std.specs.Prelude.{◌≡◌, ◌⊎◌, ℕ, suc, List, [], ◌∷◌, ◌++◌, map, take, Bool, true, false, codes, decimal, Option, ⊤}
+use Rattle.std.specs.Io.KnownBytes.{Appends, Keeps}
+use Rattle.serde_json.specs.Data.{Data}
+use Rattle.world.specs.declared.step.Step.{Step}
+use Rattle.world.specs.declared.step.Step.TheVariants as step
+use Rattle.world.specs.declared.reply.Reply.{Reply}
+use Rattle.program_io.specs.Json.{IsJson, IsNoJson}
+use Rattle.program_io.specs.Streams.{ReadsAll}
+use Rattle.service.specs.declared.fault.ScriptError.{ScriptError}
+use Rattle.service.specs.declared.fault.ScriptError.TheVariants.{NotJson}
+use Rattle.service.specs.declared.script.Script.{Script}
+use Rattle.service.specs.Lines.{line_of, timely_line}
+use Rattle.service.specs.Output.{IsOutput}
+use Rattle.service.specs.Service.{SaysScript, IsRefusedFor}
+use Rattle.command.specs.declared.error.RunError.{RunError}
+use Rattle.command.specs.declared.error.RunError.TheVariants as run
+use Rattle.diagnosis.specs.Faults.{refusals_of}
+
+-- the word by which a script names a step
+abbrev pub step_word : Step → List ℕ
+step_word (step.Hash key) = codes "hash"
+step_word (step.Assign generation slices) = codes "assign"
+step_word (step.Owners key) = codes "owners"
+step_word (step.Judge question) = codes "judge"
+step_word (step.Take assigner at) = codes "take"
+step_word (step.Renew assigner at) = codes "renew"
+step_word (step.Propose assigner generation slices at) = codes "propose"
+step_word (step.Commit assigner at) = codes "commit"
+step_word step.Phase = codes "phase"
+step_word step.Rows = codes "rows"
+step_word (step.Grant task life at) = codes "grant"
+step_word (step.Free note at) = codes "free"
+step_word step.Lose = codes "lose"
+step_word (step.Start task life at) = codes "start"
+step_word (step.Hear task number at) = codes "hear"
+step_word (step.Release task kind at) = codes "release"
+step_word (step.Serve task key at) = codes "serve"
+step_word (step.Hold task key at) = codes "hold"
+step_word (step.Check task handle at) = codes "check"
+step_word (step.Learn clerk generation) = codes "learn"
+step_word (step.Look clerk key) = codes "look"
+step_word (step.Forget clerk) = codes "forget"
+step_word (step.Load task key weight) = codes "load"
+step_word step.Gather = codes "gather"
+step_word (step.Plan loads tasks bounds) = codes "plan"
+step_word (step.Next assigner at wanted) = codes "next"
+step_word (step.Restart assigner) = codes "restart"
+
+-- the line of a reply, after the number of its element and the name of its step
+abbrev pub numbered_line : ℕ → Step → Reply → List ℕ
+numbered_line place step reply = decimal place ++ codes " " ++ step_word step ++ codes ": " ++ line_of reply
+
+-- the lines of replies; the first step is the element at this place
+abbrev pub numbered_lines : ℕ → List Step → List Reply → List ℕ
+numbered_lines place (s ∷ steps) (r ∷ replies) = numbered_line place s r ++ numbered_lines (suc place) steps replies
+numbered_lines place _ _ = []
+
+-- the numbered lines and the last line
+abbrev pub numbered_text : List Step → List Reply → Bool → List ℕ
+numbered_text steps replies timely = numbered_lines 1 steps replies ++ timely_line timely
+
+-- the text of a script with numbers: its lines are those of the text without, each after the number and the name of its step
+pub record IsShownNumbered (script : Script) (text : List ℕ) : Type 0 where
+  pub plain : List ℕ
+  pub output : IsOutput script plain
+  pub lines : text ≡ numbered_text script.steps output.replies output.timely
+
+-- the text of a script, with numbers or without
+abbrev pub IsShown : Bool → Script → List ℕ → Type 0
+IsShown true script text = IsShownNumbered script text
+IsShown false script text = IsOutput script text
+
+-- a value was read, which is no script, and these are its faults
+pub record HasFaults (bytes : List ℕ) (refusals : List ScriptError) : Type 0 where
+  pub value : Data
+  pub json : IsJson bytes value
+  pub are : refusals ≡ refusals_of value
+
+-- the bytes are refused for these: the first is the one that the script is refused for, and the others are those of the elements after it
+pub record AreFaults (bytes : List ℕ) (refusals : List ScriptError) : Type 0 where
+  pub first : ScriptError
+  pub others : List ScriptError
+  pub are : refusals ≡ first ∷ others
+  pub refused : IsRefusedFor bytes first
+  pub all : ((refusals ≡ NotJson ∷ []) × IsNoJson bytes) ⊎ HasFaults bytes refusals
+
+-- no script was read, for its faults or out of memory
+abbrev pub IsUnread : List ℕ → RunError → Type 0
+IsUnread bytes (run.Refused faults) = AreFaults bytes (map (λ f. f.refusal) faults.items)
+IsUnread bytes run.Read = ⊥
+IsUnread bytes run.Write = ⊥
+IsUnread bytes run.Memory = ⊤
+
+-- all was read, it is a script, and its text was written
+pub record IsAnswered (numbers : Bool) (before after held holds : Option (List ℕ)) : Type 0 where
+  pub bytes : List ℕ
+  pub reads : ReadsAll before after bytes
+  pub script : Script
+  pub says : SaysScript bytes script
+  pub text : List ℕ
+  pub is : IsShown numbers script text
+  pub wrote : Appends held holds text
+
+-- all was read, it is a script, and its text was written up to a place
+pub record IsCut (numbers : Bool) (before after held holds : Option (List ℕ)) : Type 0 where
+  pub bytes : List ℕ
+  pub reads : ReadsAll before after bytes
+  pub script : Script
+  pub says : SaysScript bytes script
+  pub text : List ℕ
+  pub is : IsShown numbers script text
+  pub len : ℕ
+  pub wrote : Appends held holds (take len text)
+
+-- all was read, and it is refused for these faults
+pub record IsRefused (before after : Option (List ℕ)) (refusals : List ScriptError) : Type 0 where
+  pub bytes : List ℕ
+  pub reads : ReadsAll before after bytes
+  pub faults : AreFaults bytes refusals
+
+-- what was written where the script was not answered
+abbrev pub IsFailed : Bool → Option (List ℕ) → Option (List ℕ) → Option (List ℕ) → Option (List ℕ) → RunError → Type 0
+IsFailed numbers before after held holds (run.Refused faults) = IsRefused before after (map (λ f. f.refusal) faults.items) × Keeps held holds
+IsFailed numbers before after held holds run.Read = Keeps held holds
+IsFailed numbers before after held holds run.Write = IsCut numbers before after held holds
+IsFailed numbers before after held holds run.Memory = Keeps held holds

@@ -1,0 +1,13 @@
+//! The command `hourstable`: its arguments, and what it reads and writes.
+#![tactic(auto)]
+
+mod arguments;
+mod error;
+mod program;
+mod script_run;
+mod step_word;
+
+pub use arguments::{RunArguments, Source, parse_words};
+pub use error::RunError;
+pub use program::{do_words, hourstable};
+pub use script_run::run_lines;

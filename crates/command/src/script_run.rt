@@ -1,0 +1,120 @@
+//! `hourstable run`: a script's bytes in, the lines of its replies out, numbered or not.
+
+ghost use Rattle.std.specs.Prelude.{◌≡◌, IfErr, IfOk, OnOk, string_bytes, true};
+ghost use Rattle.std.specs.List.{list_all};
+ghost use Rattle.service.specs.Output.{is_answer};
+ghost use Rattle.service.specs.Service.{SaysScript};
+ghost use Rattle.command.specs.Runs.{IsUnread, IsShown, IsShownNumbered, IsAnswered, IsFailed, numbered_lines, numbered_text};
+
+use crate::error::RunError;
+use crate::step_word::step_word;
+use diagnosis::{faults_of, first_fault_law, json_faults};
+use lease_table::policy_law;
+use program_io::{Fault, read_all, write_all};
+use serde_json::{Category, Value};
+use service::{Line, Script, is_timely, output_of, replies_of, script_of};
+use std::alloc::{AllocError, Global};
+use std::io::{Read, Write};
+use world::{Reply, Step};
+
+// The script that the bytes say.
+fn script_in(alloc: Global, bytes: &[u8]) -> Result<Script, RunError>
+    ensures ok { IfOk result (SaysScript bytes.now) }
+    ensures err { IfErr result (IsUnread bytes.now) }
+{
+    let value = match Value::from_slice(alloc, bytes) {
+        Ok(value) => value,
+        Err(error) if error.classify() == Category::Memory => return Err(RunError::Memory),
+        Err(error) => return Err(RunError::Refused(json_faults(alloc, &error)?)),
+    };
+    match script_of(alloc, &value) {
+        Ok(script) => Ok(script),
+        Err(Fault::Input(_)) => {
+            first_fault_law();
+            Err(RunError::Refused(faults_of(alloc, &value)?))
+        }
+        Err(_) => Err(RunError::Memory),
+    }
+}
+
+// The lines of the replies, each after the number of its element and the name of its step.
+fn lines_of(alloc: Global, steps: &[Step], replies: &[Reply]) -> Result<String, AllocError>
+    ensures lines { IfOk result (λ text. string_bytes text ≡ numbered_lines 1 steps.now replies.now) }
+    ensures answers { IfOk result (λ text. list_all is_answer replies.now ≡ true) }
+{
+    let mut text = String::new(alloc);
+    for (i, reply) in replies.iter().enumerate() {
+        let Some(step) = steps.get(i) else {
+            return Err(AllocError);
+        };
+        if matches!(reply, Reply::NoMemory) {
+            return Err(AllocError);
+        }
+        writeln!(text, "{} {}: {}", i + 1, step_word(step), Line(reply))?;
+    }
+    Ok(text)
+}
+
+// The numbered lines of the replies, and the last line.
+fn numbered_text(
+    alloc: Global,
+    steps: &[Step],
+    replies: &[Reply],
+    timely: bool,
+) -> Result<String, AllocError>
+    ensures text { IfOk result (λ text. string_bytes text ≡ numbered_text steps.now replies.now timely) }
+    ensures answers { IfOk result (λ text. list_all is_answer replies.now ≡ true) }
+{
+    let mut text = lines_of(alloc, steps, replies)?;
+    if timely {
+        writeln!(text, "timely yes")?;
+    } else {
+        writeln!(text, "timely no")?;
+    }
+    Ok(text)
+}
+
+// Plays the steps of a script, and gives the text of their replies with numbers.
+fn numbered_output(alloc: Global, script: &Script) -> Result<String, AllocError>
+    ensures { IfOk result (λ text. IsShownNumbered script.now (string_bytes text)) }
+{
+    policy_law(script.job.policy());
+    let steps = script.steps.as_slice();
+    let replies = replies_of(alloc, script.job, steps)?;
+    let text = numbered_text(alloc, steps, replies.as_slice(), is_timely(script))?;
+    Ok(text)
+}
+
+// The text of a script, with numbers or without.
+fn shown(alloc: Global, numbers: bool, script: &Script) -> Result<String, AllocError>
+    ensures { IfOk result (λ text. IsShown numbers script.now (string_bytes text)) }
+{
+    if numbers {
+        numbered_output(alloc, script)
+    } else {
+        output_of(alloc, script)
+    }
+}
+
+/// Reads a script to its end, and then writes a line for each of its steps and a last line; with numbers, each
+/// step's line after its element's number and its `do`.
+///
+/// Nothing is written before the whole script was read, checked and played: after a refused script, a read
+/// fault or a memory fault nothing was written, after a write fault a first part.
+pub fn run_lines<R: Read, W: Write>(
+    alloc: Global,
+    numbers: bool,
+    reader: &mut R,
+    writer: &mut W,
+) -> Result<(), RunError>
+    ensures ok { OnOk result (IsAnswered numbers (R.remaining reader.old) (R.remaining reader.new)
+        (W.contents writer.old) (W.contents writer.new)) }
+    ensures err { IfErr result (IsFailed numbers (R.remaining reader.old) (R.remaining reader.new)
+        (W.contents writer.old) (W.contents writer.new)) }
+{
+    let bytes = read_all(alloc, reader)?;
+    let script = script_in(alloc, bytes.as_slice())?;
+    let text = shown(alloc, numbers, &script)?;
+    write_all(writer, text.as_str().as_bytes())?;
+    Ok(())
+}

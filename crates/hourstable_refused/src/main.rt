@@ -1,0 +1,9 @@
+//! The command with a script that is refused.
+#![tactic(auto)]
+
+use command::hourstable;
+use std::process::ExitCode;
+
+fn main(rt: HostRuntime) -> ExitCode {
+    hourstable(&rt, &mut rt.stdin(), &mut rt.stdout(), &mut rt.stderr())
+}
