@@ -15,12 +15,12 @@ use world::Reply;
 
 /// A number in 16 hexadecimal digits.
 #[derive(Clone, Copy)]
-struct Hex(u64);
+pub struct Hex(pub u64);
 
 impl fmt::Display for Hex {
     ghost output = { λ h. Some (hex_16 h.0) };
 
-    #[tactic(auto, using(crate::proofs::Hex::padded_hex))]
+    #[tactic(auto, using(crate::proofs::HexDigits::padded_hex))]
     fn fmt<W: fmt::Write>(&self, f: &mut fmt::Formatter<W>) -> fmt::Result {
         let number = self.0;
         write!(f, "{number:016x}")
