@@ -1,21 +1,32 @@
 -- How the command ends, by what it read.
-use Rattle.std.proofs.Common.{◌≡◌, inl, ℕ, List, Option, Result, Ok, Err, IfErr, OnOk, refl}
+use Rattle.std.proofs.Common.{◌≡◌, inl, inr, Bool, ℕ, List, [], Option, Some, None, Result, Ok, Err, IfErr, OnOk, refl, subst}
 use Rattle.std.specs.Bool.{⊤}
-use Rattle.command.specs.declared.arguments.RunArguments.{RunArguments}
+use Rattle.std.specs.Io.KnownBytes.{prepend_known}
+use Rattle.std.specs.Io.Buffered.{reader_remaining, reader_buffer, reader_capacity, reader_inner}
+use Rattle.std.specs.declared.io.buffered.BufReader.{BufReader}
+use Rattle.program_io.proofs.Keeping.{keeps_itself}
+use Rattle.command.specs.declared.arguments.Request.{Request}
 use Rattle.command.specs.declared.arguments.Source.TheVariants as source
-use Rattle.command.specs.declared.error.RunError.{RunError}
-use Rattle.command.specs.Errors.{status_after}
+use Rattle.diagnosis.specs.declared.error.AnswerError.{AnswerError}
+use Rattle.diagnosis.specs.Errors.{status_after}
+use Rattle.session.specs.declared.answer.ReplyForm.{ReplyForm}
+use Rattle.session.specs.Talks.{IsTalked, IsBroken}
 use Rattle.command.specs.Runs.{IsAnswered, IsFailed}
-use Rattle.command.specs.Endings.{IsOutcome, EndsBy}
+use Rattle.command.specs.Endings.{IsPlayed, IsSession, IsOutcome, IsWithoutInput, EndsBy, Ends}
 
-pub outcome_of : (arguments : RunArguments) (full rest held holds : Option (List ℕ)) (answer : Result ⊤ RunError)
-    → OnOk answer (IsAnswered arguments.numbers full rest held holds) → IfErr answer (IsFailed arguments.numbers full rest held holds) → IsOutcome arguments full rest held holds answer
-outcome_of arguments full rest held holds (Ok done) answered failed = answered
-outcome_of arguments full rest held holds (Err why) answered failed = failed
+pub played_of : (numbers : Bool) (full rest held holds : Option (List ℕ)) (answer : Result ⊤ AnswerError)
+    → OnOk answer (IsAnswered numbers full rest held holds) → IfErr answer (IsFailed numbers full rest held holds) → IsPlayed numbers full rest held holds answer
+played_of numbers full rest held holds (Ok done) answered failed = answered
+played_of numbers full rest held holds (Err why) answered failed = failed
 
-pub reads_input : (arguments : RunArguments) (before after held holds : Option (List ℕ)) (answer : Result ⊤ RunError) (code : ℕ)
-    → arguments.source ≡ source.Input → IsOutcome arguments before after held holds answer → code ≡ status_after answer → EndsBy arguments before after held holds code
-reads_input arguments before after held holds answer code from outcome status = inl (record {
+pub session_of : (form : ReplyForm) (full rest held holds : Option (List ℕ)) (answer : Result ⊤ AnswerError)
+    → OnOk answer (IsTalked form full held holds) → IfErr answer (IsBroken form full rest held holds) → IsSession form full rest held holds answer
+session_of form full rest held holds (Ok done) talked broken = talked
+session_of form full rest held holds (Err why) talked broken = broken
+
+pub reads_input : (request : Request) (before after held holds : Option (List ℕ)) (answer : Result ⊤ AnswerError) (code : ℕ)
+    → request.source ≡ source.Input → IsOutcome request.subcommand before after held holds answer → code ≡ status_after answer → EndsBy request before after held holds code
+reads_input request before after held holds answer code from outcome status = inl (record {
   full = before;
   rest = after;
   read = rw from (refl, refl);
@@ -23,3 +34,21 @@ reads_input arguments before after held holds answer code from outcome status = 
   outcome = outcome;
   status = status;
 })
+
+prepends_nothing : (known : Option (List ℕ)) → prepend_known [] known ≡ known
+prepends_nothing None = refl
+prepends_nothing (Some bytes) = refl
+
+-- what a new buffer in front of a reader has left
+fresh_remaining : {T A : Type 0} (remaining : T → Option (List ℕ)) (reader : BufReader T A) (inner : T)
+    → reader_inner reader ≡ inner → reader_buffer reader ≡ [] → reader_capacity reader ≡ 8192 → reader_remaining remaining reader ≡ remaining inner
+fresh_remaining remaining reader inner same empty room = rw (room, empty, same) (prepends_nothing (remaining inner))
+
+pub ends_buffered : {T A : Type 0} (remaining : T → Option (List ℕ)) (reader : BufReader T A) (inner : T) (after held holds : Option (List ℕ)) (code : ℕ)
+    → reader_inner reader ≡ inner → reader_buffer reader ≡ [] → reader_capacity reader ≡ 8192
+    → Ends (reader_remaining remaining reader) after held holds code → (rest : Option (List ℕ)) × Ends (remaining inner) rest held holds code
+ends_buffered remaining reader inner after held holds code same empty room ends =
+    (after, subst (λ (before : Option (List ℕ)). Ends before after held holds code) (fresh_remaining remaining reader inner same empty room) ends)
+
+pub ends_unread : (before held holds : Option (List ℕ)) (code : ℕ) → IsWithoutInput held holds code → (rest : Option (List ℕ)) × Ends before rest held holds code
+ends_unread before held holds code without = (before, inr (keeps_itself before, without))

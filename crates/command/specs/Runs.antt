@@ -13,8 +13,8 @@ use Rattle.service.specs.declared.script.Script.{Script}
 use Rattle.service.specs.Lines.{line_of, timely_line}
 use Rattle.service.specs.Output.{IsOutput}
 use Rattle.service.specs.Service.{SaysScript, IsRefusedFor}
-use Rattle.command.specs.declared.error.RunError.{RunError}
-use Rattle.command.specs.declared.error.RunError.TheVariants as run
+use Rattle.diagnosis.specs.declared.error.AnswerError.{AnswerError}
+use Rattle.diagnosis.specs.declared.error.AnswerError.TheVariants as answer
 use Rattle.diagnosis.specs.Faults.{refusals_of}
 
 -- the word by which a script names a step
@@ -86,11 +86,11 @@ pub record AreFaults (bytes : List ℕ) (refusals : List ScriptError) : Type 0 w
   pub all : ((refusals ≡ NotJson ∷ []) × IsNoJson bytes) ⊎ HasFaults bytes refusals
 
 -- no script was read, for its faults or out of memory
-abbrev pub IsUnread : List ℕ → RunError → Type 0
-IsUnread bytes (run.Refused faults) = AreFaults bytes (map (λ f. f.refusal) faults.items)
-IsUnread bytes run.Read = ⊥
-IsUnread bytes run.Write = ⊥
-IsUnread bytes run.Memory = ⊤
+abbrev pub IsUnread : List ℕ → AnswerError → Type 0
+IsUnread bytes (answer.Refused faults) = AreFaults bytes (map (λ f. f.refusal) faults.items)
+IsUnread bytes answer.Read = ⊥
+IsUnread bytes answer.Write = ⊥
+IsUnread bytes answer.Memory = ⊤
 
 -- all was read, it is a script, and its text was written
 pub record IsAnswered (numbers : Bool) (before after held holds : Option (List ℕ)) : Type 0 where
@@ -120,8 +120,8 @@ pub record IsRefused (before after : Option (List ℕ)) (refusals : List ScriptE
   pub faults : AreFaults bytes refusals
 
 -- what was written where the script was not answered
-abbrev pub IsFailed : Bool → Option (List ℕ) → Option (List ℕ) → Option (List ℕ) → Option (List ℕ) → RunError → Type 0
-IsFailed numbers before after held holds (run.Refused faults) = IsRefused before after (map (λ f. f.refusal) faults.items) × Keeps held holds
-IsFailed numbers before after held holds run.Read = Keeps held holds
-IsFailed numbers before after held holds run.Write = IsCut numbers before after held holds
-IsFailed numbers before after held holds run.Memory = Keeps held holds
+abbrev pub IsFailed : Bool → Option (List ℕ) → Option (List ℕ) → Option (List ℕ) → Option (List ℕ) → AnswerError → Type 0
+IsFailed numbers before after held holds (answer.Refused faults) = IsRefused before after (map (λ f. f.refusal) faults.items) × Keeps held holds
+IsFailed numbers before after held holds answer.Read = Keeps held holds
+IsFailed numbers before after held holds answer.Write = IsCut numbers before after held holds
+IsFailed numbers before after held holds answer.Memory = Keeps held holds

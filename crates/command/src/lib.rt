@@ -2,12 +2,10 @@
 #![tactic(auto)]
 
 mod arguments;
-mod error;
 mod program;
 mod script_run;
 mod step_word;
 
-pub use arguments::{RunArguments, Source, parse_words};
-pub use error::RunError;
+pub use arguments::{Request, Source, Subcommand, parse_words};
 pub use program::{do_words, hourstable};
 pub use script_run::run_lines;

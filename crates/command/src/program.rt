@@ -1,54 +1,55 @@
 //! The program.
 
-ghost use Rattle.std.specs.Prelude.{◌≡◌};
+ghost use Rattle.std.specs.Prelude.{◌≡◌, ℕ, List, Option};
 ghost use Rattle.std.specs.Process.{exit_status};
-ghost use Rattle.command.specs.Errors.{status_after};
-ghost use Rattle.command.specs.Endings.{Ends, EndsBy, IsWithoutScript};
+ghost use Rattle.diagnosis.specs.Errors.{status_after};
+ghost use Rattle.command.specs.Endings.{Ends, EndsBy, IsOutcome, IsWithoutInput};
 
-use crate::arguments::{RunArguments, Source, parse_words};
-use crate::error::RunError;
+use crate::arguments::{Request, Source, Subcommand, parse_words};
 use crate::script_run::run_lines;
 use clap::Error;
 use clap::error::ErrorKind;
+use diagnosis::AnswerError;
 use program_io::write_all;
+use session::run_session;
 use std::alloc::Global;
 use std::env::{self, Env};
 use std::fs::File;
-use std::io::{Read, Write};
+use std::io::{BufRead, BufReader, Read, Write};
 use std::process::ExitCode;
 use std::rt::Files;
 
 /// The status where what was asked for is done.
 const DONE: u8 = 0;
 
-/// The status where the arguments or the script are refused.
+/// The status where the arguments or the input are refused.
 const REFUSED: u8 = 2;
 
 /// The status where a stream fails, or memory runs out.
 const FAILED: u8 = 3;
 
-// Says why the script of this name is not answered.
-fn say<E: Write>(errors: &mut E, name: &str, error: &RunError) {
+// Says why the input of this name is not answered.
+fn say<E: Write>(errors: &mut E, name: &str, error: &AnswerError) {
     match error {
-        RunError::Refused(faults) => {
+        AnswerError::Refused(faults) => {
             for fault in faults {
                 let _ = writeln!(errors, "hourstable: {name}: {fault}");
             }
         }
-        RunError::Read => {
+        AnswerError::Read => {
             let _ = writeln!(errors, "hourstable: {name}: read fault");
         }
-        RunError::Write => {
+        AnswerError::Write => {
             let _ = writeln!(errors, "hourstable: write fault");
         }
-        RunError::Memory => {
+        AnswerError::Memory => {
             let _ = writeln!(errors, "hourstable: out of memory");
         }
     }
 }
 
-// The status for how the script of this name was answered; what there is to say is said.
-fn ended<E: Write>(errors: &mut E, name: &str, answer: &Result<(), RunError>) -> u8
+// The status for how the input of this name was answered; what there is to say is said.
+fn ended<E: Write>(errors: &mut E, name: &str, answer: &Result<(), AnswerError>) -> u8
     ensures { result ≡ status_after answer.now }
 {
     match answer {
@@ -60,25 +61,57 @@ fn ended<E: Write>(errors: &mut E, name: &str, answer: &Result<(), RunError>) ->
     }
 }
 
-// Plays a script of the input or of a file.
-fn run<R: Read, W: Write, E: Write>(
+// Does what is asked for with what a reader gives.
+fn answer_reader<R: BufRead, W: Write>(
+    alloc: Global,
+    subcommand: Subcommand,
+    reader: &mut R,
+    writer: &mut W,
+) -> Result<(), AnswerError>
+    ensures { IsOutcome subcommand (R.remaining reader.old) (R.remaining reader.new)
+        (W.contents writer.old) (W.contents writer.new) result }
+{
+    match subcommand {
+        Subcommand::Run { numbers } => run_lines(alloc, numbers, reader, writer),
+        Subcommand::Session { form } => run_session(alloc, form, reader, writer),
+    }
+}
+
+// Does what is asked for with a file.
+fn answer_file<F: Read + Drop, W: Write>(
+    alloc: Global,
+    subcommand: Subcommand,
+    file: F,
+    writer: &mut W,
+) -> Result<(), AnswerError>
+    ensures { (full : Option (List ℕ)) × (rest : Option (List ℕ))
+        × IsOutcome subcommand full rest (W.contents writer.old) (W.contents writer.new) result }
+{
+    match BufReader::new(alloc, file) {
+        Ok(mut reader) => answer_reader(alloc, subcommand, &mut reader, writer),
+        Err(_) => Err(AnswerError::Memory),
+    }
+}
+
+// Does what is asked for, with the input or with a file.
+fn run<R: BufRead, W: Write, E: Write>(
     rt: &(impl Files + AllocGlobal),
-    arguments: RunArguments<'_>,
+    request: Request<'_>,
     input: &mut R,
     output: &mut W,
     errors: &mut E,
 ) -> u8
-    ensures { EndsBy arguments.entry (R.remaining input.old) (R.remaining input.new)
+    ensures { EndsBy request.entry (R.remaining input.old) (R.remaining input.new)
         (W.contents output.old) (W.contents output.new) result }
 {
-    match arguments.source {
+    match request.source {
         Source::Input => {
-            let answer = run_lines(rt.alloc(), arguments.numbers, input, output);
+            let answer = answer_reader(rt.alloc(), request.subcommand, input, output);
             ended(errors, "standard input", &answer)
         }
         Source::File(name) => match File::open(rt, name) {
-            Ok(mut file) => {
-                let answer = run_lines(rt.alloc(), arguments.numbers, &mut file, output);
+            Ok(file) => {
+                let answer = answer_file(rt.alloc(), request.subcommand, file, output);
                 ended(errors, name, &answer)
             }
             Err(error) => {
@@ -91,7 +124,7 @@ fn run<R: Read, W: Write, E: Write>(
 
 // Writes help or the version, or says what is wrong with the words.
 fn tell<W: Write, E: Write>(alloc: Global, error: &Error, output: &mut W, errors: &mut E) -> u8
-    ensures { IsWithoutScript (W.contents output.old) (W.contents output.new) result }
+    ensures { IsWithoutInput (W.contents output.old) (W.contents output.new) result }
 {
     if error.use_stderr() {
         let _ = write!(errors, "hourstable: {error}");
@@ -114,12 +147,12 @@ fn tell<W: Write, E: Write>(alloc: Global, error: &Error, output: &mut W, errors
     }
 }
 
-/// Does what the words of a command line say, the name of the program first, and gives the exit status.
+/// Does what the words of a command line ask for, the name of the program first, and gives the exit status.
 ///
 /// Nothing but results goes to `output`; why there are none goes to `errors`, each line after the name of the
-/// program. The status is 0 where it is done, 2 where the words or the script are refused or a file cannot be
+/// program. The status is 0 where it is done, 2 where the words or the input are refused or a file cannot be
 /// opened, and 3 where a stream fails or memory runs out.
-pub fn do_words<R: Read, W: Write, E: Write>(
+pub fn do_words<R: BufRead, W: Write, E: Write>(
     rt: &(impl Files + AllocGlobal),
     words: &[String],
     input: &mut R,
@@ -130,29 +163,36 @@ pub fn do_words<R: Read, W: Write, E: Write>(
         (W.contents output.old) (W.contents output.new) result }
 {
     match parse_words(rt.alloc(), words) {
-        Ok(arguments) => run(rt, arguments, input, output, errors),
+        Ok(request) => run(rt, request, input, output, errors),
         Err(error) => tell(rt.alloc(), &error, output, errors),
     }
 }
 
-/// The program: does what its arguments say.
-pub fn hourstable<R: Read, W: Write, E: Write>(
+/// The program: does what its arguments ask for.
+pub fn hourstable<R: Read + Drop, W: Write, E: Write>(
     rt: &(impl Env + Files + AllocGlobal),
-    input: &mut R,
+    input: R,
     output: &mut W,
     errors: &mut E,
 ) -> ExitCode
-    ensures { Ends (R.remaining input.old) (R.remaining input.new)
+    ensures { (after : Option (List ℕ)) × Ends (R.remaining input) after
         (W.contents output.old) (W.contents output.new) (exit_status result) }
 {
     let words: Option<Vec<String>> = match env::args(rt) {
         Ok(words) => words.collect(rt.alloc()).ok(),
         Err(_) => None,
     };
-    match words {
-        Some(words) => ExitCode::from(do_words(rt, words.as_slice(), input, output, errors)),
-        None => {
-            let _ = writeln!(errors, "hourstable: the arguments cannot be read");
+    let Some(words) = words else {
+        let _ = writeln!(errors, "hourstable: the arguments cannot be read");
+        return ExitCode::from(FAILED);
+    };
+    match BufReader::new(rt.alloc(), input) {
+        Ok(mut input) => {
+            let status = do_words(rt, words.as_slice(), &mut input, output, errors);
+            ExitCode::from(status)
+        }
+        Err(_) => {
+            let _ = writeln!(errors, "hourstable: out of memory");
             ExitCode::from(FAILED)
         }
     }

@@ -6,9 +6,8 @@ ghost use Rattle.service.specs.Output.{is_answer};
 ghost use Rattle.service.specs.Service.{SaysScript};
 ghost use Rattle.command.specs.Runs.{IsUnread, IsShown, IsShownNumbered, IsAnswered, IsFailed, numbered_lines, numbered_text};
 
-use crate::error::RunError;
 use crate::step_word::step_word;
-use diagnosis::{faults_of, first_fault_law, json_faults};
+use diagnosis::{AnswerError, faults_of, first_fault_law, json_faults};
 use lease_table::policy_law;
 use program_io::{Fault, read_all, write_all};
 use serde_json::{Category, Value};
@@ -18,22 +17,22 @@ use std::io::{Read, Write};
 use world::{Reply, Step};
 
 // The script that the bytes say.
-fn script_in(alloc: Global, bytes: &[u8]) -> Result<Script, RunError>
+fn script_in(alloc: Global, bytes: &[u8]) -> Result<Script, AnswerError>
     ensures ok { IfOk result (SaysScript bytes.now) }
     ensures err { IfErr result (IsUnread bytes.now) }
 {
     let value = match Value::from_slice(alloc, bytes) {
         Ok(value) => value,
-        Err(error) if error.classify() == Category::Memory => return Err(RunError::Memory),
-        Err(error) => return Err(RunError::Refused(json_faults(alloc, &error)?)),
+        Err(error) if error.classify() == Category::Memory => return Err(AnswerError::Memory),
+        Err(error) => return Err(AnswerError::Refused(json_faults(alloc, &error)?)),
     };
     match script_of(alloc, &value) {
         Ok(script) => Ok(script),
         Err(Fault::Input(_)) => {
             first_fault_law();
-            Err(RunError::Refused(faults_of(alloc, &value)?))
+            Err(AnswerError::Refused(faults_of(alloc, &value)?))
         }
-        Err(_) => Err(RunError::Memory),
+        Err(_) => Err(AnswerError::Memory),
     }
 }
 
@@ -106,7 +105,7 @@ pub fn run_lines<R: Read, W: Write>(
     numbers: bool,
     reader: &mut R,
     writer: &mut W,
-) -> Result<(), RunError>
+) -> Result<(), AnswerError>
     ensures ok { OnOk result (IsAnswered numbers (R.remaining reader.old) (R.remaining reader.new)
         (W.contents writer.old) (W.contents writer.new)) }
     ensures err { IfErr result (IsFailed numbers (R.remaining reader.old) (R.remaining reader.new)

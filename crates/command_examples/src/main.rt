@@ -1,16 +1,18 @@
 //! Gives the command the words and the input of `data/`, and compares what it writes with the files beside them:
 //! NAME.words has a word a line, NAME.stdin the standard input, NAME.stdout what is written, NAME.stderr what
-//! is said, and NAME.status the exit status.
+//! is said, and NAME.status the exit status. Then compares sessions with the scripts of their lines.
 #![tactic(auto)]
 
 use anyhow::Result;
 use command::do_words;
+use std::alloc::Global;
 use std::fs;
 use std::rt::Files;
 
-const NAMES: [&str; 14] = [
+const NAMES: [&str; 34] = [
     "help",
     "help-of-run",
+    "help-of-session",
     "version",
     "no-subcommand",
     "unknown-argument",
@@ -23,6 +25,40 @@ const NAMES: [&str; 14] = [
     "run-no-array",
     "run-not-json",
     "run-empty-input",
+    "session-story",
+    "session-a-file-as-json",
+    "session-json-hash",
+    "session-json-draft",
+    "session-json-verdicts",
+    "session-json-table",
+    "session-json-rows",
+    "session-json-losses",
+    "session-json-clerk",
+    "session-json-loads",
+    "session-json-plan",
+    "session-json-plan-fewer",
+    "session-json-next",
+    "session-mends",
+    "session-json-mends",
+    "session-job-alone",
+    "session-bad-job",
+    "session-no-job",
+    "session-empty-input",
+];
+
+/// Sessions that are compared with the scripts of their lines.
+const ALIKE: [&str; 11] = [
+    "session-json-hash",
+    "session-json-draft",
+    "session-json-verdicts",
+    "session-json-table",
+    "session-json-rows",
+    "session-json-losses",
+    "session-json-clerk",
+    "session-json-loads",
+    "session-json-plan",
+    "session-json-plan-fewer",
+    "session-json-next",
 ];
 
 /// What the command gave, or what it is to give.
@@ -46,12 +82,12 @@ fn text_of(rt: &(impl Files + AllocGlobal), name: &str, ending: &str) -> Result<
     Ok(fs::read_to_string(rt, file.as_str())?)
 }
 
-// The words, after the name of the program.
-fn words_of(rt: &(impl Files + AllocGlobal), name: &str) -> Result<Vec<String>> {
-    let mut words = Vec::new(rt.alloc());
-    words.push(String::from_str(rt.alloc(), "hourstable")?)?;
-    for line in text_of(rt, name, "words")?.as_str().lines() {
-        words.push(String::from_str(rt.alloc(), line)?)?;
+// The words of these lines, after the name of the program.
+fn words_of(alloc: Global, lines: &str) -> Result<Vec<String>> {
+    let mut words = Vec::new(alloc);
+    words.push(String::from_str(alloc, "hourstable")?)?;
+    for line in lines.lines() {
+        words.push(String::from_str(alloc, line)?)?;
     }
     Ok(words)
 }
@@ -65,13 +101,12 @@ fn expected(rt: &(impl Files + AllocGlobal), name: &str) -> Result<Outcome> {
     })
 }
 
-// What the command gives.
-fn given(rt: &(impl Files + AllocGlobal), name: &str) -> Result<Outcome> {
-    let words = words_of(rt, name)?;
-    let input = text_of(rt, name, "stdin")?;
+// What the command gives for words, a word a line, and input.
+fn given(rt: &(impl Files + AllocGlobal), words: &str, input: &str) -> Result<Outcome> {
+    let words = words_of(rt.alloc(), words)?;
     let mut written = Vec::new(rt.alloc());
     let mut said = Vec::new(rt.alloc());
-    let mut input = input.as_str().as_bytes();
+    let mut input = input.as_bytes();
     let status = do_words(rt, words.as_slice(), &mut input, &mut written, &mut said);
     Ok(Outcome {
         written: String::from_utf8(written)?,
@@ -80,14 +115,54 @@ fn given(rt: &(impl Files + AllocGlobal), name: &str) -> Result<Outcome> {
     })
 }
 
+// What the command gives for the words and the input of this name.
+fn given_for(rt: &(impl Files + AllocGlobal), name: &str) -> Result<Outcome> {
+    let words = text_of(rt, name, "words")?;
+    let input = text_of(rt, name, "stdin")?;
+    given(rt, words.as_str(), input.as_str())
+}
+
+// The script whose elements are these lines.
+fn script_of(alloc: Global, lines: &str) -> Result<String> {
+    let mut script = String::from_str(alloc, "[")?;
+    for (i, line) in lines.lines().enumerate() {
+        if i > 0 {
+            script.push_str(",")?;
+        }
+        script.push_str(line)?;
+    }
+    script.push_str("]")?;
+    Ok(script)
+}
+
+// Whether a session of these lines answers each as their script does.
+fn is_answered_alike(rt: &(impl Files + AllocGlobal), lines: &str) -> Result<bool> {
+    let script = script_of(rt.alloc(), lines)?;
+    let session = given(rt, "session", lines)?;
+    let batch = given(rt, "run", script.as_str())?;
+    let last = batch
+        .written
+        .as_str()
+        .strip_prefix(session.written.as_str());
+    Ok(matches!(last, Some("timely yes\n" | "timely no\n")))
+}
+
 fn main(rt: HostRuntime) -> Result<()> {
     for name in NAMES {
-        let given = given(&rt, name)?;
+        let given = given_for(&rt, name)?;
         let wanted = expected(&rt, name)?;
         if given.is(&wanted) {
             println!(rt; "{name}: as expected")?;
         } else {
             println!(rt; "{name}: gave {given:?} in place of {wanted:?}")?;
+        }
+    }
+    for name in ALIKE {
+        let lines = text_of(&rt, name, "stdin")?;
+        if is_answered_alike(&rt, lines.as_str())? {
+            println!(rt; "{name}: answered as its script is")?;
+        } else {
+            println!(rt; "{name}: answered in another way than its script")?;
         }
     }
     Ok(())

@@ -7,16 +7,31 @@ use serde_json::Error;
 use service::ScriptError;
 use std::alloc::{AllocError, Global};
 
-// The line and the column at which the reader stopped, and the reader's own words.
-fn json_mend(alloc: Global, error: &Error) -> Result<String, AllocError> {
-    let place = format!(in alloc; "line {} column {}", error.line(), error.column())?;
+// The reader's own words, without the place at which it stopped.
+fn words_of(alloc: Global, error: &Error) -> Result<String, AllocError> {
     let text = format!(in alloc; "{error}")?;
-    let ending = format!(in alloc; " at {place}")?;
+    let ending = format!(in alloc; " at line {} column {}", error.line(), error.column())?;
     let words = text
         .as_str()
         .strip_suffix(ending.as_str())
         .unwrap_or(text.as_str());
-    format!(in alloc; "{place}: {words}")
+    String::from_str(alloc, words)
+}
+
+// The line and the column at which the reader stopped, and its words.
+fn json_mend(alloc: Global, error: &Error) -> Result<String, AllocError> {
+    let words = words_of(alloc, error)?;
+    format!(in alloc; "line {} column {}: {words}", error.line(), error.column())
+}
+
+/// What to mend in a line that is no JSON text: the column at which the reader stopped, and why. It stops at
+/// the end where more was to come.
+pub fn line_mend(alloc: Global, error: &Error) -> Result<String, AllocError> {
+    let words = words_of(alloc, error)?;
+    if error.line() > 1 {
+        return format!(in alloc; "at the end of the line: {words}");
+    }
+    format!(in alloc; "column {}: {words}", error.column())
 }
 
 /// The one fault of bytes that are no JSON text: where the reader stopped, and why.

@@ -1,6 +1,7 @@
-//! The faults of a script, each with what to mend.
+//! The faults of a script or of a line, each with what to mend.
 #![tactic(auto)]
 
+mod error;
 mod faults;
 mod found;
 mod job_faults;
@@ -10,6 +11,9 @@ mod step_faults;
 mod steps;
 mod wanted;
 
+pub use error::AnswerError;
 pub use faults::{MOST_FAULTS, ScriptFault, faults_of};
-pub use json::json_faults;
+pub use job_faults::{job_line_mend, job_mend};
+pub use json::{json_faults, line_mend};
 pub use laws::first_fault_law;
+pub use step_faults::step_mend;

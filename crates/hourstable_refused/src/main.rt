@@ -5,5 +5,5 @@ use command::hourstable;
 use std::process::ExitCode;
 
 fn main(rt: HostRuntime) -> ExitCode {
-    hourstable(&rt, &mut rt.stdin(), &mut rt.stdout(), &mut rt.stderr())
+    hourstable(&rt, rt.stdin(), &mut rt.stdout(), &mut rt.stderr())
 }

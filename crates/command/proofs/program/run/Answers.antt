@@ -1,11 +1,10 @@
-use Rattle.command.proofs.Ending.{outcome_of, reads_input}
+use Rattle.command.proofs.Ending.{reads_input}
 use Rattle.command.proofs.program.run.Goals as goal
 
 pub returns-in-Input : goal.returns-in-Input
 returns-in-Input g c =
     let before = g.R.Read.remaining c.args.input.now in
-    let after = g.R.Read.remaining c.run_lines-answer.new.reader in
+    let after = g.R.Read.remaining c.answer_reader-answer.new.reader in
     let held = g.W.Write.contents c.args.output.now in
-    let holds = g.W.Write.contents c.run_lines-answer.new.writer in
-    reads_input c.args.arguments before after held holds c.run_lines-answer.result c.ended.result c.in-Input.is
-    (outcome_of c.args.arguments before after held holds c.run_lines-answer.result c.run_lines-answer.ensures.ok c.run_lines-answer.ensures.err) c.ended.ensures
+    let holds = g.W.Write.contents c.answer_reader-answer.new.writer in
+    reads_input c.args.request before after held holds c.answer_reader-answer.result c.ended.result c.in-Input.is c.answer_reader-answer.ensures c.ended.ensures

@@ -1,0 +1,86 @@
+//! What a line says.
+
+ghost use Rattle.std.specs.Prelude.{◌≡◌, [], ◌∷◌, map, IfOk, IfErr};
+ghost use Rattle.session.specs.Lines.{SaysJob, SaysStep, IsNoJob, IsNoStep};
+
+use diagnosis::{
+    AnswerError, ScriptFault, job_line_mend, job_mend, json_faults, line_mend, step_mend,
+};
+use program_io::Unread;
+use serde_json::{Category, Value};
+use service::{ScriptError, job_member, job_of, step_of};
+use std::alloc::{AllocError, Global};
+use world::{Job, Step};
+
+/// Why a line gives no step.
+#[derive(Debug, Drop)]
+pub enum NoStep {
+    /// It says none, for this.
+    Line(String),
+    /// Memory ran out.
+    Memory,
+}
+
+impl From<AllocError> for NoStep {
+    fn from(_error: AllocError) -> Self {
+        NoStep::Memory
+    }
+}
+
+// The one fault of a first line that is refused for this.
+fn one_fault(
+    alloc: Global,
+    refusal: ScriptError,
+    mend: String,
+) -> Result<Vec<ScriptFault>, AllocError>
+    ensures { IfOk result (λ faults. map (λ f. f.refusal) faults.items ≡ refusal ∷ []) }
+{
+    let mut faults = Vec::new(alloc);
+    faults.push(ScriptFault { refusal, mend })?;
+    Ok(faults)
+}
+
+/// The job that a line says, as the first line of a session.
+pub fn job_said(alloc: Global, line: &[u8]) -> Result<Job, AnswerError>
+    ensures ok { IfOk result (SaysJob line.now) }
+    ensures err { IfErr result (IsNoJob line.now) }
+{
+    let value = match Value::from_slice(alloc, line) {
+        Ok(value) => value,
+        Err(error) if error.classify() == Category::Memory => return Err(AnswerError::Memory),
+        Err(error) => return Err(AnswerError::Refused(json_faults(alloc, &error)?)),
+    };
+    let Ok(member) = job_member(&value) else {
+        let mend = job_line_mend(alloc, &value)?;
+        let faults = one_fault(alloc, ScriptError::NoJob, mend)?;
+        return Err(AnswerError::Refused(faults));
+    };
+    match job_of(member) {
+        Ok(job) => Ok(job),
+        Err(_) => {
+            let mend = job_mend(alloc, member)?;
+            let faults = one_fault(alloc, ScriptError::BadJob, mend)?;
+            Err(AnswerError::Refused(faults))
+        }
+    }
+}
+
+/// The step of a job that a line says.
+pub fn step_said(alloc: Global, job: Job, line: &[u8]) -> Result<Step, NoStep>
+    ensures ok { IfOk result (SaysStep job line.now) }
+    ensures err { IfErr result (IsNoStep job line.now) }
+{
+    let value = match Value::from_slice(alloc, line) {
+        Ok(value) => value,
+        Err(error) if error.classify() == Category::Memory => return Err(NoStep::Memory),
+        Err(error) => {
+            let mend = line_mend(alloc, &error)?;
+            return Err(NoStep::Line(format!(in alloc; "not JSON: {mend}")?));
+        }
+    };
+    match step_of(alloc, job, &value) {
+        Ok(step) => Ok(step),
+        Err(Unread::WrongForm) => Err(NoStep::Line(step_mend(alloc, job, &value)?)),
+        Err(Unread::Memory) => Err(NoStep::Memory),
+    }
+}

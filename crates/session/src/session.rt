@@ -1,0 +1,69 @@
+//! A session: a job with its world, which lines of steps move.
+
+ghost use Rattle.std.specs.Prelude.{◌≡◌, [], IfOk, IfErr, string_bytes};
+ghost use Rattle.world.specs.Pasts.{Past};
+ghost use Rattle.session.specs.Lines.{SaysJob, IsNoJob};
+ghost use Rattle.session.specs.Turns.{IsAt, IsPlayedAs, IsTurned};
+
+use crate::answer::{ReplyForm, answer_text, error_text};
+use crate::reading::{NoStep, job_said, step_said};
+use diagnosis::AnswerError;
+use std::alloc::{AllocError, Global};
+use world::{Job, Reply, Step, World};
+
+/// A job and its world, and how replies are written.
+#[derive(Drop)]
+pub struct Session {
+    pub(crate) alloc: Global,
+    pub(crate) form: ReplyForm,
+    pub(crate) job: Job,
+    pub(crate) world: World,
+}
+
+impl Session {
+    /// Opens a session of the job that the line says.
+    pub fn open(alloc: Global, form: ReplyForm, line: &[u8]) -> Result<Session, AnswerError>
+        ensures at { IfOk result (λ s. IsAt [] s) }
+        ensures job { IfOk result (λ s. SaysJob line.now s.job) }
+        ensures form { IfOk result (λ s. s.form ≡ form) }
+        ensures err { IfErr result (IsNoJob line.now) }
+    {
+        let job = job_said(alloc, line)?;
+        let world = World::new(alloc, job)?;
+        Ok(Session {
+            alloc,
+            form,
+            job,
+            world,
+        })
+    }
+
+    /// Plays the step that the line says, after all before it, and gives the line of its reply.
+    ///
+    /// A line that says no step changes nothing, and is answered with what to mend. Where memory ran out, it is
+    /// not known whether the step was played: the caller gives the session up.
+    pub fn answer(&mut self, line: &[u8]) -> Result<String, AllocError>
+        ensures job { self.new.job ≡ self.old.job }
+        ensures form { self.new.form ≡ self.old.form }
+        ensures ok { IfOk result (λ text. IsTurned line.now self.old self.new (string_bytes text)) }
+    {
+        match step_said(self.alloc, self.job, line) {
+            Ok(step) => self.play(step),
+            Err(NoStep::Line(words)) => error_text(self.alloc, self.form, words.as_str()),
+            Err(NoStep::Memory) => Err(AllocError),
+        }
+    }
+
+    // Plays a step, and gives the line of its reply. A reply that memory ran out has none.
+    fn play(&mut self, step: Step) -> Result<String, AllocError>
+        ensures job { self.new.job ≡ self.old.job }
+        ensures form { self.new.form ≡ self.old.form }
+        ensures ok { IfOk result (λ text. IsPlayedAs step self.old self.new (string_bytes text)) }
+    {
+        let replies = self.world.run(&[step])?;
+        match &replies[0] {
+            Reply::NoMemory => Err(AllocError),
+            reply => answer_text(self.alloc, self.form, reply),
+        }
+    }
+}
