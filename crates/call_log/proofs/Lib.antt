@@ -1,0 +1,5 @@
+pub mod Replaying
+pub mod LineSplitting
+pub mod Saying
+pub mod Watching
+pub mod Doubling
