@@ -1,0 +1,2 @@
+pub mod SliceletPlaces
+pub mod SliceletLending

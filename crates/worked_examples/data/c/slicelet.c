@@ -1,0 +1,56 @@
+/* A server task that asks its slicelet before each answer, and stops when its lease ends.
+ *
+ * The clock counts a tick for each request. The grant, the one that a table would send, is of a guard on all keys
+ * below 2^63 until tick 8 of the task's clock. */
+#include "hourstable.h"
+
+#include <inttypes.h>
+#include <stdio.h>
+#include <string.h>
+
+static const char grant[] = "{\"type\":\"grant\",\"value\":{\"ends\":8,\"generation\":3,\"kind\":\"guard\",\"life\":1,"
+                            "\"number\":7,\"ranges\":[[0,9223372036854775808]],\"task\":2,\"until\":10},\"version\":1}";
+
+static const uint8_t *bytes_of(const char *text) {
+    return (const uint8_t *)text;
+}
+
+/* Answers requests until one is denied; the code of the denial. */
+static int32_t answer_requests(struct hs_slicelet *slicelet, uint64_t now) {
+    struct hs_told told = {0};
+    for (;; now++) {
+        const char *key = now % 2 ? "apples" : "pears";
+        int32_t code = hs_slicelet_serve(slicelet, bytes_of(key), strlen(key), now, &told);
+        if (code != HS_DONE)
+            return code;
+        printf("%" PRIu64 " %s: served under generation %" PRIu64 "\n", now, key, told.generation);
+    }
+}
+
+/* Gives the guard back: prints its note, which the task would send to the table. */
+static int32_t give_back(struct hs_slicelet *slicelet, uint64_t now) {
+    uint8_t note[256];
+    size_t needed = 0;
+    int32_t code = hs_slicelet_release(slicelet, HS_GUARD, now, note, sizeof note, &needed);
+    if (code == HS_DONE)
+        printf("%.*s\n", (int)needed, (const char *)note);
+    return code;
+}
+
+int main(void) {
+    struct hs_slicelet slicelet;
+    struct hs_told told = {0};
+    int32_t code = hs_slicelet_open(2, &slicelet);
+    if (code != HS_DONE)
+        return 1;
+    code = hs_slicelet_start(&slicelet, 1, 3);
+    if (code == HS_DONE)
+        code = hs_slicelet_hear(&slicelet, bytes_of(grant), strlen(grant), 5, &told);
+    if (code == HS_DONE) {
+        code = answer_requests(&slicelet, 5);
+        printf("stopped: %s\n", code == HS_ENDED ? "the lease has ended" : "the key is not served");
+        code = give_back(&slicelet, 8);
+    }
+    hs_slicelet_close(slicelet);
+    return code == HS_DONE ? 0 : 1;
+}
