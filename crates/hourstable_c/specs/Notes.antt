@@ -1,5 +1,5 @@
 -- What a `release` gives: the message of its note, whole or not at all.
-use Rattle.std.specs.Prelude.{◌≡◌, ◌⊎◌, ◌<◌, ◌≤◌, ℕ, ℤ, ◌==◌, true, List, ◌++◌, codes, length, drop, Option, Some, None, Result, Ok, Err, is_ok, if◌then◌else◌}
+use Rattle.std.specs.Prelude.{◌≡◌, ◌⊎◌, ◌<◌, ◌≤◌, ℕ, ℤ, ◌==◌, true, List, codes, length, take, drop, Option, Some, None, Result, Ok, Err, is_ok, if◌then◌else◌}
 use Rattle.machines.specs.declared.machine.Trouble.{Trouble}
 use Rattle.machines.specs.declared.machine.Trouble.TheVariants.{Refused, NoMemory}
 use Rattle.policy_rules.specs.declared.lease.Kind.{Kind}
@@ -28,7 +28,8 @@ IsFailure step NoMemory = is_ok step ≡ true
 -- a buffer that begins with the text, and is what it was from there on; `needed` is the length of the text
 pub record IsGiven (text was now : List ℕ) (needed : ℕ) : Type 0 where
   pub fits : length text ≤ length was
-  pub bytes : now ≡ text ++ drop (length text) was
+  pub begins : take (length text) now ≡ text
+  pub rest : drop (length text) now ≡ drop (length text) was
   pub needed : needed ≡ length text
 
 -- a buffer that is shorter than the text, and is what it was

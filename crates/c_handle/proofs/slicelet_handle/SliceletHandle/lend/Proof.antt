@@ -98,7 +98,6 @@ lend_spec 𝓤 𝓛 𝓜 𝓡 wired =
     -- [the value; the token with the allocator; the handle's word; the open borrow, in three entries]
     first ! $ blocks ! $
     sets ! (of_opd ! (load ! (through ! refl (fld ! refl (stop !))) (look_in ! 2 (sub ! 0 refl (whole !))))) refl (tt, tt) $
-    sets ! (of_opd ! (get ! refl)) refl (tt, tt) $
     sets_last ! (addr ! (through ! refl (stop !))) refl (tt, tt) $
     exec ! 𝓣.C 𝓣.Λ (env code.Mir.locals l) (after 1 (code.function).body) (at_ret _ (Post 𝓛 𝓜.mem 𝓡.returns κ q rb ro γ h)) $
     sets ! (of_opd ! (get ! refl)) refl (tt, tt) $
