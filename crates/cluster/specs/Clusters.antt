@@ -1,10 +1,12 @@
 -- Which past leads to a cluster.
-use Rattle.std.specs.Prelude.{◌≡◌, ℕ, ◌+◌, true, List, ◌∷◌, Option, Some, None, Result, Ok, Err, length, slice_get, reverse}
+use Rattle.std.specs.Prelude.{◌≡◌, ℕ, ◌+◌, true, List, ◌∷◌, Option, Some, None, Result, Ok, Err, length, slice_get, reverse, if◌then◌else◌}
 use Rattle.std.specs.declared.alloc.AllocError.{AllocError}
+use Rattle.machines.specs.Numbers.{is_within}
 use Rattle.lease_table.specs.Policies.{is_policy}
 use Rattle.indexmap.specs.IndexSet.{contains}
 use Rattle.lease_table.specs.declared.values.ReleaseNote.{ReleaseNote}
 use Rattle.slicelet.specs.declared.handle.KeyHandle.{KeyHandle}
+use Rattle.slicelet.specs.States.{SliceletState}
 use Rattle.cluster.specs.Jobs.{Job}
 use Rattle.cluster.specs.declared.call.ClusterCall.{ClusterCall}
 use Rattle.cluster.specs.declared.reply.ClusterReply.{ClusterReply}
@@ -47,3 +49,7 @@ IsPlayed job past call (Err e) cluster = LeadsTo job past cluster × MayRunOut j
 abbrev pub IsPlayedOr : Job → Past → Option ClusterCall → ClusterReply → Result ClusterReply AllocError → Cluster → Type 0
 IsPlayedOr job past (Some call) none result cluster = IsPlayed job past call result cluster
 IsPlayedOr job past None none result cluster = (result ≡ Ok none) × LeadsTo job past cluster
+
+-- the slicelet of a task of the job
+abbrev pub slicelet_of : Job → Past → ℕ → Option SliceletState
+slicelet_of job past task = if is_within task job.tasks then Some (history task past) else None

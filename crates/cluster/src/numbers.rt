@@ -17,7 +17,7 @@ ghost use Rattle.cluster.specs.declared.call.ClusterCall.TheVariants as asked;
 ghost use Rattle.cluster.specs.declared.error.ClusterError.TheVariants as error;
 ghost use Rattle.cluster.specs.declared.reply.ClusterReply.TheVariants as reply;
 ghost use Rattle.cluster.specs.Replies.{by_actor};
-ghost use Rattle.cluster.specs.Clusters.{LeadsTo, IsPlayedOr};
+ghost use Rattle.cluster.specs.Clusters.{LeadsTo, IsPlayedOr, slicelet_of};
 
 use crate::actors::{place_of, with_number};
 use crate::clerks::told_by_clerk;
@@ -28,7 +28,7 @@ use crate::reply::ClusterReply;
 use crate::tasks::told_by_task;
 use assignment::{Assignment, Slice};
 use clerk::{Clerk, ClerkError, ClerkReply};
-use lease_table::{Grant, Phase, ReleaseNote, TableError};
+use lease_table::{Grant, LeaseTable, Phase, ReleaseNote, TableError};
 use machines::Trouble;
 use slicelet::{KeyHandle, Slicelet, SliceletError, SliceletReply};
 use std::alloc::AllocError;
@@ -80,6 +80,25 @@ impl Cluster {
         ensures { (job : Job) (past : Past) → LeadsTo job past self.now → result ≡ length (handles_made past) + 1 }
     {
         self.handles.as_slice().len() as u64 + 1
+    }
+
+    /// The lease table.
+    #[tactic(auto, unfolding(crate::specs::Clusters::LeadsTo))]
+    pub fn table(&self) -> &LeaseTable
+        ensures { (job : Job) (past : Past) → LeadsTo job past self.now → result.now ≡ standing job.policy past }
+    {
+        &self.table
+    }
+
+    /// The slicelet of a task of the job.
+    pub fn slicelet(&self, task: u64) -> Option<&Slicelet>
+        ensures { (job : Job) (past : Past) → LeadsTo job past self.now
+            → option_map (λ slicelet. slicelet.now) result ≡ slicelet_of job past task }
+    {
+        let Some(place) = place_of(task, self.tasks.as_slice()) else {
+            return None;
+        };
+        Some(&self.tasks[place])
     }
 
     /// The table's phase.

@@ -96,6 +96,13 @@ impl LeaseTable {
         }
     }
 
+    /// The last accepted reading, in ticks: 0 before the first.
+    pub fn last_reading(&self) -> u64
+        ensures { result ≡ self.now.last }
+    {
+        self.last
+    }
+
     /// The last term given.
     pub fn job(&self) -> Option<JobTerm>
         ensures { result ≡ self.now.term }

@@ -6,6 +6,7 @@ use Rattle.policy_rules.specs.declared.answer.Verdict.{Verdict}
 use Rattle.policy_rules.specs.Rule.{SeenHolding, rule, is_allowed}
 use Rattle.lease_table.specs.declared.values.Grant.{Grant}
 use Rattle.slicelet.specs.declared.call.SliceletCall.{SliceletCall}
+use Rattle.slicelet.specs.declared.heard.HeldLease.{HeldLease}
 use Rattle.slicelet.specs.Calls.{is_started, life_of, last_reading, held_grant, greatest_heard}
 use Rattle.slicelet.specs.Rules.{seen_by, covers_key}
 use Rattle.slicelet.specs.Stamping.{stamp_of, stamps_where, stamp_among}
@@ -58,6 +59,10 @@ state_after task h = record {
 abbrev pub held_in : SliceletState → Kind → Option Grant
 held_in s Guard = s.guard
 held_in s Bridge = s.bridge
+
+-- a held lease, by its grant
+abbrev pub held_lease : Grant → HeldLease
+held_lease grant = record { number = grant.number; generation = grant.lease.generation; ends = grant.lease.ends }
 
 -- the greatest number heard of a kind
 abbrev pub greatest_in : SliceletState → Kind → Option ℕ

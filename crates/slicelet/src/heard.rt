@@ -1,8 +1,8 @@
 //! What a slicelet keeps of each kind of lease.
 
-ghost use Rattle.std.specs.Prelude.{◌≡◌, ℕ, true, Some, None, is_some, IfOk};
+ghost use Rattle.std.specs.Prelude.{◌≡◌, ℕ, true, Some, None, is_some, option_map, IfOk};
 ghost use Rattle.slice_ranges.specs.Sets.{has};
-ghost use Rattle.slicelet.specs.internals.State.{lease_of_kind, with_lease, heard_of_kind, with_heard, number_in};
+ghost use Rattle.slicelet.specs.internals.State.{lease_of_kind, with_lease, heard_of_kind, with_heard, number_in, number_or_0};
 ghost use Rattle.slicelet.specs.internals.Stamping.{serves, Stays, ServesSame, ServesAll, RenewsBeside, Renews};
 
 use lease_table::Grant;
@@ -68,6 +68,35 @@ impl HeardGrants {
                 ..self
             },
         }
+    }
+}
+
+/// A lease that a task holds.
+#[derive(Clone, Copy, Debug, PartialEq, Eq)]
+pub struct HeldLease {
+    /// The number of its grant.
+    pub number: u64,
+    /// The generation that it was granted for.
+    pub generation: u64,
+    /// The task's deadline, in ticks.
+    pub ends: u64,
+}
+
+/// A lease, if one is held, by the last grant heard of its kind.
+pub fn held_as(lease: &Option<Lease>, heard: Option<HeardGrant>) -> Option<HeldLease>
+    ensures { result ≡ option_map (λ lease. record { number = number_or_0 heard; generation = lease.generation; ends = lease.ends }) lease.now }
+{
+    let number = match heard {
+        Some(grant) => grant.number,
+        None => 0,
+    };
+    match lease {
+        Some(lease) => Some(HeldLease {
+            number,
+            generation: lease.generation,
+            ends: lease.ends,
+        }),
+        None => None,
     }
 }
 

@@ -16,6 +16,7 @@ mod sweep;
 pub use call::{SliceletCall, SliceletReply};
 pub use error::{SliceletError, Stranger};
 pub use handle::KeyHandle;
+pub use heard::HeldLease;
 pub use laws::{
     agreement_law, between_law, covering_lease_law, heard_law, held_law, lives_law, released_law,
     state_law,

@@ -7,7 +7,7 @@ ghost use Rattle.machines.specs.Answers.{Takes};
 ghost use Rattle.slicelet.specs.declared.call.SliceletCall.{SliceletCall};
 ghost use Rattle.slicelet.specs.Calls.{life_of};
 ghost use Rattle.slicelet.specs.Rules.{rule_after, covers_key};
-ghost use Rattle.slicelet.specs.States.{opening, held_in, greatest_in, rule_in_state, permits};
+ghost use Rattle.slicelet.specs.States.{opening, held_in, held_lease, greatest_in, rule_in_state, permits};
 ghost use Rattle.slicelet.specs.Steps.{not_started, clock_back, history_full, number_of, start_checks, hear_checks, release_checks, start_step, hear_step, release_step};
 ghost use Rattle.slicelet.specs.Accepted.{StandsAfter};
 ghost use Rattle.slicelet.specs.Continuity.{handle_on, held_by, is_strange, is_kept, checked_in, IsChecked};
@@ -16,7 +16,9 @@ ghost use Rattle.slicelet.specs.internals.Stamping.{IsRestamped};
 
 use crate::error::{SliceletError, Stranger};
 use crate::handle::KeyHandle;
-use crate::heard::{HeardGrants, holds, live_keys_with, no_leases, put_lease, renews};
+use crate::heard::{
+    HeardGrants, HeldLease, held_as, holds, live_keys_with, no_leases, put_lease, renews,
+};
 use crate::life_stamps::{copy_of, key_law, put_stamps, restamp, still};
 use crate::stamped::Stamped;
 use assignment::TaskId;
@@ -196,6 +198,30 @@ impl Slicelet {
             return Err(Stranger);
         }
         Ok(self.is_continuous(handle, at))
+    }
+
+    /// The lease of a kind that the task holds, which may have ended.
+    pub fn held(&self, kind: Kind) -> Option<HeldLease>
+        ensures { result ≡ option_map held_lease (held_in self.now kind) }
+    {
+        match kind {
+            Kind::Guard => held_as(&self.holding.guard, self.heard.guard),
+            Kind::Bridge => held_as(&self.holding.bridge, self.heard.bridge),
+        }
+    }
+
+    /// The task's life: 0 before the first.
+    pub fn life(&self) -> u32
+        ensures { result ≡ self.now.life }
+    {
+        self.life
+    }
+
+    /// The reading of the last accepted call, in ticks: 0 before the first.
+    pub fn last_reading(&self) -> u64
+        ensures { result ≡ self.now.last }
+    {
+        self.holding.last
     }
 
     /// What a slicelet knows is what some calls leave, each of which was accepted after those before it.

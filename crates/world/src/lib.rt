@@ -25,3 +25,4 @@ pub use laws::{calls_law, handle_law, interval_law, owner_law, planned_law, rule
 pub use readings::timely;
 pub use reply::{OwnerList, Refusal, Reply};
 pub use step::Step;
+pub use told::{grant_reply, refusal_by};

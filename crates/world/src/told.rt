@@ -66,7 +66,8 @@ fn term_reply(step: &Step, term: JobTerm) -> Reply
     }
 }
 
-fn grant_reply(grant: &Grant) -> Reply
+/// A grant that the table sent, as it is told.
+pub fn grant_reply(grant: &Grant) -> Reply
     ensures { result ≡ grant_reply grant.now }
 {
     Reply::Granted {
@@ -110,7 +111,8 @@ fn clerk_reply(step: &Step, reply: ClerkReply) -> Reply
     }
 }
 
-fn refusal_by(error: ClusterError) -> Refusal
+/// A refusal by the machines, as it is told.
+pub fn refusal_by(error: ClusterError) -> Refusal
     ensures { result ≡ refusal_by error }
 {
     match error {

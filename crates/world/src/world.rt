@@ -6,14 +6,14 @@ ghost use Rattle.machines.specs.Numbers.{is_within};
 ghost use Rattle.slicelet.specs.Continuity.{is_strange};
 ghost use Rattle.slicelet.specs.declared.handle.KeyHandle.{KeyHandle};
 ghost use Rattle.assigner.specs.Terms.{Keeping};
-ghost use Rattle.cluster.specs.Clusters.{AreActors};
+ghost use Rattle.cluster.specs.Clusters.{AreActors, LeadsTo as LeadsToCluster};
 ghost use Rattle.cluster.specs.Numbers.{with_number};
 ghost use Rattle.world.specs.Jobs.{Job};
 ghost use Rattle.world.specs.declared.step.Step.{Step};
 ghost use Rattle.world.specs.declared.step.Step.TheVariants as step;
 ghost use Rattle.world.specs.declared.reply.Reply.{Reply};
 ghost use Rattle.world.specs.Pasts.{Past, event, steps_of, IsTimely};
-ghost use Rattle.world.specs.Calls.{handles_made, history};
+ghost use Rattle.world.specs.Calls.{calls_in, handles_made, history};
 ghost use Rattle.world.specs.Runs.{IsRun, past_after};
 ghost use Rattle.world.specs.Headline.{IsServedByRule, IsCheckedByHistory, MayServe, IsOwner, IsWhileHeld};
 ghost use Rattle.world.specs.Worlds.{Keeps, LeadsTo, Played};
@@ -137,6 +137,15 @@ impl World {
     {
         self.run_law();
         interval_law();
+    }
+
+    /// The machines of the job, after the calls that the steps made of them.
+    #[tactic(auto, unfolding(crate::specs::Worlds::LeadsTo))]
+    pub fn cluster(&self) -> &Cluster
+        ensures { (job : Job) (past : Past) → LeadsTo job past self.now
+            → LeadsToCluster job (calls_in job past) result.now }
+    {
+        &self.cluster
     }
 
     // Plays one more step, and answers it.
