@@ -9,5 +9,6 @@ mod session;
 mod talk;
 
 pub use answer::ReplyForm;
+pub use reading::job_said;
 pub use session::Session;
 pub use talk::run_session;

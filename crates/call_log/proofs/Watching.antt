@@ -1,0 +1,165 @@
+-- Readings that are watched one after another.
+use Rattle.std.proofs.Common.{◌≡◌, ℕ, ◌+◌, ◌-◌, ◌<◌, ◌≤◌, Bool, true, false, List, [], ◌∷◌, ◌++◌, map, length, get_or, take, refl, sym, ap, ◌∙◌, subst, arith}
+use Rattle.std.specs.Prelude.{nat_lt, nat_le, Option, Some, None, is_some, slice_get, if◌then◌else◌}
+use Rattle.std.specs.List.{AllByRecursion}
+use Rattle.std.proofs.lemmas.List.{take_more, reverse-append, get_or_default}
+use Rattle.std.proofs.lemmas.Option.{slice_get-get_or}
+use Rattle.std.proofs.lemmas.Bool.Decides.{nat_tests}
+use Rattle.cluster.specs.declared.timing.Reading.{Reading}
+use Rattle.cluster.specs.declared.timing.Reading.TheVariants.{TableClock, TaskClock, NoClock}
+use Rattle.cluster.specs.Timing.{IsNear, IsTimely}
+use Rattle.call_log.specs.declared.entry.Entry.{Entry}
+use Rattle.call_log.specs.declared.late.Greatest.{Greatest}
+use Rattle.call_log.specs.declared.late.Late.{Late}
+use Rattle.call_log.specs.Calls.{reading_in}
+use Rattle.call_log.specs.Late.{readings_of, IsLate, AreWatched}
+use Rattle.call_log.specs.internals.Watching.{reached, greater, greatest_after, late_by, late_after}
+
+-- the greatest reading, 0 before the first
+abbrev pub at_of : Option Greatest → ℕ
+at_of None = 0
+at_of (Some g) = g.at
+
+-- a task's clock may be read next from here on
+abbrev pub IsBound : ℕ → Option Greatest → List Reading → Type 0
+IsBound skew g before = (at : ℕ) → at_of g ≤ at + skew → AllByRecursion (IsNear skew (TaskClock at)) before
+
+-- the greatest reading is that of an entry
+pub record Stands (entries : List Entry) (i : ℕ) (g : Greatest) : Type 0 where
+  pub table : Entry
+  pub there : slice_get entries g.index ≡ Some table
+  pub read : reading_in table.line.call ≡ TableClock g.at
+  pub before : g.index < i
+
+-- what is known once so many entries were watched
+pub record IsWatched (skew : ℕ) (entries : List Entry) (i : ℕ) (greatest : Option Greatest) : Type 0 where
+  pub timely : IsTimely skew (readings_of (take i entries))
+  pub bound : IsBound skew greatest (readings_of (take i entries))
+  pub stands : (g : Greatest) → greatest ≡ Some g → Stands entries i g
+
+-- THE GREATEST READING
+
+max_if : (b : Bool) (g : Greatest) (s i : ℕ) → nat_le s g.at ≡ b → (s ≤ at_of (if b then Some g else Some (reached s i))) × (g.at ≤ at_of (if b then Some g else Some (reached s i)))
+max_if true g s i t = (let u : nat_le s g.at ≡ true = t in grind (arith, nat_tests), omega arith)
+max_if false g s i t = (omega arith, let u : nat_le s g.at ≡ false = t in grind (arith, nat_tests))
+
+greater_max : (g : Option Greatest) (s i : ℕ) → (s ≤ at_of (greater g s i)) × (at_of g ≤ at_of (greater g s i))
+greater_max None s i = (omega arith, omega arith)
+greater_max (Some g) s i = max_if (nat_le s g.at) g s i refl
+
+none_if : (b : Bool) (l : Late) → (if b then Some l else None) ≡ None → b ≡ false
+none_if true l e = absurd (cc)
+none_if false l e = refl
+
+some_if : (b : Bool) (l late : Late) → (if b then Some l else None) ≡ Some late → (b ≡ true) × (late ≡ l)
+some_if true l late e = (refl, cc)
+some_if false l late e = absurd (cc)
+
+not_late : (skew : ℕ) (g : Option Greatest) (a i : ℕ) → late_after skew g (TaskClock a) i ≡ None → at_of g ≤ a + skew
+not_late skew None a i e = omega arith
+not_late skew (Some g) a i e = let t : nat_lt a (g.at - skew) ≡ false = none_if (nat_lt a (g.at - skew)) (late_by g a i) e in grind (arith, nat_tests)
+
+-- ONE READING MORE
+
+free_of_table : (skew s : ℕ) (rs : List Reading) → AllByRecursion (IsNear skew (TableClock s)) rs
+free_of_table skew s [] = tt
+free_of_table skew s (r ∷ rs) = (tt, free_of_table skew s rs)
+
+free_of_clock : (skew : ℕ) (rs : List Reading) → AllByRecursion (IsNear skew NoClock) rs
+free_of_clock skew [] = tt
+free_of_clock skew (r ∷ rs) = (tt, free_of_clock skew rs)
+
+reading_more : (skew i : ℕ) (r : Reading) (rs : List Reading) (g : Option Greatest) → IsTimely skew rs → IsBound skew g rs → late_after skew g r i ≡ None
+    → IsTimely skew (r ∷ rs) × IsBound skew (greatest_after g r i) (r ∷ rs)
+reading_more skew i (TableClock s) rs g timely bound none =
+    let m = greater_max g s i in
+    ((free_of_table skew s rs, timely), λ at le. (let a = m.0 in omega (arith, a, le), bound at (let b = m.1 in omega (arith, b, le))))
+reading_more skew i (TaskClock a) rs g timely bound none = ((bound a (not_late skew g a i none), timely), λ at le. (tt, bound at le))
+reading_more skew i NoClock rs g timely bound none = ((free_of_clock skew rs, timely), λ at le. (tt, bound at le))
+
+module _ (skew : ℕ) (entries : List Entry) (i : ℕ) (entry : Entry) (low : i < length entries) (here : entry ≡ get_or entries i entry) where
+  found : slice_get entries i ≡ Some entry
+  found = slice_get-get_or entries i entry low ∙ ap (λ (e : Entry). Some e) (sym here)
+
+  one_more : readings_of (take (i + 1) entries) ≡ reading_in entry.line.call ∷ readings_of (take i entries)
+  one_more =
+      ap readings_of (take_more entries i entry low ∙ ap (λ (e : Entry). take i entries ++ e ∷ []) (sym here))
+      ∙ ap (map (λ (e : Entry). reading_in e.line.call)) (reverse-append (take i entries) (entry ∷ []))
+
+  later : (g : Greatest) → Stands entries i g → Stands entries (i + 1) g
+  later g s = record { table = s.table; there = s.there; read = s.read; before = let b = s.before in omega (arith, b) }
+
+  reached_here : (s : ℕ) → reading_in entry.line.call ≡ TableClock s → Stands entries (i + 1) (reached s i)
+  reached_here s is = record { table = entry; there = found; read = is; before = omega arith }
+
+  stands_if : (b : Bool) (old g : Greatest) (s : ℕ) → reading_in entry.line.call ≡ TableClock s → Stands entries i old
+      → (if b then Some old else Some (reached s i)) ≡ Some g → Stands entries (i + 1) g
+  stands_if true old g s is stands e = subst (Stands entries (i + 1)) (let f : old ≡ g = cc in f) (later old stands)
+  stands_if false old g s is stands e = subst (Stands entries (i + 1)) (let f : reached s i ≡ g = cc in f) (reached_here s is)
+
+  stands_more : (r : Reading) (greatest : Option Greatest) → reading_in entry.line.call ≡ r → ((g : Greatest) → greatest ≡ Some g → Stands entries i g)
+      → (g : Greatest) → greatest_after greatest r i ≡ Some g → Stands entries (i + 1) g
+  stands_more (TableClock s) None is stands g e = subst (Stands entries (i + 1)) (let f : reached s i ≡ g = cc in f) (reached_here s is)
+  stands_more (TableClock s) (Some old) is stands g e = stands_if (nat_le s old.at) old g s is (stands old refl) e
+  stands_more (TaskClock a) greatest is stands g e = later g (stands g e)
+  stands_more NoClock greatest is stands g e = later g (stands g e)
+
+  -- a reading that is timely
+  pub watched_more : (greatest : Option Greatest) → IsWatched skew entries i greatest → late_after skew greatest (reading_in entry.line.call) i ≡ None
+      → IsWatched skew entries (i + 1) (greatest_after greatest (reading_in entry.line.call) i)
+  watched_more greatest known none =
+      let both = reading_more skew i (reading_in entry.line.call) (readings_of (take i entries)) greatest known.timely known.bound none in
+      record {
+        timely = subst (IsTimely skew) (sym one_more) both.0;
+        bound = subst (IsBound skew (greatest_after greatest (reading_in entry.line.call) i)) (sym one_more) both.1;
+        stands = stands_more (reading_in entry.line.call) greatest refl known.stands;
+      }
+
+  late_with : (g : Greatest) (a : ℕ) → reading_in entry.line.call ≡ TaskClock a → IsWatched skew entries i (Some g) → nat_lt a (g.at - skew) ≡ true → IsLate skew entries (late_by g a i)
+  late_with g a is known test =
+      let stands = known.stands g refl in
+      record {
+        task = entry;
+        here = found;
+        read = is;
+        table = stands.table;
+        there = stands.there;
+        read_before = stands.read;
+        earlier = stands.before;
+        ahead = let t : nat_lt a (g.at - skew) ≡ true = test in grind (arith, nat_tests);
+        first = known.timely;
+      }
+
+  late_from : (r : Reading) (greatest : Option Greatest) (late : Late) → reading_in entry.line.call ≡ r → IsWatched skew entries i greatest
+      → late_after skew greatest r i ≡ Some late → IsLate skew entries late
+  late_from (TaskClock a) (Some g) late is known e =
+      let p = some_if (nat_lt a (g.at - skew)) (late_by g a i) late e in
+      subst (IsLate skew entries) (sym p.1) (late_with g a is known p.0)
+  late_from (TaskClock a) None late is known e = absurd (cc)
+  late_from (TableClock s) None late is known e = absurd (cc)
+  late_from (TableClock s) (Some g) late is known e = absurd (cc)
+  late_from NoClock None late is known e = absurd (cc)
+  late_from NoClock (Some g) late is known e = absurd (cc)
+
+  -- a reading that is not
+  pub late_here : (greatest : Option Greatest) (late : Late) → IsWatched skew entries i greatest → late_after skew greatest (reading_in entry.line.call) i ≡ Some late → IsLate skew entries late
+  late_here greatest late known e = late_from (reading_in entry.line.call) greatest late refl known e
+
+none_of : (o : Option Late) → is_some o ≡ false → o ≡ None
+none_of None e = refl
+none_of (Some late) e = absurd (cc)
+
+-- the next entry, whatever stands where there is none
+module _ (skew : ℕ) (entries : List Entry) (i : ℕ) (d : Entry) (low : i < length entries) (r : Reading) (is : r ≡ reading_in (get_or entries i d).line.call) where
+  here : get_or entries i d ≡ get_or entries i (get_or entries i d)
+  here = get_or_default entries i d (get_or entries i d) low
+
+  pub watch_next : (greatest next : Option Greatest) (late : Option Late) → IsWatched skew entries i greatest → late ≡ late_after skew greatest r i → is_some late ≡ false
+      → next ≡ greatest_after greatest r i → IsWatched skew entries (i + 1) next
+  watch_next greatest next late known e none is_next =
+      let timely = ap (λ (q : Reading). late_after skew greatest q i) (sym is) ∙ sym e ∙ none_of late none in
+      rw (is_next, is) (watched_more skew entries i (get_or entries i d) low here greatest known timely)
+
+  pub watch_ends : (greatest : Option Greatest) (late : Option Late) → IsWatched skew entries i greatest → late ≡ late_after skew greatest r i → is_some late ≡ true → AreWatched skew entries late
+  watch_ends greatest None known e some = absurd (cc)
+  watch_ends greatest (Some late) known e some = late_here skew entries i (get_or entries i d) low here greatest late known (ap (λ (q : Reading). late_after skew greatest q i) (sym is) ∙ sym e)

@@ -1,0 +1,13 @@
+use Rattle.call_log.proofs.auditing.audit_logs.Goals as goal
+
+pub returns-clause-ok : goal.returns-clause-ok
+returns-clause-ok g c = record {
+  log = c.in_ok-log.log;
+  reads = c.in_ok-log.ensures.ok;
+  ordered = c.audit_calls.new.entries.items;
+  same = c.audit_calls.ensures.same;
+  finding = c.in_ok-finding.finding;
+  found = c.in_ok-finding.ensures.found;
+  told = c.is_one.ensures;
+  report = rw (← c.policy.ensures, ← c.skew.ensures, ← c.as_slice-entries.ensures.value) c.in_ok-text.ensures;
+}

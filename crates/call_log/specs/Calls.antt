@@ -1,0 +1,60 @@
+-- The call that a line tells, by the calls before it.
+use Rattle.std.specs.Prelude.{ℕ, List, [], Option, Some, None, option_map, option_and_then}
+use Rattle.lease_table.specs.declared.values.Grant.{Grant}
+use Rattle.slicelet.specs.declared.call.SliceletCall.TheVariants.{Hear}
+use Rattle.slicelet.specs.States.{SliceletState, held_lease}
+use Rattle.cluster.specs.Jobs.{Job}
+use Rattle.cluster.specs.Clusters.{slicelet_of}
+use Rattle.cluster.specs.declared.call.ClusterCall.{ClusterCall}
+use Rattle.cluster.specs.declared.call.ClusterCall.TheVariants as call
+use Rattle.cluster.specs.declared.timing.Reading.{Reading}
+use Rattle.cluster.specs.declared.timing.Reading.TheVariants.{TaskClock}
+use Rattle.cluster.specs.Numbers.{with_number}
+use Rattle.cluster.specs.Pasts.{Past, grants, reading}
+use Rattle.call_log.specs.declared.finding.HeldLeases.{HeldLeases}
+use Rattle.call_log.specs.declared.line.BareGrant.{BareGrant}
+use Rattle.call_log.specs.declared.line.LoggedCall.{LoggedCall}
+use Rattle.call_log.specs.declared.line.LoggedCall.TheVariants.{Whole, HearBare}
+
+-- the ranges of a grant that was sent; where none was, none
+abbrev pub ranges_sent : Option Grant → List ℕ
+ranges_sent (Some sent) = sent.lease.ranges
+ranges_sent None = []
+
+-- a grant with these ranges
+abbrev pub with_ranges : BareGrant → List ℕ → Grant
+with_ranges g ranges = record {
+  number = g.number;
+  task = g.task;
+  life = g.life;
+  lease = record { kind = g.kind; generation = g.generation; ranges = ranges; ends = g.ends };
+  table_ends = g.table_ends;
+}
+
+-- ranges that are left out are those of the grant of this number that the table sent: the keys that its task owns in its generation
+abbrev pub whole_grant : Past → BareGrant → Grant
+whole_grant past g = with_ranges g (ranges_sent (with_number g.number (grants past)))
+
+-- the call that a line tells after these calls
+abbrev pub call_after : Past → LoggedCall → ClusterCall
+call_after past (Whole c) = c
+call_after past (HearBare task grant at) = call.Task task (Hear (whole_grant past grant) at)
+
+-- the task that a call asks for a key
+abbrev pub asked_task : LoggedCall → Option ℕ
+asked_task (Whole (call.Serve task key at)) = Some task
+asked_task (Whole (call.Hold task key at)) = Some task
+asked_task _ = None
+
+-- the leases of a slicelet
+abbrev pub leases_held : SliceletState → HeldLeases
+leases_held s = record { guard = option_map held_lease s.guard; bridge = option_map held_lease s.bridge }
+
+-- the leases of the task that a call asks for a key after these calls, if the job has the task
+abbrev pub held_by_asked : Job → Past → LoggedCall → Option HeldLeases
+held_by_asked job past c = option_map leases_held (option_and_then (slicelet_of job past) (asked_task c))
+
+-- whose clock a call reads, and when
+abbrev pub reading_in : LoggedCall → Reading
+reading_in (Whole c) = reading c
+reading_in (HearBare task grant at) = TaskClock at

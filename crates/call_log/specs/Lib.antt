@@ -1,0 +1,16 @@
+-- What the lines of a log say.
+pub mod Keys
+pub mod TableLines
+pub mod TaskLines
+pub mod ClerkLines
+pub mod Lines
+pub mod Files
+-- What is told of a call.
+pub mod Told
+-- Whether the calls of a log are one run.
+pub mod Calls
+pub mod Late
+pub mod Audited
+pub mod Reports
+pub mod Audits
+pub mod internals

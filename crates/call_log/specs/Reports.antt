@@ -1,0 +1,80 @@
+-- What is written of a log.
+use Rattle.std.specs.Prelude.{◌≡◌, ℕ, nat_lt, List, [], ◌++◌, codes, decimal, Option, Some, None, slice_get, if◌then◌else◌}
+use Rattle.slicelet.specs.declared.heard.HeldLease.{HeldLease}
+use Rattle.policy_rules.specs.declared.answer.Verdict.TheVariants.{Deny}
+use Rattle.policy_rules.specs.declared.answer.Ground.TheVariants.{Ended}
+use Rattle.cluster.specs.declared.timing.Reading.{Reading}
+use Rattle.cluster.specs.declared.timing.Reading.TheVariants.{TaskClock}
+use Rattle.world.specs.declared.reply.Reply.{Reply}
+use Rattle.world.specs.declared.reply.Reply.TheVariants as reply
+use Rattle.call_log.specs.declared.entry.Entry.{Entry}
+use Rattle.call_log.specs.declared.finding.Finding.{Finding}
+use Rattle.call_log.specs.declared.finding.Finding.TheVariants.{One, Double, Other}
+use Rattle.call_log.specs.declared.finding.HeldLeases.{HeldLeases}
+use Rattle.call_log.specs.declared.late.Late.{Late}
+use Rattle.call_log.specs.Calls.{reading_in}
+use Rattle.call_log.specs.Told.{plain_text}
+
+-- where an entry stands: the name of its file and the number of its line
+abbrev pub name_text : Option (List ℕ) → List ℕ
+name_text (Some name) = name
+name_text None = []
+
+abbrev pub standing_text : List (List ℕ) → Option Entry → List ℕ
+standing_text names (Some entry) = name_text (slice_get names entry.place.file) ++ (codes ":" ++ decimal entry.place.line)
+standing_text names None = []
+
+abbrev pub standing_at : List (List ℕ) → List Entry → ℕ → List ℕ
+standing_at names entries index = standing_text names (slice_get entries index)
+
+-- whether the clocks were timely, and else the two readings
+abbrev pub clocks_text : ℕ → List (List ℕ) → List Entry → Option Late → List ℕ
+clocks_text skew names entries None = codes "timely yes\n"
+clocks_text skew names entries (Some late) =
+    codes "timely no: " ++ (standing_at names entries late.index ++ (codes " read " ++ (decimal late.at ++ (codes ", "
+    ++ (standing_at names entries late.table_index ++ (codes " read " ++ (decimal late.table_at
+    ++ (codes " before it, skew " ++ (decimal skew ++ codes "\n")))))))))
+
+-- a lease that has ended at a reading
+abbrev pub ended_words : List ℕ → HeldLease → List ℕ
+ended_words word lease = word ++ (codes " " ++ (decimal lease.number ++ (codes " ended at " ++ (decimal lease.ends ++ codes ", "))))
+
+abbrev pub ended_text : List ℕ → Option HeldLease → ℕ → List ℕ
+ended_text word None at = []
+ended_text word (Some lease) at = if nat_lt at lease.ends then [] else ended_words word lease
+
+-- why a key should have been denied, where leases have ended
+abbrev pub reason_at : ℕ → HeldLeases → List ℕ
+reason_at at held = codes ": " ++ (ended_text (codes "guard") held.guard at ++ (ended_text (codes "bridge") held.bridge at ++ (codes "read at " ++ decimal at)))
+
+abbrev pub reason_text : Reply → Reading → Option HeldLeases → List ℕ
+reason_text (reply.Verdict (Deny Ended)) (TaskClock at) (Some held) = reason_at at held
+reason_text _ _ _ = []
+
+-- the ticket of an entry
+abbrev pub ticket_of : Option Entry → ℕ
+ticket_of (Some entry) = entry.line.ticket
+ticket_of None = 0
+
+-- two entries of one ticket, the later one first
+abbrev pub double_text : List (List ℕ) → List Entry → ℕ → ℕ → List ℕ
+double_text names entries first second =
+    standing_at names entries second ++ (codes ": ticket " ++ (decimal (ticket_of (slice_get entries first))
+    ++ (codes " stands at " ++ (standing_at names entries first ++ codes " too\n"))))
+
+-- a call whose caller was told otherwise: where it stands, what was told, and what should have been
+abbrev pub told_text : List ℕ → List ℕ → Reply → Reading → Option HeldLeases → List ℕ
+told_text standing told wanted reading held =
+    standing ++ (codes ": told " ++ (told ++ (codes "; should be \"" ++ (plain_text wanted
+    ++ (codes "\"" ++ (reason_text wanted reading held ++ codes "\n"))))))
+
+abbrev pub IsOtherOf : List (List ℕ) → List Entry → ℕ → Reply → Option HeldLeases → Option Entry → List ℕ → Type 0
+IsOtherOf names entries index wanted held (Some entry) text =
+    (told : List ℕ) × text ≡ told_text (standing_at names entries index) told wanted (reading_in entry.line.call) held
+IsOtherOf names entries index wanted held None text = text ≡ []
+
+-- the lines for what was found
+abbrev pub IsReport : ℕ → List (List ℕ) → List Entry → Finding → List ℕ → Type 0
+IsReport skew names entries (One steps late) text = text ≡ codes "audit one\nsteps " ++ (decimal steps ++ (codes "\n" ++ clocks_text skew names entries late))
+IsReport skew names entries (Double first second) text = text ≡ double_text names entries first second
+IsReport skew names entries (Other index wanted held) text = IsOtherOf names entries index wanted held (slice_get entries index) text

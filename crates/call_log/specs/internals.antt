@@ -1,0 +1,4 @@
+pub mod Answers
+pub mod Shown
+pub mod Reading
+pub mod Watching

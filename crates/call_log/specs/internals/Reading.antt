@@ -1,0 +1,21 @@
+-- Why one of some lines is not read.
+use Rattle.std.specs.Prelude.{◌≡◌, ⊤, List}
+use Rattle.diagnosis.specs.declared.error.AnswerError.TheVariants as answer
+use Rattle.session.specs.Lines.{IsNoJob}
+use Rattle.call_log.specs.declared.log.LogError.{LogError}
+use Rattle.call_log.specs.declared.log.LogError.TheVariants as unread
+use Rattle.call_log.specs.Files.{PlacedLine, IsBadLine}
+
+-- a line says no job, or memory ran out
+abbrev pub IsNoJobFor : PlacedLine → LogError → Type 0
+IsNoJobFor line (unread.NoJob place faults) = (line.place ≡ place) × IsNoJob line.bytes (answer.Refused faults)
+IsNoJobFor line unread.Empty = ⊥
+IsNoJobFor line (unread.BadLine place why mend) = ⊥
+IsNoJobFor line unread.Memory = ⊤
+
+-- one of some lines says no call, or memory ran out
+abbrev pub IsNotRead : List PlacedLine → LogError → Type 0
+IsNotRead lines (unread.BadLine place why mend) = IsBadLine lines place why
+IsNotRead lines unread.Empty = ⊥
+IsNotRead lines (unread.NoJob place faults) = ⊥
+IsNotRead lines unread.Memory = ⊤

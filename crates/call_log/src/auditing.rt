@@ -1,0 +1,53 @@
+//! The audit of logs: the bytes of files in, the lines of a report out.
+
+ghost use Rattle.std.specs.Prelude.{◌≡◌, IfErr, IfOk, map, string_bytes};
+ghost use Rattle.call_log.specs.Audited.{is_one};
+ghost use Rattle.call_log.specs.Audits.{IsAudited};
+ghost use Rattle.call_log.specs.Files.{IsUnread, lines_from};
+
+use crate::finding::Finding;
+use crate::judging::audit_calls;
+use crate::log::LogError;
+use crate::log_reading::read_log;
+use crate::progress::Progress;
+use crate::report::{NamedEntries, report_of};
+use std::alloc::Global;
+
+/// What is said of logs.
+#[derive(Debug, Drop)]
+pub struct LogReport {
+    /// Whether the calls are one run.
+    pub is_one: bool,
+    /// The lines that are written.
+    pub text: String,
+}
+
+fn is_one(finding: &Finding) -> bool
+    ensures { result ≡ is_one finding.now }
+{
+    matches!(finding, Finding::One { .. })
+}
+
+/// Reads the log that files say, and judges its calls in the order of their tickets. `names` are those of the files.
+///
+/// The first line that is not what it has to be is named. Out of memory, nothing is said.
+pub fn audit_logs<P: Progress>(
+    alloc: Global,
+    names: &[&str],
+    files: &[&[u8]],
+    progress: &mut P,
+) -> Result<LogReport, LogError>
+    ensures ok { IfOk result (λ report.
+        IsAudited (map (λ n. n.now) names.now) (map (λ f. f.now) files.now) report.is_one (string_bytes report.text)) }
+    ensures err { IfErr result (IsUnread (lines_from 0 (map (λ f. f.now) files.now))) }
+{
+    let mut log = read_log(alloc, files, progress)?;
+    let finding = audit_calls(alloc, log.job, &mut log.entries, progress)?;
+    let entries = log.entries.as_slice();
+    let named = NamedEntries { names, entries };
+    let text = report_of(alloc, log.job.policy().skew(), named, &finding)?;
+    Ok(LogReport {
+        is_one: is_one(&finding),
+        text,
+    })
+}

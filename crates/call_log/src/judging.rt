@@ -1,0 +1,91 @@
+//! Whether the calls of a log are one run.
+
+ghost use Rattle.std.specs.Prelude.{◌≡◌, ◌+◌, ◌<◌, length, IfOk, OnOk, MatchOption};
+ghost use Rattle.std.specs.List.Sorted.{IsPermutation, IsNonDecreasingBy};
+ghost use Rattle.cluster.specs.Jobs.{Job};
+ghost use Rattle.call_log.specs.Audited.{IsDouble, IsFound, IsReplayed, TicketsRise};
+
+use crate::entry::Entry;
+use crate::finding::Finding;
+use crate::late::late_reading;
+use crate::playing::{answer, held_by_asked};
+use crate::progress::Progress;
+use cluster::{Cluster, Job};
+use std::alloc::{AllocError, Global};
+
+// By ticket; entries of one ticket stay in their order.
+fn sort(entries: &mut Vec<Entry>) -> Result<(), AllocError>
+    ensures same { IsPermutation entries.old.items entries.new.items }
+    ensures order { OnOk result (IsNonDecreasingBy (λ e. e.line.ticket) entries.new.items) }
+{
+    entries.sort_by_key(|entry| entry.line.ticket)
+}
+
+// The place of the first entry whose ticket the next one has too, of sorted entries.
+fn double(entries: &[Entry]) -> Option<usize>
+    requires { IsNonDecreasingBy (λ e. e.line.ticket) entries.now }
+    ensures { MatchOption result (TicketsRise entries.now)
+        (λ i. IsDouble entries.now i (i + 1) × (i + 1 < length entries.now)) }
+{
+    for i in 1..entries.len() {
+        let before = entries[i - 1].line.ticket;
+        let ticket = entries[i].line.ticket;
+        if ticket == before {
+            return Some(i - 1);
+        }
+    }
+    None
+}
+
+// Plays entries in order, up to the first whose caller was told otherwise.
+fn replay<P: Progress>(
+    alloc: Global,
+    job: Job,
+    entries: &[Entry],
+    progress: &mut P,
+) -> Result<Finding, AllocError>
+    ensures { IfOk result (IsReplayed job entries.now) }
+{
+    let mut cluster = Cluster::new(alloc, job)?;
+    for index in 0..entries.len() {
+        let entry = &entries[index];
+        let other = answer(alloc, &mut cluster, &entry.line)?;
+        if let Some(wanted) = other {
+            cluster.run_law();
+            let held = held_by_asked(&cluster, &entry.line.call);
+            return Ok(Finding::Other {
+                index,
+                wanted,
+                held,
+            });
+        }
+        progress.calls_judged(index as u64 + 1);
+    }
+    cluster.run_law();
+    Ok(Finding::One {
+        steps: entries.len() as u64,
+        late: late_reading(job.policy().skew(), entries),
+    })
+}
+
+/// Sorts the calls of a log by their tickets, and finds whether they are one run of the job's machines in this
+/// order: each caller was told, in these words, what the machines answer after the calls before.
+///
+/// [`Finding::Double`] comes first: two entries have one ticket. Else [`Finding::Other`] names the first call
+/// whose caller was told otherwise. Out of memory, nothing is found.
+pub fn audit_calls<P: Progress>(
+    alloc: Global,
+    job: Job,
+    entries: &mut Vec<Entry>,
+    progress: &mut P,
+) -> Result<Finding, AllocError>
+    ensures same { IsPermutation entries.old.items entries.new.items }
+    ensures found { IfOk result (IsFound job entries.new.items) }
+{
+    sort(entries)?;
+    if let Some(first) = double(entries) {
+        let second = first + 1;
+        return Ok(Finding::Double { first, second });
+    }
+    replay(alloc, job, entries, progress)
+}

@@ -1,0 +1,90 @@
+//! The first reading that is not timely.
+
+ghost use Rattle.std.specs.Prelude.{◌≡◌, Some};
+ghost use Rattle.call_log.specs.Late.{AreWatched};
+ghost use Rattle.call_log.specs.internals.Watching.{greater, greatest_after, late_after};
+
+use crate::entry::Entry;
+use cluster::Reading;
+
+/// A reading of a task's clock that an earlier one of the table's clock is by more than the skew ahead of.
+#[derive(Clone, Copy, Debug, PartialEq, Eq)]
+pub struct Late {
+    /// The place of the task's call in the order of the tickets.
+    pub index: usize,
+    /// What it read, in ticks.
+    pub at: u64,
+    /// The place of the table's call.
+    pub table_index: usize,
+    /// What that one read.
+    pub table_at: u64,
+}
+
+/// The greatest reading of the table's clock so far, and the place of its call.
+#[derive(Clone, Copy)]
+pub struct Greatest {
+    pub at: u64,
+    pub index: usize,
+}
+
+fn greater(greatest: Option<Greatest>, at: u64, index: usize) -> Option<Greatest>
+    ensures { result ≡ greater greatest at index }
+{
+    match greatest {
+        None => Some(Greatest { at, index }),
+        Some(before) => {
+            if at <= before.at {
+                Some(before)
+            } else {
+                Some(Greatest { at, index })
+            }
+        }
+    }
+}
+
+fn greatest_after(greatest: Option<Greatest>, reading: Reading, index: usize) -> Option<Greatest>
+    ensures { result ≡ greatest_after greatest reading index }
+{
+    match reading {
+        Reading::TableClock(at) => greater(greatest, at, index),
+        Reading::TaskClock(_) | Reading::NoClock => greatest,
+    }
+}
+
+fn late_after(skew: u64, greatest: Option<Greatest>, reading: Reading, index: usize) -> Option<Late>
+    ensures { result ≡ late_after skew greatest reading index }
+{
+    let Some(table) = greatest else {
+        return None;
+    };
+    let Reading::TaskClock(at) = reading else {
+        return None;
+    };
+    if at < table.at.saturating_sub(skew) {
+        Some(Late {
+            index,
+            at,
+            table_index: table.index,
+            table_at: table.at,
+        })
+    } else {
+        None
+    }
+}
+
+/// The first reading of a task's clock that is not timely, with the greatest one of the table's clock before it.
+/// Readings and skew are in ticks.
+pub fn late_reading(skew: u64, entries: &[Entry]) -> Option<Late>
+    ensures { AreWatched skew entries.now result }
+{
+    let mut greatest = None;
+    for index in 0..entries.len() {
+        let reading = entries[index].line.call.reading();
+        let late = late_after(skew, greatest, reading, index);
+        if late.is_some() {
+            return late;
+        }
+        greatest = greatest_after(greatest, reading, index);
+    }
+    None
+}

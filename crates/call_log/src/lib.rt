@@ -1,0 +1,35 @@
+//! Logs of calls that services wrote, and whether they are one run of a job's machines.
+#![tactic(auto)]
+
+mod auditing;
+mod clerk_lines;
+mod entry;
+mod finding;
+mod judging;
+mod key_member;
+mod late;
+mod line;
+mod lines;
+mod log;
+mod log_reading;
+mod mend;
+mod playing;
+mod progress;
+mod reading;
+mod report;
+mod table_lines;
+mod task_lines;
+mod told;
+
+pub use auditing::{LogReport, audit_logs};
+pub use entry::{Entry, Place};
+pub use finding::{Finding, HeldLeases};
+pub use judging::audit_calls;
+pub use late::Late;
+pub use line::{BareGrant, LoggedCall, LoggedLine, Words};
+pub use log::{Log, LogError};
+pub use log_reading::read_log;
+pub use progress::Progress;
+pub use reading::{NoLine, line_of, line_said};
+pub use report::{NamedEntries, report_of};
+pub use told::PlainLine;

@@ -1,0 +1,84 @@
+//! What a line of a log says.
+
+ghost use Rattle.std.specs.Prelude.{◌≡◌, IfOk};
+
+use assignment::TaskId;
+use cluster::ClusterCall;
+use policy_rules::Kind;
+use std::alloc::{AllocError, Global};
+use std::marker::Model;
+
+/// The words that a caller was told. Contracts see their bytes.
+#[derive(Debug, Drop)]
+pub struct Words {
+    text: String,
+}
+
+impl Model for Words {
+    ghost use Rattle.std.specs.Prelude.{List, ℕ, string_bytes};
+
+    ghost Value = { List ℕ };
+
+    ghost view = { λ w. string_bytes w.text };
+}
+
+impl Words {
+    /// The words of a text.
+    pub fn new(alloc: Global, text: &str) -> Result<Self, AllocError>
+        ensures { IfOk result (λ words. words ≡ text.now) }
+    {
+        Ok(Words {
+            text: String::from_str(alloc, text)?,
+        })
+    }
+
+    /// Their text.
+    pub fn as_str(&self) -> &str
+        ensures { result.now ≡ self.now }
+    {
+        self.text.as_str()
+    }
+}
+
+/// A grant without the ranges of its lease.
+#[derive(Clone, Copy, Debug, PartialEq, Eq)]
+pub struct BareGrant {
+    /// The number of the grant among all of the table.
+    pub number: u64,
+    /// The task that it is for.
+    pub task: TaskId,
+    /// The task's life that it is for.
+    pub life: u32,
+    /// What its lease is for.
+    pub kind: Kind,
+    /// The generation that its lease was granted for.
+    pub generation: u64,
+    /// The task's deadline, in ticks.
+    pub ends: u64,
+    /// The table's deadline, in ticks.
+    pub table_ends: u64,
+}
+
+/// A call as a log tells it.
+#[derive(Debug, Drop)]
+pub enum LoggedCall {
+    /// A call with all that it delivers.
+    Whole(ClusterCall),
+    /// A task hears a grant whose ranges are left out, at a reading of its clock in ticks.
+    HearBare {
+        task: u64,
+        grant: BareGrant,
+        at: u64,
+    },
+}
+
+/// A line of a log: a call, and what its caller was told.
+#[derive(Debug, Drop)]
+pub struct LoggedLine {
+    /// The place of the call among all calls that drew a ticket.
+    pub ticket: u64,
+    /// The call.
+    pub call: LoggedCall,
+    /// What the caller was told.
+    pub reply: Words,
+}

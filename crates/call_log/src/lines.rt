@@ -1,0 +1,60 @@
+//! The lines of files.
+
+ghost use Rattle.std.specs.Prelude.{◌≡◌, ◌++◌, map, IfOk};
+ghost use Rattle.call_log.specs.Files.{lines_from, lines_in, numbered};
+ghost use Rattle.call_log.specs.internals.Shown.{IsNextLine, shown};
+
+use crate::entry::Place;
+use memchr::memchr;
+use std::alloc::{AllocError, Global};
+
+/// The bytes of a line, without its end, and where it stands.
+#[derive(Clone, Copy)]
+pub struct LineBytes<'a> {
+    pub place: Place,
+    pub bytes: &'a [u8],
+}
+
+// The first line of bytes, and the bytes after it.
+fn next_line(bytes: &[u8]) -> Option<(&[u8], &[u8])>
+    ensures { IsNextLine bytes.now result }
+{
+    if bytes.is_empty() {
+        return None;
+    }
+    match memchr(b'\n', bytes) {
+        Some(end) => Some((&bytes[..end], &bytes[end + 1..])),
+        None => Some((bytes, &bytes[bytes.len()..])),
+    }
+}
+
+// Adds the lines of a file.
+fn add_lines<'a>(
+    lines: &mut Vec<LineBytes<'a>>,
+    file: usize,
+    bytes: &'a [u8],
+) -> Result<(), AllocError>
+    ensures { IfOk result (λ _. map shown lines.new.items
+        ≡ map shown lines.old.items ++ numbered file 1 (lines_in bytes.now)) }
+{
+    let mut rest = bytes;
+    let mut number = 1;
+    'splits: while let Some((line, after)) = next_line(rest) {
+        let place = Place { file, line: number };
+        lines.push(LineBytes { place, bytes: line })?;
+        rest = after;
+        number += 1;
+    }
+    Ok(())
+}
+
+/// The lines of files, file by file.
+pub fn lines_of<'a>(alloc: Global, files: &[&'a [u8]]) -> Result<Vec<LineBytes<'a>>, AllocError>
+    ensures { IfOk result (λ lines. map shown lines.items ≡ lines_from 0 (map (λ f. f.now) files.now)) }
+{
+    let mut lines = Vec::new(alloc);
+    for file in 0..files.len() {
+        add_lines(&mut lines, file, files[file])?;
+    }
+    Ok(lines)
+}

@@ -1,0 +1,171 @@
+//! What to mend in a line that says no call.
+
+use crate::task_lines::bare_grant_of;
+use diagnosis::{Found, Members, Wanted, WrongMember, missing_member, unknown_member};
+use serde_json::Value;
+use std::alloc::{AllocError, Global};
+use std::fmt;
+use wire::{DecodeError, grant_of, handle_of, note_of};
+
+/// The members of each call, in the order in which they are looked at.
+const CALLS: &[(&str, &[&str])] = &[
+    ("take", &["ticket", "reply", "assigner", "at"]),
+    ("renew", &["ticket", "reply", "term", "at"]),
+    (
+        "propose",
+        &["ticket", "reply", "term", "generation", "slices", "at"],
+    ),
+    ("commit", &["ticket", "reply", "term", "at"]),
+    ("grant", &["ticket", "reply", "task", "life", "at"]),
+    ("free", &["ticket", "reply", "note", "at"]),
+    ("lose", &["ticket", "reply"]),
+    ("phase", &["ticket", "reply"]),
+    ("rows", &["ticket", "reply"]),
+    ("start", &["ticket", "reply", "task", "life", "at"]),
+    ("hear", &["ticket", "reply", "task", "grant", "at"]),
+    ("release", &["ticket", "reply", "task", "kind", "at"]),
+    ("serve", &["ticket", "reply", "task", "key", "at"]),
+    ("hold", &["ticket", "reply", "task", "key", "at"]),
+    ("check", &["ticket", "reply", "task", "handle", "at"]),
+    (
+        "learn",
+        &["ticket", "reply", "clerk", "generation", "slices"],
+    ),
+    ("look", &["ticket", "reply", "clerk", "key"]),
+    ("forget", &["ticket", "reply", "clerk"]),
+];
+
+/// What a member has to be that steps of scripts do not have.
+#[derive(Clone, Copy)]
+enum Delivered {
+    Words,
+    Grant,
+    Note,
+    Handle,
+}
+
+impl Delivered {
+    // What the member of this name has to be, if steps do not have it.
+    fn of(name: &str) -> Option<Delivered> {
+        match name {
+            "reply" => Some(Delivered::Words),
+            "grant" => Some(Delivered::Grant),
+            "note" => Some(Delivered::Note),
+            "handle" => Some(Delivered::Handle),
+            _ => None,
+        }
+    }
+
+    fn is_met(self, alloc: Global, value: &Value) -> Result<bool, AllocError> {
+        match self {
+            Delivered::Words => Ok(value.is_string()),
+            Delivered::Grant => is_grant(alloc, value),
+            Delivered::Note => Ok(note_of(value).is_ok()),
+            Delivered::Handle => Ok(handle_of(value).is_ok()),
+        }
+    }
+}
+
+impl fmt::Display for Delivered {
+    fn fmt<W: fmt::Write>(&self, f: &mut fmt::Formatter<W>) -> fmt::Result {
+        f.write_str(match self {
+            Delivered::Words => "a text",
+            Delivered::Grant => {
+                "a grant {\"number\", \"task\", \"life\", \"kind\", \"generation\", \"ends\", \"until\"}, with \"ranges\" or without,"
+            }
+            Delivered::Note => "a release note {\"task\", \"life\", \"kind\", \"number\"}",
+            Delivered::Handle => "a key handle {\"task\", \"life\", \"slice_key\", \"position\"}",
+        })
+    }
+}
+
+// Whether a value is a grant, with ranges or without.
+fn is_grant(alloc: Global, value: &Value) -> Result<bool, AllocError> {
+    if value.get("ranges").is_none() {
+        return Ok(bare_grant_of(value).is_ok());
+    }
+    match grant_of(alloc, value) {
+        Ok(_grant) => Ok(true),
+        Err(DecodeError::Refused(_)) => Ok(false),
+        Err(DecodeError::NoMemory) => Err(AllocError),
+    }
+}
+
+// What the member of this name of a call has to be, where steps have it too. A task, an assigner and a clerk may be
+// any number here: one that the job does not have is answered, and not refused.
+fn wanted_of(call: &str, name: &str) -> Wanted {
+    match name {
+        "task" if call == "grant" => Wanted::Between(1, 64),
+        "life" => Wanted::Between(0, (1 << 32) - 1),
+        "key" => Wanted::Key,
+        "kind" => Wanted::Kind,
+        "slices" => Wanted::Slices,
+        _ => Wanted::Between(0, u64::MAX),
+    }
+}
+
+// What is said of a member that is not what is wanted of it; nothing where it is.
+fn member_mend(
+    alloc: Global,
+    call: &str,
+    name: &'static str,
+    value: &Value,
+) -> Result<Option<String>, AllocError> {
+    if let Some(delivered) = Delivered::of(name) {
+        if delivered.is_met(alloc, value)? {
+            return Ok(None);
+        }
+        let found = Found(value);
+        return Ok(Some(format!(in alloc; "\"{name}\" is {found}; {delivered} is wanted")?));
+    }
+    let wanted = wanted_of(call, name);
+    if wanted.is_met(alloc, value)? {
+        return Ok(None);
+    }
+    let wrong = WrongMember {
+        name,
+        value,
+        wanted,
+    };
+    Ok(Some(format!(in alloc; "{wrong}")?))
+}
+
+// What to mend in the members of a call.
+fn members_mend(alloc: Global, members: Members, line: &Value) -> Result<String, AllocError> {
+    let call = members.kind;
+    if let Some(object) = line.as_object() {
+        if let Some(unknown) = unknown_member(object, members, "do") {
+            return format!(in alloc; "{call}: unknown member {unknown:?}; {members}");
+        }
+    }
+    if let Some(missing) = missing_member(line, members) {
+        return format!(in alloc; "{call}: \"{missing}\" is missing; {members}");
+    }
+    for name in members.names {
+        if let Some(value) = line.get(*name) {
+            if let Some(wrong) = member_mend(alloc, call, *name, value)? {
+                return format!(in alloc; "{call}: {wrong}");
+            }
+        }
+    }
+    format!(in alloc; "{call}: {members}")
+}
+
+/// What to mend in a value that says no call.
+pub fn call_mend(alloc: Global, line: &Value) -> Result<String, AllocError> {
+    if !line.is_object() {
+        return format!(in alloc; "{}; a call is an object", Found(line));
+    }
+    let Some(word) = line.get("do") else {
+        return String::from_str(alloc, "\"do\" is missing; it names the call");
+    };
+    let Some(name) = word.as_str() else {
+        return format!(in alloc; "\"do\" is {}; the name of a call is wanted", Found(word));
+    };
+    for (kind, names) in CALLS {
+        if *kind == name {
+            return members_mend(alloc, Members { kind, names }, line);
+        }
+    }
+    format!(in alloc; "unknown call {name:?}")
+}

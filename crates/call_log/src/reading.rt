@@ -1,0 +1,85 @@
+//! Lines of a log, from their bytes.
+
+ghost use Rattle.std.specs.Prelude.{◌≡◌, IfErr, IfOk};
+ghost use Rattle.serde_json.specs.View.{view};
+ghost use Rattle.wire.specs.Refusals.{Gives};
+ghost use Rattle.call_log.specs.declared.reading.NoLine.TheVariants as none;
+ghost use Rattle.call_log.specs.Lines.{IsNoLine, SaysLine, call_in, line_of};
+
+use crate::line::{LoggedCall, LoggedLine, Words};
+use crate::mend::call_mend;
+use crate::table_lines::table_call_named;
+use diagnosis::line_mend;
+use program_io::{number_at, text_at};
+use serde_json::{Category, Value};
+use std::alloc::{AllocError, Global};
+use wire::{DecodeError, Refusal};
+
+/// Why a line gives no call.
+#[derive(Debug, Drop)]
+pub enum NoLine {
+    /// It says none.
+    Refused {
+        why: Refusal,
+        /// What to mend, in words.
+        mend: String,
+    },
+    /// Memory ran out.
+    Memory,
+}
+
+impl From<AllocError> for NoLine {
+    ghost from_gives = { λ _ e. e ≡ none.Memory };
+
+    fn from(_error: AllocError) -> Self {
+        NoLine::Memory
+    }
+}
+
+// The call that a line says, by its member `do`.
+#[tactic(auto, unfolding(crate::specs::Lines::call_in))]
+fn call_in(alloc: Global, line: &Value) -> Result<LoggedCall, DecodeError>
+    ensures { Gives result (call_in (view line.now)) }
+{
+    table_call_named(alloc, text_at("do", line)?, line)
+}
+
+/// What a JSON value says as a line of a log, or why it says none.
+#[tactic(auto, unfolding(crate::specs::Lines::line_of))]
+pub fn line_of(alloc: Global, line: &Value) -> Result<LoggedLine, DecodeError>
+    ensures { Gives result (line_of (view line.now)) }
+{
+    let ticket = number_at("ticket", line)?;
+    let reply = text_at("reply", line)?;
+    let call = call_in(alloc, line)?;
+    Ok(LoggedLine {
+        ticket,
+        call,
+        reply: Words::new(alloc, reply)?,
+    })
+}
+
+/// What the bytes of a line say. Out of memory, nothing is said of them.
+pub fn line_said(alloc: Global, bytes: &[u8]) -> Result<LoggedLine, NoLine>
+    ensures ok { IfOk result (SaysLine bytes.now) }
+    ensures err { IfErr result (IsNoLine bytes.now) }
+{
+    let value = match Value::from_slice(alloc, bytes) {
+        Ok(value) => value,
+        Err(error) if error.classify() == Category::Memory => return Err(NoLine::Memory),
+        Err(error) => {
+            let words = line_mend(alloc, &error)?;
+            let mend = format!(in alloc; "not JSON: {words}")?;
+            let why = Refusal::NotJson;
+            return Err(NoLine::Refused { why, mend });
+        }
+    };
+    match line_of(alloc, &value) {
+        Ok(line) => Ok(line),
+        Err(DecodeError::NoMemory) => Err(NoLine::Memory),
+        Err(DecodeError::Refused(why)) => {
+            let mend = call_mend(alloc, &value)?;
+            Err(NoLine::Refused { why, mend })
+        }
+    }
+}

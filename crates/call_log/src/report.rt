@@ -1,0 +1,229 @@
+//! What is written of a log.
+
+ghost use Rattle.std.specs.Prelude.{◌≡◌, IfOk, Some, map, slice_get, string_bytes};
+ghost use Rattle.call_log.specs.Reports.{IsOtherOf, IsReport, clocks_text, double_text, ended_text, name_text, reason_text, standing_at, ticket_of, told_text};
+
+use crate::entry::Entry;
+use crate::finding::{Finding, HeldLeases};
+use crate::late::Late;
+use crate::told::PlainLine;
+use cluster::Reading;
+use policy_rules::{Ground, Verdict};
+use slicelet::HeldLease;
+use std::alloc::{AllocError, Global};
+use std::fmt;
+use world::Reply;
+
+/// The entries of a log in the order of their tickets, and the names of its files.
+#[derive(Clone, Copy)]
+pub struct NamedEntries<'a> {
+    pub names: &'a [&'a str],
+    pub entries: &'a [Entry],
+}
+
+// The name of a file; nothing where it has none.
+fn name_of<'a>(names: &'a [&'a str], file: usize) -> &'a str
+    ensures { result.now ≡ name_text (slice_get (map (λ n. n.now) names.now) file) }
+{
+    match names.get(file) {
+        Some(name) => *name,
+        None => "",
+    }
+}
+
+/// Where an entry stands: the name of its file, a colon and the number of its line.
+#[derive(Clone, Copy)]
+struct Standing<'a> {
+    log: NamedEntries<'a>,
+    index: usize,
+}
+
+impl fmt::Display for Standing<'_> {
+    ghost output = { λ s. Some (standing_at (map (λ n. n.now) s.log.names.now) s.log.entries.now s.index) };
+
+    fn fmt<W: fmt::Write>(&self, f: &mut fmt::Formatter<W>) -> fmt::Result {
+        let Some(entry) = self.log.entries.get(self.index) else {
+            return Ok(());
+        };
+        let name = name_of(self.log.names, entry.place.file);
+        write!(f, "{name}:{}", entry.place.line)
+    }
+}
+
+/// A lease that has ended at a reading.
+#[derive(Clone, Copy)]
+struct EndedText {
+    word: &'static str,
+    lease: Option<HeldLease>,
+    at: u64,
+}
+
+impl fmt::Display for EndedText {
+    ghost output = { λ e. Some (ended_text e.word.now e.lease e.at) };
+
+    fn fmt<W: fmt::Write>(&self, f: &mut fmt::Formatter<W>) -> fmt::Result {
+        let Some(lease) = self.lease else {
+            return Ok(());
+        };
+        if self.at < lease.ends {
+            return Ok(());
+        }
+        write!(
+            f,
+            "{} {} ended at {}, ",
+            self.word, lease.number, lease.ends
+        )
+    }
+}
+
+/// Why a key should have been denied, where leases have ended.
+#[derive(Clone, Copy)]
+struct Reason<'a> {
+    wanted: &'a Reply,
+    reading: Reading,
+    held: Option<HeldLeases>,
+}
+
+impl fmt::Display for Reason<'_> {
+    ghost output = { λ r. Some (reason_text r.wanted.now r.reading r.held) };
+
+    fn fmt<W: fmt::Write>(&self, f: &mut fmt::Formatter<W>) -> fmt::Result {
+        let Reply::Verdict(Verdict::Deny(Ground::Ended)) = self.wanted else {
+            return Ok(());
+        };
+        let Reading::TaskClock(at) = self.reading else {
+            return Ok(());
+        };
+        let Some(held) = self.held else {
+            return Ok(());
+        };
+        let guard = EndedText {
+            word: "guard",
+            lease: held.guard,
+            at,
+        };
+        let bridge = EndedText {
+            word: "bridge",
+            lease: held.bridge,
+            at,
+        };
+        write!(f, ": {guard}{bridge}read at {at}")
+    }
+}
+
+// The last line of calls that are one run.
+fn clocks_text(
+    alloc: Global,
+    skew: u64,
+    log: NamedEntries,
+    late: Option<Late>,
+) -> Result<String, AllocError>
+    ensures { IfOk result (λ text. string_bytes text
+        ≡ clocks_text skew (map (λ n. n.now) log.entry.names.now) log.entry.entries.now late) }
+{
+    let Some(late) = late else {
+        return String::from_str(alloc, "timely yes\n");
+    };
+    let task = Standing {
+        log,
+        index: late.index,
+    };
+    let table = Standing {
+        log,
+        index: late.table_index,
+    };
+    let at = late.at;
+    let table_at = late.table_at;
+    format!(in alloc;
+        "timely no: {task} read {at}, {table} read {table_at} before it, skew {skew}\n"
+    )
+}
+
+// The ticket of an entry; 0 where there is none.
+fn ticket_at(entries: &[Entry], index: usize) -> u64
+    ensures { result ≡ ticket_of (slice_get entries.now index) }
+{
+    match entries.get(index) {
+        Some(entry) => entry.line.ticket,
+        None => 0,
+    }
+}
+
+// The line for two entries that have one ticket: the later of them is named first.
+fn double_text(
+    alloc: Global,
+    log: NamedEntries,
+    first: usize,
+    second: usize,
+) -> Result<String, AllocError>
+    ensures { IfOk result (λ text. string_bytes text
+        ≡ double_text (map (λ n. n.now) log.entry.names.now) log.entry.entries.now first second) }
+{
+    let ticket = ticket_at(log.entries, first);
+    let earlier = Standing { log, index: first };
+    let later = Standing { log, index: second };
+    format!(in alloc; "{later}: ticket {ticket} stands at {earlier} too\n")
+}
+
+// The line for a call that stands here, and whose caller was told these words in place of those that are wanted.
+fn told_text(
+    alloc: Global,
+    standing: Standing,
+    told: &str,
+    reason: Reason,
+) -> Result<String, AllocError>
+    ensures { IfOk result (λ text. string_bytes text ≡ told_text
+        (standing_at (map (λ n. n.now) standing.entry.log.names.now) standing.entry.log.entries.now standing.entry.index)
+        told.now reason.entry.wanted.now reason.entry.reading reason.entry.held) }
+{
+    let words = PlainLine(reason.wanted);
+    format!(in alloc; "{standing}: told {told}; should be \"{words}\"{reason}\n")
+}
+
+// The line for a call whose caller was told otherwise.
+fn other_text(
+    alloc: Global,
+    log: NamedEntries,
+    index: usize,
+    wanted: &Reply,
+    held: Option<HeldLeases>,
+) -> Result<String, AllocError>
+    ensures { IfOk result (λ text.
+        IsOtherOf (map (λ n. n.now) log.entry.names.now) log.entry.entries.now index wanted.now held
+        (slice_get log.entry.entries.now index) (string_bytes text)) }
+{
+    let Some(entry) = log.entries.get(index) else {
+        return Ok(String::new(alloc));
+    };
+    let told = format!(in alloc; "{:?}", entry.line.reply.as_str())?;
+    let reason = Reason {
+        wanted,
+        reading: entry.line.call.reading(),
+        held,
+    };
+    told_text(alloc, Standing { log, index }, told.as_str(), reason)
+}
+
+/// The lines that are written for what was found of the entries of a log. `skew` is in ticks.
+pub fn report_of(
+    alloc: Global,
+    skew: u64,
+    log: NamedEntries,
+    finding: &Finding,
+) -> Result<String, AllocError>
+    ensures { IfOk result (λ text.
+        IsReport skew (map (λ n. n.now) log.entry.names.now) log.entry.entries.now finding.now (string_bytes text)) }
+{
+    match finding {
+        Finding::One { steps, late } => {
+            let clocks = clocks_text(alloc, skew, log, *late)?;
+            format!(in alloc; "audit one\nsteps {steps}\n{clocks}")
+        }
+        Finding::Double { first, second } => double_text(alloc, log, *first, *second),
+        Finding::Other {
+            index,
+            wanted,
+            held,
+        } => other_text(alloc, log, *index, wanted, *held),
+    }
+}
