@@ -1,0 +1,14 @@
+pub mod Grounds
+pub mod Deciding
+pub mod Numbers
+pub mod Telling
+pub mod Nearness
+pub mod Nobody
+pub mod Still
+pub mod Carrying
+pub mod Owning
+pub mod Toldness
+pub mod Next
+pub mod Explained
+pub mod Lines
+pub mod Output

@@ -1,0 +1,9 @@
+pub mod Leases
+pub mod Breaking
+pub mod Hearing
+pub mod Verdicts
+pub mod Reasons
+pub mod internals
+pub mod Untimely
+pub mod Explanations
+pub mod Texts

@@ -1,0 +1,4 @@
+pub mod Kinds
+pub mod Told
+pub mod Ahead
+pub mod SoFar

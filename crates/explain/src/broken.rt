@@ -1,0 +1,111 @@
+//! Why a handle is broken.
+
+ghost use Rattle.std.specs.Prelude.{◌≡◌, ℕ, false, None, length, IfSome};
+ghost use Rattle.cluster.specs.Jobs.{Job};
+ghost use Rattle.cluster.specs.Pasts.{Past as Calls, history};
+ghost use Rattle.cluster.specs.Clusters.{LeadsTo};
+ghost use Rattle.world.specs.declared.reply.Reply.TheVariants as reply;
+ghost use Rattle.explain.specs.declared.reason.Break.TheVariants as break;
+ghost use Rattle.explain.specs.Breaking.{call_place, IsBreakingCall};
+ghost use Rattle.explain.specs.Hearing.{past_of};
+ghost use Rattle.explain.specs.Reasons.{is_check, IsBreak, IsReasonOrNone};
+ghost use Rattle.explain.specs.internals.Told.{IsBrokenOf};
+
+use crate::calls::call_place;
+use crate::heard::Told;
+use crate::reason::{Break, Reason};
+use crate::verdicts::{Asked, verdict_reason};
+use cluster::Cluster;
+use policy_rules::Verdict;
+use slicelet::{KeyHandle, Slicelet};
+use world::Step;
+
+// The last call since a handle was taken that found its key denied just before it or just after it, by its number
+// among those that the task accepted; none where the handle is not broken by one.
+fn breaking_call(slicelet: &Slicelet, handle: &KeyHandle, at: u64) -> Option<u64>
+    ensures { IfSome result (IsBreakingCall slicelet.now handle.now at) }
+{
+    if !matches!(slicelet.continuous(handle, at), Ok(false)) {
+        return None;
+    }
+    for before in handle.position..u64::MAX {
+        let call = before + 1;
+        let later = KeyHandle::new(handle.task, handle.life, handle.key, call);
+        match slicelet.continuous(&later, at) {
+            Ok(true) => return Some(call),
+            Ok(false) => {}
+            Err(_) => return None,
+        }
+    }
+    None
+}
+
+// The break by a call, or none where no call broke the handle.
+fn break_by_call(
+    before: Told<'_>,
+    slicelet: &Slicelet,
+    handle: &KeyHandle,
+    asked: &Asked,
+) -> Option<Break>
+    requires { length before.told.now ≡ length before.steps.now }
+    ensures { IfSome result (λ broken. (call : ℕ) × IsBreakingCall slicelet.now handle.now asked.now.at call
+        × (broken ≡ break.Between call
+        (call_place asked.now.task call (past_of before.entry.steps.now before.entry.told.now)))) }
+{
+    let call = breaking_call(slicelet, handle, asked.at)?;
+    let step = call_place(before, asked.task, call);
+    Some(Break::Between { call, step })
+}
+
+// Why a task finds a handle broken at a reading.
+fn break_of(
+    cluster: &Cluster,
+    before: Told<'_>,
+    slicelet: &Slicelet,
+    handle: &KeyHandle,
+    asked: &Asked,
+) -> Break
+    requires { length before.told.now ≡ length before.steps.now }
+    ensures { (job : Job) (calls : Calls) → LeadsTo job calls cluster.now → slicelet.now ≡ history asked.now.task calls
+        → IsBreak calls (past_of before.entry.steps.now before.entry.told.now) handle.now asked.now result }
+{
+    if handle.life != slicelet.life() {
+        return Break::OtherLife(slicelet.life());
+    }
+    match slicelet.serve(asked.key, asked.at) {
+        Verdict::Deny(denial) => Break::Denied {
+            denial,
+            reason: verdict_reason(cluster, before, slicelet, asked, Verdict::Deny(denial)),
+        },
+        Verdict::Allow { .. } => match break_by_call(before, slicelet, handle, asked) {
+            Some(broken) => broken,
+            None => Break::Unnamed,
+        },
+    }
+}
+
+/// Why a `check` is answered that its handle is broken.
+pub fn broken_reason(cluster: &Cluster, before: Told<'_>, step: &Step) -> Option<Reason>
+    requires { length before.told.now ≡ length before.steps.now }
+    ensures none { is_check step.now ≡ false → result ≡ None }
+    ensures is { (job : Job) (calls : Calls) → LeadsTo job calls cluster.now → IsBrokenOf job calls step.now
+        → IsReasonOrNone job calls (past_of before.entry.steps.now before.entry.told.now) step.now reply.Broken result }
+{
+    let Step::Check {
+        task,
+        handle: number,
+        at,
+    } = step
+    else {
+        return None;
+    };
+    let handle = cluster.handle(*number)?;
+    let slicelet = cluster.slicelet(*task)?;
+    let asked = Asked {
+        task: *task,
+        key: handle.key,
+        at: *at,
+    };
+    let broken = break_of(cluster, before, slicelet, handle, &asked);
+    Some(Reason::Broken(broken))
+}

@@ -1,0 +1,57 @@
+//! In which step a grant was heard.
+
+ghost use Rattle.std.specs.Prelude.{◌≡◌, ◌&&◌, length};
+ghost use Rattle.world.specs.Pasts.{is_accepted};
+ghost use Rattle.explain.specs.Hearing.{is_hear, heard_in, past_of};
+
+use crate::explanation::Explanation;
+use world::{Reply, Step};
+
+/// Steps in order, and what was told of each.
+#[derive(Clone, Copy)]
+pub struct Told<'a> {
+    pub steps: &'a [Step],
+    pub told: &'a [Explanation],
+}
+
+// Whether a step is a `hear` of the grant of this number by a task.
+fn is_hear(step: &Step, task: u64, number: u64) -> bool
+    ensures { result ≡ is_hear task number step.now }
+{
+    match step {
+        Step::Hear {
+            task: by,
+            number: heard,
+            ..
+        } => *by == task && *heard == number,
+        _ => false,
+    }
+}
+
+/// Whether a reply accepts its step.
+pub fn is_accepted(reply: &Reply) -> bool
+    ensures { result ≡ is_accepted reply.now }
+{
+    !matches!(reply, Reply::Refused(_) | Reply::NoMemory)
+}
+
+// Whether a task heard the grant of this number in a step.
+fn hears(step: &Step, reply: &Reply, task: u64, number: u64) -> bool
+    ensures { result ≡ (is_hear task number step.now && is_accepted reply.now) }
+{
+    is_hear(step, task, number) && is_accepted(reply)
+}
+
+/// The last step in which a task heard the grant of this number, by its place: the first step has the place 1.
+pub fn heard_in(before: Told<'_>, task: u64, number: u64) -> Option<usize>
+    requires { length before.told.now ≡ length before.steps.now }
+    ensures { result ≡ heard_in task number (past_of before.entry.steps.now before.entry.told.now) }
+{
+    let mut found = None;
+    for (place, told) in before.told.iter().enumerate() {
+        if hears(&before.steps[place], &told.reply, task, number) {
+            found = Some(place + 1);
+        }
+    }
+    found
+}

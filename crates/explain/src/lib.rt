@@ -1,0 +1,20 @@
+//! Why each reply of a script is what it is.
+#![tactic(auto)]
+
+mod broken;
+mod calls;
+mod explanation;
+mod heard;
+mod lease;
+mod reason;
+mod refusals;
+mod sentence;
+mod text;
+mod untimely;
+mod verdicts;
+
+pub use explanation::{Explanation, explanations_of};
+pub use reason::{Break, Reason, TaskLease, VerdictReason};
+pub use sentence::sentence_of;
+pub use text::explained_text;
+pub use untimely::{Untimely, first_untimely};

@@ -1,0 +1,166 @@
+//! Why a step is refused.
+
+ghost use Rattle.std.specs.Prelude.{◌≡◌, List, IfOk, length};
+ghost use Rattle.lease_table.specs.Rows.{first_up_to};
+ghost use Rattle.lease_table.specs.Tables.{generation_of};
+ghost use Rattle.cluster.specs.Jobs.{Job};
+ghost use Rattle.cluster.specs.Pasts.{Past as Calls, standing};
+ghost use Rattle.cluster.specs.Clusters.{LeadsTo};
+ghost use Rattle.world.specs.Pasts.{Past};
+ghost use Rattle.world.specs.declared.reply.Reply.TheVariants as reply;
+ghost use Rattle.world.specs.declared.reply.Refusal.TheVariants as refusal;
+ghost use Rattle.world.specs.declared.step.Step.{Step};
+ghost use Rattle.explain.specs.Hearing.{granted_by, last_granted, past_of};
+ghost use Rattle.explain.specs.Reasons.{made_in, task_of, IsReasonOrNone};
+ghost use Rattle.explain.specs.internals.Told.{IsTaskRefusal, IsTableRefusal, IsRefusal};
+
+use crate::explanation::Explanation;
+use crate::heard::Told;
+use crate::reason::Reason;
+use crate::verdicts::committed_generation;
+use clerk::ClerkError;
+use cluster::Cluster;
+use lease_table::{Row, TableError};
+use slicelet::SliceletError;
+use std::alloc::AllocError;
+use world::{Refusal, Reply, Step};
+
+// The first of these rows that is of a generation up to this one and has not ended at a reading.
+fn first_up_to(rows: &[Row], generation: u64, at: u64) -> Option<Row>
+    ensures { result ≡ first_up_to generation at rows.now }
+{
+    rows.iter()
+        .copied()
+        .find(|row| row.generation <= generation && at < row.table_ends)
+}
+
+// The first open row of the committed generation or an older one that has not ended at a reading.
+fn holding_row(cluster: &Cluster, at: u64) -> Result<Option<Row>, AllocError>
+    ensures { (job : Job) (calls : Calls) → LeadsTo job calls cluster.now → let t = standing job.policy calls in
+        IfOk result (λ row. row ≡ first_up_to (generation_of t.committed) at t.rows) }
+{
+    let generation = committed_generation(cluster);
+    let rows = cluster.table().rows()?;
+    Ok(first_up_to(rows.as_slice(), generation, at))
+}
+
+// The number of the last grant after a reply, by the one before it.
+fn granted_by(reply: &Reply, before: u64) -> u64
+    ensures { result ≡ granted_by reply.now before }
+{
+    match reply {
+        Reply::Granted { number, .. } => *number,
+        _ => before,
+    }
+}
+
+// The number of the last grant that was told, 0 before the first.
+fn last_granted(told: &[Explanation]) -> u64
+    ensures { (steps : List Step) → length told.now ≡ length steps → result ≡ last_granted (past_of steps told.now) }
+{
+    let mut last = 0;
+    for explained in told {
+        last = granted_by(&explained.reply, last);
+    }
+    last
+}
+
+// The greatest number of what a step delivers that was made so far.
+fn made_so_far(cluster: &Cluster, before: Told<'_>, step: &Step) -> Option<u64>
+    requires { length before.told.now ≡ length before.steps.now }
+    ensures { (job : Job) (calls : Calls) → LeadsTo job calls cluster.now
+        → result ≡ made_in calls (past_of before.entry.steps.now before.entry.told.now) step.now }
+{
+    match step {
+        Step::Hear { .. } => Some(last_granted(before.told)),
+        Step::Free { .. } => Some(cluster.next_note().saturating_sub(1)),
+        Step::Check { .. } => Some(cluster.next_handle().saturating_sub(1)),
+        Step::Learn { .. } => Some(committed_generation(cluster)),
+        _ => None,
+    }
+}
+
+// Why the table refuses a step.
+fn table_reason(
+    cluster: &Cluster,
+    step: &Step,
+    error: TableError,
+) -> Result<Option<Reason>, AllocError>
+    ensures { (job : Job) (calls : Calls) (past : Past) → LeadsTo job calls cluster.now
+        → IsTableRefusal (standing job.policy calls) step.now error
+        → IfOk result (IsReasonOrNone job calls past step.now (reply.Refused (refusal.Table error))) }
+{
+    match (error, step) {
+        (TableError::ClockBack, _) => {
+            Ok(Some(Reason::TableReading(cluster.table().last_reading())))
+        }
+        (TableError::Held { .. }, Step::Commit { at, .. }) => match holding_row(cluster, *at)? {
+            Some(row) => Ok(Some(Reason::Held(row))),
+            None => Ok(None),
+        },
+        _ => Ok(None),
+    }
+}
+
+/// The task that takes a step.
+pub fn task_of(step: &Step) -> Option<u64>
+    ensures { result ≡ task_of step.now }
+{
+    match step {
+        Step::Start { task, .. }
+        | Step::Hear { task, .. }
+        | Step::Release { task, .. }
+        | Step::Serve { task, .. }
+        | Step::Hold { task, .. }
+        | Step::Check { task, .. } => Some(*task),
+        _ => None,
+    }
+}
+
+// Why a task refuses a step.
+fn task_reason(cluster: &Cluster, step: &Step, error: SliceletError) -> Option<Reason>
+    ensures { (job : Job) (calls : Calls) (past : Past) → LeadsTo job calls cluster.now
+        → IsTaskRefusal job calls step.now error
+        → IsReasonOrNone job calls past step.now (reply.Refused (refusal.Slicelet error)) result }
+{
+    let slicelet = cluster.slicelet(task_of(step)?)?;
+    match (error, step) {
+        (SliceletError::ClockBack, _) => Some(Reason::TaskReading(slicelet.last_reading())),
+        (SliceletError::OldLife, _) => Some(Reason::OldLife(slicelet.life())),
+        (SliceletError::Old { heard }, Step::Hear { number, .. }) => {
+            let grant = cluster.grant(*number)?;
+            Some(Reason::OldGrant {
+                kind: grant.lease.kind,
+                heard,
+                life: slicelet.life(),
+            })
+        }
+        _ => None,
+    }
+}
+
+/// Why a step is refused, where its line does not say all.
+pub fn refusal_reason(
+    cluster: &Cluster,
+    before: Told<'_>,
+    step: &Step,
+    refusal: Refusal,
+) -> Result<Option<Reason>, AllocError>
+    requires { length before.told.now ≡ length before.steps.now }
+    ensures { (job : Job) (calls : Calls) → LeadsTo job calls cluster.now → IsRefusal job calls step.now refusal
+        → IfOk result (IsReasonOrNone job calls (past_of before.entry.steps.now before.entry.told.now) step.now
+        (reply.Refused refusal)) }
+{
+    match refusal {
+        Refusal::Table(error) => table_reason(cluster, step, error),
+        Refusal::Slicelet(error) => Ok(task_reason(cluster, step, error)),
+        Refusal::Clerk(ClerkError::Old { generation }) => {
+            Ok(Some(Reason::OldGeneration(generation)))
+        }
+        Refusal::NotSent => match made_so_far(cluster, before, step) {
+            Some(made) => Ok(Some(Reason::NotSent(made))),
+            None => Ok(None),
+        },
+        _ => Ok(None),
+    }
+}

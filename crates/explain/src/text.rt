@@ -1,0 +1,121 @@
+//! The text that explains a script.
+
+ghost use Rattle.std.specs.Prelude.{◌≡◌, ℕ, List, true, IfOk, string_bytes};
+ghost use Rattle.std.specs.List.{list_all};
+ghost use Rattle.service.specs.Lines.{line_of};
+ghost use Rattle.service.specs.Output.{is_answer};
+ghost use Rattle.explain.specs.Hearing.{replies_of};
+ghost use Rattle.explain.specs.Texts.{indented, explained_lines, last_lines, AreLines, IsExplainedText};
+
+use crate::explanation::{Explanation, explanations_of};
+use crate::sentence::sentence_of;
+use crate::untimely::{Untimely, first_untimely};
+use lease_table::policy_law;
+use service::{Line, Script, is_timely};
+use std::alloc::{AllocError, Global};
+use world::{Reply, Step};
+
+// The line of a reply.
+fn line_of(alloc: Global, reply: &Reply) -> Result<String, AllocError>
+    ensures { IfOk result (λ text. string_bytes text ≡ line_of reply.now) }
+{
+    format!(in alloc; "{}\n", Line(reply))
+}
+
+// A line of words after four spaces.
+fn indented(alloc: Global, words: &str) -> Result<String, AllocError>
+    ensures { IfOk result (λ text. string_bytes text ≡ indented words.now) }
+{
+    format!(in alloc; "    {words}\n")
+}
+
+// The line of a reply, and after it, where there is more to say of it, why it is what it is.
+fn lines_of(alloc: Global, step: &Step, told: &Explanation) -> Result<String, AllocError>
+    ensures { IfOk result (λ text. (words : List ℕ) × (string_bytes text ≡ explained_lines told.now words)) }
+{
+    let line = line_of(alloc, &told.reply)?;
+    match &told.reason {
+        Some(reason) => {
+            let words = sentence_of(alloc, step, &told.reply, reason)?;
+            let why = indented(alloc, words.as_str())?;
+            format!(in alloc; "{line}{why}")
+        }
+        None => Ok(line),
+    }
+}
+
+// The same, unless the reply is that memory ran out.
+fn answer_lines(alloc: Global, step: &Step, told: &Explanation) -> Result<String, AllocError>
+    ensures lines { IfOk result (λ text. (words : List ℕ) × (string_bytes text ≡ explained_lines told.now words)) }
+    ensures answers { IfOk result (λ text. is_answer told.now.reply ≡ true) }
+{
+    if matches!(told.reply, Reply::NoMemory) {
+        return Err(AllocError);
+    }
+    lines_of(alloc, step, told)
+}
+
+// The lines of all replies, none of which is that memory ran out.
+fn all_lines(alloc: Global, steps: &[Step], told: &[Explanation]) -> Result<String, AllocError>
+    ensures lines { IfOk result (λ text. AreLines told.now (string_bytes text)) }
+    ensures answers { IfOk result (λ text. list_all is_answer (replies_of told.now) ≡ true) }
+{
+    let mut text = String::new(alloc);
+    for (i, explained) in told.iter().enumerate() {
+        let Some(step) = steps.get(i) else {
+            return Err(AllocError);
+        };
+        let lines = answer_lines(alloc, step, explained)?;
+        text.push_str(lines.as_str())?;
+    }
+    Ok(text)
+}
+
+// The sentence for two steps that are not timely.
+fn untimely_words(alloc: Global, two: Untimely, skew: u64) -> Result<String, AllocError> {
+    let early = format!(in alloc;
+        "step {} reads {} at the table",
+        two.table_step, two.table_reading
+    )?;
+    let late = format!(in alloc;
+        "step {} reads {} at a task",
+        two.task_step, two.task_reading
+    )?;
+    format!(in alloc; "{early}, and {late}: more than the skew {skew} below")
+}
+
+// The last line, and after it, where the steps are not timely, the two steps that are not.
+fn last_lines(
+    alloc: Global,
+    timely: bool,
+    untimely: Option<Untimely>,
+    skew: u64,
+) -> Result<String, AllocError>
+    ensures { IfOk result (λ text. (words : List ℕ) × (string_bytes text ≡ last_lines timely untimely words)) }
+{
+    if timely {
+        return String::from_str(alloc, "timely yes\n");
+    }
+    match untimely {
+        Some(two) => {
+            let words = untimely_words(alloc, two, skew)?;
+            let why = indented(alloc, words.as_str())?;
+            format!(in alloc; "timely no\n{why}")
+        }
+        None => String::from_str(alloc, "timely no\n"),
+    }
+}
+
+/// Plays the steps of a script, and gives the text of their replies with its last line, where each line is
+/// followed by why it is what it is, if there is more to say of it.
+pub fn explained_text(alloc: Global, script: &Script) -> Result<String, AllocError>
+    ensures { IfOk result (λ text. IsExplainedText script.now (string_bytes text)) }
+{
+    policy_law(script.job.policy());
+    let steps = script.steps.as_slice();
+    let skew = script.job.policy().skew();
+    let told = explanations_of(alloc, script.job, steps)?;
+    let lines = all_lines(alloc, steps, told.as_slice())?;
+    let last = last_lines(alloc, is_timely(script), first_untimely(steps, skew), skew)?;
+    format!(in alloc; "{lines}{last}")
+}
