@@ -1,0 +1,5 @@
+pub mod Serving
+pub mod Keeping
+pub mod Lists
+pub mod Tasks
+pub mod Playing

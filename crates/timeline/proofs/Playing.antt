@@ -1,0 +1,42 @@
+-- One more step of a script.
+use Rattle.std.proofs.Common.{◌≡◌, List, [], ◌∷◌, length, slice_index_or, refl, sym, subst, ap, inl, inr, arith}
+use Rattle.std.specs.Prelude.{Result, Ok, Err}
+use Rattle.world.specs.Jobs.{Job}
+use Rattle.world.specs.declared.step.Step.{Step}
+use Rattle.world.specs.declared.reply.Reply.{Reply}
+use Rattle.world.specs.declared.reply.Reply.TheVariants as reply
+use Rattle.world.specs.declared.reply.Refusal.{Refusal}
+use Rattle.world.specs.declared.world.World.{World}
+use Rattle.world.specs.Pasts.{Event, event, Past}
+use Rattle.world.specs.Calls.{call_of, calls_in, with_call, unless_out_of_memory}
+use Rattle.world.specs.Worlds.{LeadsTo}
+use Rattle.world.specs.Runs.{past_after}
+use Rattle.cluster.specs.declared.call.ClusterCall.{ClusterCall}
+use Rattle.cluster.specs.Pasts.{Event as ClusterEvent, Past as ClusterPast}
+use Rattle.timeline.specs.Tasks.{IsNextPast}
+
+pub one_reply : (replies : List Reply) (r : Reply) → length replies ≡ 1 → r ≡ slice_index_or replies 0 r → replies ≡ r ∷ []
+one_reply [] r many first = absurd (omega (arith, many))
+one_reply (s ∷ []) r many first = ap (λ x. x ∷ []) (sym first)
+one_reply (s ∷ t ∷ replies) r many first = absurd (omega (arith, many))
+
+-- a reply, or that memory ran out
+unless_next : (answer : Reply) (e : ClusterEvent) (calls : ClusterPast) → IsNextPast calls (unless_out_of_memory answer e calls)
+unless_next reply.NoMemory e calls = inl refl
+unless_next _ e calls = inr (e, refl)
+
+with_next : (job : Job) (answer : Reply) (made : Result ClusterCall Refusal) (calls : ClusterPast) → IsNextPast calls (with_call job answer made calls)
+with_next job answer (Ok made) calls = unless_next answer _ calls
+with_next job answer (Err why) calls = inl refl
+
+-- one more step makes at most one more call of the machines
+pub next_past : (job : Job) (past : Past) (e : Event) → IsNextPast (calls_in job past) (calls_in job (e ∷ past))
+next_past job past e = with_next job e.reply (call_of job past (calls_in job past) e.step) (calls_in job past)
+
+-- the past after a step that was played alone
+pub one_step : (job : Job) (past : Past) (steps : List Step) (step : Step) (replies : List Reply) (r : Reply) (world : World) → steps ≡ step ∷ []
+    → replies ≡ r ∷ []
+    → LeadsTo job (past_after past steps replies) world → LeadsTo job (event step r ∷ past) world
+one_step job past steps step replies r world one first leads =
+    subst (λ (rs : List Reply). LeadsTo job (past_after past (step ∷ []) rs) world) first
+    (subst (λ (ss : List Step). LeadsTo job (past_after past ss replies) world) one leads)

@@ -1,0 +1,4 @@
+pub mod Stretches
+pub mod Tasks
+pub mod Scripts
+pub mod internals

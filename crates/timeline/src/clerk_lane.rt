@@ -1,0 +1,77 @@
+//! The lane of a clerk. Its steps have no reading: each stands at the last one before it.
+
+use crate::lane::{Item, Lane, Look};
+use crate::words::key_label;
+use clerk::Found;
+use service::{Line, RefusalWords};
+use std::alloc::{AllocError, Global};
+use world::Reply;
+
+/// What became of a clerk.
+#[derive(Drop)]
+pub struct ClerkRecord {
+    alloc: Global,
+    number: u64,
+    steps: Vec<Item>,
+}
+
+impl ClerkRecord {
+    /// A clerk before its first step.
+    pub fn new(alloc: Global, number: u64) -> Self {
+        ClerkRecord {
+            alloc,
+            number,
+            steps: Vec::new(alloc),
+        }
+    }
+
+    /// Takes in a reply to a `learn` or a `forget`, after a step at this reading.
+    pub fn take_in(&mut self, now: u64, reply: &Reply) -> Result<(), AllocError> {
+        let (look, label) = match reply {
+            Reply::Learnt(generation) => {
+                (Look::Done, format!(in self.alloc; "learnt {generation}")?)
+            }
+            Reply::Forgotten => (Look::Done, String::from_str(self.alloc, "forgot")?),
+            Reply::Refused(why) => (
+                Look::Refused,
+                format!(in self.alloc; "{}", RefusalWords(*why))?,
+            ),
+            _ => return Ok(()),
+        };
+        let words = format!(in self.alloc; "{} after {now}", Line(reply))?;
+        let item = Item::mark(self.alloc, look, now, label, words)?;
+        self.steps.push(item)?;
+        Ok(())
+    }
+
+    /// Takes in a reply to a `look` for a key.
+    pub fn take_in_look(&mut self, now: u64, key: &[u8], reply: &Reply) -> Result<(), AllocError> {
+        let name = key_label(self.alloc, key)?;
+        let (look, label) = match reply {
+            Reply::Found(Found { generation, .. }) => (
+                Look::Served,
+                format!(in self.alloc; "{name}: by {generation}")?,
+            ),
+            _ => (Look::Denied, format!(in self.alloc; "{name}: unknown")?),
+        };
+        let words = format!(in self.alloc; "look for {name} after {now}: {}", Line(reply))?;
+        let item = Item::mark(self.alloc, look, now, label, words)?;
+        self.steps.push(item)?;
+        Ok(())
+    }
+
+    /// The lane of the clerk, if it took a step.
+    pub fn lane(self) -> Result<Option<Lane>, AllocError> {
+        let ClerkRecord {
+            alloc,
+            number,
+            steps,
+        } = self;
+        if steps.is_empty() {
+            return Ok(None);
+        }
+        let mut lane = Lane::new(alloc, format!(in alloc; "clerk {number}")?);
+        lane.add_row("steps", steps)?;
+        Ok(Some(lane))
+    }
+}

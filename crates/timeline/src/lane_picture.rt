@@ -1,0 +1,279 @@
+//! Lanes as SVG.
+
+use crate::axis::{Axis, LEFT, WIDTH};
+use crate::lane::{Item, Lane, Look, Part, Row};
+use crate::stretch::Stretch;
+use crate::svg::{push_text, text_width};
+use std::alloc::{AllocError, Global};
+
+/// How many pixels high a level of a row is.
+pub const LEVEL: u64 = 20;
+
+/// Up to how many levels a row has: items that find none stand over others on the last.
+const MOST_LEVELS: usize = 12;
+
+/// How many pixels there are above and below the rows of a lane, and between two lanes.
+const MARGIN: u64 = 5;
+
+// The part of an item that its label stands at: the first that says more than that a lease is out.
+fn labelled_part(item: &Item) -> Part {
+    for part in &item.parts {
+        if !matches!(part.look, Look::Out | Look::Skew) {
+            return *part;
+        }
+    }
+    match item.parts.first() {
+        Some(part) => *part,
+        None => Part {
+            look: Look::Out,
+            from: 0,
+            to: 0,
+        },
+    }
+}
+
+// How far a label stands from the beginning of its part: behind a mark, and else in it.
+fn label_gap(look: Look) -> u64 {
+    if is_mark(look) { 9 } else { 5 }
+}
+
+// The label of an item: the shorter one, if it has one, where its part has no room for the other.
+fn label_of<'a>(axis: &Axis, item: &'a Item) -> &'a str {
+    let part = labelled_part(item);
+    let room = axis.x(part.to).saturating_sub(axis.x(part.from));
+    match &item.short {
+        Some(short) if text_width(item.label.as_str()).saturating_add(12) > room => short.as_str(),
+        _ => item.label.as_str(),
+    }
+}
+
+// Where the label of an item stands: before a mark, or farther to the left, where there is no room.
+fn label_x(axis: &Axis, item: &Item) -> u64 {
+    let part = labelled_part(item);
+    let width = text_width(label_of(axis, item));
+    let (x, gap) = (axis.x(part.from), label_gap(part.look));
+    let most = LEFT.saturating_add(WIDTH).saturating_sub(width);
+    let wanted = x.saturating_add(gap);
+    if wanted > most && is_mark(part.look) {
+        return x.saturating_sub(gap).saturating_sub(width);
+    }
+    wanted.min(most)
+}
+
+/// Whether a look is that of a mark.
+pub fn is_mark(look: Look) -> bool {
+    matches!(
+        look,
+        Look::Released | Look::Served | Look::Denied | Look::Refused | Look::Done
+    )
+}
+
+// From where to where an item takes place, in pixels.
+fn extent(axis: &Axis, item: &Item) -> (u64, u64) {
+    let label = label_x(axis, item);
+    let mut from = label;
+    let width = text_width(label_of(axis, item));
+    let mut to = label.saturating_add(width).saturating_add(4);
+    for part in &item.parts {
+        let room = if is_mark(part.look) { 6 } else { 0 };
+        from = from.min(axis.x(part.from).saturating_sub(room));
+        to = to.max(axis.x(part.to).saturating_add(room));
+    }
+    (from, to)
+}
+
+// The level of an item that takes place from here to there: the first that is free, where `taken` says up to where
+// each is not.
+fn level_of(taken: &mut Vec<u64>, from: u64, to: u64) -> Result<usize, AllocError> {
+    for (level, end) in taken.iter_mut().enumerate() {
+        if *end <= from {
+            *end = to;
+            return Ok(level);
+        }
+    }
+    if taken.len() < MOST_LEVELS {
+        taken.push(to)?;
+    }
+    Ok(taken.len().saturating_sub(1))
+}
+
+// The class of a look.
+fn class_of(look: Look) -> &'static str {
+    match look {
+        Look::Steady => "steady",
+        Look::Waiting => "waiting",
+        Look::Term => "term",
+        Look::Life => "life",
+        Look::Guard => "guard",
+        Look::Bridge => "bridge",
+        Look::Out => "out",
+        Look::Skew => "skew",
+        Look::Released => "released",
+        Look::Served => "served",
+        Look::Denied => "denied",
+        Look::Refused => "refused",
+        Look::Done => "done",
+        Look::Handle => "handle",
+        Look::May => "may",
+    }
+}
+
+/// Draws a part, between two places, below a height.
+pub fn draw_look(
+    svg: &mut String,
+    look: Look,
+    from: u64,
+    to: u64,
+    y: u64,
+) -> Result<(), AllocError> {
+    let class = class_of(look);
+    let middle = y.saturating_add(9);
+    let width = to.saturating_sub(from).max(2);
+    match look {
+        Look::Out => writeln!(svg, "<path class=\"{class}\" d=\"M{from} {middle}H{to}\"/>")?,
+        Look::Handle => {
+            let (top, bottom) = (y.saturating_add(4), y.saturating_add(17));
+            writeln!(
+                svg,
+                "<path class=\"{class}\" d=\"M{from} {top}V{bottom}H{to}V{top}\"/>"
+            )?
+        }
+        Look::Served | Look::Done => {
+            writeln!(
+                svg,
+                "<circle class=\"{class}\" cx=\"{from}\" cy=\"{middle}\" r=\"4.5\"/>"
+            )?
+        }
+        Look::Denied | Look::Refused => {
+            let (left, top) = (from.saturating_sub(4), middle.saturating_sub(4));
+            writeln!(
+                svg,
+                "<path class=\"{class}\" d=\"M{left} {top}l8 8m0 -8l-8 8\"/>"
+            )?
+        }
+        Look::Released => {
+            let top = y.saturating_add(2);
+            writeln!(
+                svg,
+                "<path class=\"{class}\" d=\"M{from} {top}l-6 7l6 7z\"/>"
+            )?
+        }
+        _ => {
+            let top = y.saturating_add(2);
+            writeln!(
+                svg,
+                "<rect class=\"{class}\" x=\"{from}\" y=\"{top}\" width=\"{width}\" height=\"15\" rx=\"2\"/>"
+            )?
+        }
+    }
+    Ok(())
+}
+
+// The class of a label: one that stands on a line keeps clear of it.
+fn label_class(look: Look) -> &'static str {
+    if look == Look::Out { "over" } else { "label" }
+}
+
+// Draws an item with its words, below a height.
+fn draw_item(svg: &mut String, axis: &Axis, item: &Item, y: u64) -> Result<(), AllocError> {
+    svg.push_str("<g><title>")?;
+    push_text(svg, item.words.as_str())?;
+    svg.push_str("</title>\n")?;
+    for part in &item.parts {
+        let Part { look, from, to } = *part;
+        draw_look(svg, look, axis.x(from), axis.x(to), y)?;
+    }
+    let (x, baseline) = (label_x(axis, item), y.saturating_add(14));
+    let class = label_class(labelled_part(item).look);
+    write!(svg, "<text class=\"{class}\" x=\"{x}\" y=\"{baseline}\">")?;
+    push_text(svg, label_of(axis, item))?;
+    svg.push_str("</text></g>\n")?;
+    Ok(())
+}
+
+// Draws a row below a height, and gives the height below it.
+fn draw_row(
+    alloc: Global,
+    svg: &mut String,
+    axis: &Axis,
+    row: &Row,
+    y: u64,
+) -> Result<u64, AllocError> {
+    let baseline = y.saturating_add(14);
+    writeln!(
+        svg,
+        "<text class=\"quiet\" x=\"20\" y=\"{baseline}\">{}</text>",
+        row.name
+    )?;
+    let mut taken = Vec::new(alloc);
+    for item in &row.items {
+        let (from, to) = extent(axis, item);
+        let level = level_of(&mut taken, from, to)?;
+        let depth = LEVEL.saturating_mul(u64::try_from(level).unwrap_or(0));
+        draw_item(svg, axis, item, y.saturating_add(depth))?;
+    }
+    let levels = u64::try_from(taken.len()).unwrap_or(0);
+    Ok(y.saturating_add(LEVEL.saturating_mul(levels)))
+}
+
+// Draws the stretches of a lane over a height.
+fn draw_stretches(
+    svg: &mut String,
+    axis: &Axis,
+    stretches: &[Stretch],
+    y: u64,
+    height: u64,
+) -> Result<(), AllocError> {
+    for stretch in stretches {
+        let (from, to) = (stretch.from, stretch.to);
+        let (left, right) = (axis.x(from), axis.x(to));
+        let width = right.saturating_sub(left).max(1);
+        writeln!(
+            svg,
+            "<rect class=\"may\" x=\"{left}\" y=\"{y}\" width=\"{width}\" height=\"{height}\">"
+        )?;
+        writeln!(svg, "<title>may serve from {from} to {to}</title></rect>")?;
+    }
+    Ok(())
+}
+
+// Draws a line for each reading from a height to another one.
+fn draw_grid(svg: &mut String, axis: &Axis, y: u64, below: u64) -> Result<(), AllocError> {
+    svg.push_str("<path class=\"grid\" d=\"")?;
+    for reading in axis.readings() {
+        let x = axis.x(*reading);
+        write!(svg, "M{x} {y}V{below}")?;
+    }
+    svg.push_str("\"/>\n")?;
+    Ok(())
+}
+
+/// Draws a lane with its stretches below a height, and gives the height below it.
+pub fn draw_lane(
+    alloc: Global,
+    svg: &mut String,
+    axis: &Axis,
+    lane: &Lane,
+    stretches: &[Stretch],
+    y: u64,
+) -> Result<u64, AllocError> {
+    let mut rows = String::new(alloc);
+    let mut below = y.saturating_add(LEVEL);
+    for row in &lane.rows {
+        below = draw_row(alloc, &mut rows, axis, row, below)?;
+    }
+    below = below.saturating_add(MARGIN);
+    let height = below.saturating_sub(y);
+    writeln!(
+        svg,
+        "<rect class=\"lane\" x=\"8\" y=\"{y}\" width=\"984\" height=\"{height}\" rx=\"4\"/>"
+    )?;
+    draw_stretches(svg, axis, stretches, y, height)?;
+    draw_grid(svg, axis, y, below)?;
+    let baseline = y.saturating_add(15);
+    write!(svg, "<text class=\"name\" x=\"14\" y=\"{baseline}\">")?;
+    push_text(svg, lane.name.as_str())?;
+    svg.push_str("</text>\n")?;
+    svg.push_str(rows.as_str())?;
+    Ok(below.saturating_add(MARGIN))
+}

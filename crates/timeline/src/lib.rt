@@ -1,0 +1,25 @@
+//! Pictures of scripts: readings from left to right, a lane for each actor, as SVG.
+#![tactic(auto)]
+
+mod axis;
+mod clerk_lane;
+mod frame;
+mod lane;
+mod lane_picture;
+mod leases;
+mod picture;
+mod runs;
+mod shown;
+mod story;
+mod stretch;
+mod style;
+mod summary;
+mod svg;
+mod table_lane;
+mod task_lane;
+mod task_stretches;
+mod words;
+
+pub use picture::timeline_svg;
+pub use runs::serving_stretches;
+pub use stretch::Stretch;

@@ -1,0 +1,47 @@
+//! Where each task of a job may serve a key, by the steps of a script.
+
+ghost use Rattle.std.specs.Prelude.{ℕ, List, ◌∷◌, IfOk, OnOk};
+ghost use Rattle.world.specs.Jobs.{Job};
+ghost use Rattle.world.specs.declared.step.Step.{Step};
+ghost use Rattle.timeline.specs.Scripts.{AreColoured};
+ghost use Rattle.timeline.specs.internals.Playing.{ArePlayed};
+
+use crate::stretch::{KeyStretches, Stretch};
+use crate::task_stretches::{new_stretches, observe_tasks, stretches_of};
+use assignment::Listed;
+use slice_ranges::SliceKey;
+use std::alloc::{AllocError, Global};
+use std::slice;
+use world::{Job, Reply, Step, World};
+
+// Plays a step, and takes in what each task knows then.
+fn play(world: &mut World, tasks: &mut Vec<KeyStretches>, step: &Step) -> Result<(), AllocError>
+    ensures { (job : Job) (steps : List Step) (key : ℕ) → ArePlayed job steps key world.old tasks.old.items
+        → OnOk result (ArePlayed job (step.now ∷ steps) key world.new tasks.new.items) }
+{
+    let replies = world.run(slice::from_ref(step))?;
+    match &replies[0] {
+        Reply::NoMemory => Err(AllocError),
+        _ => observe_tasks(tasks, world.cluster()),
+    }
+}
+
+/// For each task of a job that plays these steps from its first on, the stretches of readings of its clock, in
+/// ticks, in which it may serve a key: those at which the written rule allows it, on the calls that the task
+/// accepted up to there. Out of memory, there are none.
+pub fn serving_stretches(
+    alloc: Global,
+    job: Job,
+    steps: &[Step],
+    key: SliceKey,
+) -> Result<Vec<Listed<Stretch>>, AllocError>
+    ensures { IfOk result (λ tasks. AreColoured job steps.now key tasks.items) }
+{
+    let mut world = World::new(alloc, job)?;
+    let mut tasks = new_stretches(alloc, job, key)?;
+    for step in steps {
+        play(&mut world, &mut tasks, step)?;
+    }
+    world.run_law();
+    stretches_of(alloc, tasks.as_slice())
+}

@@ -1,0 +1,264 @@
+//! What became of each actor, by the steps of a script.
+
+use crate::clerk_lane::ClerkRecord;
+use crate::lane::Lane;
+use crate::leases::LeaseRecord;
+use crate::table_lane::TableRecord;
+use crate::task_lane::TaskRecord;
+use crate::words::{key_label, reading_of};
+use cluster::Cluster;
+use service::Script;
+use std::alloc::{AllocError, Global};
+use std::slice;
+use world::{Reply, Step, World};
+
+/// What became of the actors of a job.
+#[derive(Drop)]
+pub struct Story {
+    alloc: Global,
+    table: TableRecord,
+    tasks: Vec<TaskRecord>,
+    clerks: Vec<ClerkRecord>,
+    // The task and the grant of each note.
+    notes: Vec<(u64, u64)>,
+    // The reading of the last step that has one.
+    now: u64,
+}
+
+// The place of the actor of a number.
+fn place_of(number: u64) -> usize {
+    usize::try_from(number.saturating_sub(1)).unwrap_or(usize::MAX)
+}
+
+impl Story {
+    fn new(alloc: Global, script: &Script) -> Result<Self, AllocError> {
+        let mut tasks = Vec::new(alloc);
+        for place in 0..script.job.tasks() {
+            tasks.push(TaskRecord::new(alloc, place.saturating_add(1)))?;
+        }
+        let mut clerks = Vec::new(alloc);
+        for place in 0..script.job.clerks() {
+            clerks.push(ClerkRecord::new(alloc, place.saturating_add(1)))?;
+        }
+        Ok(Story {
+            alloc,
+            table: TableRecord::new(alloc),
+            tasks,
+            clerks,
+            notes: Vec::new(alloc),
+            now: 0,
+        })
+    }
+
+    // Takes in a step that was played, with its reply.
+    fn take_in(&mut self, cluster: &Cluster, step: &Step, reply: &Reply) -> Result<(), AllocError> {
+        if let Some(at) = reading_of(step) {
+            self.now = at;
+        }
+        match step {
+            Step::Take { .. }
+            | Step::Renew { .. }
+            | Step::Propose { .. }
+            | Step::Commit { .. }
+            | Step::Grant { .. }
+            | Step::Free { .. } => self.take_in_table(cluster, step, reply),
+            Step::Lose => {
+                let at = cluster.table().last_reading();
+                self.table.take_in(step, at, reply)
+            }
+            Step::Start { task, .. }
+            | Step::Hear { task, .. }
+            | Step::Release { task, .. }
+            | Step::Serve { task, .. }
+            | Step::Hold { task, .. }
+            | Step::Check { task, .. } => self.take_in_task(cluster, *task, step, reply),
+            Step::Learn { clerk, .. } | Step::Look { clerk, .. } | Step::Forget { clerk } => {
+                self.take_in_clerk(*clerk, step, reply)
+            }
+            _ => Ok(()),
+        }
+    }
+
+    fn take_in_table(
+        &mut self,
+        cluster: &Cluster,
+        step: &Step,
+        reply: &Reply,
+    ) -> Result<(), AllocError> {
+        self.table.take_in(step, self.now, reply)?;
+        self.table.see_phase(cluster.phase(), self.now)?;
+        match (step, reply) {
+            (Step::Grant { task, .. }, Reply::Granted { .. }) => self.add_lease(*task, reply),
+            (Step::Free { note, .. }, Reply::Freed(_)) => {
+                self.free(*note);
+                Ok(())
+            }
+            _ => Ok(()),
+        }
+    }
+
+    fn add_lease(&mut self, task: u64, reply: &Reply) -> Result<(), AllocError> {
+        let Reply::Granted {
+            number,
+            kind,
+            generation,
+            table_ends,
+            ends,
+        } = reply
+        else {
+            return Ok(());
+        };
+        let lease = LeaseRecord {
+            number: *number,
+            kind: *kind,
+            generation: *generation,
+            granted: self.now,
+            ends: *ends,
+            table_ends: *table_ends,
+            heard: None,
+            stopped: None,
+            is_released: false,
+            freed: None,
+        };
+        match self.tasks.get_mut(place_of(task)) {
+            Some(owner) => owner.add_lease(lease),
+            None => Ok(()),
+        }
+    }
+
+    fn free(&mut self, note: u64) {
+        let Some((task, number)) = self.notes.get(place_of(note)) else {
+            return;
+        };
+        let (task, number) = (*task, *number);
+        if let Some(owner) = self.tasks.get_mut(place_of(task)) {
+            owner.free(number, self.now);
+        }
+    }
+
+    fn take_in_task(
+        &mut self,
+        cluster: &Cluster,
+        task: u64,
+        step: &Step,
+        reply: &Reply,
+    ) -> Result<(), AllocError> {
+        if let Reply::Released { note, .. } = reply {
+            self.notes.push((task, note.number))?;
+        }
+        let Some(slicelet) = cluster.slicelet(task) else {
+            return Ok(());
+        };
+        let Some(owner) = self.tasks.get_mut(place_of(task)) else {
+            return Ok(());
+        };
+        match reply {
+            Reply::Started(life) => owner.start(*life, self.now)?,
+            Reply::Heard(number) => owner.hear(*number, self.now),
+            Reply::Released { note, .. } => owner.release(note.number, self.now),
+            Reply::Holding { number, handle } => {
+                if let Step::Hold { key, .. } = step {
+                    owner.hold(*number, *handle, key.as_slice(), self.now, slicelet)?;
+                }
+                return Ok(());
+            }
+            _ => {
+                let label = request_label(self.alloc, step, reply)?;
+                return owner.request(self.now, label, reply);
+            }
+        }
+        owner.see_handles(slicelet);
+        Ok(())
+    }
+
+    fn take_in_clerk(&mut self, clerk: u64, step: &Step, reply: &Reply) -> Result<(), AllocError> {
+        let Some(owner) = self.clerks.get_mut(place_of(clerk)) else {
+            return Ok(());
+        };
+        match step {
+            Step::Look { key, .. } => owner.take_in_look(self.now, key.as_slice(), reply),
+            _ => owner.take_in(self.now, reply),
+        }
+    }
+}
+
+// Adds the lanes of the tasks.
+fn add_task_lanes(lanes: &mut Vec<Lane>, tasks: Vec<TaskRecord>) -> Result<(), AllocError> {
+    for task in tasks {
+        lanes.push(task.lane()?)?;
+    }
+    Ok(())
+}
+
+// Adds the lanes of the clerks that took a step.
+fn add_clerk_lanes(lanes: &mut Vec<Lane>, clerks: Vec<ClerkRecord>) -> Result<(), AllocError> {
+    for clerk in clerks {
+        if let Some(lane) = clerk.lane()? {
+            lanes.push(lane)?;
+        }
+    }
+    Ok(())
+}
+
+// What a task was asked for: the key of a request, or the step with its number.
+fn request_label(alloc: Global, step: &Step, reply: &Reply) -> Result<String, AllocError> {
+    match step {
+        Step::Serve { key, .. } => key_label(alloc, key.as_slice()),
+        Step::Hold { key, .. } => {
+            let name = key_label(alloc, key.as_slice())?;
+            format!(in alloc; "hold {name}")
+        }
+        Step::Check { handle, .. } => match reply {
+            Reply::Continuous => format!(in alloc; "handle {handle} kept"),
+            Reply::Broken => format!(in alloc; "handle {handle} broken"),
+            _ => format!(in alloc; "handle {handle}"),
+        },
+        Step::Start { life, .. } => format!(in alloc; "start {life}"),
+        Step::Hear { number, .. } => format!(in alloc; "hear {number}"),
+        Step::Release { .. } => String::from_str(alloc, "release"),
+        _ => Ok(String::new(alloc)),
+    }
+}
+
+// Plays a step, and takes it in with its reply.
+fn play(world: &mut World, story: &mut Story, step: &Step) -> Result<(), AllocError> {
+    let replies = world.run(slice::from_ref(step))?;
+    match replies.first() {
+        None | Some(Reply::NoMemory) => Err(AllocError),
+        Some(reply) => story.take_in(world.cluster(), step, reply),
+    }
+}
+
+// The lanes of the actors.
+fn lanes_in(story: Story, with_clerks: bool) -> Result<Vec<Lane>, AllocError> {
+    let Story {
+        alloc,
+        table,
+        tasks,
+        clerks,
+        notes: _,
+        now: _,
+    } = story;
+    let mut lanes = Vec::new(alloc);
+    lanes.push(table.lane()?)?;
+    add_task_lanes(&mut lanes, tasks)?;
+    if with_clerks {
+        add_clerk_lanes(&mut lanes, clerks)?;
+    }
+    Ok(lanes)
+}
+
+/// The lanes of what became of a job that plays the steps of a script: that of the table, those of the tasks of the
+/// job in order, and, if they are wanted, those of the clerks that took a step.
+pub fn lanes_of(
+    alloc: Global,
+    script: &Script,
+    with_clerks: bool,
+) -> Result<Vec<Lane>, AllocError> {
+    let mut world = World::new(alloc, script.job)?;
+    let mut story = Story::new(alloc, script)?;
+    for step in script.steps.as_slice() {
+        play(&mut world, &mut story, step)?;
+    }
+    lanes_in(story, with_clerks)
+}

@@ -1,0 +1,115 @@
+//! The stretches of readings in which a task may serve a key.
+
+ghost use Rattle.std.specs.Prelude.{◌≡◌, ℕ, ◌≤◌, ◌&&◌, ◌||◌, List, [], IfOk, OnOk, nat_lt};
+ghost use Rattle.std.specs.List.{list_any};
+ghost use Rattle.slicelet.specs.declared.call.SliceletCall.{SliceletCall};
+ghost use Rattle.slicelet.specs.Accepted.{StandsAfter};
+ghost use Rattle.slicelet.specs.Calls.{last_reading};
+ghost use Rattle.slicelet.specs.Rules.{covers_key, is_permitted};
+ghost use Rattle.slicelet.specs.States.{holding_in, permits};
+ghost use Rattle.timeline.specs.internals.Ends.{allowed_to};
+ghost use Rattle.timeline.specs.Stretches.{AreStretches, IsKept, IsNext, is_in};
+
+use policy_rules::Verdict;
+use slice_ranges::SliceKey;
+use slicelet::Slicelet;
+use std::alloc::{AllocError, Global};
+
+/// Readings of a task's clock, in ticks: from the first on, and below the end.
+#[derive(Clone, Copy, Debug, PartialEq, Eq)]
+pub struct Stretch {
+    /// The first reading.
+    pub from: u64,
+    /// The first reading after it.
+    pub to: u64,
+}
+
+/// The stretches in which a task may serve a key, as far as its calls are known.
+#[derive(Drop)]
+pub struct KeyStretches {
+    pub(crate) key: SliceKey,
+    // Those below the reading of the last call.
+    pub(crate) closed: Vec<Stretch>,
+    // From the reading of the last call on, where no other call comes. It may have no reading.
+    pub(crate) last: Stretch,
+}
+
+// The end of the lease that lets the task serve the key at a reading; the reading itself where none does.
+fn lease_end(slicelet: &Slicelet, key: SliceKey, at: u64) -> u64
+    ensures { result ≡ allowed_to (holding_in (covers_key key) slicelet.now) at }
+{
+    match slicelet.serve(key, at) {
+        Verdict::Allow { kind, .. } => match slicelet.held(kind) {
+            Some(lease) => lease.ends,
+            None => at,
+        },
+        Verdict::Deny(_) => at,
+    }
+}
+
+/// The first reading from this one on at which the task may not serve the key, where no other call comes.
+pub fn serving_end(slicelet: &Slicelet, key: SliceKey, from: u64) -> u64
+    ensures { slicelet.now.last ≤ from → (at : ℕ) → from ≤ at
+        → nat_lt at result ≡ permits slicelet.now key at }
+{
+    let first = lease_end(slicelet, key, from);
+    lease_end(slicelet, key, first)
+}
+
+impl KeyStretches {
+    /// The stretches of a task before its first call: there are none.
+    pub fn new(alloc: Global, key: SliceKey) -> Self
+        ensures key { result.key ≡ key }
+        ensures kept { IsKept [] result }
+    {
+        KeyStretches {
+            key,
+            closed: Vec::new(alloc),
+            last: Stretch { from: 0, to: 0 },
+        }
+    }
+
+    /// Takes in what the task's slicelet knows now, after at most one call more.
+    pub fn observe(&mut self, slicelet: &Slicelet) -> Result<(), AllocError>
+        ensures key { OnOk result (self.new.key ≡ self.old.key) }
+        ensures kept { (before after : List SliceletCall) → IsKept before self.old → StandsAfter after slicelet.now
+            → IsNext before after → OnOk result (IsKept after self.new) }
+    {
+        let now = slicelet.last_reading();
+        self.close(now)?;
+        self.last = Stretch {
+            from: now,
+            to: serving_end(slicelet, self.key, now),
+        };
+        Ok(())
+    }
+
+    // Keeps what the last stretch has below a reading.
+    fn close(&mut self, now: u64) -> Result<(), AllocError>
+        ensures key { OnOk result (self.new.key ≡ self.old.key) }
+        ensures last { OnOk result (self.new.last ≡ self.old.last) }
+        ensures closed { OnOk result ((at : ℕ) → list_any (is_in at) self.new.closed.items
+            ≡ (list_any (is_in at) self.old.closed.items || (nat_lt at now && is_in at self.old.last))) }
+    {
+        let Stretch { from, to } = self.last;
+        if from < now && from < to {
+            self.closed.push(Stretch {
+                from,
+                to: to.min(now),
+            })?;
+        }
+        Ok(())
+    }
+
+    /// The stretches, where no other call comes.
+    pub fn stretches(&self) -> Result<Vec<Stretch>, AllocError>
+        ensures { (calls : List SliceletCall) → IsKept calls self.now
+            → IfOk result (λ stretches. AreStretches self.now.key calls stretches.items) }
+    {
+        let mut all = Vec::from_slice(*self.closed.allocator(), self.closed.as_slice())?;
+        if self.last.from < self.last.to {
+            all.push(self.last)?;
+        }
+        Ok(all)
+    }
+}

@@ -1,0 +1,154 @@
+//! The lane of the table.
+
+use crate::lane::{FOREVER, Item, Lane, Look, Part};
+use crate::words::{Ending, table_word};
+use lease_table::{JobTerm, Phase};
+use service::{Line, RefusalWords};
+use std::alloc::{AllocError, Global};
+use world::{Reply, Step};
+
+/// A term of the job lease, from the reading at which it was taken.
+#[derive(Clone, Copy, Debug, PartialEq, Eq)]
+struct TermRecord {
+    from: u64,
+    term: JobTerm,
+}
+
+/// What became of the table.
+#[derive(Drop)]
+pub struct TableRecord {
+    alloc: Global,
+    phase: Phase,
+    // The reading from which on it is in this phase.
+    since: u64,
+    phases: Vec<Item>,
+    terms: Vec<TermRecord>,
+    events: Vec<Item>,
+}
+
+// A phase between two readings.
+fn phase_item(alloc: Global, phase: Phase, from: u64, to: u64) -> Result<Item, AllocError> {
+    let ending = Ending(to);
+    let (look, label, words) = match phase {
+        Phase::Steady(generation) => (
+            Look::Steady,
+            format!(in alloc; "steady {generation}")?,
+            format!(in alloc; "steady at generation {generation} from {from} {ending}")?,
+        ),
+        Phase::Bridging(old, new) => (
+            Look::Waiting,
+            format!(in alloc; "{new} waits")?,
+            format!(in alloc;
+                "generation {new} waits after generation {old} from {from} {ending}"
+            )?,
+        ),
+    };
+    Item::of_part(alloc, Part { look, from, to }, label, words)
+}
+
+// A term up to a reading.
+fn term_item(alloc: Global, taken: TermRecord, to: u64) -> Result<Item, AllocError> {
+    let TermRecord { from, term } = taken;
+    let part = Part {
+        look: Look::Term,
+        from,
+        to,
+    };
+    let (number, assigner, until) = (term.number, term.assigner, term.until);
+    let label = format!(in alloc; "term {number}, assigner {assigner}")?;
+    let words = format!(in alloc; "term {number} of assigner {assigner} from {from} to {until}")?;
+    Item::of_part(alloc, part, label, words)
+}
+
+impl TableRecord {
+    /// A table before its first step.
+    pub fn new(alloc: Global) -> Self {
+        TableRecord {
+            alloc,
+            phase: Phase::Steady(0),
+            since: 0,
+            phases: Vec::new(alloc),
+            terms: Vec::new(alloc),
+            events: Vec::new(alloc),
+        }
+    }
+
+    /// Takes in a step of the table at a reading with its reply.
+    pub fn take_in(&mut self, step: &Step, at: u64, reply: &Reply) -> Result<(), AllocError> {
+        match reply {
+            Reply::Term(term) => self.terms.push(TermRecord {
+                from: at,
+                term: *term,
+            })?,
+            Reply::Renewed(term) => self.renew(*term),
+            Reply::Lost(_) => self.add_lost(at, reply)?,
+            Reply::Refused(why) => {
+                let word = table_word(step);
+                let label = format!(in self.alloc; "{word}: {}", RefusalWords(*why))?;
+                let words = format!(in self.alloc; "{word} at {at}: {}", Line(reply))?;
+                let item = Item::mark(self.alloc, Look::Refused, at, label, words)?;
+                self.events.push(item)?;
+            }
+            _ => {}
+        }
+        Ok(())
+    }
+
+    /// Takes in the phase after a step at a reading.
+    pub fn see_phase(&mut self, phase: Phase, at: u64) -> Result<(), AllocError> {
+        if phase != self.phase {
+            if self.since < at {
+                let item = phase_item(self.alloc, self.phase, self.since, at)?;
+                self.phases.push(item)?;
+            }
+            self.phase = phase;
+            self.since = at;
+        }
+        Ok(())
+    }
+
+    fn renew(&mut self, term: JobTerm) {
+        if let Some(last) = self.terms.last_mut() {
+            last.term = term;
+        }
+    }
+
+    fn add_lost(&mut self, at: u64, reply: &Reply) -> Result<(), AllocError> {
+        let label = String::from_str(self.alloc, "restart")?;
+        let words = format!(in self.alloc; "the table restarts at {at}: {}", Line(reply))?;
+        let item = Item::mark(self.alloc, Look::Done, at, label, words)?;
+        self.events.push(item)?;
+        Ok(())
+    }
+
+    /// The lane of the table.
+    pub fn lane(self) -> Result<Lane, AllocError> {
+        let TableRecord {
+            alloc,
+            phase,
+            since,
+            mut phases,
+            terms,
+            events,
+        } = self;
+        phases.push(phase_item(alloc, phase, since, FOREVER)?)?;
+        let mut lane = Lane::new(alloc, String::from_str(alloc, "table")?);
+        lane.add_row("phase", phases)?;
+        lane.add_row("job lease", term_items(alloc, terms.as_slice())?)?;
+        lane.add_row("events", events)?;
+        Ok(lane)
+    }
+}
+
+// The terms, each up to its end or to the next one.
+fn term_items(alloc: Global, terms: &[TermRecord]) -> Result<Vec<Item>, AllocError> {
+    let mut items = Vec::new(alloc);
+    for (i, taken) in terms.iter().enumerate() {
+        let to = match terms.get(i.saturating_add(1)) {
+            Some(next) => taken.term.until.min(next.from),
+            None => taken.term.until,
+        };
+        items.push(term_item(alloc, *taken, to)?)?;
+    }
+    Ok(items)
+}

@@ -1,0 +1,242 @@
+//! The lane of a task.
+
+use crate::lane::{FOREVER, Item, Lane, Look, Part};
+use crate::leases::LeaseRecord;
+use crate::stretch::serving_end;
+use crate::words::{Ending, key_label};
+use policy_rules::{Kind, Verdict};
+use service::Line;
+use slicelet::{KeyHandle, Slicelet};
+use std::alloc::{AllocError, Global};
+use world::Reply;
+
+/// A life of a task, from the reading at which it was started.
+#[derive(Clone, Copy, Debug, PartialEq, Eq)]
+struct LifeRecord {
+    number: u32,
+    from: u64,
+}
+
+/// What became of a handle.
+#[derive(Drop)]
+struct HandleRecord {
+    number: u64,
+    handle: KeyHandle,
+    label: String,
+    from: u64,
+    // The first reading at which it is broken, where no other call comes.
+    to: u64,
+    is_broken: bool,
+}
+
+/// What became of a task.
+#[derive(Drop)]
+pub struct TaskRecord {
+    alloc: Global,
+    number: u64,
+    lives: Vec<LifeRecord>,
+    leases: Vec<LeaseRecord>,
+    requests: Vec<Item>,
+    handles: Vec<HandleRecord>,
+}
+
+// The lives, each up to the next.
+fn life_items(alloc: Global, lives: &[LifeRecord]) -> Result<Vec<Item>, AllocError> {
+    let mut items = Vec::new(alloc);
+    for (i, life) in lives.iter().enumerate() {
+        let to = match lives.get(i.saturating_add(1)) {
+            Some(next) => next.from,
+            None => FOREVER,
+        };
+        let LifeRecord { number, from } = *life;
+        let label = format!(in alloc; "life {number}")?;
+        let words = format!(in alloc; "life {number} from {from} {}", Ending(to))?;
+        let part = Part {
+            look: Look::Life,
+            from,
+            to,
+        };
+        items.push(Item::of_part(alloc, part, label, words)?)?;
+    }
+    Ok(items)
+}
+
+// The leases of a kind.
+fn lease_items(alloc: Global, kind: Kind, leases: &[LeaseRecord]) -> Result<Vec<Item>, AllocError> {
+    let mut items = Vec::new(alloc);
+    for lease in leases {
+        if lease.kind == kind {
+            items.push(lease.item(alloc)?)?;
+        }
+    }
+    Ok(items)
+}
+
+fn handle_items(alloc: Global, handles: &[HandleRecord]) -> Result<Vec<Item>, AllocError> {
+    let mut items = Vec::new(alloc);
+    for kept in handles {
+        let (number, key) = (kept.number, kept.label.as_str());
+        let (from, to) = (kept.from, kept.to);
+        let label = format!(in alloc; "handle {number}: {key}")?;
+        let words = format!(in alloc; "handle {number} on {key} from {from}; it breaks at {to}")?;
+        let part = Part {
+            look: Look::Handle,
+            from,
+            to,
+        };
+        let mut item = Item::of_part(alloc, part, label, words)?;
+        item.short = Some(format!(in alloc; "handle {number}")?);
+        items.push(item)?;
+    }
+    Ok(items)
+}
+
+// How the reply to a request is drawn.
+fn request_look(reply: &Reply) -> Look {
+    match reply {
+        Reply::Verdict(Verdict::Allow { .. }) | Reply::Continuous => Look::Served,
+        Reply::Verdict(Verdict::Deny(_)) | Reply::Broken => Look::Denied,
+        Reply::Refused(_) => Look::Refused,
+        _ => Look::Done,
+    }
+}
+
+impl TaskRecord {
+    /// A task before its first step.
+    pub fn new(alloc: Global, number: u64) -> Self {
+        TaskRecord {
+            alloc,
+            number,
+            lives: Vec::new(alloc),
+            leases: Vec::new(alloc),
+            requests: Vec::new(alloc),
+            handles: Vec::new(alloc),
+        }
+    }
+
+    /// A lease was granted to the task.
+    pub fn add_lease(&mut self, lease: LeaseRecord) -> Result<(), AllocError> {
+        self.leases.push(lease)?;
+        Ok(())
+    }
+
+    /// The row of a lease was freed, at a reading of the table.
+    pub fn free(&mut self, number: u64, at: u64) {
+        for lease in self.leases.iter_mut() {
+            if lease.number == number {
+                lease.freed = Some(at);
+            }
+        }
+    }
+
+    /// A life was started.
+    pub fn start(&mut self, number: u32, at: u64) -> Result<(), AllocError> {
+        for lease in self.leases.iter_mut() {
+            lease.stop(at);
+        }
+        self.lives.push(LifeRecord { number, from: at })?;
+        Ok(())
+    }
+
+    /// A grant was heard: its lease takes the place of the one of its kind.
+    pub fn hear(&mut self, number: u64, at: u64) {
+        let Some(kind) = self.kind_of(number) else {
+            return;
+        };
+        for lease in self.leases.iter_mut() {
+            if lease.number == number {
+                lease.heard = Some(at);
+            } else if lease.kind == kind {
+                lease.stop(at);
+            }
+        }
+    }
+
+    fn kind_of(&self, number: u64) -> Option<Kind> {
+        for lease in &self.leases {
+            if lease.number == number {
+                return Some(lease.kind);
+            }
+        }
+        None
+    }
+
+    /// The lease of this grant was given up.
+    pub fn release(&mut self, number: u64, at: u64) {
+        for lease in self.leases.iter_mut() {
+            if lease.number == number {
+                lease.release(at);
+            }
+        }
+    }
+
+    /// A handle was taken on a key.
+    pub fn hold(
+        &mut self,
+        number: u64,
+        handle: KeyHandle,
+        key: &[u8],
+        at: u64,
+        slicelet: &Slicelet,
+    ) -> Result<(), AllocError> {
+        let label = key_label(self.alloc, key)?;
+        self.handles.push(HandleRecord {
+            number,
+            handle,
+            label,
+            from: at,
+            to: serving_end(slicelet, handle.key, at),
+            is_broken: false,
+        })?;
+        Ok(())
+    }
+
+    /// A call was accepted: a handle that it left continuous breaks where the key may not be served any more, and
+    /// any other is broken by then.
+    pub fn see_handles(&mut self, slicelet: &Slicelet) {
+        let last = slicelet.last_reading();
+        for kept in self.handles.iter_mut() {
+            if kept.is_broken {
+                continue;
+            }
+            let from = kept.from.max(last);
+            match slicelet.continuous(&kept.handle, from) {
+                Ok(true) => kept.to = serving_end(slicelet, kept.handle.key, from),
+                _ => {
+                    kept.to = kept.to.min(last);
+                    kept.is_broken = true;
+                }
+            }
+        }
+    }
+
+    /// A request was answered.
+    pub fn request(&mut self, at: u64, label: String, reply: &Reply) -> Result<(), AllocError> {
+        let words = format!(in self.alloc; "{} at {at}: {}", label.as_str(), Line(reply))?;
+        let item = Item::mark(self.alloc, request_look(reply), at, label, words)?;
+        self.requests.push(item)?;
+        Ok(())
+    }
+
+    /// The lane of the task; it has no rows where nothing became of it.
+    pub fn lane(self) -> Result<Lane, AllocError> {
+        let TaskRecord {
+            alloc,
+            number,
+            lives,
+            leases,
+            requests,
+            handles,
+        } = self;
+        let mut lane = Lane::new(alloc, format!(in alloc; "task {number}")?);
+        lane.add_row("life", life_items(alloc, lives.as_slice())?)?;
+        lane.add_row("guard", lease_items(alloc, Kind::Guard, leases.as_slice())?)?;
+        lane.add_row(
+            "bridge",
+            lease_items(alloc, Kind::Bridge, leases.as_slice())?,
+        )?;
+        lane.add_row("handles", handle_items(alloc, handles.as_slice())?)?;
+        lane.add_row("requests", requests)?;
+        Ok(lane)
+    }
+}
