@@ -1,11 +1,12 @@
 -- How the command ends, by what it read.
-use Rattle.std.proofs.Common.{◌≡◌, inl, inr, Bool, ℕ, List, [], Option, Some, None, Result, Ok, Err, IfErr, OnOk, refl, subst}
+use Rattle.std.proofs.Common.{◌≡◌, inl, inr, ℕ, List, [], Option, Some, None, Result, Ok, Err, IfErr, OnOk, refl, subst}
 use Rattle.std.specs.Bool.{⊤}
 use Rattle.std.specs.Io.KnownBytes.{prepend_known}
 use Rattle.std.specs.Io.Buffered.{reader_remaining, reader_buffer, reader_capacity, reader_inner}
 use Rattle.std.specs.declared.io.buffered.BufReader.{BufReader}
 use Rattle.program_io.proofs.Keeping.{keeps_itself}
 use Rattle.command.specs.declared.arguments.Request.{Request}
+use Rattle.command.specs.declared.arguments.ScriptText.{ScriptText}
 use Rattle.command.specs.declared.arguments.Source.TheVariants as source
 use Rattle.diagnosis.specs.declared.error.AnswerError.{AnswerError}
 use Rattle.diagnosis.specs.Errors.{status_after}
@@ -14,10 +15,10 @@ use Rattle.session.specs.Talks.{IsTalked, IsBroken}
 use Rattle.command.specs.Runs.{IsAnswered, IsFailed}
 use Rattle.command.specs.Endings.{IsPlayed, IsSession, IsOutcome, IsWithoutInput, EndsBy, Ends}
 
-pub played_of : (numbers : Bool) (full rest held holds : Option (List ℕ)) (answer : Result ⊤ AnswerError)
-    → OnOk answer (IsAnswered numbers full rest held holds) → IfErr answer (IsFailed numbers full rest held holds) → IsPlayed numbers full rest held holds answer
-played_of numbers full rest held holds (Ok done) answered failed = answered
-played_of numbers full rest held holds (Err why) answered failed = failed
+pub played_of : (text : ScriptText) (full rest held holds : Option (List ℕ)) (answer : Result ⊤ AnswerError)
+    → OnOk answer (IsAnswered text full rest held holds) → IfErr answer (IsFailed text full rest held holds) → IsPlayed text full rest held holds answer
+played_of text full rest held holds (Ok done) answered failed = answered
+played_of text full rest held holds (Err why) answered failed = failed
 
 pub session_of : (form : ReplyForm) (full rest held holds : Option (List ℕ)) (answer : Result ⊤ AnswerError)
     → OnOk answer (IsTalked form full held holds) → IfErr answer (IsBroken form full rest held holds) → IsSession form full rest held holds answer
@@ -51,4 +52,9 @@ ends_buffered remaining reader inner after held holds code same empty room ends 
     (after, subst (λ (before : Option (List ℕ)). Ends before after held holds code) (fresh_remaining remaining reader inner same empty room) ends)
 
 pub ends_unread : (before held holds : Option (List ℕ)) (code : ℕ) → IsWithoutInput held holds code → (rest : Option (List ℕ)) × Ends before rest held holds code
-ends_unread before held holds code without = (before, inr (keeps_itself before, without))
+ends_unread before held holds code without = (before, inr (inr (keeps_itself before, without)))
+
+-- how it ends for a request, and where logs were audited
+pub ends_by : (request : Request) (before after held holds : Option (List ℕ)) (code : ℕ) → EndsBy request before after held holds code → Ends before after held holds code
+ends_by request before after held holds code (inl ends) = inl (request, ends)
+ends_by request before after held holds code (inr without) = inr (inr without)

@@ -1,9 +1,10 @@
 -- How the command ends, and the status that it exits with.
-use Rattle.std.specs.Prelude.{◌≡◌, ◌⊎◌, Bool, ℕ, List, Option, Result, Ok, Err, ⊤}
+use Rattle.std.specs.Prelude.{◌≡◌, ◌⊎◌, ℕ, List, Option, Result, Ok, Err, ⊤}
 use Rattle.std.specs.Io.KnownBytes.{Appends, Keeps}
 use Rattle.command.specs.declared.arguments.Request.{Request}
 use Rattle.command.specs.declared.arguments.Subcommand.{Subcommand}
 use Rattle.command.specs.declared.arguments.Subcommand.TheVariants as command
+use Rattle.command.specs.declared.arguments.ScriptText.{ScriptText}
 use Rattle.command.specs.declared.arguments.Source.{Source}
 use Rattle.command.specs.declared.arguments.Source.TheVariants as source
 use Rattle.diagnosis.specs.declared.error.AnswerError.{AnswerError}
@@ -11,6 +12,7 @@ use Rattle.diagnosis.specs.Errors.{status_after}
 use Rattle.session.specs.declared.answer.ReplyForm.{ReplyForm}
 use Rattle.session.specs.Talks.{IsTalked, IsBroken}
 use Rattle.command.specs.Runs.{IsAnswered, IsFailed}
+use Rattle.command.specs.Audits.{IsAuditEnd}
 
 -- input was read that had `full` before and has `rest` after: all the input, or a file, and then nothing of the input
 abbrev pub IsReadFrom : Source → (before after full rest : Option (List ℕ)) → Type 0
@@ -18,9 +20,9 @@ IsReadFrom source.Input before after full rest = (full ≡ before) × (rest ≡ 
 IsReadFrom (source.File name) before after full rest = Keeps before after
 
 -- what was read and written for a script that was answered, or was not
-abbrev pub IsPlayed : Bool → (full rest held holds : Option (List ℕ)) → Result ⊤ AnswerError → Type 0
-IsPlayed numbers full rest held holds (Ok done) = IsAnswered numbers full rest held holds
-IsPlayed numbers full rest held holds (Err why) = IsFailed numbers full rest held holds why
+abbrev pub IsPlayed : ScriptText → (full rest held holds : Option (List ℕ)) → Result ⊤ AnswerError → Type 0
+IsPlayed text full rest held holds (Ok done) = IsAnswered text full rest held holds
+IsPlayed text full rest held holds (Err why) = IsFailed text full rest held holds why
 
 -- what was read and written in a session that came to its end, or did not
 abbrev pub IsSession : ReplyForm → (full rest held holds : Option (List ℕ)) → Result ⊤ AnswerError → Type 0
@@ -29,7 +31,7 @@ IsSession form full rest held holds (Err why) = IsBroken form full rest held hol
 
 -- what was read and written by a subcommand that came to its end, or did not
 abbrev pub IsOutcome : Subcommand → (full rest held holds : Option (List ℕ)) → Result ⊤ AnswerError → Type 0
-IsOutcome (command.Run numbers) full rest held holds answer = IsPlayed numbers full rest held holds answer
+IsOutcome (command.Play text) full rest held holds answer = IsPlayed text full rest held holds answer
 IsOutcome (command.Session form) full rest held holds answer = IsSession form full rest held holds answer
 
 -- input was read for this request
@@ -62,7 +64,8 @@ abbrev pub EndsBy : Request → (before after held holds : Option (List ℕ)) �
 EndsBy request before after held holds code =
     EndsWithInput request before after held holds code ⊎ (Keeps before after × IsWithoutInput held holds code)
 
--- how the command ends
+-- how the command ends: it answers one input, audits logs, or reads nothing
 abbrev pub Ends : (before after held holds : Option (List ℕ)) → ℕ → Type 0
 Ends before after held holds code =
-    ((request : Request) × EndsWithInput request before after held holds code) ⊎ (Keeps before after × IsWithoutInput held holds code)
+    ((request : Request) × EndsWithInput request before after held holds code) ⊎ IsAuditEnd held holds code
+    ⊎ (Keeps before after × IsWithoutInput held holds code)

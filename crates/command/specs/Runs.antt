@@ -1,5 +1,5 @@
 -- What `hourstable run` writes for what it reads.
-use Rattle.std.specs.Prelude.{◌≡◌, ◌⊎◌, ℕ, suc, List, [], ◌∷◌, ◌++◌, map, take, Bool, true, false, codes, decimal, Option, ⊤}
+use Rattle.std.specs.Prelude.{◌≡◌, ◌⊎◌, ℕ, suc, List, [], ◌∷◌, ◌++◌, map, take, Bool, codes, decimal, Option, ⊤}
 use Rattle.std.specs.Io.KnownBytes.{Appends, Keeps}
 use Rattle.serde_json.specs.Data.{Data}
 use Rattle.world.specs.declared.step.Step.{Step}
@@ -16,6 +16,9 @@ use Rattle.service.specs.Service.{SaysScript, IsRefusedFor}
 use Rattle.diagnosis.specs.declared.error.AnswerError.{AnswerError}
 use Rattle.diagnosis.specs.declared.error.AnswerError.TheVariants as answer
 use Rattle.diagnosis.specs.Faults.{refusals_of}
+use Rattle.explain.specs.Texts.{IsExplainedText}
+use Rattle.command.specs.declared.arguments.ScriptText.{ScriptText}
+use Rattle.command.specs.declared.arguments.ScriptText.TheVariants as show
 
 -- the word by which a script names a step
 abbrev pub step_word : Step → List ℕ
@@ -66,10 +69,12 @@ pub record IsShownNumbered (script : Script) (text : List ℕ) : Type 0 where
   pub output : IsOutput script plain
   pub lines : text ≡ numbered_text script.steps output.replies output.timely
 
--- the text of a script, with numbers or without
-abbrev pub IsShown : Bool → Script → List ℕ → Type 0
-IsShown true script text = IsShownNumbered script text
-IsShown false script text = IsOutput script text
+-- what is written of a script: the text with numbers or without, or with reasons; of a picture only the stretches are said, where they are found
+abbrev pub IsShown : ScriptText → Script → List ℕ → Type 0
+IsShown show.Lines script text = IsOutput script text
+IsShown show.Numbered script text = IsShownNumbered script text
+IsShown show.Explained script text = IsExplainedText script text
+IsShown (show.Picture key clerks) script text = ⊤
 
 -- a value was read, which is no script, and these are its faults
 pub record HasFaults (bytes : List ℕ) (refusals : List ScriptError) : Type 0 where
@@ -93,23 +98,23 @@ IsUnread bytes answer.Write = ⊥
 IsUnread bytes answer.Memory = ⊤
 
 -- all was read, it is a script, and its text was written
-pub record IsAnswered (numbers : Bool) (before after held holds : Option (List ℕ)) : Type 0 where
+pub record IsAnswered (show : ScriptText) (before after held holds : Option (List ℕ)) : Type 0 where
   pub bytes : List ℕ
   pub reads : ReadsAll before after bytes
   pub script : Script
   pub says : SaysScript bytes script
   pub text : List ℕ
-  pub is : IsShown numbers script text
+  pub is : IsShown show script text
   pub wrote : Appends held holds text
 
 -- all was read, it is a script, and its text was written up to a place
-pub record IsCut (numbers : Bool) (before after held holds : Option (List ℕ)) : Type 0 where
+pub record IsCut (show : ScriptText) (before after held holds : Option (List ℕ)) : Type 0 where
   pub bytes : List ℕ
   pub reads : ReadsAll before after bytes
   pub script : Script
   pub says : SaysScript bytes script
   pub text : List ℕ
-  pub is : IsShown numbers script text
+  pub is : IsShown show script text
   pub len : ℕ
   pub wrote : Appends held holds (take len text)
 
@@ -120,8 +125,8 @@ pub record IsRefused (before after : Option (List ℕ)) (refusals : List ScriptE
   pub faults : AreFaults bytes refusals
 
 -- what was written where the script was not answered
-abbrev pub IsFailed : Bool → Option (List ℕ) → Option (List ℕ) → Option (List ℕ) → Option (List ℕ) → AnswerError → Type 0
-IsFailed numbers before after held holds (answer.Refused faults) = IsRefused before after (map (λ f. f.refusal) faults.items) × Keeps held holds
-IsFailed numbers before after held holds answer.Read = Keeps held holds
-IsFailed numbers before after held holds answer.Write = IsCut numbers before after held holds
-IsFailed numbers before after held holds answer.Memory = Keeps held holds
+abbrev pub IsFailed : ScriptText → Option (List ℕ) → Option (List ℕ) → Option (List ℕ) → Option (List ℕ) → AnswerError → Type 0
+IsFailed show before after held holds (answer.Refused faults) = IsRefused before after (map (λ f. f.refusal) faults.items) × Keeps held holds
+IsFailed show before after held holds answer.Read = Keeps held holds
+IsFailed show before after held holds answer.Write = IsCut show before after held holds
+IsFailed show before after held holds answer.Memory = Keeps held holds

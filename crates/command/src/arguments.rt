@@ -9,7 +9,8 @@ const VERSION: &str = "1.0.0 (proved with rattle-kit-13f logic dac8208d650f15bf)
 
 const STATUSES: &str = "Exit statuses:
   0  done
-  2  the arguments or the input are refused, or the file cannot be opened
+  1  an audit found a fault
+  2  the arguments or the input are refused, or a file cannot be opened
   3  a read fault, a write fault, or out of memory";
 
 /// Where input comes from.
@@ -21,20 +22,42 @@ pub enum Source<'a> {
     File(&'a str),
 }
 
+/// What is written of a script.
+#[derive(Clone, Copy, Debug, PartialEq, Eq)]
+pub enum ScriptText<'a> {
+    /// A line for each of its steps, and a last line.
+    Lines,
+    /// The same, each line of a step after its element's number and its step.
+    Numbered,
+    /// The same, each line followed by why it is what it is.
+    Explained,
+    /// A picture, with the stretches coloured in which each task may serve a key, and with clerks.
+    Picture { key: Option<&'a str>, clerks: bool },
+}
+
 /// What the command does with its input.
 #[derive(Clone, Copy, Debug, PartialEq, Eq)]
-pub enum Subcommand {
-    /// Play a script; with numbers, each line after its element's number and its step.
-    Run { numbers: bool },
+pub enum Subcommand<'a> {
+    /// Play a script, and write this of it.
+    Play { text: ScriptText<'a> },
     /// Answer each line with a line, in this form.
     Session { form: ReplyForm },
 }
 
-/// What the words of a command line ask for.
+/// Something to do with one input.
 #[derive(Clone, Copy, Debug, PartialEq, Eq)]
 pub struct Request<'a> {
-    pub subcommand: Subcommand,
+    pub subcommand: Subcommand<'a>,
     pub source: Source<'a>,
+}
+
+/// What the words of a command line ask for.
+#[derive(Debug, Drop)]
+pub enum Asked<'a> {
+    /// Answer one input.
+    Answer(Request<'a>),
+    /// Audit the logs of these names, of which `-` is the standard input, and count their lines where that is wanted.
+    Audit { names: Vec<&'a str>, progress: bool },
 }
 
 fn flag<'a>(alloc: Global, name: &'a str, help: &'a str) -> Arg<'a> {
@@ -58,6 +81,29 @@ fn run_command<'a>(alloc: Global) -> Result<Command<'a>, AllocError> {
         .arg(file_argument(alloc, file))
 }
 
+fn explain_command<'a>(alloc: Global) -> Result<Command<'a>, AllocError> {
+    let file = "The script; standard input where it is - or left out";
+    Command::new(alloc, "explain")
+        .about("Play a script, and write each line of run with why it is what it is")
+        .after_help(STATUSES)
+        .arg(file_argument(alloc, file))
+}
+
+fn timeline_command<'a>(alloc: Global) -> Result<Command<'a>, AllocError> {
+    let file = "The script; standard input where it is - or left out";
+    let key = Arg::new(alloc, "key")
+        .long("key")
+        .value_name("KEY")
+        .help("Colour where each task may serve this key")
+        .action(ArgAction::Set);
+    Command::new(alloc, "timeline")
+        .about("Play a script, and write a picture of it as SVG")
+        .after_help(STATUSES)
+        .arg(key)?
+        .arg(flag(alloc, "clerks", "Draw the clerks too"))?
+        .arg(file_argument(alloc, file))
+}
+
 fn session_command<'a>(alloc: Global) -> Result<Command<'a>, AllocError> {
     let file = "The lines; standard input where it is - or left out";
     Command::new(alloc, "session")
@@ -65,6 +111,19 @@ fn session_command<'a>(alloc: Global) -> Result<Command<'a>, AllocError> {
         .after_help(STATUSES)
         .arg(flag(alloc, "json", "Answer with JSON objects"))?
         .arg(file_argument(alloc, file))
+}
+
+fn audit_command<'a>(alloc: Global) -> Result<Command<'a>, AllocError> {
+    let logs = Arg::new(alloc, "LOG")
+        .help("The logs; - is standard input. The first line of the first one is the job")
+        .required(true)
+        .num_args(1..)
+        .action(ArgAction::Append);
+    Command::new(alloc, "audit")
+        .about("Judge logs of what a service did, and write whether it is one run of the machines")
+        .after_help(STATUSES)
+        .arg(flag(alloc, "progress", "Count lines on the standard error"))?
+        .arg(logs)
 }
 
 // The command with its subcommands.
@@ -75,7 +134,10 @@ fn hourstable_command<'a>(alloc: Global) -> Result<Command<'a>, AllocError> {
         .after_help(STATUSES)
         .subcommand_required(true)
         .subcommand(run_command(alloc)?)?
-        .subcommand(session_command(alloc)?)
+        .subcommand(session_command(alloc)?)?
+        .subcommand(audit_command(alloc)?)?
+        .subcommand(explain_command(alloc)?)?
+        .subcommand(timeline_command(alloc)?)
 }
 
 fn source_of<'a>(matches: &ArgMatches<'a>) -> Source<'a> {
@@ -85,33 +147,60 @@ fn source_of<'a>(matches: &ArgMatches<'a>) -> Source<'a> {
     }
 }
 
-fn run_request<'a>(matches: &ArgMatches<'a>) -> Request<'a> {
-    Request {
-        subcommand: Subcommand::Run {
-            numbers: matches.get_flag("number"),
-        },
+// A script is to be played, and this to be written of it.
+fn play_request<'a>(matches: &ArgMatches<'a>, text: ScriptText<'a>) -> Asked<'a> {
+    Asked::Answer(Request {
+        subcommand: Subcommand::Play { text },
         source: source_of(matches),
+    })
+}
+
+fn run_request<'a>(matches: &ArgMatches<'a>) -> Asked<'a> {
+    if matches.get_flag("number") {
+        play_request(matches, ScriptText::Numbered)
+    } else {
+        play_request(matches, ScriptText::Lines)
     }
 }
 
-fn session_request<'a>(matches: &ArgMatches<'a>) -> Request<'a> {
+fn timeline_request<'a>(matches: &ArgMatches<'a>) -> Asked<'a> {
+    let key = matches.get_str("key");
+    let clerks = matches.get_flag("clerks");
+    play_request(matches, ScriptText::Picture { key, clerks })
+}
+
+fn session_request<'a>(matches: &ArgMatches<'a>) -> Asked<'a> {
     let form = if matches.get_flag("json") {
         ReplyForm::Json
     } else {
         ReplyForm::Text
     };
-    Request {
+    Asked::Answer(Request {
         subcommand: Subcommand::Session { form },
         source: source_of(matches),
+    })
+}
+
+fn audited<'a>(alloc: Global, matches: &ArgMatches<'a>) -> Result<Asked<'a>, AllocError> {
+    let mut names = Vec::new(alloc);
+    if let Some(given) = matches.get_strs("LOG") {
+        for name in given {
+            names.push(*name)?;
+        }
     }
+    let progress = matches.get_flag("progress");
+    Ok(Asked::Audit { names, progress })
 }
 
 /// What the words of a command line ask for, the name of the program first; or the text for help, for the
 /// version, or for words that ask for nothing that the command does.
-pub fn parse_words<'a>(alloc: Global, words: &'a [String]) -> Result<Request<'a>, Error> {
+pub fn parse_words<'a>(alloc: Global, words: &'a [String]) -> Result<Asked<'a>, Error> {
     let matches = hourstable_command(alloc)?.try_get_matches_from(words)?;
     match matches.subcommand() {
+        Some(("audit", matches)) => Ok(audited(alloc, matches)?),
         Some(("session", matches)) => Ok(session_request(matches)),
+        Some(("explain", matches)) => Ok(play_request(matches, ScriptText::Explained)),
+        Some(("timeline", matches)) => Ok(timeline_request(matches)),
         Some((_, matches)) => Ok(run_request(matches)),
         None => Ok(run_request(&matches)),
     }

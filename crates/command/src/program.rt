@@ -3,9 +3,11 @@
 ghost use Rattle.std.specs.Prelude.{◌≡◌, ℕ, List, Option};
 ghost use Rattle.std.specs.Process.{exit_status};
 ghost use Rattle.diagnosis.specs.Errors.{status_after};
+ghost use Rattle.command.specs.Audits.{IsAuditEnd};
 ghost use Rattle.command.specs.Endings.{Ends, EndsBy, IsOutcome, IsWithoutInput};
 
-use crate::arguments::{Request, Source, Subcommand, parse_words};
+use crate::arguments::{Asked, Request, Source, Subcommand, parse_words};
+use crate::log_audit::{Audit, audit_named, say_error};
 use crate::script_run::run_lines;
 use clap::Error;
 use clap::error::ErrorKind;
@@ -21,6 +23,9 @@ use std::rt::Files;
 
 /// The status where what was asked for is done.
 const DONE: u8 = 0;
+
+/// The status where the calls of logs are not one run.
+const FAULT: u8 = 1;
 
 /// The status where the arguments or the input are refused.
 const REFUSED: u8 = 2;
@@ -64,15 +69,15 @@ fn ended<E: Write>(errors: &mut E, name: &str, answer: &Result<(), AnswerError>)
 // Does what is asked for with what a reader gives.
 fn answer_reader<R: BufRead, W: Write>(
     alloc: Global,
-    subcommand: Subcommand,
+    subcommand: Subcommand<'_>,
     reader: &mut R,
     writer: &mut W,
 ) -> Result<(), AnswerError>
-    ensures { IsOutcome subcommand (R.remaining reader.old) (R.remaining reader.new)
+    ensures { IsOutcome subcommand.entry (R.remaining reader.old) (R.remaining reader.new)
         (W.contents writer.old) (W.contents writer.new) result }
 {
     match subcommand {
-        Subcommand::Run { numbers } => run_lines(alloc, numbers, reader, writer),
+        Subcommand::Play { text } => run_lines(alloc, text, reader, writer),
         Subcommand::Session { form } => run_session(alloc, form, reader, writer),
     }
 }
@@ -80,12 +85,12 @@ fn answer_reader<R: BufRead, W: Write>(
 // Does what is asked for with a file.
 fn answer_file<F: Read + Drop, W: Write>(
     alloc: Global,
-    subcommand: Subcommand,
+    subcommand: Subcommand<'_>,
     file: F,
     writer: &mut W,
 ) -> Result<(), AnswerError>
     ensures { (full : Option (List ℕ)) × (rest : Option (List ℕ))
-        × IsOutcome subcommand full rest (W.contents writer.old) (W.contents writer.new) result }
+        × IsOutcome subcommand.entry full rest (W.contents writer.old) (W.contents writer.new) result }
 {
     match BufReader::new(alloc, file) {
         Ok(mut reader) => answer_reader(alloc, subcommand, &mut reader, writer),
@@ -119,6 +124,26 @@ fn run<R: BufRead, W: Write, E: Write>(
                 REFUSED
             }
         },
+    }
+}
+
+// Audits logs, and says why they are not judged where they are not.
+fn judge_logs<R: Read, W: Write, E: Write>(
+    rt: &(impl Files + AllocGlobal),
+    audit: Audit<'_, '_>,
+    input: &mut R,
+    output: &mut W,
+    errors: &mut E,
+) -> u8
+    ensures { IsAuditEnd (W.contents output.old) (W.contents output.new) result }
+{
+    match audit_named(rt, audit, input, output, errors) {
+        Ok(true) => DONE,
+        Ok(false) => FAULT,
+        Err(error) => {
+            say_error(errors, audit.names, &error);
+            error.status()
+        }
     }
 }
 
@@ -163,7 +188,12 @@ pub fn do_words<R: BufRead, W: Write, E: Write>(
         (W.contents output.old) (W.contents output.new) result }
 {
     match parse_words(rt.alloc(), words) {
-        Ok(request) => run(rt, request, input, output, errors),
+        Ok(Asked::Answer(request)) => run(rt, request, input, output, errors),
+        Ok(Asked::Audit { names, progress }) => {
+            let names = names.as_slice();
+            let audit = Audit { names, progress };
+            judge_logs(rt, audit, input, output, errors)
+        }
         Err(error) => tell(rt.alloc(), &error, output, errors),
     }
 }

@@ -1,4 +1,4 @@
-//! `hourstable run`: a script's bytes in, the lines of its replies out, numbered or not.
+//! `hourstable run`, `explain` and `timeline`: a script's bytes in, a text of it out.
 
 ghost use Rattle.std.specs.Prelude.{◌≡◌, IfErr, IfOk, OnOk, string_bytes, true};
 ghost use Rattle.std.specs.List.{list_all};
@@ -6,14 +6,17 @@ ghost use Rattle.service.specs.Output.{is_answer};
 ghost use Rattle.service.specs.Service.{SaysScript};
 ghost use Rattle.command.specs.Runs.{IsUnread, IsShown, IsShownNumbered, IsAnswered, IsFailed, numbered_lines, numbered_text};
 
+use crate::arguments::ScriptText;
 use crate::step_word::step_word;
 use diagnosis::{AnswerError, faults_of, first_fault_law, json_faults};
+use explain::explained_text;
 use lease_table::policy_law;
 use program_io::{Fault, read_all, write_all};
 use serde_json::{Category, Value};
 use service::{Line, Script, is_timely, output_of, replies_of, script_of};
 use std::alloc::{AllocError, Global};
 use std::io::{Read, Write};
+use timeline::timeline_svg;
 use world::{Reply, Step};
 
 // The script that the bytes say.
@@ -84,36 +87,36 @@ fn numbered_output(alloc: Global, script: &Script) -> Result<String, AllocError>
     Ok(text)
 }
 
-// The text of a script, with numbers or without.
-fn shown(alloc: Global, numbers: bool, script: &Script) -> Result<String, AllocError>
-    ensures { IfOk result (λ text. IsShown numbers script.now (string_bytes text)) }
+// What is to be written of a script.
+fn shown(alloc: Global, text: ScriptText, script: &Script) -> Result<String, AllocError>
+    ensures { IfOk result (λ shown. IsShown text.entry script.now (string_bytes shown)) }
 {
-    if numbers {
-        numbered_output(alloc, script)
-    } else {
-        output_of(alloc, script)
+    match text {
+        ScriptText::Lines => output_of(alloc, script),
+        ScriptText::Numbered => numbered_output(alloc, script),
+        ScriptText::Explained => explained_text(alloc, script),
+        ScriptText::Picture { key, clerks } => timeline_svg(alloc, script, key, clerks),
     }
 }
 
-/// Reads a script to its end, and then writes a line for each of its steps and a last line; with numbers, each
-/// step's line after its element's number and its `do`.
+/// Reads a script to its end, and then writes what is wanted of it.
 ///
 /// Nothing is written before the whole script was read, checked and played: after a refused script, a read
 /// fault or a memory fault nothing was written, after a write fault a first part.
 pub fn run_lines<R: Read, W: Write>(
     alloc: Global,
-    numbers: bool,
+    text: ScriptText,
     reader: &mut R,
     writer: &mut W,
 ) -> Result<(), AnswerError>
-    ensures ok { OnOk result (IsAnswered numbers (R.remaining reader.old) (R.remaining reader.new)
+    ensures ok { OnOk result (IsAnswered text.entry (R.remaining reader.old) (R.remaining reader.new)
         (W.contents writer.old) (W.contents writer.new)) }
-    ensures err { IfErr result (IsFailed numbers (R.remaining reader.old) (R.remaining reader.new)
+    ensures err { IfErr result (IsFailed text.entry (R.remaining reader.old) (R.remaining reader.new)
         (W.contents writer.old) (W.contents writer.new)) }
 {
     let bytes = read_all(alloc, reader)?;
     let script = script_in(alloc, bytes.as_slice())?;
-    let text = shown(alloc, numbers, &script)?;
-    write_all(writer, text.as_str().as_bytes())?;
+    let shown = shown(alloc, text, &script)?;
+    write_all(writer, shown.as_str().as_bytes())?;
     Ok(())
 }

@@ -9,7 +9,7 @@ use std::alloc::Global;
 use std::fs;
 use std::rt::Files;
 
-const NAMES: [&str; 34] = [
+const NAMES: [&str; 72] = [
     "help",
     "help-of-run",
     "help-of-session",
@@ -44,6 +44,44 @@ const NAMES: [&str; 34] = [
     "session-bad-job",
     "session-no-job",
     "session-empty-input",
+    "audit-hand-over",
+    "audit-two-files",
+    "audit-no-actor",
+    "audit-slow-clock",
+    "audit-committed-over-a-guard",
+    "audit-forged-grant",
+    "audit-served-at-the-deadline",
+    "audit-ticket-twice",
+    "audit-no-job",
+    "audit-unknown-member",
+    "audit-dash",
+    "audit-job-alone",
+    "audit-empty-input",
+    "audit-missing-log",
+    "audit-not-json",
+    "audit-no-object",
+    "audit-no-do",
+    "audit-unknown-call",
+    "audit-no-ticket",
+    "audit-reply-is-no-text",
+    "audit-grant-of-no-task",
+    "audit-hear-without-life",
+    "audit-note-is-a-number",
+    "audit-without-logs",
+    "help-of-audit",
+    "explain-a-commit-that-is-held-up",
+    "explain-broken-handles",
+    "explain-untimely-readings",
+    "explain-verdicts-and-refusals",
+    "explain-bad-step",
+    "timeline-empty-input",
+    "help-of-explain",
+    "help-of-timeline",
+    "timeline-bridge",
+    "timeline-without-a-key",
+    "timeline-with-clerks",
+    "explain-empty-input",
+    "timeline-bad-step",
 ];
 
 /// Sessions that are compared with the scripts of their lines.

@@ -1,4 +1,4 @@
-use Rattle.std.proofs.Common.{◌≡◌, inl, inr}
+use Rattle.std.proofs.Common.{inl, inr}
 use Rattle.std.specs.Process.{exit_status}
 use Rattle.std.specs.Io.Buffered.{reader_remaining}
 use Rattle.program_io.proofs.Keeping.{keeps_itself}

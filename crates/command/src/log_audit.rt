@@ -1,0 +1,238 @@
+//! `hourstable audit`: the bytes of logs in, a report out.
+
+ghost use Rattle.std.specs.Prelude.{◌≡◌, IfErr, IfOk, map, string_bytes};
+ghost use Rattle.call_log.specs.Audits.{IsAudited};
+ghost use Rattle.command.specs.declared.log_audit.AuditError.TheVariants as fault;
+ghost use Rattle.command.specs.Audits.{IsJudged, IsNotAudited, IsNotRead, IsUnjudged, status_of};
+
+use call_log::{LogError, LogReport, Place, Progress, audit_logs};
+use program_io::{ReadError, WriteError, read_all, write_all};
+use std::alloc::{AllocError, AllocFailed, Global};
+use std::fs::File;
+use std::io::{Error, Read, Write};
+use std::rt::Files;
+
+/// Why logs are not judged.
+#[derive(Debug, Drop)]
+pub enum AuditError<'a> {
+    /// The log of this name cannot be opened.
+    Unopened { name: &'a str, error: Error },
+    /// The log of this name cannot be read to its end.
+    Read { name: &'a str },
+    /// The logs say no calls.
+    Refused(LogError),
+    /// The report cannot be written.
+    Write,
+    /// Memory ran out.
+    Memory,
+}
+
+impl AuditError<'_> {
+    /// The status that the command exits with: 2 where a log cannot be opened or says no calls, and else 3.
+    pub fn status(&self) -> u8
+        ensures { result ≡ status_of self.now }
+    {
+        match self {
+            AuditError::Unopened { .. } | AuditError::Refused(_) => 2,
+            AuditError::Read { .. } | AuditError::Write | AuditError::Memory => 3,
+        }
+    }
+}
+
+impl From<AllocError> for AuditError<'_> {
+    ghost from_gives = { λ _ e. e ≡ fault.Memory };
+
+    fn from(_error: AllocError) -> Self {
+        AuditError::Memory
+    }
+}
+
+impl<T: Drop> From<AllocFailed<T>> for AuditError<'_> {
+    ghost from_gives = { λ _ e. e ≡ fault.Memory };
+
+    fn from(_error: AllocFailed<T>) -> Self {
+        AuditError::Memory
+    }
+}
+
+impl From<WriteError> for AuditError<'_> {
+    ghost from_gives = { λ _ e. e ≡ fault.Write };
+
+    fn from(_error: WriteError) -> Self {
+        AuditError::Write
+    }
+}
+
+/// Tells how far an audit is, where that is wanted.
+#[derive(Drop)]
+struct Counting<'a, E: Write> {
+    errors: &'a mut E,
+    is_wanted: bool,
+}
+
+/// How many lines lie between two counts.
+const EACH: u64 = 100_000;
+
+impl<E: Write> Counting<'_, E> {
+    fn count(&mut self, number: u64, words: &str) {
+        if self.is_wanted && number % EACH == 0 {
+            let _ = writeln!(self.errors, "hourstable: {number} {words}");
+        }
+    }
+}
+
+impl<E: Write> Progress for Counting<'_, E> {
+    fn lines_read(&mut self, lines: u64) {
+        self.count(lines, "lines read");
+    }
+
+    fn calls_judged(&mut self, calls: u64) {
+        self.count(calls, "calls judged");
+    }
+}
+
+/// What is to be audited.
+#[derive(Clone, Copy, Debug)]
+pub struct Audit<'n, 'a> {
+    /// The names of the logs, of which `-` is the standard input.
+    pub names: &'n [&'a str],
+    /// Whether lines are counted on the standard error.
+    pub progress: bool,
+}
+
+// Reads a log of this name to its end.
+fn read_named<'a, R: Read>(
+    alloc: Global,
+    name: &'a str,
+    reader: &mut R,
+) -> Result<Vec<u8>, AuditError<'a>>
+    ensures { IfErr result IsNotRead }
+{
+    match read_all(alloc, reader) {
+        Ok(bytes) => Ok(bytes),
+        Err(ReadError::Failed) => Err(AuditError::Read { name }),
+        Err(ReadError::Memory) => Err(AuditError::Memory),
+    }
+}
+
+// The bytes of the log of this name; `-` is the standard input.
+fn log_bytes<'a, R: Read>(
+    rt: &(impl Files + AllocGlobal),
+    name: &'a str,
+    input: &mut R,
+) -> Result<Vec<u8>, AuditError<'a>>
+    ensures { IfErr result IsNotRead }
+{
+    if name == "-" {
+        return read_named(rt.alloc(), name, input);
+    }
+    match File::open(rt, name) {
+        Ok(mut file) => read_named(rt.alloc(), name, &mut file),
+        Err(error) => Err(AuditError::Unopened { name, error }),
+    }
+}
+
+// The bytes of the logs of these names.
+fn contents_of<'a, R: Read>(
+    rt: &(impl Files + AllocGlobal),
+    names: &[&'a str],
+    input: &mut R,
+) -> Result<Vec<Vec<u8>>, AuditError<'a>>
+    ensures { IfErr result IsNotRead }
+{
+    let mut contents = Vec::new(rt.alloc());
+    for name in names {
+        contents.push(log_bytes(rt, *name, input)?)?;
+    }
+    Ok(contents)
+}
+
+// The same bytes, lent.
+fn slices_of(alloc: Global, contents: &[Vec<u8>]) -> Result<Vec<&[u8]>, AllocError> {
+    let mut files: Vec<&[u8]> = Vec::new(alloc);
+    for bytes in contents {
+        files.push(bytes.as_slice())?;
+    }
+    Ok(files)
+}
+
+// What is said of logs of these bytes.
+fn report_on<'a, E: Write>(
+    alloc: Global,
+    audit: Audit<'_, 'a>,
+    files: &[&[u8]],
+    errors: &mut E,
+) -> Result<LogReport, AuditError<'a>>
+    ensures ok { IfOk result (λ report. IsAudited (map (λ n. n.now) audit.entry.names.now)
+        (map (λ f. f.now) files.now) report.is_one (string_bytes report.text)) }
+    ensures err { IfErr result (IsNotAudited (map (λ f. f.now) files.now)) }
+{
+    let mut progress = Counting {
+        errors,
+        is_wanted: audit.progress,
+    };
+    match audit_logs(alloc, audit.names, files, &mut progress) {
+        Ok(report) => Ok(report),
+        Err(LogError::Memory) => Err(AuditError::Memory),
+        Err(error) => Err(AuditError::Refused(error)),
+    }
+}
+
+/// Reads logs to their ends, and writes what is found of their calls. Gives whether they are one run.
+///
+/// Nothing is written to `output` before all logs were read and judged.
+pub fn audit_named<'a, R: Read, W: Write, E: Write>(
+    rt: &(impl Files + AllocGlobal),
+    audit: Audit<'_, 'a>,
+    input: &mut R,
+    output: &mut W,
+    errors: &mut E,
+) -> Result<bool, AuditError<'a>>
+    ensures ok { IfOk result (λ one. IsJudged one (W.contents output.old) (W.contents output.new)) }
+    ensures err { IfErr result (λ error. IsUnjudged error (W.contents output.old) (W.contents output.new)) }
+{
+    let contents = contents_of(rt, audit.names, input)?;
+    let files = slices_of(rt.alloc(), contents.as_slice())?;
+    let report = report_on(rt.alloc(), audit, files.as_slice(), errors)?;
+    write_all(output, report.text.as_str().as_bytes())?;
+    Ok(report.is_one)
+}
+
+// Says what is wrong with the line at a place.
+fn say_line<E: Write>(errors: &mut E, names: &[&str], place: Place, words: &str) {
+    let name = names.get(place.file).copied().unwrap_or("-");
+    let _ = writeln!(errors, "hourstable: {name}:{}: {words}", place.line);
+}
+
+/// Says why logs are not judged.
+pub fn say_error<E: Write>(errors: &mut E, names: &[&str], error: &AuditError) {
+    match error {
+        AuditError::Unopened { name, error } => {
+            let _ = writeln!(errors, "hourstable: {name}: {error}");
+        }
+        AuditError::Read { name } => {
+            let _ = writeln!(errors, "hourstable: {name}: read fault");
+        }
+        AuditError::Refused(LogError::NoJob { place, faults }) => {
+            for fault in faults {
+                let name = names.get(place.file).copied().unwrap_or("-");
+                let _ = writeln!(errors, "hourstable: {name}:{}: {fault}", place.line);
+            }
+        }
+        AuditError::Refused(LogError::BadLine { place, mend, .. }) => {
+            say_line(errors, names, *place, mend.as_str());
+        }
+        AuditError::Refused(LogError::Empty | LogError::Memory) => {
+            let _ = writeln!(
+                errors,
+                "hourstable: the logs have no line; the first says a job"
+            );
+        }
+        AuditError::Write => {
+            let _ = writeln!(errors, "hourstable: write fault");
+        }
+        AuditError::Memory => {
+            let _ = writeln!(errors, "hourstable: out of memory");
+        }
+    }
+}
