@@ -45,7 +45,7 @@ fn mend_of(alloc: Global, job: Job, element: &Value) -> Result<Option<String>, A
     ensures { IfOk result (λ mend. MatchOption mend (IsOk (step_of job (view element.now)))
         (λ _. step_of job (view element.now) ≡ Err wrong)) }
 {
-    match service::step_of(alloc, job, element) {
+    match service::lone_step(alloc, job, element) {
         Ok(_step) => Ok(None),
         Err(Unread::WrongForm) => Ok(Some(step_mend(alloc, job, element)?)),
         Err(Unread::Memory) => Err(AllocError),

@@ -28,6 +28,5 @@ pub use output::{is_timely, output_of, replies_of};
 pub use program::slicer_run;
 pub use question::LeaseForm;
 pub use run::run_script;
-pub use script::{Script, head_of, script_of};
-pub use step::step_of;
+pub use script::{Script, head_of, lone_step, script_of};
 pub use words::{RefusalWords, action_word};

@@ -2,6 +2,8 @@
 
 ghost use Rattle.std.specs.Prelude.{map};
 ghost use Rattle.serde_json.specs.View.{view};
+ghost use Rattle.program_io.specs.Reading.{Gives};
+ghost use Rattle.service.specs.Steps.{step_of};
 ghost use Rattle.service.specs.Scripts.{IsReadOrRefused, Answers, AnswersScript, head_of, steps_of, script_of};
 
 use crate::fault::ScriptError;
@@ -11,6 +13,7 @@ use assignment::Listed;
 use program_io::{Fault, Unread, array_of};
 use serde_json::Value;
 use std::alloc::Global;
+use std::slice;
 use world::{Job, Step};
 
 /// How many steps a script has at the most.
@@ -61,6 +64,20 @@ fn steps_of(alloc: Global, job: Job, elements: &[Value]) -> Result<Listed<Step>,
         }
     }
     Ok(steps)
+}
+
+/// The step that one element of a script of this job says.
+// The loop of a script is the one caller of `step_of`, so that each reader of steps is inlined into it.
+#[tactic(auto, unfolding(crate::specs::Scripts::steps_of))]
+pub fn lone_step(alloc: Global, job: Job, element: &Value) -> Result<Step, Unread>
+    ensures { Gives result (step_of job (view element.now)) }
+{
+    match steps_of(alloc, job, slice::from_ref(element)) {
+        Ok(steps) => Ok(steps.into_vec().pop().unwrap()),
+        Err(Fault::Input(_)) => Err(Unread::WrongForm),
+        Err(Fault::Memory) => Err(Unread::Memory),
+        Err(Fault::Read | Fault::Write) => unreachable!(),
+    }
 }
 
 /// The script that a JSON value says, or the first fault of it. Only steps take memory: each other

@@ -73,6 +73,8 @@ fn hold_step(alloc: Global, job: Job, step: &Value) -> Result<Step, Unread>
     })
 }
 
+// Where it is not inlined into the loop of a script, each step clears room for its result.
+#[inline(always)]
 #[tactic(auto, unfolding(crate::specs::Steps::check_step))]
 fn check_step(job: Job, step: &Value) -> Result<Step, WrongForm>
     ensures { result ≡ check_step job (view step.now) }

@@ -8,7 +8,7 @@ use diagnosis::{
 };
 use program_io::Unread;
 use serde_json::{Category, Value};
-use service::{ScriptError, job_member, job_of, step_of};
+use service::{ScriptError, job_member, job_of, lone_step};
 use std::alloc::{AllocError, Global};
 use world::{Job, Step};
 
@@ -78,7 +78,7 @@ pub fn step_said(alloc: Global, job: Job, line: &[u8]) -> Result<Step, NoStep>
             return Err(NoStep::Line(format!(in alloc; "not JSON: {mend}")?));
         }
     };
-    match step_of(alloc, job, &value) {
+    match lone_step(alloc, job, &value) {
         Ok(step) => Ok(step),
         Err(Unread::WrongForm) => Err(NoStep::Line(step_mend(alloc, job, &value)?)),
         Err(Unread::Memory) => Err(NoStep::Memory),
