@@ -1,0 +1,5 @@
+pub mod Numbers
+pub mod Told
+pub mod Outputs
+pub mod Taken
+pub mod Reading

@@ -1,0 +1,75 @@
+//! The numbers of the machines' refusals.
+
+ghost use Rattle.std.specs.Prelude.{◌≡◌};
+ghost use Rattle.c_numbers.specs.Numbers.{ground_number, plan_number, slicelet_number, table_number};
+
+use lease_table::TableError;
+use policy_rules::Ground;
+use slicelet::SliceletError;
+use weighted_move::PlanError;
+
+/// The number of a ground on which a key is denied.
+pub fn ground_number(ground: Ground) -> i32
+    ensures { result ≡ ground_number ground }
+{
+    match ground {
+        Ground::Down => 1,
+        Ground::ClockBack => 2,
+        Ground::Ended => 3,
+        Ground::NotOwned { generation: _ } => 4,
+        Ground::NoLease => 5,
+    }
+}
+
+/// The number of a refusal of a slicelet.
+pub fn slicelet_number(error: SliceletError) -> i32
+    ensures { result ≡ slicelet_number error }
+{
+    match error {
+        SliceletError::ClockBack => 2,
+        SliceletError::NotStarted => 6,
+        SliceletError::OldLife => 7,
+        SliceletError::OtherTask => 8,
+        SliceletError::OtherLife => 9,
+        SliceletError::Old { heard: _ } => 10,
+        SliceletError::TooLate => 11,
+        SliceletError::NothingHeld => 12,
+        SliceletError::HistoryFull => 13,
+    }
+}
+
+/// The number of a refusal of a table.
+pub fn table_number(error: TableError) -> i32
+    ensures { result ≡ table_number error }
+{
+    match error {
+        TableError::ClockBack => 2,
+        TableError::ReadingRange => 16,
+        TableError::JobHeld { until: _ } => 17,
+        TableError::NotHolder { term: _ } => 18,
+        TableError::StaleBase { generation: _ } => 19,
+        TableError::Pending => 20,
+        TableError::NothingPending => 21,
+        TableError::TooManyOwnersForJob => 22,
+        TableError::Grace { until: _ } => 23,
+        TableError::Held {
+            task: _,
+            kind: _,
+            number: _,
+        } => 24,
+        TableError::NoRow => 25,
+        TableError::NoAssignment => 26,
+        TableError::NumbersSpent => 27,
+    }
+}
+
+/// The number of why there is no plan.
+pub fn plan_number(error: PlanError) -> i32
+    ensures { result ≡ plan_number error }
+{
+    match error {
+        PlanError::NoTasks => 31,
+        PlanError::LoadsLength => 32,
+        PlanError::LoadRange => 33,
+    }
+}

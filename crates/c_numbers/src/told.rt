@@ -1,0 +1,32 @@
+//! The numbers that an answer carries.
+
+ghost use Rattle.std.specs.Prelude.{◌≡◌};
+ghost use Rattle.c_numbers.specs.Told.{kind_number};
+
+use policy_rules::Kind;
+
+/// The numbers that an answer carries. An answer leaves those that it does not carry.
+#[repr(C)]
+#[derive(Clone, Copy, Debug, PartialEq, Eq)]
+pub struct Told {
+    /// The number of a grant or of a term, or the version of a message.
+    pub number: u64,
+    /// The generation of a lease or of an assignment.
+    pub generation: u64,
+    /// The kind of a lease: 1 for a guard, 2 for a bridge.
+    pub kind: u64,
+    /// The task, 1 to 64.
+    pub task: u64,
+    /// A reading, in ticks.
+    pub until: u64,
+}
+
+/// The number of a kind of lease.
+pub fn kind_number(kind: Kind) -> u64
+    ensures { result ≡ kind_number kind }
+{
+    match kind {
+        Kind::Guard => 1,
+        Kind::Bridge => 2,
+    }
+}

@@ -1,0 +1,60 @@
+//! The numbers of why bytes are no message.
+
+ghost use Rattle.std.specs.Prelude.{◌≡◌};
+ghost use Rattle.c_numbers.specs.Numbers.{ranges_number, slices_number, unread_number};
+ghost use Rattle.c_numbers.specs.Reading.{unread_answer};
+
+use crate::answer::Answer;
+use assignment::AssignmentError;
+use slice_ranges::RangesError;
+use wire::{DecodeError, Refusal};
+
+/// The number of why bytes are no message of a type.
+pub fn unread_number(refusal: Refusal) -> i32
+    ensures { result ≡ unread_number refusal }
+{
+    match refusal {
+        Refusal::NotJson => -3,
+        Refusal::Version(_) => -4,
+        Refusal::OtherType => -5,
+        Refusal::WrongForm => -6,
+        Refusal::Slices(why) => slices_number(why),
+        Refusal::Ranges(why) => ranges_number(why),
+    }
+}
+
+fn ranges_number(error: RangesError) -> i32
+    ensures { result ≡ ranges_number error }
+{
+    match error {
+        RangesError::PastEnd => -7,
+        RangesError::Unsorted => -8,
+        RangesError::Empty => -9,
+    }
+}
+
+fn slices_number(error: AssignmentError) -> i32
+    ensures { result ≡ slices_number error }
+{
+    match error {
+        AssignmentError::PastEnd => -7,
+        AssignmentError::NoSlices => -10,
+        AssignmentError::FirstNotZero => -11,
+        AssignmentError::NotRising => -12,
+        AssignmentError::NoOwner => -13,
+        AssignmentError::TooManyOwners => -14,
+        AssignmentError::OwnerTwice => -15,
+        AssignmentError::BadTask => -16,
+        AssignmentError::TooManySlices => -17,
+    }
+}
+
+/// The answer where bytes are not decoded.
+pub fn unread_answer(error: DecodeError) -> Answer
+    ensures { result ≡ unread_answer error }
+{
+    match error {
+        DecodeError::Refused(why) => Answer::Unread(why),
+        DecodeError::NoMemory => Answer::NoMemory,
+    }
+}
