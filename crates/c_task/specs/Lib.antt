@@ -1,0 +1,7 @@
+pub mod Answers
+pub mod SliceletCalls
+pub mod Releases
+pub mod Keys
+pub mod KeyHandles
+pub mod Owners
+pub mod ClerkCalls

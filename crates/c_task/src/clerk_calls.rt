@@ -1,0 +1,38 @@
+//! The calls of a clerk.
+
+ghost use Rattle.slice_ranges.specs.Hash.{slice_key};
+ghost use Rattle.clerk.specs.Steps.{look_at};
+ghost use Rattle.c_task.specs.ClerkCalls.{IsAssignmentLearnt, IsLookedUp};
+
+use crate::answers::clerk_answer;
+use crate::owners::OwnersNumbers;
+use assignment::Assignment;
+use c_numbers::{Answer, unread_answer};
+use clerk::{Clerk, Unknown};
+use slice_ranges::slice_key;
+use std::alloc::Global;
+use wire::decode;
+
+/// Keeps the assignment that the bytes are a message of.
+#[tactic(auto, using(crate::proofs::Steps::taken))]
+pub fn learn(alloc: Global, clerk: &mut Clerk, assignment: &[u8]) -> Answer
+    ensures { IsAssignmentLearnt assignment.now clerk.old clerk.new result }
+{
+    match decode::<Assignment>(alloc, assignment) {
+        Ok(assignment) => clerk_answer(clerk.learn(&assignment)),
+        Err(why) => unread_answer(why),
+    }
+}
+
+/// Who owns a key in the assignment that is kept.
+pub fn look(clerk: &Clerk, key: &[u8], out: &mut OwnersNumbers) -> Answer
+    ensures { IsLookedUp (look_at clerk.now (slice_key key.now)) out.old out.new result }
+{
+    match clerk.look(slice_key(key)) {
+        Ok(found) => {
+            *out = OwnersNumbers::of(&found);
+            Answer::Done
+        }
+        Err(Unknown) => Answer::Unknown,
+    }
+}

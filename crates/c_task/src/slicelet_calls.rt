@@ -1,0 +1,97 @@
+//! The calls of a slicelet.
+
+ghost use Rattle.std.specs.Prelude.{◌≡◌, Some, List};
+ghost use Rattle.slice_ranges.specs.Hash.{slice_key};
+ghost use Rattle.slicelet.specs.declared.call.SliceletCall.{SliceletCall};
+ghost use Rattle.slicelet.specs.declared.handle.KeyHandle.{KeyHandle};
+ghost use Rattle.slicelet.specs.Accepted.{StandsAfter};
+ghost use Rattle.slicelet.specs.Continuity.{handle_on};
+ghost use Rattle.c_task.specs.KeyHandles.{IsCheckAnswered, check_answer, checked_answer, handle_of, held_answer, held_numbers};
+ghost use Rattle.c_task.specs.Keys.{rule_for, rule_for_after, taken_by};
+ghost use Rattle.c_task.specs.SliceletCalls.{IsGrantHeard, IsStarted, opened};
+
+use crate::answers::slicelet_answer;
+use crate::key_handle::HandleNumbers;
+use assignment::TaskId;
+use c_numbers::{Answer, unread_answer};
+use lease_table::Grant;
+use policy_rules::Verdict;
+use slice_ranges::slice_key;
+use slicelet::{Slicelet, Stranger};
+use std::alloc::Global;
+use wire::decode;
+
+/// The slicelet of a task before its first call; `None` where the number is not that of a task.
+pub fn open_slicelet(alloc: Global, task: u64) -> Option<Slicelet>
+    ensures { result ≡ opened task }
+{
+    let task = TaskId::new(task)?;
+    Some(Slicelet::new(alloc, task))
+}
+
+/// Starts a life of the task.
+#[tactic(auto, using(crate::proofs::Steps::taken))]
+pub fn start(slicelet: &mut Slicelet, life: u32, at: u64) -> Answer
+    ensures { IsStarted life at slicelet.old slicelet.new result }
+{
+    slicelet_answer(slicelet.start(life, at))
+}
+
+/// Hears the grant that the bytes are a message of.
+#[tactic(auto, using(crate::proofs::Steps::taken))]
+pub fn hear(alloc: Global, slicelet: &mut Slicelet, grant: &[u8], at: u64) -> Answer
+    ensures { IsGrantHeard grant.now at slicelet.old slicelet.new result }
+{
+    match decode::<Grant>(alloc, grant) {
+        Ok(grant) => slicelet_answer(slicelet.hear(&grant, at)),
+        Err(why) => unread_answer(why),
+    }
+}
+
+/// Whether the task may serve a key.
+pub fn serve(slicelet: &Slicelet, key: &[u8], at: u64) -> Answer
+    ensures state { result ≡ Answer.Judged (rule_for key.now slicelet.now at) }
+    ensures calls { (calls : List SliceletCall) → StandsAfter calls slicelet.now
+        → result ≡ Answer.Judged (rule_for_after key.now calls at) }
+{
+    Answer::Judged(slicelet.serve(slice_key(key), at))
+}
+
+/// Takes a handle on a key, where the task may serve it; else the reason why it may not.
+pub fn hold(slicelet: &Slicelet, key: &[u8], at: u64, out: &mut HandleNumbers) -> Answer
+    ensures state { result ≡ held_answer (taken_by (rule_for key.now slicelet.now at) key.now slicelet.now) }
+    ensures handle { out.new ≡ held_numbers (taken_by (rule_for key.now slicelet.now at) key.now slicelet.now) out.old }
+    ensures reads { result ≡ Answer.Done → handle_of out.new ≡ Some (handle_on (slice_key key.now) slicelet.now) }
+    ensures calls { (calls : List SliceletCall) → StandsAfter calls slicelet.now
+        → result ≡ held_answer (taken_by (rule_for_after key.now calls at) key.now slicelet.now) }
+{
+    match slicelet.hold(slice_key(key), at) {
+        Ok(handle) => {
+            *out = HandleNumbers::of(&handle);
+            Answer::Done
+        }
+        Err(why) => Answer::Judged(Verdict::Deny(why)),
+    }
+}
+
+/// Whether the task held the key of a handle since it was taken, and may serve it now.
+pub fn check(slicelet: &Slicelet, handle: &HandleNumbers, at: u64) -> Answer
+    ensures state { result ≡ check_answer (handle_of handle.now) slicelet.now at }
+    ensures calls { (calls : List SliceletCall) (taken : KeyHandle) → StandsAfter calls slicelet.now
+        → handle_of handle.now ≡ Some taken → IsCheckAnswered calls slicelet.now taken at result }
+{
+    match handle.handle() {
+        Some(handle) => checked_answer(slicelet.continuous(&handle, at)),
+        None => Answer::WrongForm,
+    }
+}
+
+fn checked_answer(checked: Result<bool, Stranger>) -> Answer
+    ensures { result ≡ checked_answer checked }
+{
+    match checked {
+        Ok(true) => Answer::Done,
+        Ok(false) => Answer::Broken,
+        Err(Stranger) => Answer::Stranger,
+    }
+}

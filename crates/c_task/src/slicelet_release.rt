@@ -1,0 +1,104 @@
+//! The release of a lease: its note is given whole, or nothing is changed.
+
+ghost use Rattle.std.specs.Prelude.{◌≡◌, Ok, IfOk, IfErr};
+ghost use Rattle.slicelet.specs.Steps.{release_step};
+ghost use Rattle.c_numbers.specs.Outputs.{output};
+ghost use Rattle.c_task.specs.Releases.{IsFailure, IsNoteGiven, IsReadable, IsReleased, kind_of, note_text};
+
+use c_numbers::{Answer, give};
+use lease_table::ReleaseNote;
+use machines::Trouble;
+use policy_rules::Kind;
+use slicelet::{Slicelet, SliceletError};
+use std::alloc::Global;
+use wire::encode;
+
+// A slicelet as a release leaves it, the note, and the message of the note.
+#[derive(Drop)]
+struct Prepared {
+    slicelet: Slicelet,
+    note: ReleaseNote,
+    message: Vec<u8>,
+}
+
+/// Releases the lease of the kind of a number, and gives the message of its note.
+///
+/// The message is written before the lease is given up, so that nothing is lost where there is no room for it.
+pub fn release(
+    alloc: Global,
+    slicelet: &mut Slicelet,
+    kind: u32,
+    at: u64,
+    out: &mut [u8],
+    needed: &mut usize,
+) -> Answer
+    ensures { IsReleased (kind_of kind) at slicelet.old slicelet.new (output out.old needed.old) (output out.new needed.new) result }
+{
+    let Some(kind) = kind_of(kind) else {
+        return Answer::WrongForm;
+    };
+    match prepare(alloc, slicelet, kind, at) {
+        Ok(prepared) => put_prepared(slicelet, prepared, out, needed),
+        Err(Trouble::Refused(why)) => Answer::Slicelet(why),
+        Err(Trouble::NoMemory) => Answer::NoMemory,
+    }
+}
+
+fn kind_of(number: u32) -> Option<Kind>
+    ensures { result ≡ kind_of number }
+{
+    match number {
+        1 => Some(Kind::Guard),
+        2 => Some(Kind::Bridge),
+        _ => None,
+    }
+}
+
+// What the release would leave and give.
+fn prepare(
+    alloc: Global,
+    slicelet: &Slicelet,
+    kind: Kind,
+    at: u64,
+) -> Result<Prepared, Trouble<SliceletError>>
+    ensures step { IfOk result (λ r. release_step slicelet.now kind at ≡ Ok (r.slicelet, r.note)) }
+    ensures message { IfOk result (λ r. r.message.items ≡ note_text r.note) }
+    ensures readable { IfOk result (λ r. IsReadable r.note) }
+    ensures failure { IfErr result (IsFailure (release_step slicelet.now kind at)) }
+{
+    if let Some(why) = slicelet.release_refusal(kind, at) {
+        return Err(Trouble::Refused(why));
+    }
+    let mut left = slicelet.copy()?;
+    let note = left.release(kind, at)?;
+    let message = encode(alloc, &note)?;
+    Ok(Prepared {
+        slicelet: left,
+        note,
+        message,
+    })
+}
+
+// Puts what a release leaves in the place of the slicelet, where there is room for its note.
+fn put_prepared(
+    slicelet: &mut Slicelet,
+    prepared: Prepared,
+    out: &mut [u8],
+    needed: &mut usize,
+) -> Answer
+    requires message { prepared.message.items ≡ note_text prepared.note }
+    requires readable { IsReadable prepared.note }
+    ensures { IsNoteGiven (prepared.slicelet, prepared.note) slicelet.old slicelet.new
+        (output out.old needed.old) (output out.new needed.new) result }
+{
+    let Prepared {
+        slicelet: left,
+        note: _,
+        message,
+    } = prepared;
+    let answer = give(&message, out, needed);
+    if answer == Answer::Done {
+        *slicelet = left;
+    }
+    answer
+}
