@@ -1,0 +1,78 @@
+-- Plans of the assignment of the next generation, by numbers.
+use Rattle.std.specs.Prelude.{◌≡◌, ◌⊎◌, ℕ, ◌+◌, ◌^◌, ◌&&◌, nat_lt, Bool, true, false, List, Option, Some, None, Result, Ok, Err}
+use Rattle.std.specs.List.{list_all}
+use Rattle.assignment.specs.declared.slice.Slice.{Slice}
+use Rattle.assignment.specs.Slices.{Slicing, is_task}
+use Rattle.weighted_move.specs.declared.error.PlanError.{PlanError}
+use Rattle.weighted_move.specs.declared.made.Plan.{Plan}
+use Rattle.weighted_move.specs.Owning.{rise_from}
+use Rattle.weighted_move.specs.Plans.{IsPlan, plan_refusal}
+use Rattle.weighted_move.specs.Policies.{Limits, is_policy}
+use Rattle.wire.specs.declared.fault.DecodeError.{DecodeError}
+use Rattle.c_numbers.specs.declared.answer.Answer.{Answer}
+use Rattle.c_numbers.specs.declared.answer.Answer.TheVariants as answers
+use Rattle.c_numbers.specs.Outputs.{Output, IsGivenWhole}
+use Rattle.c_numbers.specs.Reading.{unread_answer}
+use Rattle.c_table.specs.Texts.{IsAssignmentText}
+
+-- what a plan is asked for: the load of each slice, the tasks, and what it is held to
+pub record Wanted : Type 0 where
+  pub loads : List ℕ
+  pub tasks : List ℕ
+  pub limits : Limits
+
+abbrev pub wanted : List ℕ → List ℕ → Limits → Wanted
+wanted loads tasks limits = record { loads = loads; tasks = tasks; limits = limits }
+
+-- numbers are tasks that rise strictly
+abbrev pub are_tasks : List ℕ → Bool
+are_tasks numbers = list_all is_task numbers && rise_from 1 numbers
+
+-- the numbers are within their limits, and there is a generation after that of the assignment
+abbrev pub is_in_form : Slicing → Wanted → Bool
+is_in_form slicing w = is_policy w.limits && nat_lt (slicing.generation + 1) (2 ^ 64) && are_tasks w.tasks
+
+-- an assignment of a generation with the slices that a plan makes of others
+pub record IsPlanMade (generation : ℕ) (slices : List Slice) (w : Wanted) (next : Slicing) : Type 0 where
+  pub plan : Plan
+  pub planned : IsPlan slices w.loads w.tasks w.limits plan
+  pub is : next ≡ record { generation = generation; slices = plan.slices }
+
+-- an assignment of the next generation that a plan makes, and its message
+pub record IsNextText (slicing : Slicing) (w : Wanted) (text : List ℕ) : Type 0 where
+  pub next : Slicing
+  pub made : IsPlanMade (slicing.generation + 1) slicing.slices w next
+  pub is : IsAssignmentText next text
+
+-- the message of one is given, or there is no room for it
+pub record IsPlanGiven (slicing : Slicing) (w : Wanted) (was now : Output ℕ) (answer : Answer) : Type 0 where
+  pub text : List ℕ
+  pub is : IsNextText slicing w text
+  pub given : IsGivenWhole text was now answer
+
+-- why there is no plan, if there is none: a number is not within its limits, or the planner refuses
+abbrev pub answer_with : Bool → Option PlanError → Option Answer
+answer_with false refusal = Some answers.WrongForm
+answer_with true None = None
+answer_with true (Some why) = Some (answers.Plan why)
+
+abbrev pub no_plan : Slicing → Wanted → Option Answer
+no_plan slicing w = answer_with (is_in_form slicing w) (plan_refusal slicing.slices w.loads w.tasks)
+
+-- what is answered where there is no message: why there is no plan, or that memory ran out
+abbrev pub unless_planned : Option Answer → Answer
+unless_planned None = answers.NoMemory
+unless_planned (Some answer) = answer
+
+abbrev pub IsUnplanned : Slicing → Wanted → Answer → Type 0
+IsUnplanned slicing w answer = answer ≡ unless_planned (no_plan slicing w)
+
+-- there is no plan for this reason; or it is given, or memory ran out and nothing is written
+abbrev pub IsPlanAnswer : Option Answer → Slicing → Wanted → Output ℕ → Output ℕ → Answer → Type 0
+IsPlanAnswer (Some why) slicing w was now answer = (answer ≡ why) × (now ≡ was)
+IsPlanAnswer None slicing w was now answer = IsPlanGiven slicing w was now answer ⊎ ((answer ≡ answers.NoMemory) × (now ≡ was))
+
+-- a plan of the assignment that was read; of bytes that are none nothing is planned
+abbrev pub IsPlanned : Wanted → Output ℕ → Output ℕ → Answer → Result Slicing DecodeError → Type 0
+IsPlanned w was now answer (Ok slicing) = IsPlanAnswer (no_plan slicing w) slicing w was now answer
+IsPlanned w was now answer (Err why) = (answer ≡ unread_answer why) × (now ≡ was)

@@ -1,0 +1,59 @@
+//! The calls of an assigner.
+
+ghost use Rattle.std.specs.Prelude.{◌≡◌};
+ghost use Rattle.assigner.specs.Terms.{adopted_term};
+ghost use Rattle.c_table.specs.Assigners.{IsNext, action_number, adopt_answer, next_numbers};
+ghost use Rattle.c_table.specs.Terms.{phase_of, term_of};
+
+use crate::terms::{PhaseNumbers, TermNumbers};
+use assigner::{Action, Assigner, View};
+use c_numbers::Answer;
+
+fn action_number(action: Action) -> u32
+    ensures { result ≡ action_number action }
+{
+    match action {
+        Action::Take => 1,
+        Action::Renew => 2,
+        Action::Commit => 3,
+        Action::Propose => 4,
+        Action::Rest => 5,
+    }
+}
+
+/// Keeps a term that a table gave, where it is the assigner's own and above the one that is kept.
+pub fn adopt(assigner: &mut Assigner, term: &TermNumbers) -> Answer
+    ensures answer { result ≡ adopt_answer assigner.old (term_of term.now) }
+    ensures kept { assigner.new ≡ record assigner.old
+        { term = adopted_term assigner.old.id (term_of term.now) assigner.old.term } }
+{
+    if assigner.adopt(term.term()) {
+        Answer::Done
+    } else {
+        Answer::NotAdopted
+    }
+}
+
+/// Writes what to do next, and the number of the term that is kept, 0 for none.
+pub fn next(
+    assigner: &Assigner,
+    at: u64,
+    phase: &PhaseNumbers,
+    wanted: u32,
+    action: &mut u32,
+    number: &mut u64,
+) -> Answer
+    ensures { IsNext (phase_of phase.now) assigner.now at wanted
+        (next_numbers action.old number.old) (next_numbers action.new number.new) result }
+{
+    let Some(phase) = phase.phase() else {
+        return Answer::WrongForm;
+    };
+    *action = action_number(assigner.next(&View {
+        reading: at,
+        phase,
+        wanted: wanted != 0,
+    }));
+    *number = assigner.number();
+    Answer::Done
+}

@@ -1,0 +1,140 @@
+//! The call of the planner.
+
+ghost use Rattle.std.specs.Prelude.{◌≡◌, IfOk, IfErr, None, OnOk, codes, true};
+ghost use Rattle.std.specs.List.{list_all};
+ghost use Rattle.machines.specs.Answers.{trouble_of};
+ghost use Rattle.assignment.specs.Slices.{is_task};
+ghost use Rattle.weighted_move.specs.Owning.{rise_from};
+ghost use Rattle.weighted_move.specs.Plans.{plan_refusal};
+ghost use Rattle.wire.specs.Assignments.{assignment_of};
+ghost use Rattle.c_numbers.specs.Outputs.{output};
+ghost use Rattle.c_table.specs.Plans.{IsNextText, IsPlanMade, IsPlanned, IsUnplanned, are_tasks, no_plan, wanted};
+ghost use Rattle.c_table.specs.PolicyNumbers.{limits_of};
+ghost use Rattle.c_numbers.specs.Reading.{IsReadFrom};
+
+use crate::policy_numbers::PlanPolicyNumbers;
+use arrayvec::ArrayVec;
+use assignment::{Assignment, TASKS, TaskId};
+use c_numbers::{Answer, give, unread_answer};
+use machines::Trouble;
+use std::alloc::Global;
+use weighted_move::{PlanError, PlanPolicy, TaskSet, plan_law};
+use wire::{decode, encode};
+
+// Whether numbers are tasks that rise strictly.
+fn are_tasks(numbers: &[u64]) -> bool
+    ensures { result ≡ are_tasks numbers.now }
+{
+    all_are_tasks(numbers) && rise_from(1, numbers)
+}
+
+fn all_are_tasks(numbers: &[u64]) -> bool
+    ensures { result ≡ list_all is_task numbers.now }
+{
+    numbers.iter().all(|&number| is_task(number))
+}
+
+fn is_task(number: u64) -> bool
+    ensures { result ≡ is_task number }
+{
+    1 <= number && number <= TASKS
+}
+
+// Whether numbers of tasks rise strictly, from one on.
+fn rise_from(low: u64, numbers: &[u64]) -> bool
+    requires { list_all is_task numbers.now ≡ true }
+    ensures { result ≡ rise_from low numbers.now }
+{
+    match numbers {
+        [] => true,
+        [first, rest @ ..] => low <= *first && rise_from(*first + 1, rest),
+    }
+}
+
+// The set of numbers that are tasks and rise strictly.
+fn set_of(numbers: &[u64]) -> TaskSet
+    requires { are_tasks numbers.now ≡ true }
+    ensures { result ≡ numbers.now }
+{
+    let mut tasks = ArrayVec::<TaskId, 64>::new();
+    for number in numbers {
+        tasks.push(TaskId::new(*number).unwrap());
+    }
+    TaskSet::rising(tasks.as_slice()).unwrap()
+}
+
+// The assignment of a generation that a plan makes of one.
+fn next_assignment(
+    alloc: Global,
+    assignment: &Assignment,
+    loads: &[u64],
+    tasks: &TaskSet,
+    policy: &PlanPolicy,
+    generation: u64,
+) -> Result<Assignment, Trouble<PlanError>>
+    ensures planned { IfOk result (IsPlanMade generation assignment.now.slices (wanted loads.now tasks.now policy.now)) }
+    ensures accepted { OnOk result (plan_refusal assignment.now.slices loads.now tasks.now ≡ None) }
+    ensures refused { IfErr result
+        (λ trouble. trouble ≡ trouble_of (plan_refusal assignment.now.slices loads.now tasks.now)) }
+{
+    let plan = weighted_move::plan(alloc, assignment, loads, tasks, policy)?;
+    plan_law();
+    match Assignment::build(alloc, generation, plan.slices.as_slice()) {
+        Ok(next) => Ok(next),
+        Err(Trouble::Refused(_)) => unreachable!(),
+        Err(Trouble::NoMemory) => Err(Trouble::NoMemory),
+    }
+}
+
+// The message of the next assignment, or why there is none.
+fn next_text(
+    alloc: Global,
+    assignment: &Assignment,
+    loads: &[u64],
+    tasks: &[u64],
+    policy: &PlanPolicyNumbers,
+) -> Result<Vec<u8>, Answer>
+    ensures text { IfOk result (λ text. IsNextText assignment.now (wanted loads.now tasks.now (limits_of policy.now)) text.items) }
+    ensures planned { OnOk result (no_plan assignment.now (wanted loads.now tasks.now (limits_of policy.now)) ≡ None) }
+    ensures unplanned { IfErr result (IsUnplanned assignment.now (wanted loads.now tasks.now (limits_of policy.now))) }
+{
+    let Some(policy) = policy.policy() else {
+        return Err(Answer::WrongForm);
+    };
+    let Some(generation) = assignment.generation().checked_add(1) else {
+        return Err(Answer::WrongForm);
+    };
+    if !are_tasks(tasks) {
+        return Err(Answer::WrongForm);
+    }
+    let tasks = set_of(tasks);
+    match next_assignment(alloc, assignment, loads, &tasks, &policy, generation) {
+        Ok(next) => encode(alloc, &next).map_err(|_| Answer::NoMemory),
+        Err(Trouble::Refused(why)) => Err(Answer::Plan(why)),
+        Err(Trouble::NoMemory) => Err(Answer::NoMemory),
+    }
+}
+
+/// Plans the assignment of the next generation among tasks, where each slice of the assignment that the bytes are a
+/// message of has a load, and gives its message.
+pub fn plan(
+    alloc: Global,
+    assignment: &[u8],
+    loads: &[u64],
+    tasks: &[u64],
+    policy: &PlanPolicyNumbers,
+    out: &mut [u8],
+    needed: &mut usize,
+) -> Answer
+    ensures { IsReadFrom (codes "assignment") assignment_of assignment.now
+        (IsPlanned (wanted loads.now tasks.now (limits_of policy.now)) (output out.old needed.old) (output out.new needed.new) result) }
+{
+    let assignment = match decode::<Assignment>(alloc, assignment) {
+        Ok(assignment) => assignment,
+        Err(error) => return unread_answer(error),
+    };
+    match next_text(alloc, &assignment, loads, tasks, policy) {
+        Ok(text) => give(&text, out, needed),
+        Err(answer) => answer,
+    }
+}

@@ -1,0 +1,130 @@
+//! The calls of a table that give numbers.
+
+ghost use Rattle.std.specs.Prelude.{◌≡◌, List, Some, codes, length};
+ghost use Rattle.lease_table.specs.Policies.{Terms};
+ghost use Rattle.lease_table.specs.Calls.{AnsweredTableCall, LeadsTo};
+ghost use Rattle.lease_table.specs.Runs.{IsRun};
+ghost use Rattle.lease_table.specs.Tables.{phase_of};
+ghost use Rattle.lease_table.specs.Steps.{take_step, renew_step, commit_step, standing_after_restart};
+ghost use Rattle.wire.specs.Assignments.{assignment_of};
+ghost use Rattle.wire.specs.Notes.{note_of};
+ghost use Rattle.wire.specs.Refusals.{or_wrong};
+ghost use Rattle.c_table.specs.Calls.{IsCommitStep, IsFreed, IsProposed, IsTableStep};
+ghost use Rattle.c_table.specs.PolicyNumbers.{table_of};
+ghost use Rattle.c_numbers.specs.Reading.{IsReadFrom};
+ghost use Rattle.c_table.specs.Terms as numbers;
+ghost use Rattle.c_table.specs.Terms.{phase_numbers, term_given};
+
+use crate::policy_numbers::PolicyNumbers;
+use crate::terms::{PhaseNumbers, TermNumbers};
+use assignment::Assignment;
+use c_numbers::{Answer, unread_answer};
+use lease_table::{LeaseTable, ReleaseNote, generations_law};
+use machines::Trouble;
+use std::alloc::Global;
+use wire::decode;
+
+/// The table of a policy before its first call, or `None` where a number is outside its limits.
+pub fn open_table(alloc: Global, policy: &PolicyNumbers) -> Option<LeaseTable>
+    ensures { result ≡ table_of policy.now }
+{
+    Some(LeaseTable::new(alloc, policy.policy()?))
+}
+
+/// Gives the job lease to an assigner, and writes the term.
+pub fn take(table: &mut LeaseTable, assigner: u64, at: u64, out: &mut TermNumbers) -> Answer
+    ensures step { IsTableStep (take_step table.old assigner at) table.old table.new result }
+    ensures term { out.new ≡ term_given (take_step table.old assigner at) out.old }
+{
+    match table.job_take(assigner, at) {
+        Ok(term) => {
+            *out = TermNumbers::of(term);
+            Answer::Done
+        }
+        Err(why) => Answer::Table(why),
+    }
+}
+
+/// Renews the term of a number, and writes it.
+pub fn renew(table: &mut LeaseTable, number: u64, at: u64, out: &mut TermNumbers) -> Answer
+    ensures step { IsTableStep (renew_step table.old number at) table.old table.new result }
+    ensures term { out.new ≡ term_given (renew_step table.old number at) out.old }
+{
+    match table.job_renew(number, at) {
+        Ok(term) => {
+            *out = TermNumbers::of(term);
+            Answer::Done
+        }
+        Err(why) => Answer::Table(why),
+    }
+}
+
+/// Proposes the assignment that the bytes are a message of, under the term of a number.
+pub fn propose(
+    alloc: Global,
+    table: &mut LeaseTable,
+    number: u64,
+    assignment: &[u8],
+    at: u64,
+) -> Answer
+    ensures { IsReadFrom (codes "assignment") assignment_of assignment.now
+        (IsProposed number at table.old table.new result) }
+{
+    match decode::<Assignment>(alloc, assignment) {
+        Ok(assignment) => match table.propose(number, &assignment, at) {
+            Ok(()) => Answer::Done,
+            Err(Trouble::Refused(why)) => Answer::Table(why),
+            Err(Trouble::NoMemory) => Answer::NoMemory,
+        },
+        Err(error) => unread_answer(error),
+    }
+}
+
+/// Commits the proposed assignment under the term of a number, and answers its generation.
+pub fn commit(table: &mut LeaseTable, number: u64, at: u64) -> Answer
+    ensures { IsCommitStep (commit_step table.old number at) table.old table.new result }
+{
+    match table.commit(number, at) {
+        Ok(generation) => Answer::Committed(generation),
+        Err(why) => Answer::Table(why),
+    }
+}
+
+/// Frees the rows that a note closes, where the bytes are a message of one, and writes how many they are.
+pub fn free(alloc: Global, table: &mut LeaseTable, note: &[u8], at: u64, freed: &mut u64) -> Answer
+    ensures { IsReadFrom (codes "note") (λ d. or_wrong (note_of d)) note.now
+        (IsFreed at table.old table.new freed.old freed.new result) }
+{
+    match decode::<ReleaseNote>(alloc, note) {
+        Ok(note) => match table.free(&note, at) {
+            Ok(count) => {
+                *freed = count;
+                Answer::Done
+            }
+            Err(why) => Answer::Table(why),
+        },
+        Err(error) => unread_answer(error),
+    }
+}
+
+/// The table restarts and loses its rows; writes how many they were.
+pub fn restart(table: &mut LeaseTable, lost: &mut u64) -> Answer
+    ensures answer { result ≡ Answer.Done }
+    ensures count { lost.new ≡ length table.old.rows }
+    ensures left { table.new ≡ standing_after_restart table.old }
+{
+    *lost = table.restart();
+    Answer::Done
+}
+
+/// Writes where the table stands. After every list of calls that is a phase for an assigner.
+pub fn phase(table: &LeaseTable, out: &mut PhaseNumbers) -> Answer
+    ensures answer { result ≡ Answer.Done }
+    ensures phase { out.new ≡ phase_numbers (phase_of table.now) }
+    ensures reads { (policy : Terms) (past : List AnsweredTableCall) → IsRun policy past → LeadsTo policy past table.now
+        → numbers.phase_of out.new ≡ Some (phase_of table.now) }
+{
+    generations_law();
+    *out = PhaseNumbers::of(table.phase());
+    Answer::Done
+}

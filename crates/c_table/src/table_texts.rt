@@ -1,0 +1,111 @@
+//! The calls of a table that give lists: messages and rows.
+
+ghost use Rattle.std.specs.Prelude.{◌≡◌, IfOk, IfErr, None, OnOk, map};
+ghost use Rattle.machines.specs.Answers.{trouble_of};
+ghost use Rattle.machines.specs.Refusals.{first_of};
+ghost use Rattle.lease_table.specs.Steps.{grant_checks, grant_with};
+ghost use Rattle.c_numbers.specs.Outputs.{IsGivenUnlessMemory, output};
+ghost use Rattle.c_table.specs.Rows.{row_numbers};
+ghost use Rattle.c_table.specs.Texts.{IsCommittedGiven, IsGrantText, IsGranted, task_of, trouble_answer};
+
+use crate::row_numbers::{RowNumbers, numbers_of};
+use assignment::TaskId;
+use c_numbers::{Answer, give};
+use lease_table::{LeaseTable, TableError};
+use machines::Trouble;
+use std::alloc::{AllocError, Global};
+use wire::encode;
+
+fn task_of(number: u64) -> Option<TaskId>
+    ensures { result ≡ task_of number }
+{
+    TaskId::new(number)
+}
+
+// The message of the grant that would be made next. The table stays as it is.
+fn next_text(
+    alloc: Global,
+    table: &mut LeaseTable,
+    task: TaskId,
+    life: u32,
+    at: u64,
+) -> Result<Vec<u8>, Trouble<TableError>>
+    ensures text { IfOk result (λ text. IsGrantText (grant_with table.old table.old.pending task life at) text.items) }
+    ensures accepted { OnOk result (first_of (grant_checks table.old at) ≡ None) }
+    ensures refused { IfErr result (λ trouble. trouble ≡ trouble_of (first_of (grant_checks table.old at))) }
+    ensures same { table.new ≡ table.old }
+{
+    let grant = table.next_grant(task, life, at)?;
+    Ok(encode(alloc, &grant)?)
+}
+
+// The answer where no grant is made.
+fn refused(trouble: Trouble<TableError>) -> Answer
+    ensures { result ≡ trouble_answer trouble }
+{
+    match trouble {
+        Trouble::Refused(why) => Answer::Table(why),
+        Trouble::NoMemory => Answer::NoMemory,
+    }
+}
+
+/// Grants a task a lease for one of its lives, and gives the message of the grant. No grant is made for which there is
+/// no room.
+pub fn grant(
+    alloc: Global,
+    table: &mut LeaseTable,
+    task: u64,
+    life: u32,
+    at: u64,
+    out: &mut [u8],
+    needed: &mut usize,
+) -> Answer
+    ensures { IsGranted (task_of task) life at table.old table.new
+        (output out.old needed.old) (output out.new needed.new) result }
+{
+    let Some(task) = task_of(task) else {
+        return Answer::WrongForm;
+    };
+    let text = match next_text(alloc, table, task, life, at) {
+        Ok(text) => text,
+        Err(trouble) => return refused(trouble),
+    };
+    if out.len() < text.len() {
+        return give(&text, out, needed);
+    }
+    match table.grant(task, life, at) {
+        Ok(_grant) => give(&text, out, needed),
+        Err(trouble) => refused(trouble),
+    }
+}
+
+/// The rows that have not ended at the last accepted reading, in grant order.
+pub fn rows(alloc: Global, table: &LeaseTable, out: &mut [RowNumbers], needed: &mut usize) -> Answer
+    ensures { IsGivenUnlessMemory (map row_numbers table.now.rows)
+        (output out.old needed.old) (output out.new needed.new) result }
+{
+    match written_rows(alloc, table) {
+        Ok(rows) => give(&rows, out, needed),
+        Err(_) => Answer::NoMemory,
+    }
+}
+
+fn written_rows(alloc: Global, table: &LeaseTable) -> Result<Vec<RowNumbers>, AllocError>
+    ensures { IfOk result (λ rows. rows.items ≡ map row_numbers table.now.rows) }
+{
+    numbers_of(alloc, &table.rows()?)
+}
+
+/// Gives the message of the committed assignment.
+pub fn committed(alloc: Global, table: &LeaseTable, out: &mut [u8], needed: &mut usize) -> Answer
+    ensures { IsCommittedGiven table.now.committed
+        (output out.old needed.old) (output out.new needed.new) result }
+{
+    let Some(assignment) = table.committed() else {
+        return Answer::Table(TableError::NoAssignment);
+    };
+    match encode(alloc, assignment) {
+        Ok(text) => give(&text, out, needed),
+        Err(_) => Answer::NoMemory,
+    }
+}

@@ -1,0 +1,83 @@
+//! Terms of the job lease, and where a table stands, as numbers.
+
+ghost use Rattle.std.specs.Prelude.{◌≡◌};
+ghost use Rattle.c_table.specs.Terms.{phase_numbers, phase_of, term_numbers, term_of};
+
+use lease_table::{JobTerm, Phase};
+
+/// A term of the job lease.
+#[repr(C)]
+#[derive(Clone, Copy, Debug, PartialEq, Eq)]
+pub struct TermNumbers {
+    /// The number of the term.
+    pub number: u64,
+    /// The assigner that holds it.
+    pub assigner: u64,
+    /// The first reading, in ticks, at which it has ended.
+    pub until: u64,
+}
+
+impl TermNumbers {
+    /// The numbers of a term.
+    pub fn of(term: JobTerm) -> Self
+        ensures { result ≡ term_numbers term }
+    {
+        TermNumbers {
+            number: term.number,
+            assigner: term.assigner,
+            until: term.until,
+        }
+    }
+
+    /// The term.
+    pub fn term(&self) -> JobTerm
+        ensures { result ≡ term_of self.now }
+    {
+        JobTerm {
+            number: self.number,
+            assigner: self.assigner,
+            until: self.until,
+        }
+    }
+}
+
+/// Where a table stands.
+#[repr(C)]
+#[derive(Clone, Copy, Debug, PartialEq, Eq)]
+pub struct PhaseNumbers {
+    /// The committed generation, 0 before the first commit.
+    pub committed: u64,
+    /// The proposed generation, 0 where none is proposed, and else the one after the committed one.
+    pub proposed: u64,
+}
+
+impl PhaseNumbers {
+    /// The numbers of a phase.
+    pub fn of(phase: Phase) -> Self
+        ensures { result ≡ phase_numbers phase }
+    {
+        match phase {
+            Phase::Steady(committed) => PhaseNumbers {
+                committed,
+                proposed: 0,
+            },
+            Phase::Bridging(committed, proposed) => PhaseNumbers {
+                committed,
+                proposed,
+            },
+        }
+    }
+
+    /// The phase, or `None` where what is proposed is not of the generation after the committed one.
+    pub fn phase(&self) -> Option<Phase>
+        ensures { result ≡ phase_of self.now }
+    {
+        if self.proposed == 0 {
+            Some(Phase::Steady(self.committed))
+        } else if self.proposed - 1 == self.committed {
+            Some(Phase::Bridging(self.committed, self.proposed))
+        } else {
+            None
+        }
+    }
+}
