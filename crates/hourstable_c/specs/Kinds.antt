@@ -1,0 +1,24 @@
+-- Of what kind it is that stands in a place.
+use Rattle.std.specs.Prelude.{Bool, true, false}
+use Rattle.c_place.specs.declared.held.Held.{Held}
+use Rattle.c_place.specs.declared.held.Held.TheVariants as held
+
+abbrev pub is_slicelet : Held → Bool
+is_slicelet (held.Slicelet slicelet) = true
+is_slicelet _ = false
+
+abbrev pub is_clerk : Held → Bool
+is_clerk (held.Clerk clerk) = true
+is_clerk _ = false
+
+abbrev pub is_table : Held → Bool
+is_table (held.Table table) = true
+is_table _ = false
+
+abbrev pub is_assigner : Held → Bool
+is_assigner (held.Assigner assigner) = true
+is_assigner _ = false
+
+abbrev pub is_session : Held → Bool
+is_session (held.Session conversation) = true
+is_session _ = false

@@ -1,0 +1,5 @@
+pub mod Returned
+pub mod Places
+pub mod Opened
+pub mod Kinds
+pub mod Sessions

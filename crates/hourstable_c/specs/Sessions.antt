@@ -1,0 +1,33 @@
+-- Sessions in places.
+use Rattle.std.specs.Prelude.{◌≡◌, ◌≢◌, ◌⊎◌, ◌==◌, ℕ, ℤ, List, if◌then◌else◌}
+use Rattle.session.specs.declared.answer.ReplyForm.{ReplyForm}
+use Rattle.session.specs.declared.answer.ReplyForm.TheVariants.{Text, Json}
+use Rattle.c_numbers.specs.declared.answer.Answer.{Answer}
+use Rattle.c_numbers.specs.declared.answer.Answer.TheVariants.{Done, NoMemory, OtherPlace}
+use Rattle.c_numbers.specs.Numbers.{answer_number}
+use Rattle.c_numbers.specs.Outputs.{Output}
+use Rattle.c_session.specs.Conversations.{IsBegun, IsContinued, IsNotBegun}
+use Rattle.c_place.specs.declared.held.Held.{Held}
+use Rattle.c_place.specs.declared.held.Held.TheVariants.{Nothing, Session}
+use Rattle.hourstable_c.specs.Returned.{Returns}
+
+-- how answers are written: as text for 0
+abbrev pub form_of : ℕ → ReplyForm
+form_of json = if json == 0 then Text else Json
+
+-- a session of the job that the line says stands there, before its first step
+abbrev pub IsSessionPut : ReplyForm → List ℕ → Held → Type 0
+IsSessionPut form line (Session conversation) = IsBegun form line conversation
+IsSessionPut form line _ = ⊥
+
+-- it does; or the line says no job, or memory ran out, and nothing is changed
+abbrev pub IsSessionOpened : ReplyForm → List ℕ → Held → Held → ℤ → Type 0
+IsSessionOpened form line was now number =
+    ((number ≡ answer_number Done) × IsSessionPut form line now) ⊎ (Returns (IsNotBegun line) number × (now ≡ was))
+
+-- a line of the session that stands there was answered; where memory ran out nothing stands there any more
+abbrev pub IsSessionAnswered : List ℕ → Held → Held → Output ℕ → Output ℕ → Answer → Type 0
+IsSessionAnswered line (Session old) (Session new) was now answer = IsContinued line old new was now answer × (answer ≢ NoMemory)
+IsSessionAnswered line (Session old) Nothing was now answer = (answer ≡ NoMemory) × (now ≡ was)
+IsSessionAnswered line (Session old) new was now answer = ⊥
+IsSessionAnswered line old new was now answer = (answer ≡ OtherPlace) × (new ≡ old) × (now ≡ was)

@@ -1,0 +1,112 @@
+//! Assigners and plans.
+
+ghost use Rattle.std.specs.Prelude.{◌≡◌, codes, None, ⊤};
+ghost use Rattle.wire.specs.Assignments.{assignment_of};
+ghost use Rattle.assigner.specs.Terms.{adopted_term, opening};
+ghost use Rattle.c_numbers.specs.declared.answer.Answer.TheVariants.{Done};
+ghost use Rattle.c_numbers.specs.Numbers.{answer_number};
+ghost use Rattle.c_numbers.specs.Outputs.{output};
+ghost use Rattle.c_numbers.specs.Reading.{IsReadFrom};
+ghost use Rattle.c_place.specs.declared.held.Held.TheVariants as held;
+ghost use Rattle.c_table.specs.Assigners.{IsNext, adopt_answer, next_numbers};
+ghost use Rattle.c_table.specs.Plans.{IsPlanned, wanted};
+ghost use Rattle.c_table.specs.PolicyNumbers.{limits_of};
+ghost use Rattle.c_table.specs.Terms.{phase_of, term_of};
+ghost use Rattle.hourstable_c.specs.Kinds.{is_assigner};
+ghost use Rattle.hourstable_c.specs.Opened.{IsClosed};
+ghost use Rattle.hourstable_c.specs.Places.{OnAssigner};
+ghost use Rattle.hourstable_c.specs.Returned.{Returns};
+
+use crate::place_exports::close_where;
+use assigner::Assigner;
+use c_numbers::Answer;
+use c_place::{Held, Place};
+use c_table::{PhaseNumbers, PlanPolicyNumbers, TermNumbers, adopt, next, plan};
+use std::alloc::Global;
+
+/// Puts an assigner that keeps no term, in place of what stood there.
+#[unsafe(no_mangle)]
+pub extern "C" fn hs_assigner_open(place: &mut Place, id: u64, job: u64) -> i32
+    ensures number { result ≡ answer_number Done }
+    ensures held { place.new.value ≡ held.Assigner (opening id job) }
+{
+    *place.lend() = Held::Assigner(Assigner::new(id, job));
+    Answer::Done.number()
+}
+
+/// Keeps a term that a table gave.
+#[unsafe(no_mangle)]
+pub extern "C" fn hs_assigner_adopt(place: &mut Place, term: &TermNumbers) -> i32
+    ensures { OnAssigner place.old.value place.new.value ⊤ result
+        (λ old new. (result ≡ answer_number (adopt_answer old (term_of term.now)))
+        × (new ≡ record old { term = adopted_term old.id (term_of term.now) old.term })) }
+{
+    match place.lend() {
+        Held::Assigner(assigner) => adopt(assigner, term).number(),
+        _ => Answer::OtherPlace.number(),
+    }
+}
+
+/// Forgets the term.
+#[unsafe(no_mangle)]
+pub extern "C" fn hs_assigner_restart(place: &mut Place) -> i32
+    ensures { OnAssigner place.old.value place.new.value ⊤ result
+        (λ old new. (result ≡ answer_number Done) × (new ≡ record old { term = None })) }
+{
+    match place.lend() {
+        Held::Assigner(assigner) => {
+            assigner.restart();
+            Answer::Done.number()
+        }
+        _ => Answer::OtherPlace.number(),
+    }
+}
+
+/// What to do next, and the number of the term that is kept.
+#[unsafe(no_mangle)]
+#[tactic(auto, using(crate::proofs::Returning::returns))]
+pub extern "C" fn hs_assigner_next(
+    place: &mut Place,
+    at: u64,
+    phase: &PhaseNumbers,
+    wanted: u32,
+    action: &mut u32,
+    number: &mut u64,
+) -> i32
+    ensures { OnAssigner place.old.value place.new.value ((action.new ≡ action.old) × (number.new ≡ number.old)) result
+        (λ old new. (new ≡ old) × Returns (IsNext (phase_of phase.now) old at wanted (next_numbers action.old number.old)
+        (next_numbers action.new number.new)) result) }
+{
+    match place.lend() {
+        Held::Assigner(assigner) => next(assigner, at, phase, wanted, action, number).number(),
+        _ => Answer::OtherPlace.number(),
+    }
+}
+
+/// Ends the assigner. Nothing stands in the place then.
+#[unsafe(no_mangle)]
+pub extern "C" fn hs_assigner_close(place: &mut Place) -> i32
+    ensures { IsClosed (is_assigner place.old.value) place.old.value place.new.value result }
+{
+    let held = place.lend();
+    let is_assigner = matches!(held, Held::Assigner(_));
+    close_where(is_assigner, held)
+}
+
+/// Plans the assignment of the next generation, and gives its message.
+#[unsafe(no_mangle)]
+#[tactic(auto, using(crate::proofs::Returning::returns))]
+pub extern "C" fn hs_plan(
+    alloc: Global,
+    assignment: &[u8],
+    loads: &[u64],
+    tasks: &[u64],
+    policy: &PlanPolicyNumbers,
+    out: &mut [u8],
+    needed: &mut usize,
+) -> i32
+    ensures { Returns (λ answer. IsReadFrom (codes "assignment") assignment_of assignment.now
+        (IsPlanned (wanted loads.now tasks.now (limits_of policy.now)) (output out.old needed.old) (output out.new needed.new) answer)) result }
+{
+    plan(alloc, assignment, loads, tasks, policy, out, needed).number()
+}

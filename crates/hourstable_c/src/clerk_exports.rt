@@ -1,0 +1,85 @@
+//! Clerks.
+
+ghost use Rattle.std.specs.Prelude.{◌≡◌, None, ⊤};
+ghost use Rattle.slice_ranges.specs.Hash.{slice_key};
+ghost use Rattle.clerk.specs.Steps.{look_at};
+ghost use Rattle.c_numbers.specs.declared.answer.Answer.TheVariants.{Done};
+ghost use Rattle.c_numbers.specs.Numbers.{answer_number};
+ghost use Rattle.c_place.specs.declared.held.Held.TheVariants as held;
+ghost use Rattle.c_task.specs.ClerkCalls.{IsAssignmentLearnt, IsLookedUp};
+ghost use Rattle.hourstable_c.specs.Kinds.{is_clerk};
+ghost use Rattle.hourstable_c.specs.Opened.{IsClosed};
+ghost use Rattle.hourstable_c.specs.Places.{OnClerk};
+ghost use Rattle.hourstable_c.specs.Returned.{Returns, Tells};
+
+use crate::place_exports::close_where;
+use c_numbers::{Answer, Told};
+use c_place::{Held, Place};
+use c_task::{OwnersNumbers, learn, look};
+use clerk::Clerk;
+use std::alloc::Global;
+
+/// Puts a clerk that has learnt nothing, in place of what stood there.
+#[unsafe(no_mangle)]
+pub extern "C" fn hs_clerk_open(place: &mut Place) -> i32
+    ensures number { result ≡ answer_number Done }
+    ensures held { place.new.value ≡ held.Clerk None }
+{
+    *place.lend() = Held::Clerk(Clerk::new());
+    Answer::Done.number()
+}
+
+/// Keeps the assignment that the bytes are a message of.
+#[unsafe(no_mangle)]
+#[tactic(auto, using(crate::proofs::Returning::tells))]
+pub extern "C" fn hs_clerk_learn(
+    alloc: Global,
+    place: &mut Place,
+    assignment: &[u8],
+    told: &mut Told,
+) -> i32
+    ensures { OnClerk place.old.value place.new.value (told.new ≡ told.old) result
+        (λ old new. Tells (IsAssignmentLearnt assignment.now old new) told.old told.new result) }
+{
+    match place.lend() {
+        Held::Clerk(clerk) => learn(alloc, clerk, assignment).tell(told),
+        _ => Answer::OtherPlace.number(),
+    }
+}
+
+/// Who owns a key in the assignment that is kept.
+#[unsafe(no_mangle)]
+#[tactic(auto, using(crate::proofs::Returning::returns))]
+pub extern "C" fn hs_clerk_look(place: &mut Place, key: &[u8], out: &mut OwnersNumbers) -> i32
+    ensures { OnClerk place.old.value place.new.value (out.new ≡ out.old) result
+        (λ old new. (new ≡ old) × Returns (IsLookedUp (look_at old (slice_key key.now)) out.old out.new) result) }
+{
+    match place.lend() {
+        Held::Clerk(clerk) => look(clerk, key, out).number(),
+        _ => Answer::OtherPlace.number(),
+    }
+}
+
+/// Keeps no assignment any more.
+#[unsafe(no_mangle)]
+pub extern "C" fn hs_clerk_forget(place: &mut Place) -> i32
+    ensures { OnClerk place.old.value place.new.value ⊤ result (λ old new. (result ≡ answer_number Done) × (new ≡ None)) }
+{
+    match place.lend() {
+        Held::Clerk(clerk) => {
+            clerk.forget();
+            Answer::Done.number()
+        }
+        _ => Answer::OtherPlace.number(),
+    }
+}
+
+/// Ends the clerk. Nothing stands in the place then.
+#[unsafe(no_mangle)]
+pub extern "C" fn hs_clerk_close(place: &mut Place) -> i32
+    ensures { IsClosed (is_clerk place.old.value) place.old.value place.new.value result }
+{
+    let held = place.lend();
+    let is_clerk = matches!(held, Held::Clerk(_));
+    close_where(is_clerk, held)
+}

@@ -1,0 +1,94 @@
+//! Sessions.
+
+ghost use Rattle.std.specs.Prelude.{◌≡◌, string_bytes};
+ghost use Rattle.c_numbers.specs.Outputs.{IsGivenWhole, output};
+ghost use Rattle.hourstable_c.specs.Kinds.{is_session};
+ghost use Rattle.hourstable_c.specs.Opened.{IsClosed};
+ghost use Rattle.hourstable_c.specs.Places.{OnSession};
+ghost use Rattle.hourstable_c.specs.Returned.{Returns};
+ghost use Rattle.hourstable_c.specs.Sessions.{IsSessionAnswered, IsSessionOpened, form_of};
+
+use crate::place_exports::close_where;
+use c_numbers::Answer;
+use c_place::{Held, Place};
+use c_session::Conversation;
+use session::ReplyForm;
+use std::alloc::Global;
+
+// How answers are written for a number.
+fn form_of(json: u32) -> ReplyForm
+    ensures { result ≡ form_of json }
+{
+    if json == 0 {
+        ReplyForm::Text
+    } else {
+        ReplyForm::Json
+    }
+}
+
+/// Puts a session of the job that the line says, in place of what stood there.
+#[unsafe(no_mangle)]
+#[tactic(auto, using(crate::proofs::Conversing::puts))]
+pub extern "C" fn hs_session_open(alloc: Global, place: &mut Place, line: &[u8], json: u32) -> i32
+    ensures { IsSessionOpened (form_of json) line.now place.old.value place.new.value result }
+{
+    match Conversation::begin(alloc, form_of(json), line) {
+        Ok(conversation) => {
+            *place.lend() = Held::Session(conversation);
+            Answer::Done.number()
+        }
+        Err(why) => why.number(),
+    }
+}
+
+#[tactic(auto, using(crate::proofs::Conversing::gives_up))]
+// Answers a line of what stands there; a session that memory ran out in is given up.
+fn answer_held(held: &mut Held, line: &[u8], out: &mut [u8], needed: &mut usize) -> Answer
+    ensures { IsSessionAnswered line.now held.old held.new (output out.old needed.old) (output out.new needed.new) result }
+{
+    let Held::Session(conversation) = held else {
+        return Answer::OtherPlace;
+    };
+    let answer = conversation.answer(line, out, needed);
+    if answer == Answer::NoMemory {
+        *held = Held::Nothing;
+    }
+    answer
+}
+
+/// Answers a line, and gives the line of its reply.
+#[unsafe(no_mangle)]
+#[tactic(auto, using(crate::proofs::Returning::returns))]
+pub extern "C" fn hs_session_answer(
+    place: &mut Place,
+    line: &[u8],
+    out: &mut [u8],
+    needed: &mut usize,
+) -> i32
+    ensures { Returns (IsSessionAnswered line.now place.old.value place.new.value (output out.old needed.old) (output out.new needed.new)) result }
+{
+    answer_held(place.lend(), line, out, needed).number()
+}
+
+/// Gives the last line that was given, or found no room.
+#[unsafe(no_mangle)]
+#[tactic(auto, using(crate::proofs::Returning::returns))]
+pub extern "C" fn hs_session_last(place: &mut Place, out: &mut [u8], needed: &mut usize) -> i32
+    ensures { OnSession place.old.value place.new.value (output out.new needed.new ≡ output out.old needed.old) result
+        (λ old new. (new ≡ old) × Returns (IsGivenWhole (string_bytes old.line) (output out.old needed.old) (output out.new needed.new)) result) }
+{
+    match place.lend() {
+        Held::Session(conversation) => conversation.last(out, needed).number(),
+        _ => Answer::OtherPlace.number(),
+    }
+}
+
+/// Ends the session. Nothing stands in the place then.
+#[unsafe(no_mangle)]
+pub extern "C" fn hs_session_close(place: &mut Place) -> i32
+    ensures { IsClosed (is_session place.old.value) place.old.value place.new.value result }
+{
+    let held = place.lend();
+    let is_session = matches!(held, Held::Session(_));
+    close_where(is_session, held)
+}

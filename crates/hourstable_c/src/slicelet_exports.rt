@@ -1,0 +1,143 @@
+//! Slicelets.
+
+ghost use Rattle.std.specs.Prelude.{◌≡◌, ⊤};
+ghost use Rattle.c_numbers.specs.Outputs.{output};
+ghost use Rattle.c_place.specs.declared.held.Held.TheVariants as held;
+ghost use Rattle.c_task.specs.Keys.{rule_for, taken_by};
+ghost use Rattle.c_task.specs.KeyHandles.{check_answer, handle_of, held_answer, held_numbers};
+ghost use Rattle.c_task.specs.Releases.{IsReleased, kind_of};
+ghost use Rattle.c_task.specs.SliceletCalls.{IsGrantHeard, IsStarted, opened};
+ghost use Rattle.hourstable_c.specs.Kinds.{is_slicelet};
+ghost use Rattle.hourstable_c.specs.Opened.{IsClosed, IsOpened};
+ghost use Rattle.hourstable_c.specs.Places.{OnSlicelet};
+ghost use Rattle.hourstable_c.specs.Returned.{Returns, Tells};
+
+use crate::place_exports::close_where;
+use c_numbers::{Answer, Told};
+use c_place::{Held, Place};
+use c_task::{HandleNumbers, check, hear, hold, open_slicelet, release, serve, start};
+use std::alloc::Global;
+
+/// Puts the slicelet of a task, before its first call, in place of what stood there.
+#[unsafe(no_mangle)]
+pub extern "C" fn hs_slicelet_open(alloc: Global, place: &mut Place, task: u64) -> i32
+    ensures { IsOpened held.Slicelet (opened task) place.old.value place.new.value result }
+{
+    match open_slicelet(alloc, task) {
+        Some(slicelet) => {
+            *place.lend() = Held::Slicelet(slicelet);
+            Answer::Done.number()
+        }
+        None => Answer::WrongForm.number(),
+    }
+}
+
+/// Starts a life of the task.
+#[unsafe(no_mangle)]
+#[tactic(auto, using(crate::proofs::Returning::returns))]
+pub extern "C" fn hs_slicelet_start(place: &mut Place, life: u32, at: u64) -> i32
+    ensures { OnSlicelet place.old.value place.new.value ⊤ result
+        (λ old new. Returns (IsStarted life at old new) result) }
+{
+    match place.lend() {
+        Held::Slicelet(slicelet) => start(slicelet, life, at).number(),
+        _ => Answer::OtherPlace.number(),
+    }
+}
+
+/// Hears the grant that the bytes are a message of.
+#[unsafe(no_mangle)]
+#[tactic(auto, using(crate::proofs::Returning::tells))]
+pub extern "C" fn hs_slicelet_hear(
+    alloc: Global,
+    place: &mut Place,
+    grant: &[u8],
+    at: u64,
+    told: &mut Told,
+) -> i32
+    ensures { OnSlicelet place.old.value place.new.value (told.new ≡ told.old) result
+        (λ old new. Tells (IsGrantHeard grant.now at old new) told.old told.new result) }
+{
+    match place.lend() {
+        Held::Slicelet(slicelet) => hear(alloc, slicelet, grant, at).tell(told),
+        _ => Answer::OtherPlace.number(),
+    }
+}
+
+/// Releases the lease of the kind of a number, and gives the message of its note.
+#[unsafe(no_mangle)]
+#[tactic(auto, using(crate::proofs::Returning::returns))]
+pub extern "C" fn hs_slicelet_release(
+    alloc: Global,
+    place: &mut Place,
+    kind: u32,
+    at: u64,
+    out: &mut [u8],
+    needed: &mut usize,
+) -> i32
+    ensures { OnSlicelet place.old.value place.new.value (output out.new needed.new ≡ output out.old needed.old) result
+        (λ old new. Returns (IsReleased (kind_of kind) at old new (output out.old needed.old) (output out.new needed.new)) result) }
+{
+    match place.lend() {
+        Held::Slicelet(slicelet) => release(alloc, slicelet, kind, at, out, needed).number(),
+        _ => Answer::OtherPlace.number(),
+    }
+}
+
+/// Whether the task may serve a key.
+#[unsafe(no_mangle)]
+#[tactic(auto, using(crate::proofs::Returning::tells))]
+pub extern "C" fn hs_slicelet_serve(place: &mut Place, key: &[u8], at: u64, told: &mut Told) -> i32
+    ensures { OnSlicelet place.old.value place.new.value (told.new ≡ told.old) result
+        (λ old new. (new ≡ old) × Tells (λ answer. answer ≡ Answer.Judged (rule_for key.now old at))
+        told.old told.new result) }
+{
+    match place.lend() {
+        Held::Slicelet(slicelet) => serve(slicelet, key, at).tell(told),
+        _ => Answer::OtherPlace.number(),
+    }
+}
+
+/// Takes a handle on a key, where the task may serve it.
+#[unsafe(no_mangle)]
+#[tactic(auto, using(crate::proofs::Returning::tells))]
+pub extern "C" fn hs_slicelet_hold(
+    place: &mut Place,
+    key: &[u8],
+    at: u64,
+    out: &mut HandleNumbers,
+    told: &mut Told,
+) -> i32
+    ensures { OnSlicelet place.old.value place.new.value ((told.new ≡ told.old) × (out.new ≡ out.old)) result
+        (λ old new. (new ≡ old)
+        × (out.new ≡ held_numbers (taken_by (rule_for key.now old at) key.now old) out.old)
+        × Tells (λ answer. answer ≡ held_answer (taken_by (rule_for key.now old at) key.now old)) told.old told.new result) }
+{
+    match place.lend() {
+        Held::Slicelet(slicelet) => hold(slicelet, key, at, out).tell(told),
+        _ => Answer::OtherPlace.number(),
+    }
+}
+
+/// Whether the task held the key of a handle since it was taken, and may serve it now.
+#[unsafe(no_mangle)]
+#[tactic(auto, using(crate::proofs::Returning::returns))]
+pub extern "C" fn hs_slicelet_check(place: &mut Place, handle: &HandleNumbers, at: u64) -> i32
+    ensures { OnSlicelet place.old.value place.new.value ⊤ result
+        (λ old new. (new ≡ old) × Returns (λ answer. answer ≡ check_answer (handle_of handle.now) old at) result) }
+{
+    match place.lend() {
+        Held::Slicelet(slicelet) => check(slicelet, handle, at).number(),
+        _ => Answer::OtherPlace.number(),
+    }
+}
+
+/// Ends the slicelet. Nothing stands in the place then.
+#[unsafe(no_mangle)]
+pub extern "C" fn hs_slicelet_close(place: &mut Place) -> i32
+    ensures { IsClosed (is_slicelet place.old.value) place.old.value place.new.value result }
+{
+    let held = place.lend();
+    let is_slicelet = matches!(held, Held::Slicelet(_));
+    close_where(is_slicelet, held)
+}

@@ -1,0 +1,231 @@
+//! Tables.
+
+ghost use Rattle.std.specs.Prelude.{◌≡◌, codes, length, map};
+ghost use Rattle.wire.specs.Assignments.{assignment_of};
+ghost use Rattle.wire.specs.Notes.{note_of};
+ghost use Rattle.wire.specs.Refusals.{or_wrong};
+ghost use Rattle.lease_table.specs.Steps.{take_step, renew_step, commit_step, standing_after_restart};
+ghost use Rattle.lease_table.specs.Tables.{phase_of};
+ghost use Rattle.c_numbers.specs.declared.answer.Answer.TheVariants.{Done};
+ghost use Rattle.c_numbers.specs.Numbers.{answer_number};
+ghost use Rattle.c_numbers.specs.Outputs.{IsGivenUnlessMemory, output};
+ghost use Rattle.c_numbers.specs.Reading.{IsReadFrom};
+ghost use Rattle.c_place.specs.declared.held.Held.TheVariants as held;
+ghost use Rattle.c_table.specs.Calls.{IsCommitStep, IsFreed, IsProposed, IsTableStep};
+ghost use Rattle.c_table.specs.PolicyNumbers.{table_of};
+ghost use Rattle.c_table.specs.Rows.{row_numbers};
+ghost use Rattle.c_table.specs.Terms.{phase_numbers, term_given};
+ghost use Rattle.c_table.specs.Texts.{IsCommittedGiven, IsGranted, task_of};
+ghost use Rattle.hourstable_c.specs.Kinds.{is_table};
+ghost use Rattle.hourstable_c.specs.Opened.{IsClosed, IsOpened};
+ghost use Rattle.hourstable_c.specs.Places.{OnTable};
+ghost use Rattle.hourstable_c.specs.Returned.{Returns, Tells};
+
+use crate::place_exports::close_where;
+use c_numbers::{Answer, Told};
+use c_place::{Held, Place};
+use c_table::{
+    PhaseNumbers, PolicyNumbers, RowNumbers, TermNumbers, commit, committed, free, grant,
+    open_table, phase, propose, renew, restart, rows, take,
+};
+use std::alloc::Global;
+
+/// Puts a table of a policy, before its first call, in place of what stood there.
+#[unsafe(no_mangle)]
+pub extern "C" fn hs_table_open(alloc: Global, place: &mut Place, policy: &PolicyNumbers) -> i32
+    ensures { IsOpened held.Table (table_of policy.now) place.old.value place.new.value result }
+{
+    match open_table(alloc, policy) {
+        Some(table) => {
+            *place.lend() = Held::Table(table);
+            Answer::Done.number()
+        }
+        None => Answer::WrongForm.number(),
+    }
+}
+
+/// Gives the job lease to an assigner.
+#[unsafe(no_mangle)]
+#[tactic(auto, using(crate::proofs::Returning::tells))]
+pub extern "C" fn hs_table_take(
+    place: &mut Place,
+    assigner: u64,
+    at: u64,
+    out: &mut TermNumbers,
+    told: &mut Told,
+) -> i32
+    ensures { OnTable place.old.value place.new.value ((told.new ≡ told.old) × (out.new ≡ out.old)) result
+        (λ old new. (out.new ≡ term_given (take_step old assigner at) out.old)
+        × Tells (IsTableStep (take_step old assigner at) old new) told.old told.new result) }
+{
+    match place.lend() {
+        Held::Table(table) => take(table, assigner, at, out).tell(told),
+        _ => Answer::OtherPlace.number(),
+    }
+}
+
+/// Renews the term of a number.
+#[unsafe(no_mangle)]
+#[tactic(auto, using(crate::proofs::Returning::tells))]
+pub extern "C" fn hs_table_renew(
+    place: &mut Place,
+    number: u64,
+    at: u64,
+    out: &mut TermNumbers,
+    told: &mut Told,
+) -> i32
+    ensures { OnTable place.old.value place.new.value ((told.new ≡ told.old) × (out.new ≡ out.old)) result
+        (λ old new. (out.new ≡ term_given (renew_step old number at) out.old)
+        × Tells (IsTableStep (renew_step old number at) old new) told.old told.new result) }
+{
+    match place.lend() {
+        Held::Table(table) => renew(table, number, at, out).tell(told),
+        _ => Answer::OtherPlace.number(),
+    }
+}
+
+/// Proposes the assignment that the bytes are a message of, under the term of a number.
+#[unsafe(no_mangle)]
+#[tactic(auto, using(crate::proofs::Returning::tells))]
+pub extern "C" fn hs_table_propose(
+    alloc: Global,
+    place: &mut Place,
+    number: u64,
+    assignment: &[u8],
+    at: u64,
+    told: &mut Told,
+) -> i32
+    ensures { OnTable place.old.value place.new.value (told.new ≡ told.old) result
+        (λ old new. Tells (λ answer. IsReadFrom (codes "assignment") assignment_of assignment.now (IsProposed number at old new answer))
+        told.old told.new result) }
+{
+    match place.lend() {
+        Held::Table(table) => propose(alloc, table, number, assignment, at).tell(told),
+        _ => Answer::OtherPlace.number(),
+    }
+}
+
+/// Commits the proposed assignment under the term of a number.
+#[unsafe(no_mangle)]
+#[tactic(auto, using(crate::proofs::Returning::tells))]
+pub extern "C" fn hs_table_commit(place: &mut Place, number: u64, at: u64, told: &mut Told) -> i32
+    ensures { OnTable place.old.value place.new.value (told.new ≡ told.old) result
+        (λ old new. Tells (IsCommitStep (commit_step old number at) old new) told.old told.new result) }
+{
+    match place.lend() {
+        Held::Table(table) => commit(table, number, at).tell(told),
+        _ => Answer::OtherPlace.number(),
+    }
+}
+
+/// Grants a task a lease for one of its lives, and gives the message of the grant.
+#[unsafe(no_mangle)]
+#[tactic(auto, using(crate::proofs::Returning::returns))]
+pub extern "C" fn hs_table_grant(
+    alloc: Global,
+    place: &mut Place,
+    task: u64,
+    life: u32,
+    at: u64,
+    out: &mut [u8],
+    needed: &mut usize,
+) -> i32
+    ensures { OnTable place.old.value place.new.value (output out.new needed.new ≡ output out.old needed.old) result
+        (λ old new. Returns (IsGranted (task_of task) life at old new (output out.old needed.old) (output out.new needed.new)) result) }
+{
+    match place.lend() {
+        Held::Table(table) => grant(alloc, table, task, life, at, out, needed).number(),
+        _ => Answer::OtherPlace.number(),
+    }
+}
+
+/// Frees the rows that a note closes, where the bytes are a message of one.
+#[unsafe(no_mangle)]
+#[tactic(auto, using(crate::proofs::Returning::tells))]
+pub extern "C" fn hs_table_free(
+    alloc: Global,
+    place: &mut Place,
+    note: &[u8],
+    at: u64,
+    freed: &mut u64,
+    told: &mut Told,
+) -> i32
+    ensures { OnTable place.old.value place.new.value ((told.new ≡ told.old) × (freed.new ≡ freed.old)) result
+        (λ old new. Tells (λ answer. IsReadFrom (codes "note") (λ d. or_wrong (note_of d)) note.now (IsFreed at old new freed.old freed.new answer))
+        told.old told.new result) }
+{
+    match place.lend() {
+        Held::Table(table) => free(alloc, table, note, at, freed).tell(told),
+        _ => Answer::OtherPlace.number(),
+    }
+}
+
+/// The table restarts and loses its rows.
+#[unsafe(no_mangle)]
+pub extern "C" fn hs_table_restart(place: &mut Place, lost: &mut u64) -> i32
+    ensures { OnTable place.old.value place.new.value (lost.new ≡ lost.old) result
+        (λ old new. (result ≡ answer_number Done) × (lost.new ≡ length old.rows) × (new ≡ standing_after_restart old)) }
+{
+    match place.lend() {
+        Held::Table(table) => restart(table, lost).number(),
+        _ => Answer::OtherPlace.number(),
+    }
+}
+
+/// Where the table stands.
+#[unsafe(no_mangle)]
+pub extern "C" fn hs_table_phase(place: &mut Place, out: &mut PhaseNumbers) -> i32
+    ensures { OnTable place.old.value place.new.value (out.new ≡ out.old) result
+        (λ old new. (result ≡ answer_number Done) × (new ≡ old) × (out.new ≡ phase_numbers (phase_of old))) }
+{
+    match place.lend() {
+        Held::Table(table) => phase(table, out).number(),
+        _ => Answer::OtherPlace.number(),
+    }
+}
+
+/// The rows that have not ended at the last accepted reading, in grant order.
+#[unsafe(no_mangle)]
+#[tactic(auto, using(crate::proofs::Returning::returns))]
+pub extern "C" fn hs_table_rows(
+    alloc: Global,
+    place: &mut Place,
+    out: &mut [RowNumbers],
+    needed: &mut usize,
+) -> i32
+    ensures { OnTable place.old.value place.new.value (output out.new needed.new ≡ output out.old needed.old) result
+        (λ old new. (new ≡ old) × Returns (IsGivenUnlessMemory (map row_numbers old.rows) (output out.old needed.old) (output out.new needed.new)) result) }
+{
+    match place.lend() {
+        Held::Table(table) => rows(alloc, table, out, needed).number(),
+        _ => Answer::OtherPlace.number(),
+    }
+}
+
+/// Gives the message of the committed assignment.
+#[unsafe(no_mangle)]
+#[tactic(auto, using(crate::proofs::Returning::returns))]
+pub extern "C" fn hs_table_committed(
+    alloc: Global,
+    place: &mut Place,
+    out: &mut [u8],
+    needed: &mut usize,
+) -> i32
+    ensures { OnTable place.old.value place.new.value (output out.new needed.new ≡ output out.old needed.old) result
+        (λ old new. (new ≡ old) × Returns (IsCommittedGiven old.committed (output out.old needed.old) (output out.new needed.new)) result) }
+{
+    match place.lend() {
+        Held::Table(table) => committed(alloc, table, out, needed).number(),
+        _ => Answer::OtherPlace.number(),
+    }
+}
+
+/// Ends the table. Nothing stands in the place then.
+#[unsafe(no_mangle)]
+pub extern "C" fn hs_table_close(place: &mut Place) -> i32
+    ensures { IsClosed (is_table place.old.value) place.old.value place.new.value result }
+{
+    let held = place.lend();
+    let is_table = matches!(held, Held::Table(_));
+    close_where(is_table, held)
+}

@@ -1,0 +1,43 @@
+//! A task from open to close, by the functions that C calls.
+
+use crate::place_exports::hs_place_free;
+use crate::slicelet_exports::{
+    hs_slicelet_close, hs_slicelet_hear, hs_slicelet_open, hs_slicelet_serve, hs_slicelet_start,
+};
+use c_numbers::Told;
+use c_place::{Held, Place};
+use std::alloc::Global;
+use std::test::Fail;
+
+// A guard on all keys until 8 of the task's clock.
+const GRANT: &[u8] =
+    br#"{"type":"grant","value":{"ends":8,"generation":3,"kind":"guard","life":1,"number":7,
+    "ranges":[[0,9223372036854775808]],"task":2,"until":10},"version":1}"#;
+
+// What the functions return, one after the other.
+fn codes_of(alloc: Global, place: &mut Place, told: &mut Told) -> [i32; 6] {
+    let opened = hs_slicelet_open(alloc, place, 2);
+    let started = hs_slicelet_start(place, 1, 3);
+    let heard = hs_slicelet_hear(alloc, place, GRANT, 5, told);
+    let served = hs_slicelet_serve(place, b"apples", 7, told);
+    let denied = hs_slicelet_serve(place, b"apples", 8, told);
+    let closed = hs_slicelet_close(place);
+    [opened, started, heard, served, denied, closed]
+}
+
+#[test]
+fn serves_a_key_until_the_lease_ends(rt: HostRuntime) -> Result<(), Fail> {
+    let mut told = Told {
+        number: 0,
+        generation: 0,
+        kind: 0,
+        task: 0,
+        until: 0,
+    };
+    let mut place = Place::of_box(Box::new(rt.alloc(), Held::Nothing)?);
+    let codes = codes_of(rt.alloc(), &mut place, &mut told);
+    hs_place_free(place);
+    assert_eq!(rt; codes, [0, 0, 0, 0, 3, 0]);
+    assert_eq!(rt; (told.kind, told.generation), (1, 3));
+    Ok(())
+}
