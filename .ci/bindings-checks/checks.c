@@ -1,0 +1,81 @@
+/* What hourstable.h says, asked of the library: each code, and that a call that is not done changes nothing. */
+#include "checks.h"
+
+#include <stdio.h>
+#include <stdlib.h>
+
+#define LOWEST HS_NO_JOB
+#define HIGHEST HS_LOAD_RANGE
+
+const struct hs_policy policy = {
+    .low = 1, .high = 1, .skew = 10, .guard = 100, .bridge = 100, .job = 1000, .numbers = 1000};
+
+struct hs_told told;
+static int was_seen[HIGHEST - LOWEST + 1];
+
+void check_code(int32_t code, int32_t wanted, const char *file, int line) {
+    if (code != wanted) {
+        printf("%s:%d: code %d, and %d is wanted\n", file, line, (int)code, (int)wanted);
+        exit(1);
+    }
+    was_seen[code - LOWEST] = 1;
+}
+
+void check_fact(int is_true, const char *fact, const char *file, int line) {
+    if (!is_true) {
+        printf("%s:%d: not so: %s\n", file, line, fact);
+        exit(1);
+    }
+}
+
+struct hs_told *fresh_told(void) {
+    told = (struct hs_told){UNTOLD, UNTOLD, UNTOLD, UNTOLD, UNTOLD};
+    return &told;
+}
+
+int tells(uint64_t number, uint64_t generation, uint64_t kind, uint64_t task, uint64_t until) {
+    return told.number == number && told.generation == generation && told.kind == kind && told.task == task &&
+           told.until == until;
+}
+
+struct hs_place new_place(void) {
+    struct hs_place place = {NULL};
+    IS(hs_place_new(&place), HS_DONE);
+    HOLDS(place.at);
+    return place;
+}
+
+uint64_t sum_bytes(uint64_t sum, const void *bytes, size_t length) {
+    const uint8_t *byte = bytes;
+    for (size_t at = 0; at < length; at++)
+        sum = (sum ^ byte[at]) * 1099511628211u;
+    return sum;
+}
+
+uint64_t sum_number(uint64_t sum, int64_t number) {
+    return sum_bytes(sum, &number, sizeof number);
+}
+
+static void check(const char *what, void (*checks)(void)) {
+    checks();
+    printf("%s: as the header says\n", what);
+    fflush(stdout);
+}
+
+int main(void) {
+    check("keys", check_keys);
+    check("places", check_places);
+    check("slicelets", check_slicelets);
+    check("clerks", check_clerks);
+    check("tables", check_tables);
+    check("assigners", check_assigners);
+    check("plans", check_plans);
+    check("sessions", check_sessions);
+    check("memory", check_memory);
+    for (int32_t code = LOWEST; code <= HIGHEST; code++) {
+        if (!was_seen[code - LOWEST])
+            printf("code %d was never returned\n", (int)code);
+    }
+    printf("each code was looked for\n");
+    return 0;
+}

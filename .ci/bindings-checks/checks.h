@@ -1,0 +1,97 @@
+/* What the checks of hourstable.h have in common. */
+#ifndef CHECKS_H
+#define CHECKS_H
+
+#include "hourstable.h"
+
+/* The call returns this code, or the program ends. */
+#define IS(call, wanted) check_code((call), (wanted), __FILE__, __LINE__)
+#define HOLDS(fact) check_fact((fact) != 0, #fact, __FILE__, __LINE__)
+
+/* The call returns this code, and what can be seen of a place is the same before it and after it. */
+#define STAYS(state, call, wanted)                                                                                     \
+    do {                                                                                                               \
+        uint64_t state_before = (state);                                                                               \
+        IS((call), (wanted));                                                                                          \
+        struct hs_told told_then = told;                                                                               \
+        HOLDS((state) == state_before);                                                                                \
+        told = told_then;                                                                                              \
+    } while (0)
+
+#define MESSAGE(type, members) "{\"type\":\"" type "\",\"value\":{" members "},\"version\":1}"
+#define GRANT(kind, life, number, ranges, task)                                                                        \
+    MESSAGE("grant", "\"ends\":95,\"generation\":3,\"kind\":\"" kind "\",\"life\":" life ",\"number\":" number         \
+                     ",\"ranges\":" ranges ",\"task\":" task ",\"until\":105")
+#define NOTE(kind, life, number, task)                                                                                 \
+    MESSAGE("note", "\"kind\":\"" kind "\",\"life\":" life ",\"number\":" number ",\"task\":" task)
+#define ASSIGNMENT(generation, slices) MESSAGE("assignment", "\"generation\":" generation ",\"slices\":" slices)
+
+#define ALL_KEYS "[[0,9223372036854775808]]"
+#define HALVES "[[0,[1]],[4611686018427387904,[2]]]"
+
+/* The key "hello" is in the lower half of the keys, "abc" in the upper one. */
+#define HELLO (const uint8_t *)"hello", 5
+#define ABC (const uint8_t *)"abc", 3
+
+/* A number that no answer of these checks carries. */
+#define UNTOLD 777777
+
+void check_code(int32_t code, int32_t wanted, const char *file, int line);
+void check_fact(int is_true, const char *fact, const char *file, int line);
+
+/* The numbers of the last call that tells some; all are UNTOLD before it. */
+extern struct hs_told told;
+struct hs_told *fresh_told(void);
+int tells(uint64_t number, uint64_t generation, uint64_t kind, uint64_t task, uint64_t until);
+
+struct hs_place new_place(void);
+
+/* A copy of a text, and a block of dashes, each in pages of its own, so that an access past its end is found. */
+uint8_t *block_of(const char *text, size_t length);
+uint8_t *dashes(size_t length);
+void drop_block(uint8_t *block);
+
+/* Whether all bytes are dashes. */
+int are_dashes(const uint8_t *block, size_t length);
+
+/* Sums of what was seen, so that two looks can be compared. */
+uint64_t sum_bytes(uint64_t sum, const void *bytes, size_t length);
+uint64_t sum_number(uint64_t sum, int64_t number);
+
+/* Memory: how many allocations were asked for, and which of them, from here on, finds none (0: each finds some). */
+extern size_t allocations;
+void refuse_allocation(size_t number);
+int was_refused(void);
+
+/* Calls with the text of a message, of which they read a copy of its own length. */
+int32_t hear(struct hs_place *place, const char *grant, uint64_t at);
+int32_t hear_bytes(struct hs_place *place, const char *grant, size_t length, uint64_t at);
+int32_t learn(struct hs_place *place, const char *assignment);
+int32_t learn_bytes(struct hs_place *place, const char *assignment, size_t length);
+int32_t propose(struct hs_place *place, uint64_t term, const char *assignment, uint64_t at);
+int32_t propose_bytes(struct hs_place *place, const char *assignment, size_t length, uint64_t at);
+int32_t free_rows(struct hs_place *place, const char *note, uint64_t at, uint64_t *freed);
+
+/* What can be seen of a place. */
+uint64_t slicelet_state(struct hs_place *place);
+uint64_t clerk_state(struct hs_place *place);
+uint64_t table_state(struct hs_place *place);
+
+/* Places to begin with: task 2 in life 1 with a guard of all keys, number 7, until 95; a clerk with halves of
+ * generation 1; a table at generation 1 with halves, a term of assigner 1 until 1000 and last reading 2. */
+struct hs_place serving_task(void);
+struct hs_place knowing_clerk(void);
+struct hs_place steady_table(void);
+extern const struct hs_policy policy;
+
+void check_keys(void);
+void check_places(void);
+void check_slicelets(void);
+void check_clerks(void);
+void check_tables(void);
+void check_assigners(void);
+void check_plans(void);
+void check_sessions(void);
+void check_memory(void);
+
+#endif

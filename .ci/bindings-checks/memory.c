@@ -1,0 +1,254 @@
+/* Memory: calls with each of their allocations refused in turn, and calls that take none.
+ *
+ * The program is linked with --wrap for the functions below, so that all allocations, those of the library too, come
+ * here. */
+#include "checks.h"
+
+#include <string.h>
+
+void *__real_malloc(size_t size);
+void *__real_calloc(size_t count, size_t size);
+void *__real_realloc(void *block, size_t size);
+void *__real_aligned_alloc(size_t alignment, size_t size);
+int __real_posix_memalign(void **block, size_t alignment, size_t size);
+void *__wrap_malloc(size_t size);
+void *__wrap_calloc(size_t count, size_t size);
+void *__wrap_realloc(void *block, size_t size);
+void *__wrap_aligned_alloc(size_t alignment, size_t size);
+int __wrap_posix_memalign(void **block, size_t alignment, size_t size);
+
+size_t allocations;
+static size_t refused;
+
+void refuse_allocation(size_t number) {
+    refused = number ? allocations + number : 0;
+}
+
+int was_refused(void) {
+    return refused && allocations >= refused;
+}
+
+static int is_refused(void) {
+    return ++allocations == refused;
+}
+
+void *__wrap_malloc(size_t size) {
+    return is_refused() ? NULL : __real_malloc(size);
+}
+
+void *__wrap_calloc(size_t count, size_t size) {
+    return is_refused() ? NULL : __real_calloc(count, size);
+}
+
+void *__wrap_realloc(void *block, size_t size) {
+    return is_refused() ? NULL : __real_realloc(block, size);
+}
+
+void *__wrap_aligned_alloc(size_t alignment, size_t size) {
+    return is_refused() ? NULL : __real_aligned_alloc(alignment, size);
+}
+
+int __wrap_posix_memalign(void **block, size_t alignment, size_t size) {
+    return is_refused() ? 12 : __real_posix_memalign(block, alignment, size);
+}
+
+static const char job[] = "{\"job\":{\"redundancy\":1,\"skew\":10,\"guard\":100,\"bridge\":100,\"job\":1000,"
+                          "\"numbers\":1000,\"assigners\":1,\"tasks\":2,\"clerks\":1}}";
+
+/* A place to begin with, the call that takes memory, and what can be seen of the place. */
+struct trial {
+    const char *name;
+    struct hs_place (*begin)(void);
+    int32_t (*call)(struct hs_place *place);
+    uint64_t (*state)(struct hs_place *place);
+};
+
+static int32_t hear_more(struct hs_place *place) {
+    const char *text = GRANT("guard", "1", "8", "[[0,5],[9,10]]", "2");
+    return hs_slicelet_hear(place, (const uint8_t *)text, strlen(text), 6, fresh_told());
+}
+
+static int32_t give_back(struct hs_place *place) {
+    static uint8_t out[256];
+    size_t needed = 0;
+    memset(out, '-', sizeof out);
+    int32_t code = hs_slicelet_release(place, HS_GUARD, 6, out, sizeof out, &needed);
+    HOLDS(code == HS_DONE || are_dashes(out, sizeof out));
+    return code;
+}
+
+static int32_t learn_more(struct hs_place *place) {
+    const char *text = ASSIGNMENT("2", "[[0,[2]]]");
+    return hs_clerk_learn(place, (const uint8_t *)text, strlen(text), fresh_told());
+}
+
+static int32_t propose_more(struct hs_place *place) {
+    const char *text = ASSIGNMENT("2", "[[0,[2]]]");
+    return hs_table_propose(place, 1, (const uint8_t *)text, strlen(text), 5, fresh_told());
+}
+
+static int32_t grant_more(struct hs_place *place) {
+    static uint8_t out[256];
+    size_t needed = 0;
+    memset(out, '-', sizeof out);
+    int32_t code = hs_table_grant(place, 1, 1, 6, out, sizeof out, &needed);
+    HOLDS(code == HS_DONE || are_dashes(out, sizeof out));
+    return code;
+}
+
+static struct hs_place granted_table(void) {
+    struct hs_place table = steady_table();
+    IS(grant_more(&table), HS_DONE);
+    return table;
+}
+
+static int32_t free_row(struct hs_place *place) {
+    const char *text = NOTE("guard", "1", "1", "1");
+    uint64_t freed = UNTOLD;
+    int32_t code = hs_table_free(place, (const uint8_t *)text, strlen(text), 7, &freed, fresh_told());
+    HOLDS(freed == (code == HS_DONE ? 1 : UNTOLD));
+    return code;
+}
+
+static int32_t list_rows(struct hs_place *place) {
+    static struct hs_row rows[4];
+    size_t needed = 0;
+    memset(rows, '-', sizeof rows);
+    int32_t code = hs_table_rows(place, rows, 4, &needed);
+    HOLDS(code == HS_DONE || are_dashes((const uint8_t *)rows, sizeof rows));
+    return code;
+}
+
+static int32_t give_committed(struct hs_place *place) {
+    static uint8_t out[256];
+    size_t needed = 0;
+    memset(out, '-', sizeof out);
+    int32_t code = hs_table_committed(place, out, sizeof out, &needed);
+    HOLDS(code == HS_DONE || are_dashes(out, sizeof out));
+    return code;
+}
+
+static int32_t open_session(struct hs_place *place) {
+    return hs_session_open(place, (const uint8_t *)job, strlen(job), 0);
+}
+
+static int32_t plan(struct hs_place *place) {
+    const char *text = ASSIGNMENT("1", HALVES);
+    const uint64_t loads[] = {6, 4}, tasks[] = {1, 2};
+    const struct hs_plan_policy bounds = {1, 1, 1, 0, 100, 1024};
+    static uint8_t out[256];
+    size_t needed = 0;
+    (void)place;
+    memset(out, '-', sizeof out);
+    int32_t code = hs_plan((const uint8_t *)text, strlen(text), loads, 2, tasks, 2, &bounds, out, sizeof out, &needed);
+    HOLDS(code == HS_DONE || are_dashes(out, sizeof out));
+    return code;
+}
+
+static uint64_t state_when_done(const struct trial *trial) {
+    struct hs_place place = trial->begin();
+    IS(trial->call(&place), HS_DONE);
+    uint64_t state = trial->state(&place);
+    hs_place_free(place);
+    return state;
+}
+
+/* After a call that did not get all memory that it asked for: it changed nothing, and is done when asked again; or it did
+ * with less, and left what it leaves with ample memory. */
+static void look_at(const struct trial *trial, struct hs_place *place, int32_t code, uint64_t before) {
+    if (code != HS_DONE) {
+        IS(code, HS_NO_MEMORY);
+        HOLDS(trial->state(place) == before);
+        IS(trial->call(place), HS_DONE);
+    }
+    HOLDS(trial->state(place) == state_when_done(trial));
+}
+
+/* The call with its first allocation refused, then with its second, until it gets all that it asks for. */
+static void refuse_each(const struct trial *trial) {
+    int fell_short = 1;
+    for (size_t number = 1; fell_short; number++) {
+        struct hs_place place = trial->begin();
+        uint64_t before = trial->state(&place);
+        refuse_allocation(number);
+        int32_t code = trial->call(&place);
+        fell_short = was_refused();
+        refuse_allocation(0);
+        if (fell_short)
+            look_at(trial, &place, code, before);
+        else
+            IS(code, HS_DONE);
+        hs_place_free(place);
+    }
+}
+
+static void refuse_places(void) {
+    struct hs_place place = {NULL};
+    refuse_allocation(1);
+    int32_t code = hs_place_new(&place);
+    HOLDS(was_refused());
+    refuse_allocation(0);
+    IS(code, HS_NO_MEMORY);
+    HOLDS(!place.at);
+}
+
+/* A session whose answer finds no memory is gone, with its place left empty. */
+static void refuse_answers(void) {
+    const char *step = "{\"do\":\"take\",\"assigner\":1,\"at\":0}";
+    for (size_t number = 1;; number++) {
+        struct hs_place place = new_place();
+        uint8_t out[64];
+        size_t needed = 0;
+        IS(open_session(&place), HS_DONE);
+        memset(out, '-', sizeof out);
+        refuse_allocation(number);
+        int32_t code = hs_session_answer(&place, (const uint8_t *)step, strlen(step), out, sizeof out, &needed);
+        int fell_short = was_refused();
+        refuse_allocation(0);
+        if (!fell_short) {
+            IS(code, HS_DONE);
+            hs_place_free(place);
+            break;
+        }
+        IS(code, HS_NO_MEMORY);
+        HOLDS(are_dashes(out, sizeof out));
+        IS(hs_session_last(&place, out, sizeof out, &needed), HS_OTHER_PLACE);
+        hs_place_free(place);
+    }
+}
+
+/* Calls of which the header says that they take no memory. */
+static void takes_none(void) {
+    struct hs_place task = serving_task(), clerk = knowing_clerk();
+    struct hs_key_handle handle;
+    struct hs_owners owners;
+    size_t before = allocations;
+    IS(hs_slicelet_serve(&task, HELLO, 6, fresh_told()), HS_DONE);
+    IS(hs_slicelet_hold(&task, HELLO, 6, &handle, fresh_told()), HS_DONE);
+    IS(hs_slicelet_check(&task, &handle, 6), HS_DONE);
+    IS(hs_clerk_look(&clerk, HELLO, &owners), HS_DONE);
+    HOLDS(hs_slice_key(HELLO) == handle.slice_key);
+    HOLDS(allocations == before);
+    hs_place_free(task);
+    hs_place_free(clerk);
+}
+
+void check_memory(void) {
+    const struct trial trials[] = {
+        {"hear", serving_task, hear_more, slicelet_state},
+        {"release", serving_task, give_back, slicelet_state},
+        {"learn", knowing_clerk, learn_more, clerk_state},
+        {"propose", steady_table, propose_more, table_state},
+        {"grant", steady_table, grant_more, table_state},
+        {"free", granted_table, free_row, table_state},
+        {"rows", granted_table, list_rows, table_state},
+        {"committed", granted_table, give_committed, table_state},
+        {"session", knowing_clerk, open_session, clerk_state},
+        {"plan", knowing_clerk, plan, clerk_state},
+    };
+    for (size_t at = 0; at < sizeof trials / sizeof *trials; at++)
+        refuse_each(&trials[at]);
+    refuse_places();
+    refuse_answers();
+    takes_none();
+}

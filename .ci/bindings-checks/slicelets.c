@@ -1,0 +1,237 @@
+/* Slicelets: the readings and deadlines are those of docs/FORMATS.md's refusals, the numbers by hand. */
+#include "checks.h"
+
+#include <string.h>
+
+static const char all_keys[] = GRANT("guard", "1", "7", ALL_KEYS, "2");
+static const char note[] = NOTE("guard", "1", "7", "2");
+
+static int32_t serve(struct hs_place *place, uint64_t at) {
+    return hs_slicelet_serve(place, HELLO, at, fresh_told());
+}
+
+static struct hs_place opened(void) {
+    struct hs_place place = new_place();
+    IS(hs_slicelet_open(&place, 0), HS_WRONG_FORM);
+    IS(hs_slicelet_open(&place, 65), HS_WRONG_FORM);
+    IS(hs_slicelet_open(&place, UINT64_MAX), HS_WRONG_FORM);
+    IS(hs_slicelet_open(&place, 64), HS_DONE);
+    IS(hs_slicelet_open(&place, 1), HS_DONE);
+    IS(hs_slicelet_open(&place, 2), HS_DONE);
+    return place;
+}
+
+/* Before the first life nothing is heard, released or served. */
+static void starts(struct hs_place *place) {
+    struct hs_key_handle handle = {9, 9, 9, 9};
+    uint8_t out[256];
+    size_t needed = 0;
+    STAYS(slicelet_state(place), hear(place, all_keys, 5), HS_NOT_STARTED);
+    IS(hs_slicelet_release(place, HS_GUARD, 5, out, sizeof out, &needed), HS_NOT_STARTED);
+    IS(serve(place, 5), HS_DOWN);
+    IS(hs_slicelet_hold(place, HELLO, 5, &handle, fresh_told()), HS_DOWN);
+    HOLDS(handle.task == 9 && handle.slice_key == 9 && handle.position == 9 && handle.life == 9);
+    STAYS(slicelet_state(place), hs_slicelet_start(place, 0, 3), HS_OLD_LIFE);
+    IS(hs_slicelet_start(place, 1, 3), HS_DONE);
+    STAYS(slicelet_state(place), hs_slicelet_start(place, 1, 3), HS_OLD_LIFE);
+    STAYS(slicelet_state(place), hs_slicelet_start(place, 2, 2), HS_CLOCK_BACK);
+    IS(serve(place, 3), HS_NO_LEASE);
+    IS(serve(place, 2), HS_CLOCK_BACK);
+    HOLDS(tells(UNTOLD, UNTOLD, UNTOLD, UNTOLD, UNTOLD));
+}
+
+/* Bytes that are no grant. */
+static void unread(struct hs_place *place) {
+    for (size_t length = 0; length < strlen(all_keys); length++)
+        IS(hear_bytes(place, all_keys, length, 5), HS_NOT_JSON);
+    STAYS(slicelet_state(place), hear(place, "{", 5), HS_NOT_JSON);
+    IS(hear_bytes(place, "{\"version\":1}\0", 14, 5), HS_NOT_JSON);
+    IS(hear(place, "\"\xff\"", 5), HS_NOT_JSON);
+    IS(hear(place, "[]", 5), HS_WRONG_FORM);
+    IS(hear(place, "{\"version\":\"1\"}", 5), HS_WRONG_FORM);
+    IS(hear(place, "{\"version\":1}", 5), HS_WRONG_FORM);
+    IS(hear(place, "{\"version\":9}", 5), HS_VERSION);
+    HOLDS(tells(9, UNTOLD, UNTOLD, UNTOLD, UNTOLD));
+    IS(hear(place, note, 5), HS_OTHER_TYPE);
+    HOLDS(tells(UNTOLD, UNTOLD, UNTOLD, UNTOLD, UNTOLD));
+    IS(hear(place, GRANT("guard", "1", "7", "[[0,5],[4,9]]", "2"), 5), HS_UNSORTED);
+    IS(hear(place, GRANT("guard", "1", "7", "[[5,5]]", "2"), 5), HS_EMPTY);
+    IS(hear(place, GRANT("guard", "1", "7", "[[0,9223372036854775809]]", "2"), 5), HS_PAST_END);
+}
+
+/* Members of a grant that are not within their limits. */
+static void wrong_members(struct hs_place *place) {
+    IS(hear(place, MESSAGE("grant", ""), 5), HS_WRONG_FORM);
+    IS(hear(place, MESSAGE("grant", "\"ends\":95"), 5), HS_WRONG_FORM);
+    IS(hear(place, GRANT("both", "1", "7", ALL_KEYS, "2"), 5), HS_WRONG_FORM);
+    IS(hear(place, GRANT("guard", "4294967296", "7", ALL_KEYS, "2"), 5), HS_WRONG_FORM);
+    IS(hear(place, GRANT("guard", "1", "-7", ALL_KEYS, "2"), 5), HS_WRONG_FORM);
+    IS(hear(place, GRANT("guard", "1", "7.5", ALL_KEYS, "2"), 5), HS_WRONG_FORM);
+    IS(hear(place, GRANT("guard", "1", "18446744073709551616", ALL_KEYS, "2"), 5), HS_WRONG_FORM);
+    IS(hear(place, GRANT("guard", "1", "\"7\"", ALL_KEYS, "2"), 5), HS_WRONG_FORM);
+    IS(hear(place, GRANT("guard", "1", "7", "[[0]]", "2"), 5), HS_WRONG_FORM);
+    IS(hear(place, GRANT("guard", "1", "7", "{}", "2"), 5), HS_WRONG_FORM);
+    IS(hear(place, GRANT("guard", "1", "7", ALL_KEYS, "0"), 5), HS_WRONG_FORM);
+    IS(hear(place, GRANT("guard", "1", "7", ALL_KEYS, "65"), 5), HS_WRONG_FORM);
+    IS(hear(place, GRANT("guard", "1", "7", ALL_KEYS, "2,\"more\":1"), 5), HS_WRONG_FORM);
+}
+
+static void hears(struct hs_place *place) {
+    STAYS(slicelet_state(place), hear(place, all_keys, 2), HS_CLOCK_BACK);
+    STAYS(slicelet_state(place), hear(place, GRANT("guard", "1", "7", ALL_KEYS, "3"), 5), HS_OTHER_TASK);
+    STAYS(slicelet_state(place), hear(place, GRANT("guard", "2", "7", ALL_KEYS, "2"), 5), HS_OTHER_LIFE);
+    STAYS(slicelet_state(place), hear(place, all_keys, 95), HS_TOO_LATE);
+    IS(serve(place, 5), HS_NO_LEASE);
+    IS(hear(place, GRANT("bridge", "1", "8", "[[0,5],[9,10]]", "2"), 5), HS_DONE);
+    IS(serve(place, 5), HS_NOT_OWNED);
+    HOLDS(tells(UNTOLD, 3, UNTOLD, UNTOLD, UNTOLD));
+    IS(hear(place, all_keys, 5), HS_DONE);
+    HOLDS(tells(UNTOLD, UNTOLD, UNTOLD, UNTOLD, UNTOLD));
+    STAYS(slicelet_state(place), hear(place, all_keys, 5), HS_OLD);
+    HOLDS(tells(7, UNTOLD, UNTOLD, UNTOLD, UNTOLD));
+    IS(serve(place, 4), HS_CLOCK_BACK);
+    IS(serve(place, 94), HS_DONE);
+    HOLDS(tells(UNTOLD, 3, HS_GUARD, UNTOLD, UNTOLD));
+    IS(serve(place, 95), HS_ENDED);
+    HOLDS(tells(UNTOLD, UNTOLD, UNTOLD, UNTOLD, UNTOLD));
+}
+
+/* A handle after a start and two grants: the call that it was taken after is the third. */
+static void holds(struct hs_place *place, struct hs_key_handle *handle) {
+    IS(hs_slicelet_hold(place, HELLO, 95, handle, fresh_told()), HS_ENDED);
+    HOLDS(handle->task == 0 && handle->position == 0);
+    IS(hs_slicelet_hold(place, HELLO, 6, handle, fresh_told()), HS_DONE);
+    HOLDS(handle->task == 2 && handle->life == 1 && handle->position == 3);
+    HOLDS(handle->slice_key == hs_slice_key(HELLO));
+    HOLDS(tells(UNTOLD, UNTOLD, UNTOLD, UNTOLD, UNTOLD));
+    IS(hs_slicelet_check(place, handle, 94), HS_DONE);
+    IS(hs_slicelet_check(place, handle, 95), HS_BROKEN);
+    IS(hs_slicelet_check(place, handle, 4), HS_BROKEN);
+}
+
+static int32_t check_other(struct hs_place *place, uint64_t task, uint64_t slice_key, uint64_t position, uint32_t life) {
+    const struct hs_key_handle handle = {task, slice_key, position, life};
+    return hs_slicelet_check(place, &handle, 6);
+}
+
+static void checks_others(struct hs_place *place) {
+    uint64_t key = hs_slice_key(HELLO);
+    IS(check_other(place, 2, key, 3, 1), HS_DONE);
+    IS(check_other(place, 0, key, 3, 1), HS_WRONG_FORM);
+    IS(check_other(place, 65, key, 3, 1), HS_WRONG_FORM);
+    IS(check_other(place, 2, (uint64_t)1 << 63, 3, 1), HS_WRONG_FORM);
+    IS(check_other(place, 2, UINT64_MAX, 3, 1), HS_WRONG_FORM);
+    IS(check_other(place, 3, key, 3, 1), HS_STRANGER);
+    IS(check_other(place, 2, key, 4, 1), HS_STRANGER);
+    IS(check_other(place, 2, key, 0, 2), HS_STRANGER);
+    IS(check_other(place, 2, key, 2, 1), HS_BROKEN);
+    IS(check_other(place, 2, key, 9, 0), HS_BROKEN);
+}
+
+/* The note is written whole or not at all; where it is not, the lease is still held. */
+static void releases(struct hs_place *place, const struct hs_key_handle *handle) {
+    size_t needed = 0, length = strlen(note);
+    uint8_t *out = dashes(length);
+    IS(hs_slicelet_release(place, 0, 7, out, length, &needed), HS_WRONG_FORM);
+    IS(hs_slicelet_release(place, 3, 7, out, length, &needed), HS_WRONG_FORM);
+    IS(hs_slicelet_release(place, HS_GUARD, 4, out, length, &needed), HS_CLOCK_BACK);
+    uint8_t *nothing = dashes(0);
+    STAYS(slicelet_state(place), hs_slicelet_release(place, HS_GUARD, 7, nothing, 0, &needed), HS_NO_ROOM);
+    drop_block(nothing);
+    HOLDS(needed == length);
+    uint8_t *shorter = dashes(length - 1);
+    STAYS(slicelet_state(place), hs_slicelet_release(place, HS_GUARD, 7, shorter, length - 1, &needed), HS_NO_ROOM);
+    HOLDS(needed == length && are_dashes(shorter, length - 1));
+    drop_block(shorter);
+    HOLDS(are_dashes(out, length));
+    IS(serve(place, 6), HS_DONE);
+    IS(hs_slicelet_release(place, HS_GUARD, 7, out, length, &needed), HS_DONE);
+    HOLDS(needed == length && memcmp(out, note, length) == 0);
+    drop_block(out);
+    uint8_t *longer = dashes(300);
+    STAYS(slicelet_state(place), hs_slicelet_release(place, HS_GUARD, 7, longer, 300, &needed), HS_NOTHING_HELD);
+    HOLDS(are_dashes(longer, 300));
+    IS(hs_slicelet_release(place, HS_BRIDGE, 7, longer, 300, &needed), HS_DONE);
+    HOLDS(needed == strlen(NOTE("bridge", "1", "8", "2")) && are_dashes(longer + needed, 300 - needed));
+    HOLDS(memcmp(longer, NOTE("bridge", "1", "8", "2"), needed) == 0);
+    drop_block(longer);
+    IS(hs_slicelet_check(place, handle, 7), HS_BROKEN);
+    IS(serve(place, 7), HS_NO_LEASE);
+    IS(hear(place, all_keys, 7), HS_OLD);
+}
+
+/* A new life holds nothing, and hears numbers anew. */
+static void restarts(struct hs_place *place, const struct hs_key_handle *handle) {
+    IS(hs_slicelet_start(place, 2, 8), HS_DONE);
+    IS(hear(place, all_keys, 8), HS_OTHER_LIFE);
+    IS(hear(place, GRANT("guard", "2", "1", ALL_KEYS, "2"), 8), HS_DONE);
+    IS(serve(place, 8), HS_DONE);
+    IS(hs_slicelet_check(place, handle, 8), HS_BROKEN);
+}
+
+/* A release that has its lease ended is done: a note is for the table, whatever the task's clock. */
+static void late_release(void) {
+    struct hs_place place = serving_task();
+    uint8_t out[256];
+    size_t needed = 0;
+    IS(hs_slicelet_release(&place, HS_GUARD, UINT64_MAX, out, sizeof out, &needed), HS_DONE);
+    HOLDS(needed == strlen(note) && memcmp(out, note, needed) == 0);
+    IS(serve(&place, UINT64_MAX - 1), HS_CLOCK_BACK);
+    IS(serve(&place, UINT64_MAX), HS_NO_LEASE);
+    hs_place_free(place);
+}
+
+/* 65,536 calls are accepted, and then none. */
+static void fills_up(void) {
+    struct hs_place place = new_place();
+    uint8_t out[256];
+    size_t needed = 0;
+    struct hs_key_handle handle = {0, 0, 0, 0};
+    IS(hs_slicelet_open(&place, 2), HS_DONE);
+    for (uint32_t life = 1; life < 65536; life++)
+        IS(hs_slicelet_start(&place, life, 3), HS_DONE);
+    IS(hear(&place, GRANT("guard", "65535", "7", ALL_KEYS, "2"), 5), HS_DONE);
+    IS(hs_slicelet_start(&place, 70000, 6), HS_HISTORY_FULL);
+    IS(hear(&place, GRANT("guard", "65535", "8", ALL_KEYS, "2"), 6), HS_HISTORY_FULL);
+    IS(hs_slicelet_release(&place, HS_GUARD, 6, out, sizeof out, &needed), HS_HISTORY_FULL);
+    IS(serve(&place, 5), HS_DONE);
+    IS(hs_slicelet_hold(&place, HELLO, 5, &handle, fresh_told()), HS_DONE);
+    HOLDS(handle.position == 65536);
+    IS(hs_slicelet_check(&place, &handle, 94), HS_DONE);
+    hs_place_free(place);
+}
+
+/* The guard is looked at first, and then the bridge; of two live leases the greater generation is told. */
+static void two_leases(void) {
+    struct hs_place place = serving_task();
+    const char *bridge = MESSAGE("grant", "\"ends\":99,\"generation\":4,\"kind\":\"bridge\",\"life\":1,\"number\":9,"
+                                          "\"ranges\":[[0,4611686018427387904]],\"task\":2,\"until\":109");
+    IS(hear(&place, bridge, 6), HS_DONE);
+    IS(serve(&place, 94), HS_DONE);
+    HOLDS(tells(UNTOLD, 3, HS_GUARD, UNTOLD, UNTOLD));
+    IS(serve(&place, 95), HS_DONE);
+    HOLDS(tells(UNTOLD, 4, HS_BRIDGE, UNTOLD, UNTOLD));
+    IS(hs_slicelet_serve(&place, ABC, 98, fresh_told()), HS_ENDED);
+    IS(hear(&place, GRANT("guard", "1", "10", "[[0,5]]", "2"), 7), HS_DONE);
+    IS(hs_slicelet_serve(&place, ABC, 94, fresh_told()), HS_NOT_OWNED);
+    HOLDS(tells(UNTOLD, 4, UNTOLD, UNTOLD, UNTOLD));
+    IS(serve(&place, 99), HS_ENDED);
+    hs_place_free(place);
+}
+
+void check_slicelets(void) {
+    struct hs_key_handle handle = {0, 0, 0, 0};
+    struct hs_place place = opened();
+    starts(&place);
+    unread(&place);
+    wrong_members(&place);
+    hears(&place);
+    holds(&place, &handle);
+    checks_others(&place);
+    releases(&place, &handle);
+    restarts(&place, &handle);
+    hs_place_free(place);
+    late_release();
+    fills_up();
+    two_leases();
+}

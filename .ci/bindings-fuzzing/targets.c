@@ -1,0 +1,211 @@
+/* The calls that are tried, what they begin with, and what can be seen of them. */
+#define _GNU_SOURCE
+#include "fuzz.h"
+
+#include <string.h>
+
+#define MESSAGE(type, members) "{\"type\":\"" type "\",\"value\":{" members "},\"version\":1}"
+#define GRANT(kind, number, ranges)                                                                                    \
+    MESSAGE("grant", "\"ends\":95,\"generation\":3,\"kind\":\"" kind "\",\"life\":1,\"number\":" number                \
+                     ",\"ranges\":" ranges ",\"task\":2,\"until\":105")
+#define NOTE(kind, number, task) MESSAGE("note", "\"kind\":\"" kind "\",\"life\":1,\"number\":" number ",\"task\":" task)
+#define ASSIGNMENT(generation, slices) MESSAGE("assignment", "\"generation\":" generation ",\"slices\":" slices)
+#define HALVES "[[0,[1]],[4611686018427387904,[2]]]"
+#define COUNT(list) (sizeof(list) / sizeof *(list))
+
+static const char *const grants[] = {
+    GRANT("guard", "7", "[[0,9223372036854775808]]"), GRANT("guard", "8", "[]"),
+    GRANT("bridge", "9", "[[0,4611686018427387904]]"), GRANT("bridge", "3", "[[1,2],[3,4],[4,9],[11,4000000000000000000]]")};
+static const char *const assignments[] = {
+    ASSIGNMENT("1", HALVES), ASSIGNMENT("2", HALVES), ASSIGNMENT("2", "[[0,[2]]]"), ASSIGNMENT("3", "[[0,[1,2,3,4,5]]]"),
+    ASSIGNMENT("2", "[[0,[1]],[1,[2]],[2,[1]],[3,[2]],[4,[64]],[9223372036854775807,[1]]]")};
+static const char *const notes[] = {NOTE("guard", "1", "1"), NOTE("guard", "9", "2"), NOTE("bridge", "1", "1")};
+static const char *const lines[] = {
+    "{\"do\":\"take\",\"assigner\":1,\"at\":7}", "{\"do\":\"renew\",\"assigner\":1,\"at\":7}",
+    "{\"do\":\"propose\",\"assigner\":1,\"generation\":2,\"slices\":" HALVES ",\"at\":8}",
+    "{\"do\":\"commit\",\"assigner\":1,\"at\":9}", "{\"do\":\"grant\",\"task\":1,\"life\":1,\"at\":10}",
+    "{\"do\":\"free\",\"note\":1,\"at\":11}", "{\"do\":\"phase\"}", "{\"do\":\"rows\"}", "{\"do\":\"lose\"}",
+    "{\"do\":\"next\",\"assigner\":1,\"at\":5,\"wanted\":true}", "{\"do\":\"restart\",\"assigner\":1}",
+    "{\"do\":\"start\",\"task\":2,\"life\":1,\"at\":3}", "{\"do\":\"hear\",\"task\":1,\"number\":1,\"at\":12}",
+    "{\"do\":\"release\",\"task\":1,\"kind\":\"guard\",\"at\":13}", "{\"do\":\"serve\",\"task\":1,\"key\":\"hello\",\"at\":9}",
+    "{\"do\":\"hold\",\"task\":1,\"key\":\"a\\u00e9\",\"at\":9}", "{\"do\":\"check\",\"task\":1,\"handle\":1,\"at\":9}",
+    "{\"do\":\"load\",\"task\":1,\"key\":\"hello\",\"weight\":6}", "{\"do\":\"gather\"}",
+    "{\"do\":\"assign\",\"generation\":1,\"slices\":" HALVES "}", "{\"do\":\"owners\",\"key\":\"hello\"}",
+    "{\"do\":\"plan\",\"tasks\":[1,2],\"loads\":[6,4],\"churn\":9223372036854775808,\"cold\":0,\"hot\":3,\"most\":4}",
+    "{\"do\":\"learn\",\"clerk\":1,\"generation\":1}", "{\"do\":\"look\",\"clerk\":1,\"key\":\"hello\"}",
+    "{\"do\":\"forget\",\"clerk\":1}", "{\"do\":\"hash\",\"key\":\"hello\"}",
+    "{\"do\":\"judge\",\"up\":true,\"last\":3,\"leases\":[{\"kind\":\"guard\",\"generation\":1,\"ranges\":[[0,5]],"
+    "\"ends\":9}],\"key\":\"hello\",\"at\":5}"};
+static const char job[] = "{\"job\":{\"redundancy\":[1,2],\"skew\":10,\"guard\":100,\"bridge\":100,\"job\":1000,"
+                          "\"numbers\":50,\"assigners\":1,\"tasks\":2,\"clerks\":1}}";
+static const struct hs_policy policy = {
+    .low = 1, .high = 2, .skew = 10, .guard = 100, .bridge = 100, .job = 1000, .numbers = 50};
+
+static uint64_t sum_bytes(uint64_t sum, const void *bytes, size_t length) {
+    const uint8_t *byte = bytes;
+    for (size_t at = 0; at < length; at++)
+        sum = (sum ^ byte[at]) * 1099511628211u;
+    return sum;
+}
+
+static uint64_t sum_number(uint64_t sum, uint64_t number) {
+    return sum_bytes(sum, &number, sizeof number);
+}
+
+static void begin_slicelet(struct hs_place *place) {
+    struct hs_told told = {0};
+    MUST(hs_slicelet_open(place, 2) == HS_DONE);
+    MUST(hs_slicelet_start(place, 1, 3) == HS_DONE);
+    if (draw(2))
+        MUST(hs_slicelet_hear(place, (const uint8_t *)grants[0], strlen(grants[0]), 4, &told) == HS_DONE);
+}
+
+static int32_t hear(struct hs_place *place, struct input input, struct hs_told *told) {
+    return hs_slicelet_hear(place, input.bytes, input.length, 3 + draw(6), told);
+}
+
+static uint64_t slicelet_state(struct hs_place *place) {
+    static const uint64_t readings[] = {3, 4, 5, 8, 94, 95};
+    uint64_t sum = 0;
+    uint8_t *none = room_of(0);
+    for (size_t at = 0; at < COUNT(readings); at++) {
+        struct hs_told told = {0, 0, 0, 0, 0};
+        struct hs_key_handle handle = {0, 0, 0, 0};
+        sum = sum_number(sum, (uint64_t)hs_slicelet_serve(place, (const uint8_t *)"hello", 5, readings[at], &told));
+        sum = sum_number(sum, (uint64_t)hs_slicelet_hold(place, (const uint8_t *)"abc", 3, readings[at], &handle, &told));
+        sum = sum_number(sum_bytes(sum, &told, sizeof told), handle.position);
+    }
+    for (uint32_t kind = HS_GUARD; kind <= HS_BRIDGE; kind++) {
+        size_t needed = 0;
+        sum = sum_number(sum, (uint64_t)hs_slicelet_release(place, kind, 9, none, 0, &needed));
+        sum = sum_number(sum, needed);
+    }
+    return sum;
+}
+
+static void begin_clerk(struct hs_place *place) {
+    struct hs_told told = {0};
+    MUST(hs_clerk_open(place) == HS_DONE);
+    if (draw(2))
+        MUST(hs_clerk_learn(place, (const uint8_t *)assignments[0], strlen(assignments[0]), &told) == HS_DONE);
+}
+
+static int32_t learn(struct hs_place *place, struct input input, struct hs_told *told) {
+    return hs_clerk_learn(place, input.bytes, input.length, told);
+}
+
+static uint64_t clerk_state(struct hs_place *place) {
+    struct hs_owners owners;
+    memset(&owners, 0, sizeof owners);
+    uint64_t sum = sum_number(0, (uint64_t)hs_clerk_look(place, (const uint8_t *)"hello", 5, &owners));
+    sum = sum_bytes(sum, &owners, sizeof owners);
+    sum = sum_number(sum, (uint64_t)hs_clerk_look(place, (const uint8_t *)"abc", 3, &owners));
+    return sum_bytes(sum, &owners, sizeof owners);
+}
+
+/* A table with a committed assignment, and a grant to each of two tasks. */
+static void begin_table(struct hs_place *place) {
+    struct hs_told told = {0};
+    struct hs_job_term term;
+    size_t needed = 0;
+    MUST(hs_table_open(place, &policy) == HS_DONE);
+    MUST(hs_table_take(place, 1, 0, &term, &told) == HS_DONE);
+    MUST(hs_table_propose(place, 1, (const uint8_t *)assignments[0], strlen(assignments[0]), 1, &told) == HS_DONE);
+    MUST(hs_table_commit(place, 1, 2, &told) == HS_DONE);
+    for (uint64_t task = 1; task <= 2; task++)
+        MUST(hs_table_grant(place, task, 1, 3, room_of(512), 512, &needed) == HS_DONE);
+}
+
+static int32_t propose(struct hs_place *place, struct input input, struct hs_told *told) {
+    return hs_table_propose(place, 1, input.bytes, input.length, 3 + draw(6), told);
+}
+
+static int32_t free_rows(struct hs_place *place, struct input input, struct hs_told *told) {
+    uint64_t freed = 99;
+    int32_t code = hs_table_free(place, input.bytes, input.length, 3 + draw(6), &freed, told);
+    MUST(code == HS_DONE ? freed == 1 : freed == 99);
+    return code;
+}
+
+static uint64_t table_state(struct hs_place *place) {
+    struct hs_phase phase = {0, 0};
+    struct hs_row rows[4];
+    size_t needed = 0;
+    memset(rows, 0, sizeof rows);
+    uint64_t sum = sum_number(0, (uint64_t)hs_table_phase(place, &phase));
+    sum = sum_bytes(sum, &phase, sizeof phase);
+    sum = sum_number(sum, (uint64_t)hs_table_rows(place, rows, 4, &needed));
+    sum = sum_number(sum_bytes(sum, rows, sizeof rows), needed);
+    for (uint64_t at = 2; at < 9; at++) {
+        needed = 0;
+        sum = sum_number(sum, (uint64_t)hs_table_grant(place, 1, 1, at, room_of(0), 0, &needed));
+        sum = sum_number(sum, needed);
+    }
+    return sum;
+}
+
+static void ask(struct hs_place *place, const char *line) {
+    size_t needed = 0;
+    MUST(hs_session_answer(place, (const uint8_t *)line, strlen(line), room_of(1024), 1024, &needed) == HS_DONE);
+}
+
+static void begin_session(struct hs_place *place) {
+    MUST(hs_session_open(place, (const uint8_t *)job, strlen(job), (uint32_t)draw(2)) == HS_DONE);
+    ask(place, "{\"do\":\"take\",\"assigner\":1,\"at\":0}");
+    ask(place, "{\"do\":\"propose\",\"assigner\":1,\"generation\":1,\"slices\":" HALVES ",\"at\":1}");
+    ask(place, "{\"do\":\"commit\",\"assigner\":1,\"at\":2}");
+    ask(place, "{\"do\":\"start\",\"task\":1,\"life\":1,\"at\":3}");
+    ask(place, "{\"do\":\"grant\",\"task\":1,\"life\":1,\"at\":5}");
+    ask(place, "{\"do\":\"hear\",\"task\":1,\"number\":1,\"at\":6}");
+}
+
+static int begins_with(const uint8_t *text, size_t length, const char *beginning) {
+    return length >= strlen(beginning) && memcmp(text, beginning, strlen(beginning)) == 0;
+}
+
+/* A line of a reply ends with its only line feed. Where it finds no room it is given again. A step that is answered
+ * counts as done, and one that is refused, or a line that says none, as HS_NOT_JSON, which no session returns. */
+static int32_t answer(struct hs_place *place, struct input input, struct hs_told *told) {
+    size_t needed = 0, room = draw(4) ? LONGEST_INPUT : draw(64);
+    uint8_t *out = room_of(room);
+    (void)told;
+    int32_t code = hs_session_answer(place, input.bytes, input.length, out, room, &needed);
+    if (code == HS_NO_ROOM) {
+        MUST(needed > room);
+        room = needed;
+        out = room_of(room);
+        code = hs_session_last(place, out, room, &needed);
+    }
+    MUST(code == HS_DONE && needed > 0 && needed <= room && memchr(out, '\n', needed) == out + needed - 1);
+    static const char *const refusals[] = {"refused ", "error: ", "{\"error\":"};
+    for (size_t at = 0; at < COUNT(refusals); at++)
+        if (begins_with(out, needed, refusals[at]))
+            return HS_NOT_JSON;
+    return *out == '{' && memmem(out, needed, "\"refused\":", 10) ? HS_NOT_JSON : HS_DONE;
+}
+
+static uint64_t session_state(struct hs_place *place) {
+    static const char *const looks[] = {
+        "{\"do\":\"phase\"}", "{\"do\":\"rows\"}", "{\"do\":\"serve\",\"task\":1,\"key\":\"hello\",\"at\":6}",
+        "{\"do\":\"serve\",\"task\":1,\"key\":\"hello\",\"at\":94}", "{\"do\":\"serve\",\"task\":2,\"key\":\"abc\",\"at\":9}",
+        "{\"do\":\"look\",\"clerk\":1,\"key\":\"abc\"}", "{\"do\":\"owners\",\"key\":\"abc\"}",
+        "{\"do\":\"next\",\"assigner\":1,\"at\":5,\"wanted\":true}"};
+    uint64_t sum = 0;
+    for (size_t at = 0; at < COUNT(looks); at++) {
+        size_t needed = 0;
+        uint8_t *out = room_of(LONGEST_INPUT);
+        const uint8_t *line = (const uint8_t *)looks[at];
+        MUST(hs_session_answer(place, line, strlen(looks[at]), out, LONGEST_INPUT, &needed) == HS_DONE);
+        sum = sum_bytes(sum, out, needed);
+    }
+    return sum;
+}
+
+const struct target targets[] = {
+    {"hear", grants, COUNT(grants), begin_slicelet, hear, slicelet_state},
+    {"learn", assignments, COUNT(assignments), begin_clerk, learn, clerk_state},
+    {"propose", assignments, COUNT(assignments), begin_table, propose, table_state},
+    {"free", notes, COUNT(notes), begin_table, free_rows, table_state},
+    {"answer", lines, COUNT(lines), begin_session, answer, session_state},
+};
+const size_t targets_count = COUNT(targets);

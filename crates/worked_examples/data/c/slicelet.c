@@ -1,0 +1,61 @@
+/* A server task that asks its slicelet before each answer, and stops when its lease ends.
+ *
+ * The clock counts a tick for each question. The grant, the one that a table would send, is of a guard on all keys
+ * below 2^63 until tick 8 of the task's clock. */
+#include "hourstable.h"
+
+#include <inttypes.h>
+#include <stdio.h>
+#include <string.h>
+
+static const char grant[] = "{\"type\":\"grant\",\"value\":{\"ends\":8,\"generation\":3,\"kind\":\"guard\",\"life\":1,"
+                            "\"number\":7,\"ranges\":[[0,9223372036854775808]],\"task\":2,\"until\":10},\"version\":1}";
+
+static const uint8_t *bytes_of(const char *text) {
+    return (const uint8_t *)text;
+}
+
+/* Answers questions until one is denied; the code of the denial. */
+static int32_t answer_questions(struct hs_place *task, uint64_t now) {
+    struct hs_told told = {0};
+    for (;; now++) {
+        const char *key = now % 2 ? "apples" : "pears";
+        int32_t code = hs_slicelet_serve(task, bytes_of(key), strlen(key), now, &told);
+        if (code != HS_DONE)
+            return code;
+        printf("%" PRIu64 " %s: served under generation %" PRIu64 "\n", now, key, told.generation);
+    }
+}
+
+/* Gives the guard back: prints its note, which the task would send to the table. */
+static int32_t give_back(struct hs_place *task, uint64_t now) {
+    uint8_t note[256];
+    size_t needed = 0;
+    int32_t code = hs_slicelet_release(task, HS_GUARD, now, note, sizeof note, &needed);
+    if (code == HS_DONE)
+        printf("%.*s\n", (int)needed, (const char *)note);
+    return code;
+}
+
+static int32_t run_task(struct hs_place *task) {
+    struct hs_told told = {0};
+    int32_t code = hs_slicelet_open(task, 2);
+    if (code == HS_DONE)
+        code = hs_slicelet_start(task, 1, 3);
+    if (code == HS_DONE)
+        code = hs_slicelet_hear(task, bytes_of(grant), strlen(grant), 5, &told);
+    if (code != HS_DONE)
+        return code;
+    code = answer_questions(task, 5);
+    printf("stopped: %s\n", code == HS_ENDED ? "the lease has ended" : "the key is not served");
+    return give_back(task, 8);
+}
+
+int main(void) {
+    struct hs_place task;
+    if (hs_place_new(&task) != HS_DONE)
+        return 1;
+    int32_t code = run_task(&task);
+    hs_place_free(task);
+    return code == HS_DONE ? 0 : 1;
+}

@@ -1,0 +1,363 @@
+"""Hourstable from Python, by the library of include/hourstable.h.
+
+HOURSTABLE_LIBRARY names the shared object; where it is not set, libhourstable.so is looked for as the system does.
+
+A call that is not done raises Refused, with the name of its code and the numbers that it carries, or MemoryError. One
+call at a time is made of an object, on any thread: one that many threads use stands behind a lock of theirs. It is closed
+by close(), or at the end of a `with`.
+"""
+
+import ctypes
+import json
+import os
+from collections import namedtuple
+
+REFUSALS = (
+    "DONE DOWN CLOCK_BACK ENDED NOT_OWNED NO_LEASE NOT_STARTED OLD_LIFE OTHER_TASK OTHER_LIFE OLD TOO_LATE NOTHING_HELD"
+    " HISTORY_FULL BROKEN STRANGER READING_RANGE JOB_HELD NOT_HOLDER STALE_BASE PENDING NOTHING_PENDING"
+    " TOO_MANY_OWNERS_FOR_JOB GRACE HELD NO_ROW NO_ASSIGNMENT NUMBERS_SPENT OLD_GENERATION UNKNOWN NOT_ADOPTED NO_TASKS"
+    " LOADS_LENGTH LOAD_RANGE"
+).split()
+UNREAD = (
+    "DONE NO_MEMORY NO_ROOM NOT_JSON VERSION OTHER_TYPE WRONG_FORM PAST_END UNSORTED EMPTY NO_SLICES FIRST_NOT_ZERO"
+    " NOT_RISING NO_OWNER TOO_MANY_OWNERS OWNER_TWICE BAD_TASK TOO_MANY_SLICES OTHER_PLACE NO_JOB"
+).split()
+CARRIED = {
+    "NOT_OWNED": ["generation"], "OLD": ["number"], "JOB_HELD": ["until"], "NOT_HOLDER": ["number"],
+    "STALE_BASE": ["generation"], "GRACE": ["until"], "HELD": ["task", "kind", "number"],
+    "OLD_GENERATION": ["generation"], "VERSION": ["number"],
+}
+KINDS = {"guard": 1, "bridge": 2}
+KIND_WORDS = {number: word for word, number in KINDS.items()}
+ACTIONS = {1: "take", 2: "renew", 3: "commit", 4: "propose", 5: "rest"}
+
+
+class Refused(Exception):
+    """A call that is not done: the name of its code, and the numbers that it carries."""
+
+    def __init__(self, code, told=None):
+        self.code = code
+        self.name = REFUSALS[code] if code >= 0 else UNREAD[-code]
+        self.carried = {name: getattr(told, name) for name in CARRIED.get(self.name, []) if told is not None}
+        if "kind" in self.carried:
+            self.carried["kind"] = KIND_WORDS[self.carried["kind"]]
+        super().__init__(" ".join([self.name.lower().replace("_", "-"), *map(str, self.carried.values())]))
+
+
+def whole(c_type):
+    """A parameter that takes the numbers of a C type and no others; ctypes alone would cut them."""
+    limit = 1 << 8 * ctypes.sizeof(c_type)
+
+    def from_param(value):
+        if not isinstance(value, int) or not 0 <= value < limit:
+            raise ValueError(f"{value!r} is no whole number below {limit}")
+        return c_type(value)
+
+    return type("Whole", (), {"from_param": staticmethod(from_param)})
+
+
+def fields(names, c_type=ctypes.c_uint64):
+    return [(name, c_type) for name in names.split()]
+
+
+class Place(ctypes.Structure):
+    _fields_ = [("at", ctypes.c_void_p)]
+
+
+class Told(ctypes.Structure):
+    _fields_ = fields("number generation kind task until")
+
+
+class KeyHandle(ctypes.Structure):
+    _fields_ = fields("task slice_key position") + [("life", ctypes.c_uint32)]
+
+
+class Owners(ctypes.Structure):
+    _fields_ = fields("generation count") + [("tasks", ctypes.c_uint64 * 5)]
+
+
+class Policy(ctypes.Structure):
+    _fields_ = fields("low high skew guard bridge job numbers")
+
+
+class JobTerm(ctypes.Structure):
+    _fields_ = fields("number assigner until")
+
+
+class Phase(ctypes.Structure):
+    _fields_ = fields("committed proposed")
+
+
+class Row(ctypes.Structure):
+    _fields_ = fields("number task life kind generation table_ends")
+
+
+class PlanPolicy(ctypes.Structure):
+    _fields_ = fields("low high churn cold hot most")
+
+
+Found = namedtuple("Found", "generation tasks")
+Served = namedtuple("Served", "kind generation")
+
+U32, U64, SIZE = whole(ctypes.c_uint32), whole(ctypes.c_uint64), whole(ctypes.c_size_t)
+OUT = [ctypes.c_void_p, SIZE, ctypes.POINTER(ctypes.c_size_t)]
+BYTES = [ctypes.c_char_p, SIZE]
+P = ctypes.POINTER
+DECLARED = {
+    "place_new": [P(Place)],
+    "slicelet_close": [P(Place)], "clerk_close": [P(Place)], "table_close": [P(Place)],
+    "assigner_close": [P(Place)], "session_close": [P(Place)],
+    "slicelet_open": [P(Place), U64],
+    "slicelet_start": [P(Place), U32, U64],
+    "slicelet_hear": [P(Place), *BYTES, U64, P(Told)],
+    "slicelet_release": [P(Place), U32, U64, *OUT],
+    "slicelet_serve": [P(Place), *BYTES, U64, P(Told)],
+    "slicelet_hold": [P(Place), *BYTES, U64, P(KeyHandle), P(Told)],
+    "slicelet_check": [P(Place), P(KeyHandle), U64],
+    "clerk_open": [P(Place)],
+    "clerk_learn": [P(Place), *BYTES, P(Told)],
+    "clerk_look": [P(Place), *BYTES, P(Owners)],
+    "clerk_forget": [P(Place)],
+    "table_open": [P(Place), P(Policy)],
+    "table_take": [P(Place), U64, U64, P(JobTerm), P(Told)],
+    "table_renew": [P(Place), U64, U64, P(JobTerm), P(Told)],
+    "table_propose": [P(Place), U64, *BYTES, U64, P(Told)],
+    "table_commit": [P(Place), U64, U64, P(Told)],
+    "table_grant": [P(Place), U64, U32, U64, *OUT],
+    "table_free": [P(Place), *BYTES, U64, P(ctypes.c_uint64), P(Told)],
+    "table_restart": [P(Place), P(ctypes.c_uint64)],
+    "table_phase": [P(Place), P(Phase)],
+    "table_rows": [P(Place), P(Row), SIZE, P(ctypes.c_size_t)],
+    "table_committed": [P(Place), *OUT],
+    "assigner_open": [P(Place), U64, U64],
+    "assigner_adopt": [P(Place), P(JobTerm)],
+    "assigner_restart": [P(Place)],
+    "assigner_next": [P(Place), U64, P(Phase), U32, P(ctypes.c_uint32), P(ctypes.c_uint64)],
+    "plan": [*BYTES, ctypes.c_void_p, SIZE, ctypes.c_void_p, SIZE, P(PlanPolicy), *OUT],
+    "session_open": [P(Place), *BYTES, U32],
+    "session_answer": [P(Place), *BYTES, *OUT],
+    "session_last": [P(Place), *OUT],
+}
+
+
+def load(path):
+    """The library, with its functions declared as the header has them."""
+    loaded = ctypes.CDLL(path)
+    for name, parameters in DECLARED.items():
+        function = getattr(loaded, f"hs_{name}")
+        function.argtypes, function.restype = parameters, ctypes.c_int32
+    loaded.hs_slice_key.argtypes, loaded.hs_slice_key.restype = BYTES, ctypes.c_uint64
+    loaded.hs_place_free.argtypes, loaded.hs_place_free.restype = [Place], None
+    return loaded
+
+
+library = load(os.environ.get("HOURSTABLE_LIBRARY", "libhourstable.so"))
+
+
+def done(code, told=None):
+    """Raises why a call is not done."""
+    if code == -1:
+        raise MemoryError("hourstable")
+    if code != 0:
+        raise Refused(code, told)
+
+
+def text_of(call, *given):
+    """The text that a call gives: asked for again with more room where there is not enough."""
+    room, needed = ctypes.create_string_buffer(1024), ctypes.c_size_t()
+    code = call(*given, room, len(room), ctypes.byref(needed))
+    if code == -2:
+        room = ctypes.create_string_buffer(needed.value)
+        code = call(*given, room, len(room), ctypes.byref(needed))
+    done(code)
+    return room.raw[: needed.value]
+
+
+def slice_key(key):
+    return library.hs_slice_key(key, len(key))
+
+
+def plan(assignment, loads, tasks, policy):
+    """The assignment of the next generation, as a message."""
+    loads, tasks = (ctypes.c_uint64 * len(loads))(*loads), (ctypes.c_uint64 * len(tasks))(*tasks)
+    given = (assignment, len(assignment), loads, len(loads), tasks, len(tasks), ctypes.byref(policy))
+    return text_of(library.hs_plan, *given)
+
+
+class Standing:
+    """What stands in a place of its own."""
+
+    def __init__(self, kind, *given):
+        self.kind, self.told, self.place = kind, Told(), None
+        place = Place()
+        done(library.hs_place_new(ctypes.byref(place)))
+        self.place = place
+        try:
+            self.do("open", *given)
+        except BaseException:
+            self.close()
+            raise
+
+    def function(self, name):
+        if self.place is None:
+            raise ValueError(f"the {self.kind} is closed")
+        return getattr(library, f"hs_{self.kind}_{name}")
+
+    def do(self, name, *given):
+        done(self.function(name)(ctypes.byref(self.place), *given), self.told)
+
+    def text(self, name, *given):
+        return text_of(self.function(name), ctypes.byref(self.place), *given)
+
+    def told_by(self):
+        return ctypes.byref(self.told)
+
+    def close(self):
+        place, self.place = self.place, None
+        if place is not None:
+            library.hs_place_free(place)
+
+    def __enter__(self):
+        return self
+
+    def __exit__(self, *_):
+        self.close()
+
+
+class Slicelet(Standing):
+    """What a server task knows of its leases."""
+
+    def __init__(self, task):
+        super().__init__("slicelet", task)
+
+    def start(self, life, at):
+        self.do("start", life, at)
+
+    def hear(self, grant, at):
+        self.do("hear", grant, len(grant), at, self.told_by())
+
+    def release(self, kind, at):
+        return self.text("release", KINDS[kind], at)
+
+    def serve(self, key, at):
+        self.do("serve", key, len(key), at, self.told_by())
+        return Served(KIND_WORDS[self.told.kind], self.told.generation)
+
+    def hold(self, key, at):
+        handle = KeyHandle()
+        self.do("hold", key, len(key), at, ctypes.byref(handle), self.told_by())
+        return handle
+
+    def check(self, handle, at):
+        self.do("check", ctypes.byref(handle), at)
+
+
+class Clerk(Standing):
+    """What a client knows of who owns a key."""
+
+    def __init__(self):
+        super().__init__("clerk")
+
+    def learn(self, assignment):
+        self.do("learn", assignment, len(assignment), self.told_by())
+
+    def look(self, key):
+        owners = Owners()
+        self.do("look", key, len(key), ctypes.byref(owners))
+        return Found(owners.generation, list(owners.tasks[: owners.count]))
+
+    def forget(self):
+        self.do("forget")
+
+
+class Table(Standing):
+    """The leases of a job."""
+
+    def __init__(self, policy):
+        super().__init__("table", ctypes.byref(policy))
+
+    def term(self, name, number, at):
+        term = JobTerm()
+        self.do(name, number, at, ctypes.byref(term), self.told_by())
+        return term
+
+    def take(self, assigner, at):
+        return self.term("take", assigner, at)
+
+    def renew(self, number, at):
+        return self.term("renew", number, at)
+
+    def propose(self, number, assignment, at):
+        self.do("propose", number, assignment, len(assignment), at, self.told_by())
+
+    def commit(self, number, at):
+        self.do("commit", number, at, self.told_by())
+        return self.told.generation
+
+    def grant(self, task, life, at):
+        return self.text("grant", task, life, at)
+
+    def free(self, note, at):
+        freed = ctypes.c_uint64()
+        self.do("free", note, len(note), at, ctypes.byref(freed), self.told_by())
+        return freed.value
+
+    def restart(self):
+        lost = ctypes.c_uint64()
+        self.do("restart", ctypes.byref(lost))
+        return lost.value
+
+    def phase(self):
+        phase = Phase()
+        self.do("phase", ctypes.byref(phase))
+        return phase
+
+    def rows(self):
+        rows, needed = (Row * 64)(), ctypes.c_size_t()
+        code = self.function("rows")(ctypes.byref(self.place), rows, len(rows), ctypes.byref(needed))
+        if code == -2:
+            rows = (Row * needed.value)()
+            code = self.function("rows")(ctypes.byref(self.place), rows, len(rows), ctypes.byref(needed))
+        done(code)
+        return list(rows[: needed.value])
+
+    def committed(self):
+        return self.text("committed")
+
+
+class Assigner(Standing):
+    """What keeps a term of the job lease."""
+
+    def __init__(self, number, job):
+        super().__init__("assigner", number, job)
+
+    def adopt(self, term):
+        self.do("adopt", ctypes.byref(term))
+
+    def restart(self):
+        self.do("restart")
+
+    def next(self, at, phase, wanted):
+        """What to do next, and the number of the term that is kept, 0 for none."""
+        action, number = ctypes.c_uint32(), ctypes.c_uint64()
+        self.do("next", at, ctypes.byref(phase), int(wanted), ctypes.byref(action), ctypes.byref(number))
+        return ACTIONS[action.value], number.value
+
+
+class Session(Standing):
+    """A whole job, step by step in the words of scripts."""
+
+    def __init__(self, job):
+        line = json.dumps({"job": job}).encode()
+        super().__init__("session", line, len(line), 1)
+
+    def ask(self, do, **members):
+        """The answer to a step. It is played once, also where its line finds no room at first."""
+        line = json.dumps({"do": do, **members}).encode()
+        room, needed = ctypes.create_string_buffer(1024), ctypes.c_size_t()
+        answer = self.function("answer")
+        code = answer(ctypes.byref(self.place), line, len(line), room, len(room), ctypes.byref(needed))
+        if code == -2:
+            return json.loads(self.text("last"))
+        done(code)
+        return json.loads(room.raw[: needed.value])
