@@ -1,5 +1,7 @@
 //! What stands in a place.
 
+ghost use Rattle.std.specs.Prelude.{◌≡◌};
+
 use assigner::Assigner;
 use c_session::Conversation;
 use clerk::Clerk;
@@ -21,4 +23,13 @@ pub enum Held {
     Assigner(Assigner),
     /// A session.
     Session(Conversation),
+}
+
+impl Held {
+    /// Ends what stands there, and puts another value in its place.
+    pub fn put(&mut self, value: Held)
+        ensures { self.new ≡ value }
+    {
+        *self = value;
+    }
 }

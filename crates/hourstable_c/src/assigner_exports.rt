@@ -30,7 +30,7 @@ pub extern "C" fn hs_assigner_open(place: &mut Place, id: u64, job: u64) -> i32
     ensures number { result ≡ answer_number Done }
     ensures held { place.new.value ≡ held.Assigner (opening id job) }
 {
-    *place.lend() = Held::Assigner(Assigner::new(id, job));
+    place.lend().put(Held::Assigner(Assigner::new(id, job)));
     Answer::Done.number()
 }
 

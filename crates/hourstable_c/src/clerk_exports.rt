@@ -25,7 +25,7 @@ pub extern "C" fn hs_clerk_open(place: &mut Place) -> i32
     ensures number { result ≡ answer_number Done }
     ensures held { place.new.value ≡ held.Clerk None }
 {
-    *place.lend() = Held::Clerk(Clerk::new());
+    place.lend().put(Held::Clerk(Clerk::new()));
     Answer::Done.number()
 }
 

@@ -42,6 +42,6 @@ pub fn close_where(is_of_kind: bool, held: &mut Held) -> i32
     if !is_of_kind {
         return Answer::OtherPlace.number();
     }
-    *held = Held::Nothing;
+    held.put(Held::Nothing);
     Answer::Done.number()
 }

@@ -34,7 +34,7 @@ pub extern "C" fn hs_session_open(alloc: Global, place: &mut Place, line: &[u8],
 {
     match Conversation::begin(alloc, form_of(json), line) {
         Ok(conversation) => {
-            *place.lend() = Held::Session(conversation);
+            place.lend().put(Held::Session(conversation));
             Answer::Done.number()
         }
         Err(why) => why.number(),
@@ -51,7 +51,7 @@ fn answer_held(held: &mut Held, line: &[u8], out: &mut [u8], needed: &mut usize)
     };
     let answer = conversation.answer(line, out, needed);
     if answer == Answer::NoMemory {
-        *held = Held::Nothing;
+        held.put(Held::Nothing);
     }
     answer
 }

@@ -25,7 +25,7 @@ pub extern "C" fn hs_slicelet_open(alloc: Global, place: &mut Place, task: u64) 
 {
     match open_slicelet(alloc, task) {
         Some(slicelet) => {
-            *place.lend() = Held::Slicelet(slicelet);
+            place.lend().put(Held::Slicelet(slicelet));
             Answer::Done.number()
         }
         None => Answer::WrongForm.number(),

@@ -37,7 +37,7 @@ pub extern "C" fn hs_table_open(alloc: Global, place: &mut Place, policy: &Polic
 {
     match open_table(alloc, policy) {
         Some(table) => {
-            *place.lend() = Held::Table(table);
+            place.lend().put(Held::Table(table));
             Answer::Done.number()
         }
         None => Answer::WrongForm.number(),
