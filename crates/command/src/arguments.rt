@@ -5,7 +5,7 @@ use session::ReplyForm;
 use std::alloc::{AllocError, Global};
 
 /// The version, and the line of the kit that it was proved with.
-const VERSION: &str = "1.0.0 (proved with rattle-kit-13f logic dac8208d650f15bf)";
+const VERSION: &str = "1.0.0 (proved with rattle-kit-13b logic dac8208d650f15bf)";
 
 const STATUSES: &str = "Exit statuses:
   0  done
