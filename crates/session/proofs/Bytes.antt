@@ -1,5 +1,5 @@
 -- Known bytes that grow and go, part after part.
-use Rattle.std.proofs.Common.{◌≡◌, ◌∙◌, ◌+◌, ℕ, Bool, true, false, nat_eq, List, [], ◌∷◌, ◌++◌, Option, Some, None, length, take, refl, sym, ap, append_assoc, append-nil, subst, zero-add, suc, arith}
+use Rattle.std.proofs.Common.{◌≡◌, ◌∙◌, ◌+◌, ℕ, Bool, true, false, nat_eq, List, [], ◌∷◌, ◌++◌, Option, Some, None, length, take, refl, sym, ap, append_assoc, append-nil, zero-add, suc, arith}
 use Rattle.std.proofs.lemmas.Bool.Decides.{nat_tests}
 use Rattle.std.specs.Io.KnownBytes.{Consumes, Appends}
 
@@ -30,10 +30,6 @@ takes_more (x ∷ xs) ys n =
     let e : suc (length xs) + n ≡ suc (length xs + n) = omega arith in
     rw e (ap (λ l. x ∷ l) (takes_more xs ys n))
 
-pub takes_whole : (xs : List ℕ) → xs ≡ take (length xs) xs
-takes_whole [] = refl
-takes_whole (x ∷ xs) = ap (λ l. x ∷ l) (takes_whole xs)
-
 -- no byte, where none is counted
 pub no_bytes : (xs : List ℕ) (len : ℕ) (empty : Bool) → len ≡ length xs → empty ≡ nat_eq len 0 → empty ≡ true → xs ≡ []
 no_bytes [] len empty many is said = refl
@@ -41,3 +37,8 @@ no_bytes (x ∷ xs) len empty many is said =
     let test : nat_eq len 0 ≡ true = sym is ∙ said in
     let zero : len ≡ 0 = grind (arith, nat_tests) in
     absurd (omega (arith, many, zero))
+
+-- some bytes, where not none is counted
+pub some_bytes : (xs : List ℕ) (len : ℕ) (empty : Bool) → len ≡ length xs → empty ≡ nat_eq len 0 → empty ≡ false → xs ≡ [] → ⊥
+some_bytes [] len empty many is said none = let no : true ≡ false = (ap (λ n. nat_eq n 0) (sym many) ∙ sym is) ∙ said in absurd (cc)
+some_bytes (x ∷ xs) len empty many is said none = absurd (cc)

@@ -1,6 +1,8 @@
 -- A talk so far, and one turn more.
-use Rattle.std.proofs.Common.{◌≡◌, ◌∙◌, ◌⊎◌, ◌+◌, ℕ, List, [], ◌∷◌, ◌++◌, Option, length, take, true, refl, sym, subst, ap, inl, inr}
-use Rattle.std.specs.Io.KnownBytes.{Consumes, Appends, Keeps}
+use Rattle.std.proofs.Common.{◌≡◌, ◌∙◌, ◌⊎◌, ◌+◌, ℕ, List, [], ◌∷◌, ◌++◌, Option, Some, None, length, take, true, false, refl, sym, subst, inl, inr}
+use Rattle.std.specs.Io.KnownBytes.{Consumes, Appends}
+use Rattle.serde_json.specs.Read.{read}
+use Rattle.serde_json.proofs.OnLiterals.{serde_json_on_literals}
 use Rattle.world.specs.Jobs.{Job}
 use Rattle.world.specs.Pasts.{Past, event}
 use Rattle.world.specs.Worlds.{LeadsTo}
@@ -14,10 +16,11 @@ use Rattle.program_io.proofs.Keeping.{keeps_itself}
 use Rattle.session.specs.declared.answer.ReplyForm.{ReplyForm}
 use Rattle.session.specs.declared.session.Session.{Session}
 use Rattle.session.specs.Answers.{answer_text, error_text}
-use Rattle.session.specs.Lines.{SaysJob, SaysStep, SaysNoStep, IsNoJob, is_blank}
+use Rattle.session.specs.Lines.{SaysJob, SaysStep, SaysNoStep, IsNoJob}
 use Rattle.session.specs.Turns.{IsAt, IsTurned}
-use Rattle.session.specs.Talks.{Turn, past_of, lines_of, text_of, IsPlayed, IsPassed, AreTurns, IsConversation, IsTalked, IsCut, IsRefused, IsBroken, IsNextLine, EndsAfter}
-use Rattle.session.proofs.Bytes.{consumes_more, consumes_none, appends_more, appends_none, takes_more, takes_whole}
+use Rattle.session.specs.Talks.{AreLines, without_blanks, IsNextLine, HasNoLine, IsNext, Turn, past_of, lines_of, text_of, IsPlayed, IsPassed, AreTurns, IsConversation, IsTalked, IsStopped, IsCut, IsBroken}
+use Rattle.session.proofs.Bytes.{appends_more, appends_none, takes_more}
+use Rattle.session.proofs.Skipping.{reads_on, consumed, with_first, with_line, with_blanks}
 
 pub record IsTalking (form : ReplyForm) (before after held holds : Option (List ℕ)) (job : Job) (s : Session) : Type 0 where
   pub same : s.job ≡ job
@@ -26,7 +29,9 @@ pub record IsTalking (form : ReplyForm) (before after held holds : Option (List 
   pub are : AreTurns form job turns
   pub leads : IsAt (past_of turns) s
   pub run : IsRun job (past_of turns)
-  pub reads : Consumes before after (lines_of turns)
+  pub lines : List (List ℕ)
+  pub reads : AreLines before after lines
+  pub not_blank : without_blanks lines ≡ lines_of turns
   pub wrote : Appends held holds (text_of turns)
 
 pub begins : (form : ReplyForm) (before held : Option (List ℕ)) (s : Session) → s.form ≡ form → IsAt [] s → IsTalking form before before held held s.job s
@@ -37,30 +42,31 @@ begins form before held s same opens = record {
   are = tt;
   leads = opens;
   run = tt;
-  reads = consumes_none before;
+  lines = [];
+  reads = refl;
+  not_blank = refl;
   wrote = appends_none held;
 }
 
-abbrev turn_of : (spaces : List ℕ) → is_blank spaces ≡ true → List ℕ → List ℕ → Past → Turn
-turn_of spaces blank line text past = record { spaces = spaces; blank = blank; line = line; text = text; past = past }
+abbrev turn_of : List ℕ → List ℕ → Past → Turn
+turn_of line text past = record { line = line; text = text; past = past }
 
 -- a turn more
-record IsNext (form : ReplyForm) (job : Job) (turns : List Turn) (new : Session) (line text : List ℕ) : Type 0 where
+record IsMore (form : ReplyForm) (job : Job) (turns : List Turn) (new : Session) (line text : List ℕ) : Type 0 where
   past : Past
-  is : (spaces : List ℕ) (blank : is_blank spaces ≡ true)
-      → IsPlayed form job (past_of turns) (turn_of spaces blank line text past) ⊎ IsPassed form job (past_of turns) (turn_of spaces blank line text past)
+  is : IsPlayed form job (past_of turns) (turn_of line text past) ⊎ IsPassed form job (past_of turns) (turn_of line text past)
   leads : IsAt past new
   run : IsRun job past
 
 turned : (form : ReplyForm) (before mid held was : Option (List ℕ)) (line text : List ℕ) (job : Job) (old new : Session)
-    → (t : IsTalking form before mid held was job old) → new.job ≡ old.job → IsTurned line old new text → IsNext form job t.turns new line text
+    → (t : IsTalking form before mid held was job old) → new.job ≡ old.job → IsTurned line old new text → IsMore form job t.turns new line text
 turned form before mid held was line text job old new t kept answer =
     elim answer [
       | inl answered ↦
           let past : Past = event answered.step answered.played.reply ∷ past_of t.turns in
           record {
             past = past;
-            is = λ spaces blank. inl (record {
+            is = inl (record {
               step = answered.step;
               says = subst (λ (j : Job). SaysStep j line answered.step) t.same answered.says;
               reply = answered.played.reply;
@@ -74,7 +80,7 @@ turned form before mid held was line text job old new t kept answer =
       | inr unread ↦
           record {
             past = past_of t.turns;
-            is = λ spaces blank. inr (record {
+            is = inr (record {
               says = subst (λ (j : Job). SaysNoStep j line) t.same unread.says;
               after = refl;
               words = unread.words;
@@ -85,67 +91,127 @@ turned form before mid held was line text job old new t kept answer =
           }
     ]
 
+-- the lines with one more that was answered
+record AreMore (before after : Option (List ℕ)) (turns : List Turn) (line : List ℕ) : Type 0 where
+  lines : List (List ℕ)
+  reads : AreLines before after lines
+  not_blank : without_blanks lines ≡ lines_of turns ++ line ∷ []
+
+reads_more : (before mid after : Option (List ℕ)) (lines : List (List ℕ)) (turns : List Turn) (line : List ℕ)
+    → AreLines before mid lines → without_blanks lines ≡ lines_of turns → IsNextLine mid after line → AreMore before after turns line
+reads_more before mid after lines turns line reads these next = record {
+  lines = lines ++ (next.blanks ++ line ∷ []);
+  reads = reads_on before mid after lines (next.blanks ++ line ∷ []) reads next.reads;
+  not_blank = rw (with_line lines next.blanks line next.blank next.more, these) refl;
+}
+
+-- a line that is not empty
+pub is_line : (before after : Option (List ℕ)) (line : List ℕ) → (line ≡ [] → ⊥) → IsNext before after line → IsNextLine before after line
+is_line before after line more (inl next) = next
+is_line before after line more (inr none) = absurd (more none.0)
+
 pub goes_on : (form : ReplyForm) (before mid after held was holds : Option (List ℕ)) (line text : List ℕ) (job : Job) (old new : Session)
     → IsTalking form before mid held was job old → IsNextLine mid after line → new.job ≡ old.job → new.form ≡ old.form → IsTurned line old new text → Appends was holds text
     → IsTalking form before after held holds job new
 goes_on form before mid after held was holds line text job old new t read kept kept_form answer wrote =
     let next = turned form before mid held was line text job old new t kept answer in
+    let more = reads_more before mid after t.lines t.turns line t.reads t.not_blank read in
     record {
       same = kept ∙ t.same;
       same_form = kept_form ∙ t.same_form;
-      turns = turn_of read.spaces read.blank line text next.past ∷ t.turns;
-      are = (next.is read.spaces read.blank, t.are);
+      turns = turn_of line text next.past ∷ t.turns;
+      are = (next.is, t.are);
       leads = next.leads;
       run = next.run;
-      reads = consumes_more before mid after (lines_of t.turns) (read.spaces ++ line) t.reads read.gave;
+      lines = more.lines;
+      reads = more.reads;
+      not_blank = more.not_blank;
       wrote = appends_more held was holds (text_of t.turns) text t.wrote wrote;
     }
 
--- what was written so far
-pub is_cut : (form : ReplyForm) (before mid held was : Option (List ℕ)) (first : List ℕ) (job : Job) (s : Session) → SaysJob first job → IsTalking form before mid held was job s → IsCut form held was
-is_cut form before mid held was first job s opens t = record {
-  first = first;
+nothing_is_read : read [] ≡ None
+unfolding serde_json_on_literals
+nothing_is_read = refl
+
+-- no job is said by no bytes
+no_job_in_nothing : (first : List ℕ) (job : Job) → first ≡ [] → SaysJob first job → ⊥
+no_job_in_nothing first job none says =
+    let reads = says.json.reads in
+    let some : read [] ≡ Some says.value = rw none at reads in
+    let no : None ≡ Some says.value = sym nothing_is_read ∙ some in
+    absurd (cc)
+
+-- the first line was read, and said a job
+pub record IsOpened (before after : Option (List ℕ)) (job : Job) : Type 0 where
+  pub first : List ℕ
+  pub next : IsNextLine before after first
+  pub says : SaysJob first job
+
+pub opened : (before after : Option (List ℕ)) (first slice : List ℕ) (job : Job) → IsNext before after first → slice ≡ first → SaysJob slice job → IsOpened before after job
+opened before after first slice job next same says =
+    let opens = subst (λ (l : List ℕ). SaysJob l job) same says in
+    record { first = first; next = is_line before after first (λ none. no_job_in_nothing first job none opens) next; says = opens }
+
+-- all lines so far, with the first one
+holds_so_far : (form : ReplyForm) (start before mid : Option (List ℕ)) (job : Job) (turns : List Turn) (lines : List (List ℕ)) → IsOpened start before job
+    → AreLines before mid lines → without_blanks lines ≡ lines_of turns → AreTurns form job turns → IsRun job (past_of turns) → IsConversation form start mid turns
+holds_so_far form start before mid job turns lines opened reads these are run = record {
+  lines = (opened.next.blanks ++ opened.first ∷ []) ++ lines;
+  reads = reads_on start before mid (opened.next.blanks ++ opened.first ∷ []) lines opened.next.reads reads;
+  first = opened.first;
+  not_blank = rw (with_first opened.next.blanks lines opened.first opened.next.blank opened.next.more, these) refl;
   job = job;
-  turns = t.turns;
-  conversation = record { opens = opens; are = t.are; run = t.run };
-  len = length (text_of t.turns);
-  wrote = subst (Appends held was) (takes_whole (text_of t.turns)) t.wrote;
+  opens = opened.says;
+  are = are;
+  run = run;
 }
 
+-- what was written so far, and what was read after that
+pub is_stopped : (form : ReplyForm) (start before mid after held was : Option (List ℕ)) (job : Job) (s : Session) (bytes : List ℕ)
+    → IsOpened start before job → IsTalking form before mid held was job s → Consumes mid after bytes → IsStopped form start after held was
+is_stopped form start before mid after held was job s bytes opened t more = record {
+  turns = t.turns;
+  middle = mid;
+  conversation = holds_so_far form start before mid job t.turns t.lines opened t.reads t.not_blank t.are t.run;
+  bytes = bytes;
+  more = more;
+  wrote = t.wrote;
+}
+
+-- a line was read that was not answered
+pub is_stopped_after : (form : ReplyForm) (start before mid after held was : Option (List ℕ)) (job : Job) (s : Session) (line : List ℕ)
+    → IsOpened start before job → IsTalking form before mid held was job s → IsNextLine mid after line → IsStopped form start after held was
+is_stopped_after form start before mid after held was job s line opened t next =
+    let more = consumed mid after (next.blanks ++ line ∷ []) next.reads in
+    is_stopped form start before mid after held was job s more.0 opened t more.1
+
 -- and a first part of one answer more
-pub is_cut_in : (form : ReplyForm) (before mid held was holds : Option (List ℕ)) (first line text : List ℕ) (n : ℕ) (job : Job) (old new : Session)
-    → SaysJob first job → IsTalking form before mid held was job old → new.job ≡ old.job → IsTurned line old new text → Appends was holds (take n text) → IsCut form held holds
-is_cut_in form before mid held was holds first line text n job old new opens t kept answer wrote =
+pub is_cut_in : (form : ReplyForm) (start before mid after held was holds : Option (List ℕ)) (line text : List ℕ) (n : ℕ) (job : Job) (old new : Session)
+    → IsOpened start before job → IsTalking form before mid held was job old → IsNextLine mid after line → new.job ≡ old.job → IsTurned line old new text
+    → Appends was holds (take n text) → IsCut form start after held holds
+is_cut_in form start before mid after held was holds line text n job old new opened t read kept answer wrote =
     let next = turned form before mid held was line text job old new t kept answer in
+    let more = reads_more before mid after t.lines t.turns line t.reads t.not_blank read in
+    let turns : List Turn = turn_of line text next.past ∷ t.turns in
     record {
-      first = first;
-      job = job;
-      turns = turn_of [] refl line text next.past ∷ t.turns;
-      conversation = record { opens = opens; are = (next.is [] refl, t.are); run = next.run };
+      turns = turns;
+      conversation = holds_so_far form start before after job turns more.lines opened more.reads more.not_blank (next.is, t.are) next.run;
       len = length (text_of t.turns) + n;
       wrote = subst (Appends held holds) (takes_more (text_of t.turns) text n) (appends_more held was holds (text_of t.turns) (take n text) t.wrote wrote);
     }
 
 -- it ends where no line is left
-pub ends : (form : ReplyForm) (start before mid after held holds : Option (List ℕ)) (first line : List ℕ) (s : Session) (job : Job)
-    → IsNextLine start before first → SaysJob first job → IsTalking form before mid held holds job s → IsNextLine mid after line → line ≡ [] → IsTalked form start held holds
-ends form start before mid after held holds first line s job opened opens t last none =
-    let end : EndsAfter mid last.spaces = last.ended none in
+pub ends : (form : ReplyForm) (start before mid after held holds : Option (List ℕ)) (line : List ℕ) (s : Session) (job : Job)
+    → IsOpened start before job → IsTalking form before mid held holds job s → IsNext mid after line → line ≡ [] → IsTalked form start held holds
+ends form start before mid after held holds line s job opened t (inl next) none = let no : true ≡ false = rw none at next.more in absurd (cc)
+ends form start before mid after held holds line s job opened t (inr last) none =
+    let end : HasNoLine mid = last.1 in
     record {
-      first = first;
-      job = job;
       turns = t.turns;
-      conversation = record { opens = opens; are = t.are; run = t.run };
-      spaces = opened.spaces;
-      blank = opened.blank;
-      rest = last.spaces;
-      blank_rest = last.blank;
-      reads = record {
-        at_end = end.at_end;
-        reads = consumes_more start mid end.at_end ((opened.spaces ++ first) ++ lines_of t.turns) last.spaces
-            (consumes_more start before mid (opened.spaces ++ first) (lines_of t.turns) opened.gave t.reads) end.reads;
-        ended = end.ended;
-      };
+      at_end = end.at_end;
+      conversation = holds_so_far form start before end.at_end job t.turns (t.lines ++ end.blanks) opened
+          (reads_on before mid end.at_end t.lines end.blanks t.reads end.reads) (with_blanks t.lines end.blanks end.blank ∙ t.not_blank) t.are t.run;
+      ended = end.ended;
       wrote = t.wrote;
     }
 
@@ -155,13 +221,14 @@ unread_first form before after held reading.Failed = inl (keeps_itself held)
 unread_first form before after held reading.Memory = inl (keeps_itself held)
 
 -- where the first line says no job
-pub unopened : (form : ReplyForm) (before after held : Option (List ℕ)) (first : List ℕ) (e : AnswerError) → IsNextLine before after first → IsNoJob first e → IsBroken form before after held held e
+pub unopened : (form : ReplyForm) (before after held : Option (List ℕ)) (first : List ℕ) (e : AnswerError) → IsNext before after first → IsNoJob first e → IsBroken form before after held held e
 unopened form before after held first (answer.Refused faults) read says = record { first = first; reads = read; says = says; kept = keeps_itself held }
 unopened form before after held first answer.Read read says = absurd says
 unopened form before after held first answer.Write read says = absurd says
 unopened form before after held first answer.Memory read says = inl (keeps_itself held)
 
 -- where a later line was not read
-pub unread_later : (form : ReplyForm) (before after held holds : Option (List ℕ)) (e : ReadError) → IsCut form held holds → IsBroken form before after held holds (error_of_reading e)
-unread_later form before after held holds reading.Failed cut = inr cut
-unread_later form before after held holds reading.Memory cut = inr cut
+pub unread_later : (form : ReplyForm) (before after held holds : Option (List ℕ)) (e : ReadError) → IsStopped form before after held holds
+    → IsBroken form before after held holds (error_of_reading e)
+unread_later form before after held holds reading.Failed stopped = inr stopped
+unread_later form before after held holds reading.Memory stopped = inr stopped

@@ -1,5 +1,7 @@
 -- A talk: a first line that says a job, and turns after it.
-use Rattle.std.specs.Prelude.{◌≡◌, ◌⊎◌, ℕ, List, [], ◌∷◌, ◌++◌, take, Option, ⊤, true}
+use Rattle.std.specs.Prelude.{◌≡◌, ◌⊎◌, ℕ, List, [], ◌∷◌, ◌++◌, take, filter, not, Option, IfSome, ⊤, true, false}
+use Rattle.std.specs.Io.{StopsAt}
+use Rattle.std.specs.Io.BufRead.{take_through}
 use Rattle.std.specs.Io.KnownBytes.{Consumes, IsAtEnd, Appends, Keeps}
 use Rattle.world.specs.Jobs.{Job}
 use Rattle.world.specs.declared.step.Step.{Step}
@@ -13,23 +15,47 @@ use Rattle.session.specs.declared.answer.ReplyForm.{ReplyForm}
 use Rattle.session.specs.Answers.{answer_text, error_text}
 use Rattle.session.specs.Lines.{SaysJob, SaysStep, SaysNoStep, IsNoJob, is_blank}
 
--- these bytes were read, and the reader came to its end
-pub record EndsAfter (before : Option (List ℕ)) (bytes : List ℕ) : Type 0 where
+-- LINES
+
+-- a line was read, with its end: byte 10 is at most its last byte; where the reader's bytes are known, the line is those up to and including the
+-- first byte 10, or all of them
+pub record IsLine (before after : Option (List ℕ)) (line : List ℕ) : Type 0 where
+  pub one_end : StopsAt line 10
+  pub through : IfSome before (λ bytes. line ≡ take_through 10 bytes)
+  pub gave : Consumes before after line
+
+-- these lines were read, one after the other
+abbrev pub AreLines : Option (List ℕ) → Option (List ℕ) → List (List ℕ) → Type 0
+AreLines before after [] = before ≡ after
+AreLines before after (line ∷ lines) = (middle : Option (List ℕ)) × IsLine before middle line × AreLines middle after lines
+
+-- those that are not blank
+abbrev pub without_blanks : List (List ℕ) → List (List ℕ)
+without_blanks lines = filter (λ line. not (is_blank line)) lines
+
+-- blank lines were read, and then a line that is not blank
+pub record IsNextLine (before after : Option (List ℕ)) (line : List ℕ) : Type 0 where
+  pub blanks : List (List ℕ)
+  pub blank : without_blanks blanks ≡ []
+  pub reads : AreLines before after (blanks ++ line ∷ [])
+  pub more : is_blank line ≡ false
+
+-- blank lines were read, and then the reader was at its end
+pub record HasNoLine (before : Option (List ℕ)) : Type 0 where
+  pub blanks : List (List ℕ)
+  pub blank : without_blanks blanks ≡ []
   pub at_end : Option (List ℕ)
-  pub reads : Consumes before at_end bytes
+  pub reads : AreLines before at_end blanks
   pub ended : IsAtEnd at_end
 
--- spaces and a line were read, an empty one only where the reader came to its end
-pub record IsNextLine (before after : Option (List ℕ)) (line : List ℕ) : Type 0 where
-  pub spaces : List ℕ
-  pub blank : is_blank spaces ≡ true
-  pub gave : Consumes before after (spaces ++ line)
-  pub ended : line ≡ [] → EndsAfter before spaces
+-- the next line that is not blank, or an empty one where there is none
+abbrev pub IsNext : Option (List ℕ) → Option (List ℕ) → List ℕ → Type 0
+IsNext before after line = IsNextLine before after line ⊎ ((line ≡ []) × HasNoLine before)
 
--- a line with the spaces before it, what was written for it, and the past after it
+-- TURNS
+
+-- a line, what was written for it, and the past after it
 pub record Turn : Type 0 where
-  pub spaces : List ℕ
-  pub blank : is_blank spaces ≡ true
   pub line : List ℕ
   pub text : List ℕ
   pub past : Past
@@ -39,10 +65,10 @@ abbrev pub past_of : List Turn → Past
 past_of [] = []
 past_of (t ∷ turns) = t.past
 
--- the lines of turns, with the spaces before them, in the order in which they were read
-abbrev pub lines_of : List Turn → List ℕ
+-- the lines of turns, in the order in which they were read
+abbrev pub lines_of : List Turn → List (List ℕ)
 lines_of [] = []
-lines_of (t ∷ turns) = lines_of turns ++ (t.spaces ++ t.line)
+lines_of (t ∷ turns) = lines_of turns ++ t.line ∷ []
 
 -- what was written in them
 abbrev pub text_of : List Turn → List ℕ
@@ -70,44 +96,54 @@ abbrev pub AreTurns : ReplyForm → Job → List Turn → Type 0
 AreTurns form job [] = ⊤
 AreTurns form job (t ∷ turns) = (IsPlayed form job (past_of turns) t ⊎ IsPassed form job (past_of turns) t) × AreTurns form job turns
 
--- a job was opened by a first line, and each line after it was answered by those before it; their steps with their replies are a run of the job
-pub record IsConversation (form : ReplyForm) (first : List ℕ) (job : Job) (turns : List Turn) : Type 0 where
+-- CONVERSATIONS
+
+-- lines were read; those that are not blank are a first line, which says a job, and the lines of the turns, each of which is answered by those
+-- before it; their steps with their replies are a run of the job
+pub record IsConversation (form : ReplyForm) (before after : Option (List ℕ)) (turns : List Turn) : Type 0 where
+  pub lines : List (List ℕ)
+  pub reads : AreLines before after lines
+  pub first : List ℕ
+  pub not_blank : without_blanks lines ≡ first ∷ lines_of turns
+  pub job : Job
   pub opens : SaysJob first job
   pub are : AreTurns form job turns
   pub run : IsRun job (past_of turns)
 
--- all was read: the job line, the lines of the turns, and spaces before them and at the end; the answers were written in their order
+-- all lines of the reader were read, and the answers were written in their order
 pub record IsTalked (form : ReplyForm) (before held holds : Option (List ℕ)) : Type 0 where
-  pub first : List ℕ
-  pub job : Job
   pub turns : List Turn
-  pub conversation : IsConversation form first job turns
-  pub spaces : List ℕ
-  pub blank : is_blank spaces ≡ true
-  pub rest : List ℕ
-  pub blank_rest : is_blank rest ≡ true
-  pub reads : EndsAfter before ((spaces ++ first) ++ lines_of turns ++ rest)
+  pub at_end : Option (List ℕ)
+  pub conversation : IsConversation form before at_end turns
+  pub ended : IsAtEnd at_end
   pub wrote : Appends held holds (text_of turns)
 
--- the answers were written in their order, up to a place
-pub record IsCut (form : ReplyForm) (held holds : Option (List ℕ)) : Type 0 where
-  pub first : List ℕ
-  pub job : Job
+-- the answers to the lines of a conversation were written in their order; after these lines more bytes may have been read
+pub record IsStopped (form : ReplyForm) (before after held holds : Option (List ℕ)) : Type 0 where
   pub turns : List Turn
-  pub conversation : IsConversation form first job turns
+  pub middle : Option (List ℕ)
+  pub conversation : IsConversation form before middle turns
+  pub bytes : List ℕ
+  pub more : Consumes middle after bytes
+  pub wrote : Appends held holds (text_of turns)
+
+-- the lines of a conversation were read, and the answers were written in their order, up to a place
+pub record IsCut (form : ReplyForm) (before after held holds : Option (List ℕ)) : Type 0 where
+  pub turns : List Turn
+  pub conversation : IsConversation form before after turns
   pub len : ℕ
   pub wrote : Appends held holds (take len (text_of turns))
 
 -- no session was opened, and nothing was written
 pub record IsRefused (before after held holds : Option (List ℕ)) (why : AnswerError) : Type 0 where
   pub first : List ℕ
-  pub reads : IsNextLine before after first
+  pub reads : IsNext before after first
   pub says : IsNoJob first why
   pub kept : Keeps held holds
 
--- what was written where the session came to no end
+-- what was read and written where the session came to no end
 abbrev pub IsBroken : ReplyForm → Option (List ℕ) → Option (List ℕ) → Option (List ℕ) → Option (List ℕ) → AnswerError → Type 0
 IsBroken form before after held holds (answer.Refused faults) = IsRefused before after held holds (answer.Refused faults)
-IsBroken form before after held holds answer.Read = Keeps held holds ⊎ IsCut form held holds
-IsBroken form before after held holds answer.Write = IsCut form held holds
-IsBroken form before after held holds answer.Memory = Keeps held holds ⊎ IsCut form held holds
+IsBroken form before after held holds answer.Read = Keeps held holds ⊎ IsStopped form before after held holds
+IsBroken form before after held holds answer.Write = IsCut form before after held holds
+IsBroken form before after held holds answer.Memory = Keeps held holds ⊎ IsStopped form before after held holds

@@ -1,10 +1,9 @@
 //! A talk: lines in, and a line out for each but the first.
 
-ghost use Rattle.std.specs.Prelude.{◌≡◌, ◌⊎◌, IfOk, IfErr, OnOk, string_bytes};
-ghost use Rattle.std.specs.Io.KnownBytes.{Consumes, IsAtEnd};
-ghost use Rattle.diagnosis.specs.declared.error.AnswerError.TheVariants as answer;
+ghost use Rattle.std.specs.Prelude.{◌≡◌, ℕ, List, IfOk, IfErr, OnOk, OnErr};
+ghost use Rattle.std.specs.Io.KnownBytes.{Consumes};
 ghost use Rattle.session.specs.Lines.{is_blank};
-ghost use Rattle.session.specs.Talks.{IsNextLine, IsTalked, IsBroken};
+ghost use Rattle.session.specs.Talks.{IsNext, IsTalked, IsBroken};
 
 use crate::answer::ReplyForm;
 use crate::session::Session;
@@ -20,9 +19,11 @@ fn is_blank(line: &[u8]) -> bool
     line.iter().all(|byte| *byte == b' ' || *byte == b'\t' || *byte == b'\r' || *byte == b'\n')
 }
 
-// The next line that has more than spaces, with its end; nothing at the end of the reader.
+// The next line that has more than spaces, with its end; an empty one at the end of the reader.
 fn next_line<R: BufRead>(alloc: Global, reader: &mut R) -> Result<Vec<u8>, ReadError>
-    ensures { IfOk result (λ line. IsNextLine (R.remaining reader.old) (R.remaining reader.new) line.items) }
+    ensures ok { IfOk result (λ line. IsNext (R.remaining reader.old) (R.remaining reader.new) line.items) }
+    ensures err { OnErr result ((bytes : List ℕ)
+        × Consumes (R.remaining reader.old) (R.remaining reader.new) bytes) }
 {
     let mut line = Vec::new(alloc);
     'blanks: for _ in 0..u64::MAX {
@@ -42,10 +43,10 @@ fn next_line<R: BufRead>(alloc: Global, reader: &mut R) -> Result<Vec<u8>, ReadE
 }
 
 /// Opens a session of the job that the first line says, and answers each line after it with one line, before the
-/// next is read. Lines with nothing but spaces are skipped.
+/// next is read. A line ends after byte 10, or with the reader's bytes. Lines with nothing but spaces are skipped.
 ///
-/// After each line the text written so far is that of the replies to the steps so far: so it is where the
-/// reader or the writer fails after that line.
+/// After a fault nothing is written but the replies to lines that were read, from the first one on: whole replies
+/// where the reader failed or memory ran out, and up to a place where the writer failed.
 pub fn run_session<R: BufRead, W: Write>(
     alloc: Global,
     form: ReplyForm,

@@ -1,19 +1,19 @@
-use Rattle.std.proofs.Common.{rules, ◌≡◌, ◌∙◌, ℕ, List, [], take, Option, inr, refl, sym, subst, string_bytes}
+use Rattle.std.proofs.Common.{rules, ◌≡◌, ℕ, List, [], take, inr, refl, subst, string_bytes}
 use Rattle.std.specs.Io.KnownBytes.{Appends}
 use Rattle.std.proofs.lemmas.Result.{err_from_is_err_and}
 use Rattle.session.specs.declared.answer.ReplyForm.{ReplyForm}
-use Rattle.session.specs.Lines.{SaysJob, IsNoJob}
-use Rattle.session.specs.Talks.{IsCut, IsTalked}
+use Rattle.session.specs.Lines.{IsNoJob}
+use Rattle.session.specs.Talks.{IsNextLine, IsTalked, IsStopped, IsCut}
 use Rattle.session.specs.Turns.{IsTurned}
-use Rattle.session.proofs.Talking.{begins, goes_on, is_cut, is_cut_in, ends, unopened, unread_later}
-use Rattle.session.proofs.Bytes.{no_bytes}
+use Rattle.session.proofs.Talking.{IsOpened, begins, opened, goes_on, is_line, is_stopped, is_stopped_after, is_cut_in, ends, unopened, unread_later}
+use Rattle.session.proofs.Bytes.{consumes_none, no_bytes, some_bytes}
 use Rattle.session.proofs.talk.run_session.Goals as goal
 
 pub returns-in_err-session-clause-err : goal.returns-in_err-session-clause-err
 returns-in_err-session-clause-err g c =
     let p = err_from_is_err_and c.from_residual-in_err-session.result c.from_residual-in_err-session.ensures.1 in
     let says = subst (λ (l : List ℕ). IsNoJob l c.in_err-session.field-0.0) c.as_slice.ensures.value c.in_err-session.ensures.err in
-    rw (p.1, p.2) (unopened c.args.form (g.R.Read.remaining c.args.reader.now) (g.R.Read.remaining c.next_line.new.reader) (g.W.Write.contents c.args.writer.now) c.in_ok-first.first.items c.in_err-session.field-0.0 c.in_ok-first.ensures says)
+    rw (p.1, p.2) (unopened c.args.form (g.R.Read.remaining c.args.reader.now) (g.R.Read.remaining c.next_line.new.reader) (g.W.Write.contents c.args.writer.now) c.in_ok-first.first.items c.in_err-session.field-0.0 c.in_ok-first.ensures.ok says)
 
 pub lines-init : goal.lines-init
 lines-init g c = begins c.in_ok-session.session.form (g.R.Read.remaining c.next_line.new.reader) (g.W.Write.contents c.args.writer.now) c.in_ok-session.session refl c.in_ok-session.ensures.at
@@ -21,70 +21,104 @@ lines-init g c = begins c.in_ok-session.session.form (g.R.Read.remaining c.next_
 pub returns-in_err-line-clause-err : goal.returns-in_err-line-clause-err
 returns-in_err-line-clause-err g c =
     let p = err_from_is_err_and c.from_residual-in_err-line.result c.from_residual-in_err-line.ensures.1 in
-    let mid = g.R.Read.remaining c.next_line.new.reader in
-    let held = g.W.Write.contents c.args.writer.now in
-    let was = g.W.Write.contents c.lines.writer in
-    let opens = subst (λ (l : List ℕ). SaysJob l c.in_ok-session.session.job) c.as_slice.ensures.value c.in_ok-session.ensures.job in
-    let cut = is_cut c.in_ok-session.session.form mid (g.R.Read.remaining c.lines.reader) held was c.in_ok-first.first.items c.in_ok-session.session.job c.lines.session opens c.lines.invariant in
-    rw (p.1, p.2) (unread_later c.args.form (g.R.Read.remaining c.args.reader.now) (g.R.Read.remaining c.next_line-in-lines.new.reader) held was c.in_err-line.field-0.0
-    (subst (λ (f : ReplyForm). IsCut f held was) c.in_ok-session.ensures.form cut))
-
-pub returns-then-is_empty-clause-ok : goal.returns-then-is_empty-clause-ok
-returns-then-is_empty-clause-ok g c =
+    let form = c.in_ok-session.session.form in
     let start = g.R.Read.remaining c.args.reader.now in
     let before = g.R.Read.remaining c.next_line.new.reader in
     let mid = g.R.Read.remaining c.lines.reader in
     let after = g.R.Read.remaining c.next_line-in-lines.new.reader in
     let held = g.W.Write.contents c.args.writer.now in
     let was = g.W.Write.contents c.lines.writer in
-    let opens = subst (λ (l : List ℕ). SaysJob l c.in_ok-session.session.job) c.as_slice.ensures.value c.in_ok-session.ensures.job in
+    let job = c.in_ok-session.session.job in
+    let opens : IsOpened start before job = opened start before c.in_ok-first.first.items c.as_slice.result.now job c.in_ok-first.ensures.ok c.as_slice.ensures.value c.in_ok-session.ensures.job in
+    let more = c.in_err-line.ensures.err in
+    let stopped : IsStopped form start after held was = is_stopped form start before mid after held was job c.lines.session more.0 opens c.lines.invariant more.1 in
+    rw (p.1, p.2) (unread_later c.args.form start after held was c.in_err-line.field-0.0 (subst (λ (f : ReplyForm). IsStopped f start after held was) c.in_ok-session.ensures.form stopped))
+
+pub returns-then-is_empty-clause-ok : goal.returns-then-is_empty-clause-ok
+returns-then-is_empty-clause-ok g c =
+    let form = c.in_ok-session.session.form in
+    let start = g.R.Read.remaining c.args.reader.now in
+    let before = g.R.Read.remaining c.next_line.new.reader in
+    let mid = g.R.Read.remaining c.lines.reader in
+    let after = g.R.Read.remaining c.next_line-in-lines.new.reader in
+    let held = g.W.Write.contents c.args.writer.now in
+    let was = g.W.Write.contents c.lines.writer in
+    let job = c.in_ok-session.session.job in
+    let opens : IsOpened start before job = opened start before c.in_ok-first.first.items c.as_slice.result.now job c.in_ok-first.ensures.ok c.as_slice.ensures.value c.in_ok-session.ensures.job in
     let none : c.in_ok-line.line.items ≡ [] = no_bytes c.in_ok-line.line.items c.in_ok-line.line.len c.is_empty.result c.in_ok-line.line.ok.0 c.is_empty.ensures c.if-is_empty.true in
     subst (λ (f : ReplyForm). IsTalked f start held was) c.in_ok-session.ensures.form
-    (ends c.in_ok-session.session.form start before mid after held was c.in_ok-first.first.items c.in_ok-line.line.items c.lines.session c.in_ok-session.session.job
-    c.in_ok-first.ensures opens c.lines.invariant c.in_ok-line.ensures none)
+    (ends form start before mid after held was c.in_ok-line.line.items c.lines.session job opens c.lines.invariant c.in_ok-line.ensures.ok none)
 
 pub returns-in_err-text-clause-err : goal.returns-in_err-text-clause-err
 returns-in_err-text-clause-err g c =
     let p = err_from_is_err_and c.from_residual-in_err-text.result c.from_residual-in_err-text.ensures.1 in
-    let mid = g.R.Read.remaining c.next_line.new.reader in
+    let form = c.in_ok-session.session.form in
+    let start = g.R.Read.remaining c.args.reader.now in
+    let before = g.R.Read.remaining c.next_line.new.reader in
+    let mid = g.R.Read.remaining c.lines.reader in
+    let after = g.R.Read.remaining c.next_line-in-lines.new.reader in
     let held = g.W.Write.contents c.args.writer.now in
     let was = g.W.Write.contents c.lines.writer in
-    let opens = subst (λ (l : List ℕ). SaysJob l c.in_ok-session.session.job) c.as_slice.ensures.value c.in_ok-session.ensures.job in
-    let cut = is_cut c.in_ok-session.session.form mid (g.R.Read.remaining c.lines.reader) held was c.in_ok-first.first.items c.in_ok-session.session.job c.lines.session opens c.lines.invariant in
-    rw (p.1, p.2) (inr (subst (λ (f : ReplyForm). IsCut f held was) c.in_ok-session.ensures.form cut))
+    let job = c.in_ok-session.session.job in
+    let opens : IsOpened start before job = opened start before c.in_ok-first.first.items c.as_slice.result.now job c.in_ok-first.ensures.ok c.as_slice.ensures.value c.in_ok-session.ensures.job in
+    let line = c.in_ok-line.line.items in
+    let read : IsNextLine mid after line =
+    is_line mid after line (some_bytes line c.in_ok-line.line.len c.is_empty.result c.in_ok-line.line.ok.0 c.is_empty.ensures c.if-is_empty.false) c.in_ok-line.ensures.ok in
+    let stopped : IsStopped form start after held was = is_stopped_after form start before mid after held was job c.lines.session line opens c.lines.invariant read in
+    rw (p.1, p.2) (inr (subst (λ (f : ReplyForm). IsStopped f start after held was) c.in_ok-session.ensures.form stopped))
 
 pub returns-in_err-write_all-clause-err : goal.returns-in_err-write_all-clause-err
 returns-in_err-write_all-clause-err g c =
     let p = err_from_is_err_and c.from_residual-in_err-write_all.result c.from_residual-in_err-write_all.ensures.1 in
-    let mid = g.R.Read.remaining c.next_line.new.reader in
+    let form = c.in_ok-session.session.form in
+    let start = g.R.Read.remaining c.args.reader.now in
+    let before = g.R.Read.remaining c.next_line.new.reader in
+    let mid = g.R.Read.remaining c.lines.reader in
+    let after = g.R.Read.remaining c.next_line-in-lines.new.reader in
     let held = g.W.Write.contents c.args.writer.now in
     let was = g.W.Write.contents c.lines.writer in
+    let job = c.in_ok-session.session.job in
+    let opens : IsOpened start before job = opened start before c.in_ok-first.first.items c.as_slice.result.now job c.in_ok-first.ensures.ok c.as_slice.ensures.value c.in_ok-session.ensures.job in
+    let line = c.in_ok-line.line.items in
+    let read : IsNextLine mid after line =
+    is_line mid after line (some_bytes line c.in_ok-line.line.len c.is_empty.result c.in_ok-line.line.ok.0 c.is_empty.ensures c.if-is_empty.false) c.in_ok-line.ensures.ok in
     let holds = g.W.Write.contents c.write_all.new.writer in
     let text = string_bytes c.in_ok-text.text in
-    let wrote = c.in_err-write_all.ensures.err in
     let same : c.as_bytes.result.now ≡ text = search rules in
+    let answer = subst (λ (l : List ℕ). IsTurned l c.lines.session c.answer.new.self text) c.as_slice-in-lines.ensures.value c.in_ok-text.ensures.ok in
+    let wrote = c.in_err-write_all.ensures.err in
     let part = subst (λ (bytes : List ℕ). Appends was holds (take wrote.0 bytes)) same wrote.1 in
-    let opens = subst (λ (l : List ℕ). SaysJob l c.in_ok-session.session.job) c.as_slice.ensures.value c.in_ok-session.ensures.job in
-    let cut = is_cut_in c.in_ok-session.session.form mid (g.R.Read.remaining c.lines.reader) held was holds c.in_ok-first.first.items c.as_slice-in-lines.result.now text wrote.0 c.in_ok-session.session.job
-    c.lines.session c.answer.new.self opens c.lines.invariant c.answer.ensures.job c.in_ok-text.ensures.ok part in
-    rw (p.1, p.2) (subst (λ (f : ReplyForm). IsCut f held holds) c.in_ok-session.ensures.form cut)
+    let cut : IsCut form start after held holds =
+    is_cut_in form start before mid after held was holds line text wrote.0 job c.lines.session c.answer.new.self opens c.lines.invariant read c.answer.ensures.job answer part in
+    rw (p.1, p.2) (subst (λ (f : ReplyForm). IsCut f start after held holds) c.in_ok-session.ensures.form cut)
 
 pub lines-preserved : goal.lines-preserved
 lines-preserved g c =
+    let form = c.in_ok-session.session.form in
+    let before = g.R.Read.remaining c.next_line.new.reader in
+    let mid = g.R.Read.remaining c.lines.reader in
+    let after = g.R.Read.remaining c.next_line-in-lines.new.reader in
+    let held = g.W.Write.contents c.args.writer.now in
     let was = g.W.Write.contents c.lines.writer in
+    let line = c.in_ok-line.line.items in
+    let read : IsNextLine mid after line =
+    is_line mid after line (some_bytes line c.in_ok-line.line.len c.is_empty.result c.in_ok-line.line.ok.0 c.is_empty.ensures c.if-is_empty.false) c.in_ok-line.ensures.ok in
     let holds = g.W.Write.contents c.write_all.new.writer in
     let text = string_bytes c.in_ok-text.text in
     let same : c.as_bytes.result.now ≡ text = search rules in
-    goes_on c.in_ok-session.session.form (g.R.Read.remaining c.next_line.new.reader) (g.R.Read.remaining c.lines.reader) (g.R.Read.remaining c.next_line-in-lines.new.reader)
-    (g.W.Write.contents c.args.writer.now) was holds c.in_ok-line.line.items text c.in_ok-session.session.job c.lines.session c.answer.new.self c.lines.invariant c.in_ok-line.ensures
-    c.answer.ensures.job c.answer.ensures.form (subst (λ (l : List ℕ). IsTurned l c.lines.session c.answer.new.self text) c.as_slice-in-lines.ensures.value c.in_ok-text.ensures.ok)
+    let answer = subst (λ (l : List ℕ). IsTurned l c.lines.session c.answer.new.self text) c.as_slice-in-lines.ensures.value c.in_ok-text.ensures.ok in
+    goes_on form before mid after held was holds line text c.in_ok-session.session.job c.lines.session c.answer.new.self c.lines.invariant read c.answer.ensures.job c.answer.ensures.form answer
     (subst (λ (bytes : List ℕ). Appends was holds bytes) same c.in_ok-write_all.ensures.ok)
 
 pub returns-clause-err : goal.returns-clause-err
 returns-clause-err g c =
-    let mid = g.R.Read.remaining c.next_line.new.reader in
+    let form = c.in_ok-session.session.form in
+    let start = g.R.Read.remaining c.args.reader.now in
+    let before = g.R.Read.remaining c.next_line.new.reader in
+    let mid = g.R.Read.remaining c.lines.reader in
     let held = g.W.Write.contents c.args.writer.now in
     let was = g.W.Write.contents c.lines.writer in
-    let opens = subst (λ (l : List ℕ). SaysJob l c.in_ok-session.session.job) c.as_slice.ensures.value c.in_ok-session.ensures.job in
-    let cut = is_cut c.in_ok-session.session.form mid (g.R.Read.remaining c.lines.reader) held was c.in_ok-first.first.items c.in_ok-session.session.job c.lines.session opens c.lines.invariant in
-    inr (subst (λ (f : ReplyForm). IsCut f held was) c.in_ok-session.ensures.form cut)
+    let job = c.in_ok-session.session.job in
+    let opens : IsOpened start before job = opened start before c.in_ok-first.first.items c.as_slice.result.now job c.in_ok-first.ensures.ok c.as_slice.ensures.value c.in_ok-session.ensures.job in
+    let stopped : IsStopped form start mid held was = is_stopped form start before mid mid held was job c.lines.session [] opens c.lines.invariant (consumes_none mid) in
+    inr (subst (λ (f : ReplyForm). IsStopped f start mid held was) c.in_ok-session.ensures.form stopped)
