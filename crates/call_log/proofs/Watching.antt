@@ -1,9 +1,10 @@
 -- Readings that are watched one after another.
-use Rattle.std.proofs.Common.{◌≡◌, ℕ, ◌+◌, ◌-◌, ◌<◌, ◌≤◌, Bool, true, false, List, [], ◌∷◌, ◌++◌, map, length, get_or, take, refl, sym, ap, ◌∙◌, subst, arith}
+use Rattle.std.proofs.Common.{◌≡◌, ℕ, ◌+◌, ◌-◌, ◌<◌, ◌≤◌, Bool, true, false, List, [], ◌∷◌, ◌++◌, map, length, get_or, take, refl, sym, ap, ◌∙◌, subst, inl, inr, arith}
 use Rattle.std.specs.Prelude.{nat_lt, nat_le, Option, Some, None, is_some, slice_get, if◌then◌else◌}
 use Rattle.std.specs.List.{AllByRecursion}
 use Rattle.std.proofs.lemmas.List.{take_more, reverse-append, get_or_default}
 use Rattle.std.proofs.lemmas.Option.{slice_get-get_or}
+use Rattle.std.proofs.lemmas.Bool.{cases_lt}
 use Rattle.std.proofs.lemmas.Bool.Decides.{nat_tests}
 use Rattle.cluster.specs.declared.timing.Reading.{Reading}
 use Rattle.cluster.specs.declared.timing.Reading.TheVariants.{TableClock, TaskClock, NoClock}
@@ -12,7 +13,7 @@ use Rattle.call_log.specs.declared.entry.Entry.{Entry}
 use Rattle.call_log.specs.declared.late.Greatest.{Greatest}
 use Rattle.call_log.specs.declared.late.Late.{Late}
 use Rattle.call_log.specs.Calls.{reading_in}
-use Rattle.call_log.specs.Late.{readings_of, IsLate, AreWatched}
+use Rattle.call_log.specs.Late.{readings_of, IsGreatestBefore, IsLate, AreWatched}
 use Rattle.call_log.specs.internals.Watching.{reached, greater, greatest_after, late_by, late_after}
 
 -- the greatest reading, 0 before the first
@@ -36,6 +37,7 @@ pub record IsWatched (skew : ℕ) (entries : List Entry) (i : ℕ) (greatest : O
   pub timely : IsTimely skew (readings_of (take i entries))
   pub bound : IsBound skew greatest (readings_of (take i entries))
   pub stands : (g : Greatest) → greatest ≡ Some g → Stands entries i g
+  pub most : IsGreatestBefore entries i (at_of greatest)
 
 -- THE GREATEST READING
 
@@ -58,6 +60,18 @@ some_if false l late e = absurd (cc)
 not_late : (skew : ℕ) (g : Option Greatest) (a i : ℕ) → late_after skew g (TaskClock a) i ≡ None → at_of g ≤ a + skew
 not_late skew None a i e = omega arith
 not_late skew (Some g) a i e = let t : nat_lt a (g.at - skew) ≡ false = none_if (nat_lt a (g.at - skew)) (late_by g a i) e in grind (arith, nat_tests)
+
+-- the greatest reading after a call is no less than before it
+not_less : (g : Option Greatest) (r : Reading) (i : ℕ) → at_of g ≤ at_of (greatest_after g r i)
+not_less g (TableClock s) i = (greater_max g s i).1
+not_less g (TaskClock a) i = omega arith
+not_less g NoClock i = omega arith
+
+-- and no less than the reading of the call
+not_less_read : (g : Option Greatest) (r : Reading) (i s : ℕ) → r ≡ TableClock s → s ≤ at_of (greatest_after g r i)
+not_less_read g (TableClock t) i s is = (let f : t ≡ s = cc in let m = (greater_max g t i).0 in omega (arith, f, m))
+not_less_read g (TaskClock a) i s is = absurd (cc)
+not_less_read g NoClock i s is = absurd (cc)
 
 -- ONE READING MORE
 
@@ -104,6 +118,15 @@ module _ (skew : ℕ) (entries : List Entry) (i : ℕ) (entry : Entry) (low : i 
   stands_more (TaskClock a) greatest is stands g e = later g (stands g e)
   stands_more NoClock greatest is stands g e = later g (stands g e)
 
+  most_more : (greatest : Option Greatest) → IsGreatestBefore entries i (at_of greatest)
+      → IsGreatestBefore entries (i + 1) (at_of (greatest_after greatest (reading_in entry.line.call) i))
+  most_more greatest most place e at before is read = elim (cases_lt place i) [
+    | inl lower ↦ (let m = most place e at lower is read in let n = not_less greatest (reading_in entry.line.call) i in omega (arith, m, n))
+    | inr higher ↦ (let last : place ≡ i = omega (arith, before, higher) in
+        let same : e ≡ entry = (let f : slice_get entries i ≡ Some e = subst (λ (n : ℕ). slice_get entries n ≡ Some e) last is in let h = found in cc) in
+        not_less_read greatest (reading_in entry.line.call) i at (ap (λ (x : Entry). reading_in x.line.call) (sym same) ∙ read))
+  ]
+
   -- a reading that is timely
   pub watched_more : (greatest : Option Greatest) → IsWatched skew entries i greatest → late_after skew greatest (reading_in entry.line.call) i ≡ None
       → IsWatched skew entries (i + 1) (greatest_after greatest (reading_in entry.line.call) i)
@@ -113,6 +136,7 @@ module _ (skew : ℕ) (entries : List Entry) (i : ℕ) (entry : Entry) (low : i 
         timely = subst (IsTimely skew) (sym one_more) both.0;
         bound = subst (IsBound skew (greatest_after greatest (reading_in entry.line.call) i)) (sym one_more) both.1;
         stands = stands_more (reading_in entry.line.call) greatest refl known.stands;
+        most = most_more greatest known.most;
       }
 
   late_with : (g : Greatest) (a : ℕ) → reading_in entry.line.call ≡ TaskClock a → IsWatched skew entries i (Some g) → nat_lt a (g.at - skew) ≡ true → IsLate skew entries (late_by g a i)
@@ -127,6 +151,7 @@ module _ (skew : ℕ) (entries : List Entry) (i : ℕ) (entry : Entry) (low : i 
         read_before = stands.read;
         earlier = stands.before;
         ahead = let t : nat_lt a (g.at - skew) ≡ true = test in grind (arith, nat_tests);
+        greatest = known.most;
         first = known.timely;
       }
 

@@ -1,5 +1,6 @@
 -- What is written of a log.
-use Rattle.std.specs.Prelude.{◌≡◌, ℕ, nat_lt, List, [], ◌++◌, codes, decimal, Option, Some, None, slice_get, if◌then◌else◌}
+use Rattle.std.specs.Prelude.{◌≡◌, ℕ, nat_lt, List, [], ◌++◌, codes, decimal, Option, Some, None, IfSome, slice_get, if◌then◌else◌}
+use Rattle.std.specs.Fmt.{debug_str}
 use Rattle.slicelet.specs.declared.heard.HeldLease.{HeldLease}
 use Rattle.policy_rules.specs.declared.answer.Verdict.TheVariants.{Deny}
 use Rattle.policy_rules.specs.declared.answer.Ground.TheVariants.{Ended}
@@ -62,15 +63,21 @@ double_text names entries first second =
     standing_at names entries second ++ (codes ": ticket " ++ (decimal (ticket_of (slice_get entries first))
     ++ (codes " stands at " ++ (standing_at names entries first ++ codes " too\n"))))
 
+-- words in quotes, as `{:?}` writes them; of words past ASCII this says nothing
+abbrev pub AreQuoted : List ℕ → List ℕ → Type 0
+AreQuoted words quoted = IfSome (debug_str words) (λ text. quoted ≡ text)
+
 -- a call whose caller was told otherwise: where it stands, what was told, and what should have been
 abbrev pub told_text : List ℕ → List ℕ → Reply → Reading → Option HeldLeases → List ℕ
 told_text standing told wanted reading held =
     standing ++ (codes ": told " ++ (told ++ (codes "; should be \"" ++ (plain_text wanted
     ++ (codes "\"" ++ (reason_text wanted reading held ++ codes "\n"))))))
 
+-- it names the words that the line says were told
 abbrev pub IsOtherOf : List (List ℕ) → List Entry → ℕ → Reply → Option HeldLeases → Option Entry → List ℕ → Type 0
 IsOtherOf names entries index wanted held (Some entry) text =
-    (told : List ℕ) × text ≡ told_text (standing_at names entries index) told wanted (reading_in entry.line.call) held
+    (told : List ℕ) × AreQuoted entry.line.reply told
+    × (text ≡ told_text (standing_at names entries index) told wanted (reading_in entry.line.call) held)
 IsOtherOf names entries index wanted held None text = text ≡ []
 
 -- the lines for what was found

@@ -7,7 +7,7 @@ ghost use Rattle.call_log.specs.internals.Watching.{greater, greatest_after, lat
 use crate::entry::Entry;
 use cluster::Reading;
 
-/// A reading of a task's clock that an earlier one of the table's clock is by more than the skew ahead of.
+/// A reading of a task's clock, and the greatest earlier one of the table's clock, which is by more than the skew ahead of it.
 #[derive(Clone, Copy, Debug, PartialEq, Eq)]
 pub struct Late {
     /// The place of the task's call in the order of the tickets.

@@ -1,7 +1,7 @@
 //! What is written of a log.
 
 ghost use Rattle.std.specs.Prelude.{◌≡◌, IfOk, Some, map, slice_get, string_bytes};
-ghost use Rattle.call_log.specs.Reports.{IsOtherOf, IsReport, clocks_text, double_text, ended_text, name_text, reason_text, standing_at, ticket_of, told_text};
+ghost use Rattle.call_log.specs.Reports.{AreQuoted, IsOtherOf, IsReport, clocks_text, double_text, ended_text, name_text, reason_text, standing_at, ticket_of, told_text};
 
 use crate::entry::Entry;
 use crate::finding::{Finding, HeldLeases};
@@ -180,6 +180,13 @@ fn told_text(
     format!(in alloc; "{standing}: told {told}; should be \"{words}\"{reason}\n")
 }
 
+// Words in quotes.
+fn quoted(alloc: Global, words: &str) -> Result<String, AllocError>
+    ensures { IfOk result (λ text. AreQuoted words.now (string_bytes text)) }
+{
+    format!(in alloc; "{words:?}")
+}
+
 // The line for a call whose caller was told otherwise.
 fn other_text(
     alloc: Global,
@@ -195,7 +202,7 @@ fn other_text(
     let Some(entry) = log.entries.get(index) else {
         return Ok(String::new(alloc));
     };
-    let told = format!(in alloc; "{:?}", entry.line.reply.as_str())?;
+    let told = quoted(alloc, entry.line.reply.as_str())?;
     let reason = Reason {
         wanted,
         reading: entry.line.call.reading(),
