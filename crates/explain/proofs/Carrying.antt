@@ -13,7 +13,7 @@ use Rattle.lease_table.specs.Calls.{AnsweredTableCall, committed_in, standing_af
 use Rattle.slicelet.specs.declared.call.SliceletCall.{SliceletCall}
 use Rattle.slicelet.specs.declared.handle.KeyHandle.{KeyHandle}
 use Rattle.slicelet.specs.Rules.{covers_key}
-use Rattle.slicelet.specs.States.{SliceletState, state_after, greatest_in, rule_in_state, permits}
+use Rattle.slicelet.specs.States.{SliceletState, state_after, greatest_in, rule_in_state}
 use Rattle.cluster.specs.Numbers.{with_number}
 use Rattle.cluster.specs.Pasts.{Past as Calls, table_calls, standing, grants, history}
 use Rattle.world.specs.Jobs.{Job}
@@ -64,11 +64,6 @@ module _ (job : Job) (calls others : Calls) (same : AreAlike calls others) where
   )
   break_carried past handle asked (break.Between call step) is =
       (subst (λ (s : SliceletState). IsBreakingCall s handle asked.at call) (same_history asked.task) is.0, is.1)
-  break_carried past handle asked break.Unnamed is = (
-    is.0 ∙ ap (λ (s : SliceletState). s.life) (same_history asked.task),
-    sym (ap (λ (s : SliceletState). permits s asked.key asked.at) (same_history
-        asked.task)) ∙ is.1,
-  )
 
   made_same : (past : Past) (s : Step) → made_in calls past s ≡ made_in others past s
   made_same past (step.Free note at) = ap (λ (notes : List ReleaseNote). Some (length notes)) same.notes

@@ -12,3 +12,6 @@ pub mod Next
 pub mod Explained
 pub mod Lines
 pub mod Output
+pub mod Breaks
+pub mod Unbroken
+pub mod Causes

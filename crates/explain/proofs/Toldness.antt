@@ -17,6 +17,7 @@ use Rattle.lease_table.specs.Rows.{first_up_to}
 use Rattle.lease_table.specs.Tables.{Standing, generation_of, last_number}
 use Rattle.lease_table.specs.Steps.{commit_checks, held_up, is_holder, standing_at}
 use Rattle.lease_table.specs.Calls.{AnsweredTableCall, standing_after, grants_sent}
+use Rattle.lease_table.specs.Generations.{covers_by_owners}
 use Rattle.policy_rules.specs.declared.lease.Kind.{Kind}
 use Rattle.slicelet.specs.declared.call.SliceletCall.{SliceletCall}
 use Rattle.slicelet.specs.declared.call.SliceletCall.TheVariants.{Hear}
@@ -25,6 +26,7 @@ use Rattle.slicelet.specs.declared.error.SliceletError.{SliceletError}
 use Rattle.slicelet.specs.declared.error.SliceletError.TheVariants.{NotStarted, ClockBack, OtherTask, OtherLife, Old, TooLate, HistoryFull}
 use Rattle.slicelet.specs.declared.slicelet.TheConstants.{CALLS}
 use Rattle.slicelet.specs.declared.handle.KeyHandle.{KeyHandle}
+use Rattle.slicelet.specs.Continuity.{is_strange, IsContinuous}
 use Rattle.slicelet.specs.States.{SliceletState, state_after, greatest_in}
 use Rattle.slicelet.specs.Steps.{old_number, hear_checks, next_state}
 use Rattle.cluster.specs.declared.error.ClusterError.TheVariants as error
@@ -33,9 +35,9 @@ use Rattle.cluster.specs.declared.call.ClusterCall.TheVariants as call
 use Rattle.cluster.specs.declared.reply.ClusterReply.{ClusterReply}
 use Rattle.cluster.specs.declared.reply.ClusterReply.TheVariants as machine
 use Rattle.cluster.specs.Numbers.{with_number}
-use Rattle.cluster.specs.Pasts.{Past as Calls, standing, grants, history}
-use Rattle.cluster.specs.Deliveries.{handles_made, is_sent}
-use Rattle.cluster.specs.Replies.{unless, from_machine}
+use Rattle.cluster.specs.Pasts.{Past as Calls, standing, grants, history, task_calls}
+use Rattle.cluster.specs.Deliveries.{handles_made, is_given, is_sent}
+use Rattle.cluster.specs.Replies.{covers, check_reply, unless, from_machine}
 use Rattle.world.specs.Jobs.{Job}
 use Rattle.world.specs.declared.step.Step.{Step}
 use Rattle.world.specs.declared.step.Step.TheVariants as step
@@ -52,6 +54,7 @@ use Rattle.world.specs.Runs.{IsReply}
 use Rattle.explain.specs.declared.verdicts.Asked.{Asked}
 use Rattle.explain.specs.Verdicts.{asked_by}
 use Rattle.explain.specs.internals.Told.{IsRuled, IsOwn, IsOldNumber, IsOldNumberOf, IsTaskRefusal, IsHeldUp, IsTableRefusal, IsRefusal, IsBrokenOf, IsToldOf}
+use Rattle.world.proofs.Handles.{checked_by_history}
 use Rattle.explain.proofs.Still.{AreAlike, served, held, check_alike, refused_alike}
 
 -- THE REFUSAL OF A GRANT THAT IS OLD
@@ -278,24 +281,54 @@ module _ (job : Job) (past : Past) where
 
   -- HANDLES
 
+  continuous_alike : {calls others : Calls} (handle : KeyHandle) (task at : ℕ) → AreAlike calls others
+      → IsContinuous (covers calls handle.key) (task_calls task calls) handle at → IsContinuous (covers others handle.key) (task_calls task others) handle at
+  continuous_alike {calls} {others} handle task at same k =
+      subst (λ (t : List AnsweredTableCall). IsContinuous (covers_by_owners t handle.key) (task_calls task others) handle at) same.table
+      (subst (λ (h : List SliceletCall). IsContinuous (covers calls handle.key) h handle at) (same.tasks task) k)
+
+  given_if : (s : Step) (next : NextNumbers) (b given strange kept : Bool)
+      → reply.Broken ≡ told_as s next (if b then check_reply given strange kept else machine.Refused error.NoActor) → strange ≡ false
+  given_if s next true true false kept e = refl
+  given_if s next true true true kept e = absurd (cc)
+  given_if s next true false strange kept e = absurd (cc)
+  given_if s next false given strange kept e = absurd (cc)
+
   check_sent : (task number at : ℕ) (kept own : Bool) (o : Option KeyHandle)
       → reply.Broken ≡ reply_by_call job before (step.Check task number at) kept (if own then if_sent o (λ handle. call.Check task handle at) else Err
       refusal.NoActor)
-      → (own ≡ true) × ((handle : KeyHandle) × (o ≡ Some handle))
+      → (own ≡ true) × ((handle : KeyHandle) × (o ≡ Some handle) × (is_strange (history task before) handle ≡ false))
   check_sent task number at kept false o e = absurd (cc)
   check_sent task number at kept true None e = absurd (cc)
-  check_sent task number at kept true (Some handle) e = (refl, (handle, refl))
+  check_sent task number at kept true (Some handle) e = (
+    refl,
+    (
+      handle,
+      refl,
+      given_if (step.Check task number at) (next_numbers before) (is_within task job.tasks) (is_given before handle) (is_strange (history task before) handle)
+          kept e,
+    ),
+  )
 
   broken_told : (s : Step) → IsReply job past (event s reply.Broken) → IsBrokenOf job (calls_in job (event s reply.Broken ∷ past)) s
   broken_told (step.Check task number at) answered =
       let same = check_alike job past task number at in
-      let found : (is_within task job.tasks ≡ true) × ((handle : KeyHandle) × (with_number number (reverse (handles_made before)) ≡ Some handle)) = elim
+      let found : (is_within task job.tasks ≡ true)
+      × ((handle : KeyHandle) × (with_number number (reverse (handles_made before)) ≡ Some handle) × (is_strange (history task before) handle ≡ false)) = elim
       answered [
         | inl given ↦ check_sent task number at (is_continuous_in given.0) (is_within task job.tasks) (with_number number (reverse (handles_made before)))
             given.2
         | inr none ↦ absurd (let f : reply.Broken ≡ reply.NoMemory = none.0 in cc)
       ] in
-      (found.0, (found.1.0, ap (λ (handles : List KeyHandle). with_number number (reverse handles)) same.handles ∙ found.1.1))
+      let handle = found.1.0 in
+      let broken = (checked_by_history job past task number at handle reply.Broken answered found.0 found.1.1 found.1.2).broken.0 refl in
+      record {
+        own = found.0;
+        handle = handle;
+        made = ap (λ (handles : List KeyHandle). with_number number (reverse handles)) same.handles ∙ found.1.1;
+        given = ap (λ (h : List SliceletCall). is_strange (state_after task h) handle) (same.tasks task) ∙ found.1.2;
+        broken = λ k. broken (continuous_alike handle task at same k);
+      }
   broken_told _ answered = tt
 
   -- what a reply says after its step

@@ -1,7 +1,7 @@
 -- Which call since a handle was taken took its key away.
 use Rattle.std.specs.Prelude.{◌≡◌, ℕ, ◌+◌, ◌<◌, ◌==◌, ◌&&◌, Bool, true, false, [], ◌∷◌, length, Option, Some, None, Ok, if◌then◌else◌}
 use Rattle.slicelet.specs.declared.handle.KeyHandle.{KeyHandle}
-use Rattle.slicelet.specs.States.{SliceletState}
+use Rattle.slicelet.specs.States.{SliceletState, permits}
 use Rattle.slicelet.specs.Continuity.{checked_in}
 use Rattle.world.specs.declared.step.Step.{Step}
 use Rattle.world.specs.declared.step.Step.TheVariants as step
@@ -19,6 +19,16 @@ pub record IsBreakingCall (s : SliceletState) (handle : KeyHandle) (at call : �
   pub just_before : before + 1 ≡ call
   pub broken_before : checked_in s (taken_after before handle) at ≡ Ok false
   pub continuous_after : checked_in s (taken_after call handle) at ≡ Ok true
+
+-- no call took the key of a handle away
+abbrev pub HasNoBreakingCall : SliceletState → KeyHandle → ℕ → Type 0
+HasNoBreakingCall s handle at = (call : ℕ) → IsBreakingCall s handle at call → ⊥
+
+-- none of what breaks a handle is so: it is of the task's life, the rule allows its key at the reading, and no call took the key away
+pub record HasNoCause (s : SliceletState) (handle : KeyHandle) (at : ℕ) : Type 0 where
+  pub of_life : handle.life ≡ s.life
+  pub allowed : permits s handle.key at ≡ true
+  pub kept : HasNoBreakingCall s handle at
 
 -- a step that a task counts, where it accepts it
 abbrev pub is_call : ℕ → Step → Bool

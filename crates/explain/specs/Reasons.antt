@@ -14,7 +14,7 @@ use Rattle.lease_table.specs.Tables.{Standing, generation_of}
 use Rattle.lease_table.specs.Calls.{committed_in}
 use Rattle.slicelet.specs.declared.handle.KeyHandle.{KeyHandle}
 use Rattle.slicelet.specs.Rules.{covers_key}
-use Rattle.slicelet.specs.States.{greatest_in, rule_in_state, permits}
+use Rattle.slicelet.specs.States.{greatest_in, rule_in_state}
 use Rattle.clerk.specs.declared.error.ClerkError.TheVariants as clerk
 use Rattle.cluster.specs.Numbers.{with_number}
 use Rattle.cluster.specs.Pasts.{Past as Calls, table_calls, standing, grants, history}
@@ -99,7 +99,7 @@ made_in calls past _ = None
 
 -- OF HANDLES
 
--- why a task finds a handle broken at a reading: the task is in another life; the rule denies the key; a call since took the key away; or the rule allows it
+-- why a task finds a handle broken at a reading: the task is in another life; the rule denies the key; or a call since took the key away
 abbrev pub IsBreak : Calls → Past → KeyHandle → Asked → Break → Type 0
 IsBreak calls past handle asked (break.OtherLife life) = (life ≡ (history asked.task calls).life) × (handle.life ≢ life)
 IsBreak calls past handle asked (break.Denied denial w) =
@@ -107,8 +107,6 @@ IsBreak calls past handle asked (break.Denied denial w) =
     × IsVerdictReason calls asked (Deny denial) w × (w.heard_in ≡ lease_heard_in asked.task past w.lease)
 IsBreak calls past handle asked (break.Between call step) =
     IsBreakingCall (history asked.task calls) handle asked.at call × (step ≡ call_place asked.task call past)
-IsBreak calls past handle asked break.Unnamed =
-    (handle.life ≡ (history asked.task calls).life) × (permits (history asked.task calls) asked.key asked.at ≡ true)
 
 pub record IsOfBroken (calls : Calls) (past : Past) (s : Step) (b : Break) : Type 0 where
   pub task : ℕ

@@ -1,18 +1,19 @@
 //! Why a handle is broken.
 
-ghost use Rattle.std.specs.Prelude.{◌≡◌, ℕ, false, None, length, IfSome};
+ghost use Rattle.std.specs.Prelude.{◌≡◌, ℕ, false, None, length, MatchOption};
 ghost use Rattle.cluster.specs.Jobs.{Job};
 ghost use Rattle.cluster.specs.Pasts.{Past as Calls, history};
 ghost use Rattle.cluster.specs.Clusters.{LeadsTo};
 ghost use Rattle.world.specs.declared.reply.Reply.TheVariants as reply;
 ghost use Rattle.explain.specs.declared.reason.Break.TheVariants as break;
-ghost use Rattle.explain.specs.Breaking.{call_place, IsBreakingCall};
+ghost use Rattle.explain.specs.Breaking.{call_place, HasNoBreakingCall, HasNoCause, IsBreakingCall};
 ghost use Rattle.explain.specs.Hearing.{past_of};
 ghost use Rattle.explain.specs.Reasons.{is_check, IsBreak, IsReasonOrNone};
 ghost use Rattle.explain.specs.internals.Told.{IsBrokenOf};
 
 use crate::calls::call_place;
 use crate::heard::Told;
+use crate::laws::unbroken_law;
 use crate::reason::{Break, Reason};
 use crate::verdicts::{Asked, verdict_reason};
 use cluster::Cluster;
@@ -21,20 +22,22 @@ use slicelet::{KeyHandle, Slicelet};
 use world::Step;
 
 // The last call since a handle was taken that found its key denied just before it or just after it, by its number
-// among those that the task accepted; none where the handle is not broken by one.
+// among those that the task accepted; none where no call did so.
 fn breaking_call(slicelet: &Slicelet, handle: &KeyHandle, at: u64) -> Option<u64>
-    ensures { IfSome result (IsBreakingCall slicelet.now handle.now at) }
+    ensures { MatchOption result (HasNoBreakingCall slicelet.now handle.now at)
+        (IsBreakingCall slicelet.now handle.now at) }
 {
     if !matches!(slicelet.continuous(handle, at), Ok(false)) {
         return None;
     }
-    for before in handle.position..u64::MAX {
+    let Ok(taken_now) = slicelet.hold(handle.key, at) else {
+        return None;
+    };
+    for before in handle.position..taken_now.position {
         let call = before + 1;
         let later = KeyHandle::new(handle.task, handle.life, handle.key, call);
-        match slicelet.continuous(&later, at) {
-            Ok(true) => return Some(call),
-            Ok(false) => {}
-            Err(_) => return None,
+        if matches!(slicelet.continuous(&later, at), Ok(true)) {
+            return Some(call);
         }
     }
     None
@@ -48,8 +51,8 @@ fn break_by_call(
     asked: &Asked,
 ) -> Option<Break>
     requires { length before.told.now ≡ length before.steps.now }
-    ensures { IfSome result (λ broken. (call : ℕ) × IsBreakingCall slicelet.now handle.now asked.now.at call
-        × (broken ≡ break.Between call
+    ensures { MatchOption result (HasNoBreakingCall slicelet.now handle.now asked.now.at)
+        (λ broken. (call : ℕ) × IsBreakingCall slicelet.now handle.now asked.now.at call × (broken ≡ break.Between call
         (call_place asked.now.task call (past_of before.entry.steps.now before.entry.told.now)))) }
 {
     let call = breaking_call(slicelet, handle, asked.at)?;
@@ -57,30 +60,29 @@ fn break_by_call(
     Some(Break::Between { call, step })
 }
 
-// Why a task finds a handle broken at a reading.
+// Why a task finds a handle broken at a reading; none where it has no cause.
 fn break_of(
     cluster: &Cluster,
     before: Told<'_>,
     slicelet: &Slicelet,
     handle: &KeyHandle,
     asked: &Asked,
-) -> Break
-    requires { length before.told.now ≡ length before.steps.now }
+) -> Option<Break>
+    requires told { length before.told.now ≡ length before.steps.now }
+    requires asks { asked.now.key ≡ handle.now.key }
     ensures { (job : Job) (calls : Calls) → LeadsTo job calls cluster.now → slicelet.now ≡ history asked.now.task calls
-        → IsBreak calls (past_of before.entry.steps.now before.entry.told.now) handle.now asked.now result }
+        → MatchOption result (HasNoCause (history asked.now.task calls) handle.now asked.now.at)
+        (IsBreak calls (past_of before.entry.steps.now before.entry.told.now) handle.now asked.now) }
 {
     if handle.life != slicelet.life() {
-        return Break::OtherLife(slicelet.life());
+        return Some(Break::OtherLife(slicelet.life()));
     }
     match slicelet.serve(asked.key, asked.at) {
-        Verdict::Deny(denial) => Break::Denied {
+        Verdict::Deny(denial) => Some(Break::Denied {
             denial,
             reason: verdict_reason(cluster, before, slicelet, asked, Verdict::Deny(denial)),
-        },
-        Verdict::Allow { .. } => match break_by_call(before, slicelet, handle, asked) {
-            Some(broken) => broken,
-            None => Break::Unnamed,
-        },
+        }),
+        Verdict::Allow { .. } => break_by_call(before, slicelet, handle, asked),
     }
 }
 
@@ -106,6 +108,12 @@ pub fn broken_reason(cluster: &Cluster, before: Told<'_>, step: &Step) -> Option
         key: handle.key,
         at: *at,
     };
-    let broken = break_of(cluster, before, slicelet, handle, &asked);
+    let _number = asked.key.value();
+    cluster.run_law();
+    cluster::told_law();
+    cluster::covers_law();
+    slicelet::agreement_law();
+    unbroken_law();
+    let broken = break_of(cluster, before, slicelet, handle, &asked)?;
     Some(Reason::Broken(broken))
 }

@@ -5,6 +5,7 @@ mod broken;
 mod calls;
 mod explanation;
 mod heard;
+mod laws;
 mod lease;
 mod reason;
 mod refusals;
@@ -14,6 +15,7 @@ mod untimely;
 mod verdicts;
 
 pub use explanation::{Explanation, explanations_of};
+pub use laws::unbroken_law;
 pub use reason::{Break, Reason, TaskLease, VerdictReason};
 pub use sentence::sentence_of;
 pub use text::explained_text;

@@ -50,8 +50,6 @@ pub enum Break {
         /// The element of the script that the step is.
         step: Option<usize>,
     },
-    /// The task is in the life of the handle and may serve the key, but did not hold it all the time.
-    Unnamed,
 }
 
 /// Why a reply is what it is.

@@ -202,7 +202,7 @@ fn break_words(alloc: Global, step: &Step, why: &Break) -> Result<String, AllocE
         } => format!(in alloc;
             "step {place} found the key denied, just before it or just after it"
         ),
-        Break::Between { step: None, .. } | Break::Unnamed => {
+        Break::Between { step: None, .. } => {
             String::from_str(alloc, "the key was not held all the time")
         }
     }

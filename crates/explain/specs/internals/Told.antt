@@ -10,12 +10,13 @@ use Rattle.lease_table.specs.Tables.{Standing}
 use Rattle.slicelet.specs.declared.handle.KeyHandle.{KeyHandle}
 use Rattle.slicelet.specs.declared.error.SliceletError.{SliceletError}
 use Rattle.slicelet.specs.declared.error.SliceletError.TheVariants.{Old}
+use Rattle.slicelet.specs.Continuity.{is_strange, IsContinuous}
 use Rattle.slicelet.specs.States.{greatest_in}
 use Rattle.cluster.specs.Jobs.{Job}
 use Rattle.cluster.specs.Numbers.{with_number}
-use Rattle.cluster.specs.Pasts.{Past as Calls, standing, grants, history}
+use Rattle.cluster.specs.Pasts.{Past as Calls, standing, grants, history, task_calls}
 use Rattle.cluster.specs.Deliveries.{handles_made}
-use Rattle.cluster.specs.Replies.{rule_in}
+use Rattle.cluster.specs.Replies.{covers, rule_in}
 use Rattle.world.specs.declared.step.Step.{Step}
 use Rattle.world.specs.declared.step.Step.TheVariants.{Hear, Check, Commit}
 use Rattle.world.specs.declared.reply.Reply.{Reply}
@@ -68,10 +69,16 @@ IsRefusal job calls s (refusal.Slicelet error) = IsTaskRefusal job calls s error
 IsRefusal job calls s (refusal.Table error) = IsTableRefusal (standing job.policy calls) s error
 IsRefusal job calls s _ = ⊤
 
--- a task of the job checks a handle that was made
+-- a task of the job checks a handle that was made, that it can have given, and that is not continuous
+pub record IsFoundBroken (job : Job) (calls : Calls) (task number at : ℕ) : Type 0 where
+  pub own : is_within task job.tasks ≡ true
+  pub handle : KeyHandle
+  pub made : with_number number (reverse (handles_made calls)) ≡ Some handle
+  pub given : is_strange (history task calls) handle ≡ false
+  pub broken : IsContinuous (covers calls handle.key) (task_calls task calls) handle at → ⊥
+
 abbrev pub IsBrokenOf : Job → Calls → Step → Type 0
-IsBrokenOf job calls (Check task number at) =
-    (is_within task job.tasks ≡ true) × ((handle : KeyHandle) × (with_number number (reverse (handles_made calls)) ≡ Some handle))
+IsBrokenOf job calls (Check task number at) = IsFoundBroken job calls task number at
 IsBrokenOf job calls _ = ⊤
 
 -- what a reply that has a reason says
