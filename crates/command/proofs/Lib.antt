@@ -1,3 +1,4 @@
 pub mod Numbering
 pub mod Outputs
 pub mod Ending
+pub mod Logs

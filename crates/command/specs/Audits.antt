@@ -1,9 +1,15 @@
 -- What `hourstable audit` writes, and the status that it exits with.
-use Rattle.std.specs.Prelude.{◌≡◌, ℕ, Bool, List, take, Option, Result, Ok, Err, ⊤, if◌then◌else◌}
+use Rattle.std.specs.Prelude.{◌≡◌, ◌≢◌, ℕ, Bool, List, [], ◌∷◌, map, take, codes, Option, Result, Ok, Err, ⊤, if◌then◌else◌}
+use Rattle.std.specs.Option.{option_map_or}
 use Rattle.std.specs.Io.KnownBytes.{Appends, Keeps}
+use Rattle.clap.specs.Words.{found_of, matched_of, raw_values}
+use Rattle.clap.specs.declared.parser.matches.ArgMatches.{ArgMatches}
+use Rattle.program_io.specs.Streams.{ReadsAll}
 use Rattle.call_log.specs.Audits.{IsAudited}
 use Rattle.call_log.specs.Files.{IsUnread, lines_from}
 use Rattle.call_log.specs.declared.log.LogError.{LogError}
+use Rattle.command.specs.declared.arguments.Asked.{Asked}
+use Rattle.command.specs.declared.arguments.Asked.TheVariants as asked
 use Rattle.command.specs.declared.log_audit.AuditError.{AuditError}
 use Rattle.command.specs.declared.log_audit.AuditError.TheVariants as audit
 
@@ -17,29 +23,26 @@ status_of _ = 3
 abbrev pub status_for : Bool → ℕ
 status_for one = if one then 0 else 1
 
--- the report on logs of these names was written
-pub record IsJudged (one : Bool) (held holds : Option (List ℕ)) : Type 0 where
-  pub names : List (List ℕ)
-  pub files : List (List ℕ)
-  pub text : List ℕ
-  pub audited : IsAudited names files one text
-  pub written : Appends held holds text
+-- the words that the command line gives for LOG
+abbrev pub logs_given : ArgMatches → List (List ℕ)
+logs_given matches = option_map_or raw_values (matched_of (found_of matches) (codes "LOG")) []
 
--- a first part of the report was written
-pub record IsCutReport (held holds : Option (List ℕ)) : Type 0 where
-  pub names : List (List ℕ)
-  pub files : List (List ℕ)
-  pub one : Bool
-  pub text : List ℕ
-  pub audited : IsAudited names files one text
-  pub len : ℕ
-  pub written : Appends held holds (take len text)
+-- an audit of the logs of these names is asked for
+abbrev pub AsksAudit : List (List ℕ) → Asked → Type 0
+AsksAudit given (asked.Audit names progress) = map (λ n. n.now) names.items ≡ given
+AsksAudit given (asked.Answer request) = ⊥
 
--- the logs say no calls, for this reason, and nothing was written
-pub record IsRefused (why : LogError) (held holds : Option (List ℕ)) : Type 0 where
-  pub files : List (List ℕ)
-  pub unread : IsUnread (lines_from 0 files) why
-  pub kept : Keeps held holds
+-- the log of this name has these bytes: `-` is all that the input had left, and another one takes nothing of the input
+pub record IsLogRead (name : List ℕ) (before after : Option (List ℕ)) (bytes : List ℕ) : Type 0 where
+  pub input : name ≡ codes "-" → ReadsAll before after bytes
+  pub other : name ≢ codes "-" → after ≡ before
+
+-- the logs of these names have these bytes, read one after another
+abbrev pub AreLogsRead : (names : List (List ℕ)) → (before after : Option (List ℕ)) → (files : List (List ℕ)) → Type 0
+AreLogsRead [] before after [] = after ≡ before
+AreLogsRead (name ∷ names) before after (bytes ∷ files) =
+    (between : Option (List ℕ)) × IsLogRead name before between bytes × AreLogsRead names between after files
+AreLogsRead _ before after _ = ⊥
 
 -- a log was not read: no log was refused, and nothing was to be written
 abbrev pub IsNotRead : AuditError → Type 0
@@ -53,16 +56,42 @@ IsNotAudited files (audit.Refused why) = IsUnread (lines_from 0 files) why
 IsNotAudited files audit.Memory = ⊤
 IsNotAudited files _ = ⊥
 
--- what was written where logs are not judged
-abbrev pub IsUnjudged : AuditError → (held holds : Option (List ℕ)) → Type 0
-IsUnjudged (audit.Refused why) held holds = IsRefused why held holds
-IsUnjudged audit.Write held holds = IsCutReport held holds
-IsUnjudged _ held holds = Keeps held holds
+module _ (names : List (List ℕ)) (before after held holds : Option (List ℕ)) where
+  -- the logs of these names were read, and the report on them all was written
+  pub record IsJudged (one : Bool) : Type 0 where
+    pub files : List (List ℕ)
+    pub read : AreLogsRead names before after files
+    pub text : List ℕ
+    pub audited : IsAudited names files one text
+    pub written : Appends held holds text
 
--- what was written by an audit, and the status that it exits with
-abbrev pub HasAnswer : Result Bool AuditError → (held holds : Option (List ℕ)) → ℕ → Type 0
-HasAnswer (Ok one) held holds code = IsJudged one held holds × (code ≡ status_for one)
-HasAnswer (Err why) held holds code = IsUnjudged why held holds × (code ≡ status_of why)
+  -- they were read, and a first part of the report was written
+  pub record IsCutReport : Type 0 where
+    pub files : List (List ℕ)
+    pub read : AreLogsRead names before after files
+    pub one : Bool
+    pub text : List ℕ
+    pub audited : IsAudited names files one text
+    pub len : ℕ
+    pub written : Appends held holds (take len text)
 
-abbrev pub IsAuditEnd : (held holds : Option (List ℕ)) → ℕ → Type 0
-IsAuditEnd held holds code = (answer : Result Bool AuditError) × HasAnswer answer held holds code
+  -- they were read and say no calls, for this reason, and nothing was written
+  pub record IsRefused (why : LogError) : Type 0 where
+    pub files : List (List ℕ)
+    pub read : AreLogsRead names before after files
+    pub unread : IsUnread (lines_from 0 files) why
+    pub kept : Keeps held holds
+
+  -- what was read and written where they are not judged
+  abbrev pub IsUnjudged : AuditError → Type 0
+  IsUnjudged (audit.Refused why) = IsRefused why
+  IsUnjudged audit.Write = IsCutReport
+  IsUnjudged _ = Keeps held holds
+
+  -- what was read and written by an audit, and the status that it exits with
+  abbrev pub HasAnswer : Result Bool AuditError → ℕ → Type 0
+  HasAnswer (Ok one) code = IsJudged one × (code ≡ status_for one)
+  HasAnswer (Err why) code = IsUnjudged why × (code ≡ status_of why)
+
+  abbrev pub IsAuditEnd : ℕ → Type 0
+  IsAuditEnd code = (answer : Result Bool AuditError) × HasAnswer answer code

@@ -1,6 +1,8 @@
 -- How the command ends, and the status that it exits with.
-use Rattle.std.specs.Prelude.{◌≡◌, ◌⊎◌, ℕ, List, Option, Result, Ok, Err, ⊤}
+use Rattle.std.specs.Prelude.{◌≡◌, ◌⊎◌, ℕ, List, map, Option, Result, Ok, Err, ⊤}
 use Rattle.std.specs.Io.KnownBytes.{Appends, Keeps}
+use Rattle.command.specs.declared.arguments.Asked.{Asked}
+use Rattle.command.specs.declared.arguments.Asked.TheVariants as asked
 use Rattle.command.specs.declared.arguments.Request.{Request}
 use Rattle.command.specs.declared.arguments.Subcommand.{Subcommand}
 use Rattle.command.specs.declared.arguments.Subcommand.TheVariants as command
@@ -64,8 +66,14 @@ abbrev pub EndsBy : Request → (before after held holds : Option (List ℕ)) �
 EndsBy request before after held holds code =
     EndsWithInput request before after held holds code ⊎ (Keeps before after × IsWithoutInput held holds code)
 
--- how the command ends: it answers one input, audits logs, or reads nothing
+-- how the command ends, for what was asked: a request, or an audit of the logs of these names, all of them
+abbrev pub EndsFor : Asked → (before after held holds : Option (List ℕ)) → ℕ → Type 0
+EndsFor (asked.Answer request) before after held holds code = EndsBy request before after held holds code
+EndsFor (asked.Audit names progress) before after held holds code = IsAuditEnd (map (λ n. n.now) names.items) before after held holds code
+
+-- how the command ends: it answers one input, audits logs of some names, or reads nothing
 abbrev pub Ends : (before after held holds : Option (List ℕ)) → ℕ → Type 0
 Ends before after held holds code =
-    ((request : Request) × EndsWithInput request before after held holds code) ⊎ IsAuditEnd held holds code
+    ((request : Request) × EndsWithInput request before after held holds code)
+    ⊎ ((names : List (List ℕ)) × IsAuditEnd names before after held holds code)
     ⊎ (Keeps before after × IsWithoutInput held holds code)

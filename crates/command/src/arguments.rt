@@ -1,5 +1,8 @@
 //! The arguments of the command.
 
+ghost use Rattle.std.specs.Prelude.{IfOk};
+ghost use Rattle.command.specs.Audits.{AsksAudit, logs_given};
+
 use clap::{Arg, ArgAction, ArgMatches, Command, Error};
 use session::ReplyForm;
 use std::alloc::{AllocError, Global};
@@ -181,13 +184,12 @@ fn session_request<'a>(matches: &ArgMatches<'a>) -> Asked<'a> {
     })
 }
 
-fn audited<'a>(alloc: Global, matches: &ArgMatches<'a>) -> Result<Asked<'a>, AllocError> {
-    let mut names = Vec::new(alloc);
-    if let Some(given) = matches.get_strs("LOG") {
-        for name in given {
-            names.push(*name)?;
-        }
-    }
+// All logs that were given are to be audited, in their order.
+fn audited<'a>(alloc: Global, matches: &ArgMatches<'a>) -> Result<Asked<'a>, AllocError>
+    ensures { IfOk result (AsksAudit (logs_given matches.now)) }
+{
+    let given = matches.get_strs("LOG").unwrap_or(&[]);
+    let names = Vec::from_slice(alloc, given)?;
     let progress = matches.get_flag("progress");
     Ok(Asked::Audit { names, progress })
 }

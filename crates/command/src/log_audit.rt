@@ -2,8 +2,9 @@
 
 ghost use Rattle.std.specs.Prelude.{◌≡◌, IfErr, IfOk, map, string_bytes};
 ghost use Rattle.call_log.specs.Audits.{IsAudited};
+ghost use Rattle.program_io.specs.Streams.{ReadsAll};
 ghost use Rattle.command.specs.declared.log_audit.AuditError.TheVariants as fault;
-ghost use Rattle.command.specs.Audits.{IsJudged, IsNotAudited, IsNotRead, IsUnjudged, status_of};
+ghost use Rattle.command.specs.Audits.{AreLogsRead, IsJudged, IsLogRead, IsNotAudited, IsNotRead, IsUnjudged, status_of};
 
 use call_log::{LogError, LogReport, Place, Progress, audit_logs};
 use program_io::{ReadError, WriteError, read_all, write_all};
@@ -106,7 +107,9 @@ fn read_named<'a, R: Read>(
     name: &'a str,
     reader: &mut R,
 ) -> Result<Vec<u8>, AuditError<'a>>
-    ensures { IfErr result IsNotRead }
+    ensures ok { IfOk result (λ bytes.
+        ReadsAll (R.remaining reader.old) (R.remaining reader.new) bytes.items) }
+    ensures err { IfErr result IsNotRead }
 {
     match read_all(alloc, reader) {
         Ok(bytes) => Ok(bytes),
@@ -121,7 +124,9 @@ fn log_bytes<'a, R: Read>(
     name: &'a str,
     input: &mut R,
 ) -> Result<Vec<u8>, AuditError<'a>>
-    ensures { IfErr result IsNotRead }
+    ensures ok { IfOk result (λ bytes.
+        IsLogRead name.now (R.remaining input.old) (R.remaining input.new) bytes.items) }
+    ensures err { IfErr result IsNotRead }
 {
     if name == "-" {
         return read_named(rt.alloc(), name, input);
@@ -132,13 +137,15 @@ fn log_bytes<'a, R: Read>(
     }
 }
 
-// The bytes of the logs of these names.
+// The bytes of the logs of these names, in their order.
 fn contents_of<'a, R: Read>(
     rt: &(impl Files + AllocGlobal),
     names: &[&'a str],
     input: &mut R,
 ) -> Result<Vec<Vec<u8>>, AuditError<'a>>
-    ensures { IfErr result IsNotRead }
+    ensures ok { IfOk result (λ contents. AreLogsRead (map (λ n. n.now) names.now)
+        (R.remaining input.old) (R.remaining input.new) (map (λ v. v.items) contents.items)) }
+    ensures err { IfErr result IsNotRead }
 {
     let mut contents = Vec::new(rt.alloc());
     for name in names {
@@ -148,7 +155,9 @@ fn contents_of<'a, R: Read>(
 }
 
 // The same bytes, lent.
-fn slices_of(alloc: Global, contents: &[Vec<u8>]) -> Result<Vec<&[u8]>, AllocError> {
+fn slices_of(alloc: Global, contents: &[Vec<u8>]) -> Result<Vec<&[u8]>, AllocError>
+    ensures { IfOk result (λ files. map (λ f. f.now) files.items ≡ map (λ v. v.items) contents.now) }
+{
     let mut files: Vec<&[u8]> = Vec::new(alloc);
     for bytes in contents {
         files.push(bytes.as_slice())?;
@@ -178,7 +187,8 @@ fn report_on<'a, E: Write>(
     }
 }
 
-/// Reads logs to their ends, and writes what is found of their calls. Gives whether they are one run.
+/// Reads the logs of these names to their ends, in their order, and writes what is found of the calls of all of
+/// them. Gives whether they are one run. Each `-` stands for what the input still has.
 ///
 /// Nothing is written to `output` before all logs were read and judged.
 pub fn audit_named<'a, R: Read, W: Write, E: Write>(
@@ -188,8 +198,10 @@ pub fn audit_named<'a, R: Read, W: Write, E: Write>(
     output: &mut W,
     errors: &mut E,
 ) -> Result<bool, AuditError<'a>>
-    ensures ok { IfOk result (λ one. IsJudged one (W.contents output.old) (W.contents output.new)) }
-    ensures err { IfErr result (λ error. IsUnjudged error (W.contents output.old) (W.contents output.new)) }
+    ensures ok { IfOk result (IsJudged (map (λ n. n.now) audit.entry.names.now)
+        (R.remaining input.old) (R.remaining input.new) (W.contents output.old) (W.contents output.new)) }
+    ensures err { IfErr result (IsUnjudged (map (λ n. n.now) audit.entry.names.now)
+        (R.remaining input.old) (R.remaining input.new) (W.contents output.old) (W.contents output.new)) }
 {
     let contents = contents_of(rt, audit.names, input)?;
     let files = slices_of(rt.alloc(), contents.as_slice())?;

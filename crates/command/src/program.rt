@@ -1,10 +1,10 @@
 //! The program.
 
-ghost use Rattle.std.specs.Prelude.{◌≡◌, ℕ, List, Option};
+ghost use Rattle.std.specs.Prelude.{◌≡◌, ℕ, List, Option, map};
 ghost use Rattle.std.specs.Process.{exit_status};
 ghost use Rattle.diagnosis.specs.Errors.{status_after};
 ghost use Rattle.command.specs.Audits.{IsAuditEnd};
-ghost use Rattle.command.specs.Endings.{Ends, EndsBy, IsOutcome, IsWithoutInput};
+ghost use Rattle.command.specs.Endings.{Ends, EndsBy, EndsFor, IsOutcome, IsWithoutInput};
 
 use crate::arguments::{Asked, Request, Source, Subcommand, parse_words};
 use crate::log_audit::{Audit, audit_named, say_error};
@@ -127,7 +127,7 @@ fn run<R: BufRead, W: Write, E: Write>(
     }
 }
 
-// Audits logs, and says why they are not judged where they are not.
+// Audits the logs of these names, all of them, and says why they are not judged where they are not.
 fn judge_logs<R: Read, W: Write, E: Write>(
     rt: &(impl Files + AllocGlobal),
     audit: Audit<'_, '_>,
@@ -135,7 +135,8 @@ fn judge_logs<R: Read, W: Write, E: Write>(
     output: &mut W,
     errors: &mut E,
 ) -> u8
-    ensures { IsAuditEnd (W.contents output.old) (W.contents output.new) result }
+    ensures { IsAuditEnd (map (λ n. n.now) audit.entry.names.now) (R.remaining input.old) (R.remaining input.new)
+        (W.contents output.old) (W.contents output.new) result }
 {
     match audit_named(rt, audit, input, output, errors) {
         Ok(true) => DONE,
@@ -143,6 +144,27 @@ fn judge_logs<R: Read, W: Write, E: Write>(
         Err(error) => {
             say_error(errors, audit.names, &error);
             error.status()
+        }
+    }
+}
+
+// Does what is asked for.
+fn do_asked<R: BufRead, W: Write, E: Write>(
+    rt: &(impl Files + AllocGlobal),
+    asked: Asked<'_>,
+    input: &mut R,
+    output: &mut W,
+    errors: &mut E,
+) -> u8
+    ensures { EndsFor asked.entry (R.remaining input.old) (R.remaining input.new)
+        (W.contents output.old) (W.contents output.new) result }
+{
+    match asked {
+        Asked::Answer(request) => run(rt, request, input, output, errors),
+        Asked::Audit { names, progress } => {
+            let names = names.as_slice();
+            let audit = Audit { names, progress };
+            judge_logs(rt, audit, input, output, errors)
         }
     }
 }
@@ -188,12 +210,7 @@ pub fn do_words<R: BufRead, W: Write, E: Write>(
         (W.contents output.old) (W.contents output.new) result }
 {
     match parse_words(rt.alloc(), words) {
-        Ok(Asked::Answer(request)) => run(rt, request, input, output, errors),
-        Ok(Asked::Audit { names, progress }) => {
-            let names = names.as_slice();
-            let audit = Audit { names, progress };
-            judge_logs(rt, audit, input, output, errors)
-        }
+        Ok(asked) => do_asked(rt, asked, input, output, errors),
         Err(error) => tell(rt.alloc(), &error, output, errors),
     }
 }
