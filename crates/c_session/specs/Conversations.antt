@@ -20,9 +20,13 @@ pub record IsBegun (form : ReplyForm) (line : List ℕ) (c : Conversation) : Typ
 abbrev pub IsNotBegun : List ℕ → Answer → Type 0
 IsNotBegun line why = ((why ≡ NoJob) × (IsNoJson line ⊎ HasNoJob line ⊎ HasBadJob line)) ⊎ (why ≡ NoMemory)
 
--- the line was answered after those before it, whether or not there was room for the line of its reply;
--- or memory ran out, and nothing is written
+-- the line was answered after those before it, in the job and the form of the session
+pub record IsTurnedOn (line : List ℕ) (old new : Conversation) : Type 0 where
+  pub turned : IsTurned line old.session new.session (string_bytes new.line)
+  pub job : new.session.job ≡ old.session.job
+  pub form : new.session.form ≡ old.session.form
+
+-- it was, whether or not there was room for the line of its reply; or memory ran out, and nothing is written
 abbrev pub IsContinued : List ℕ → Conversation → Conversation → Output ℕ → Output ℕ → Answer → Type 0
 IsContinued line old new was now answer =
-    (IsTurned line old.session new.session (string_bytes new.line) × IsGivenWhole (string_bytes new.line) was now answer) ⊎
-    ((answer ≡ NoMemory) × (now ≡ was))
+    (IsTurnedOn line old new × IsGivenWhole (string_bytes new.line) was now answer) ⊎ ((answer ≡ NoMemory) × (now ≡ was))

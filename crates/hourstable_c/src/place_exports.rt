@@ -1,13 +1,13 @@
 //! Keys, places, and what is taken out of them.
 
-ghost use Rattle.std.specs.Prelude.{◌≡◌};
+ghost use Rattle.std.specs.Prelude.{◌≡◌, IfOk};
 ghost use Rattle.slice_ranges.specs.Hash.{slice_key};
-ghost use Rattle.hourstable_c.specs.Opened.{IsClosed};
+ghost use Rattle.hourstable_c.specs.Opened.{IsClosed, IsHandedOut, IsMade};
 
 use c_numbers::Answer;
 use c_place::{Held, Place};
 use slice_ranges::slice_key;
-use std::alloc::Global;
+use std::alloc::{AllocError, Global};
 
 /// The slice key of a key.
 #[unsafe(no_mangle)]
@@ -19,10 +19,31 @@ pub extern "C" fn hs_slice_key(key: &[u8]) -> u64
 
 /// Makes a place with nothing in it, and writes its address.
 #[unsafe(no_mangle)]
-pub extern "C" fn hs_place_new(alloc: Global, out: &mut *mut u8) -> i32 {
-    match Box::new(alloc, Held::Nothing) {
-        Ok(held) => {
-            *out = Box::into_raw(held) as *mut u8;
+#[tactic(auto, using(crate::proofs::Making::is_made))]
+pub extern "C" fn hs_place_new(alloc: Global, out: &mut *mut u8) -> i32
+    ensures { IsMade out.old out.new result }
+{
+    hand_out(empty_place(alloc), out)
+}
+
+// The address of a place with nothing in it.
+fn empty_place(alloc: Global) -> Result<*mut u8, AllocError> {
+    Ok(Box::into_raw(boxed_nothing(alloc)?) as *mut u8)
+}
+
+fn boxed_nothing(alloc: Global) -> Result<Box<Held>, AllocError>
+    ensures { IfOk result (λ held. held.value ≡ Held.Nothing) }
+{
+    Ok(Box::new(alloc, Held::Nothing)?)
+}
+
+// Writes the address of a place, where there is one.
+fn hand_out(made: Result<*mut u8, AllocError>, out: &mut *mut u8) -> i32
+    ensures { IsHandedOut made out.old out.new result }
+{
+    match made {
+        Ok(address) => {
+            *out = address;
             Answer::Done.number()
         }
         Err(_) => Answer::NoMemory.number(),
