@@ -7,20 +7,31 @@
  *
  * Every function but hs_slice_key and hs_place_free returns a code of hs_code: 0 where the call is done, a positive one
  * where it is refused, a negative one where an argument cannot be read or there is no memory. The first of the codes
- * that stand beside a function is returned. A call that is not done changes nothing, and writes nothing but what
- * hs_told carries and `needed`, unless its line says otherwise. Any function of a place may return HS_OTHER_PLACE. Where
- * a function reads a message, HS_NO_MEMORY may also come while it is read.
+ * that stand beside a function is returned; where two are joined by `or`, either may come. A call that is not done
+ * changes nothing, and writes nothing but what hs_told carries and `needed`, unless its line says otherwise. Any function
+ * of a place but those that open may return HS_OTHER_PLACE, and before every other code. Where a function reads a message,
+ * HS_NO_MEMORY may also come while it is read.
  *
  * A text that a function gives is written to `out` whole or not at all; `needed` is its length. Where it is longer than
- * `out_len`, HS_NO_ROOM is returned and nothing is lost: ask again with a longer buffer.
+ * `out_len`, HS_NO_ROOM is returned and nothing is lost: ask again with a longer buffer, of hs_session_answer by
+ * hs_session_last.
  *
  * What a caller owes, and nothing tests:
  *   - a place is one that hs_place_new wrote at code 0, and that hs_place_free did not take;
- *   - a pointer to bytes or to numbers is not null, also at length 0, and its length is true; every other pointer is to
- *     a value of its type, and no two of one call overlap;
+ *   - a pointer to bytes, numbers or rows is not null, also at length 0, and its length is true; every other pointer is to
+ *     a value of its type. Each is aligned for what it points to, and no two of one call overlap. What a call only writes
+ *     need not hold a value;
  *   - one call at a time on a place, on any thread. Two places share nothing that a thread would have to guard;
  *   - malloc, realloc and free are those of one allocator, whose blocks are aligned to each power of two up to 16 that
  *     divides their size; no call comes from a signal handler, nor from the forked child of a program with threads.
+ *
+ * What the laws on who may serve rest on, and nothing tests either:
+ *   - a life is above every life that the task ever started, in earlier processes too: that number outlasts the process;
+ *   - a grant that is heard was given by the table of this job, and a note that is freed by a slicelet of this job. They
+ *     name no job and no sender: a forged grant is heard;
+ *   - a job has one table, which is opened once;
+ *   - threads that share a slicelet hold its lock from hs_slicelet_serve until the answer is given or the write is done;
+ *   - clocks are timely: no reading of the table's clock is more than the skew ahead of a later one of a task's.
  */
 #ifndef HOURSTABLE_H
 #define HOURSTABLE_H
@@ -51,7 +62,8 @@ enum hs_code {
     HS_OLD = 10,          /* the number of the grant is not above told.number, the greatest heard of its kind */
     HS_TOO_LATE = 11,     /* the lease of the grant has ended */
     HS_NOTHING_HELD = 12, /* no lease of the kind is held */
-    HS_HISTORY_FULL = 13, /* as many calls were accepted as there may be */
+    HS_HISTORY_FULL = 13, /* 65,536 calls were accepted, and none is any more, no release either: open a new slicelet, and
+                             start it at a higher life */
 
     /* What a check of a key handle returns. */
     HS_BROKEN = 14,   /* the handle is not continuous */
@@ -80,11 +92,11 @@ enum hs_code {
     HS_LOAD_RANGE = 33,     /* a load is above 2^40 */
 
     HS_NO_MEMORY = -1, /* out of memory */
-    HS_NO_ROOM = -2,   /* the buffer is too short; ask again with `needed` */
+    HS_NO_ROOM = -2,   /* the buffer is too short; ask again with `needed`, of hs_session_answer by hs_session_last */
 
     /* Why bytes are no message, or a number is none. */
     HS_NOT_JSON = -3,     /* the bytes are no JSON text */
-    HS_VERSION = -4,      /* the message has another version: told.number */
+    HS_VERSION = -4,      /* the message has another version: told.number, where the function has `told` */
     HS_OTHER_TYPE = -5,   /* the message is of another type */
     HS_WRONG_FORM = -6,   /* a member, or a number that was passed, is not within its limits */
     HS_PAST_END = -7,     /* a range ends, or a slice starts, past the last key */
@@ -133,7 +145,7 @@ struct hs_owners {
     uint64_t tasks[5];
 };
 
-/* What a table is held to. */
+/* What a table is held to. `guard`, `bridge`, `job` and `numbers` are 1 to 2^32. */
 struct hs_policy {
     uint64_t low;     /* how many tasks own a slice at the least, 1 or more */
     uint64_t high;    /* and at the most: up to 5 */
@@ -284,7 +296,7 @@ int32_t hs_table_restart(struct hs_place *place, uint64_t *lost);
 /* Where the table stands. */
 int32_t hs_table_phase(struct hs_place *place, struct hs_phase *out);
 
-/* The rows that have not ended at the last accepted reading, in grant order; *needed is how many. HS_NO_ROOM,
+/* The rows that have not ended at the last accepted reading, in grant order; *needed is how many. HS_NO_ROOM or
  * HS_NO_MEMORY. */
 int32_t hs_table_rows(struct hs_place *place, struct hs_row *out, size_t out_len, size_t *needed);
 

@@ -8,10 +8,10 @@
 #include <sys/mman.h>
 #include <unistd.h>
 
-#define MOST_BLOCKS 8
+#define MOST_BLOCKS 16
 
 static struct {
-    uint8_t *block;
+    void *block;
     uint8_t *pages;
     size_t length;
 } blocks[MOST_BLOCKS];
@@ -32,10 +32,10 @@ static uint8_t *new_block(size_t length) {
     exit(2);
 }
 
-uint8_t *block_of(const char *text, size_t length) {
+void *block_of(const void *bytes, size_t length) {
     uint8_t *block = new_block(length);
     if (length)
-        memcpy(block, text, length);
+        memcpy(block, bytes, length);
     return block;
 }
 
@@ -46,7 +46,7 @@ uint8_t *dashes(size_t length) {
     return block;
 }
 
-void drop_block(uint8_t *block) {
+void drop_block(void *block) {
     for (size_t at = 0; at < MOST_BLOCKS; at++) {
         if (blocks[at].block == block) {
             munmap(blocks[at].pages, blocks[at].length);

@@ -8,7 +8,7 @@
 #define HIGHEST HS_LOAD_RANGE
 
 const struct hs_policy policy = {
-    .low = 1, .high = 1, .skew = 10, .guard = 100, .bridge = 100, .job = 1000, .numbers = 1000};
+    .low = 1, .high = 1, .skew = 10, .guard = 100, .bridge = 200, .job = 1000, .numbers = 1000};
 
 struct hs_told told;
 static int was_seen[HIGHEST - LOWEST + 1];

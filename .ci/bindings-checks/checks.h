@@ -2,7 +2,7 @@
 #ifndef CHECKS_H
 #define CHECKS_H
 
-#include "hourstable.h"
+#include "guarded.h"
 
 /* The call returns this code, or the program ends. */
 #define IS(call, wanted) check_code((call), (wanted), __FILE__, __LINE__)
@@ -46,10 +46,10 @@ int tells(uint64_t number, uint64_t generation, uint64_t kind, uint64_t task, ui
 
 struct hs_place new_place(void);
 
-/* A copy of a text, and a block of dashes, each in pages of its own, so that an access past its end is found. */
-uint8_t *block_of(const char *text, size_t length);
+/* A copy of bytes, and a block of dashes, each in pages of its own, so that an access past its end is found. */
+void *block_of(const void *bytes, size_t length);
 uint8_t *dashes(size_t length);
-void drop_block(uint8_t *block);
+void drop_block(void *block);
 
 /* Whether all bytes are dashes. */
 int are_dashes(const uint8_t *block, size_t length);

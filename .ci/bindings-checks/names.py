@@ -1,8 +1,10 @@
-"""The codes and the functions of the header, of examples/python/hourstable.py and of docs/BINDINGS.md are the same.
+"""The codes, the functions with their parameters, the structs and the words of the header are those of
+examples/python/hourstable.py, and the codes those of docs/BINDINGS.md.
 
 Run at the top of the repository, with HOURSTABLE_LIBRARY set.
 """
 
+import ctypes
 import re
 import sys
 
@@ -17,12 +19,53 @@ in_header = {name: int(number) for name, number in re.findall(r"HS_(\w+) = (-?\d
 in_python = {name: number for number, name in enumerate(hourstable.REFUSALS)}
 in_python.update({name: -number for number, name in enumerate(hourstable.UNREAD)})
 in_page = {name: int(number) for number, name in re.findall(r"^\| (-?\d+) \| `HS_(\w+)`", page, re.M)}
-declared = {f"hs_{name}" for name in [*hourstable.DECLARED, "slice_key", "place_free"]}
-functions = set(re.findall(r"^(?:int32_t|uint64_t|void) (hs_\w+)\(", header, re.M))
+kinds, actions = ({word.lower(): int(number) for word, number in re.findall(r"HS_(\w+) = (\d+)", words)}
+                  for words in re.findall(r"enum hs_(?:kind|action) \{(.*?)\}", header, re.S))
+
+
+def class_of(struct):
+    """The class of a struct: KeyHandle of hs_key_handle."""
+    return getattr(hourstable, "".join(map(str.capitalize, struct.split("_"))), None)
+
+
+def member_of(c_type, length):
+    """The type of a member of a struct in Python."""
+    member = {"void *": ctypes.c_void_p, "uint64_t ": ctypes.c_uint64, "uint32_t ": ctypes.c_uint32}[c_type]
+    return member * int(length) if length else member
+
+
+def parameter_of(c_type):
+    """The type of a parameter in Python."""
+    struct = re.fullmatch(r"(?:const )?struct hs_(\w+) (\*?)", c_type)
+    if struct:
+        return ctypes.POINTER(class_of(struct[1])) if struct[2] else class_of(struct[1])
+    return {
+        "uint32_t ": hourstable.U32, "uint64_t ": hourstable.U64, "size_t ": hourstable.SIZE,
+        "const uint8_t *": ctypes.c_char_p, "uint8_t *": ctypes.c_void_p, "const uint64_t *": ctypes.c_void_p,
+        "uint32_t *": ctypes.POINTER(ctypes.c_uint32), "uint64_t *": ctypes.POINTER(ctypes.c_uint64),
+        "size_t *": ctypes.POINTER(ctypes.c_size_t),
+    }[c_type]
+
+
+functions, answers = {}, {"int32_t": ctypes.c_int32, "uint64_t": ctypes.c_uint64, "void": None}
+for answer, name, parameters in re.findall(r"^(int32_t|uint64_t|void) hs_(\w+)\(([^;]*)\);", header, re.M):
+    c_types = [re.fullmatch(r"(.*?)\w+", parameter.strip(), re.S)[1] for parameter in parameters.split(",")]
+    functions[name] = (answers[answer], [parameter_of(c_type) for c_type in c_types])
+declared = {name: (function.restype, list(function.argtypes)) for name, function in (
+    (name, getattr(hourstable.library, f"hs_{name}")) for name in [*hourstable.DECLARED, "slice_key", "place_free"])}
+structs = {}
+for name, members in re.findall(r"^struct hs_(\w+) \{(.*?)^\};", header, re.M | re.S):
+    found = re.findall(r"^    (uint\d+_t |void \*)(\w+)(?:\[(\d+)\])?;", members, re.M)
+    structs[name] = [(member, member_of(c_type, length)) for c_type, member, length in found]
 faults = [what for what, same in [
     ("codes in Python", in_python == in_header),
     ("codes in docs/BINDINGS.md", in_page == in_header),
-    ("functions in Python", declared == functions),
+    ("functions in Python", set(declared) == set(functions)),
+    ("kinds in Python", hourstable.KINDS == kinds),
+    ("actions in Python", hourstable.ACTIONS == {number: word for word, number in actions.items()}),
+    *[(f"parameters of {name} in Python", declared.get(name) == function) for name, function in functions.items()],
+    *[(f"fields of {name} in Python", getattr(class_of(name), "_fields_", None) == fields)
+      for name, fields in structs.items()],
 ] if not same]
 for fault in faults:
     print(f"{fault}: not those of the header")

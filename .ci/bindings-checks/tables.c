@@ -9,8 +9,8 @@
 static const char first_grant[] =
     MESSAGE("grant", "\"ends\":95,\"generation\":1,\"kind\":\"guard\",\"life\":1,\"number\":1,"
                      "\"ranges\":[[0,4611686018427387904]],\"task\":1,\"until\":105");
-static const char bridge_grant[] = MESSAGE("grant", "\"ends\":114,\"generation\":2,\"kind\":\"bridge\",\"life\":1,"
-                                                    "\"number\":2,\"ranges\":[],\"task\":1,\"until\":124");
+static const char bridge_grant[] = MESSAGE("grant", "\"ends\":214,\"generation\":2,\"kind\":\"bridge\",\"life\":1,"
+                                                    "\"number\":2,\"ranges\":[],\"task\":1,\"until\":224");
 
 static int32_t open_with(uint64_t *member, uint64_t value, struct hs_policy *changed) {
     struct hs_place place = new_place();
@@ -143,7 +143,7 @@ static void grants(struct hs_place *table) {
     drop_block(out);
 }
 
-static void lists_rows(struct hs_place *table) {
+static void lists_one_row(struct hs_place *table) {
     const struct hs_row wanted = {1, 1, 1, HS_GUARD, 1, 105};
     struct hs_row rows[2];
     size_t needed = 0;
@@ -154,6 +154,38 @@ static void lists_rows(struct hs_place *table) {
     IS(hs_table_rows(table, rows, 2, &needed), HS_DONE);
     HOLDS(needed == 1 && memcmp(rows, &wanted, sizeof wanted) == 0);
     HOLDS(are_dashes((const uint8_t *)(rows + 1), sizeof wanted));
+}
+
+static void grant_row(struct hs_place *table, uint64_t task, uint32_t life, uint64_t at) {
+    uint8_t out[256];
+    size_t needed = 0;
+    IS(hs_table_grant(table, task, life, at, out, sizeof out, &needed), HS_DONE);
+}
+
+/* Rows in grant order, by the names of their fields: those of the third all differ, and so do those of the fourth. */
+static void lists_rows(void) {
+    const struct hs_row wanted[] = {
+        {.number = 1, .task = 1, .life = 1, .kind = HS_GUARD, .generation = 2, .table_ends = 106},
+        {.number = 2, .task = 2, .life = 1, .kind = HS_GUARD, .generation = 2, .table_ends = 107},
+        {.number = 3, .task = 64, .life = 7, .kind = HS_GUARD, .generation = 2, .table_ends = 108},
+        {.number = 4, .task = 63, .life = 9, .kind = HS_BRIDGE, .generation = 3, .table_ends = 210}};
+    struct hs_place table = steady_table();
+    struct hs_row rows[4];
+    size_t needed = 0;
+    IS(propose(&table, 1, ASSIGNMENT("2", HALVES), 4), HS_DONE);
+    IS(hs_table_commit(&table, 1, 5, fresh_told()), HS_DONE);
+    grant_row(&table, 1, 1, 6);
+    grant_row(&table, 2, 1, 7);
+    grant_row(&table, 64, 7, 8);
+    IS(propose(&table, 1, ASSIGNMENT("3", HALVES), 9), HS_DONE);
+    grant_row(&table, 63, 9, 10);
+    memset(rows, '-', sizeof rows);
+    IS(hs_table_rows(&table, rows, 3, &needed), HS_NO_ROOM);
+    HOLDS(needed == 4 && are_dashes((const uint8_t *)rows, sizeof rows));
+    needed = 0;
+    IS(hs_table_rows(&table, rows, 4, &needed), HS_DONE);
+    HOLDS(needed == 4 && memcmp(rows, wanted, sizeof wanted) == 0);
+    hs_place_free(table);
 }
 
 /* Half of the keys go from task 1 to task 2: its guard holds the commit up until its note comes. */
@@ -181,9 +213,9 @@ static void hands_over(struct hs_place *table) {
     HOLDS(tells(UNTOLD, 2, UNTOLD, UNTOLD, UNTOLD));
     /* The bridge is of generation 2, which is committed now: it holds up the next change. */
     IS(propose(table, 1, ASSIGNMENT("3", "[[0,[1]]]"), 27), HS_DONE);
-    IS(hs_table_commit(table, 1, 123, fresh_told()), HS_HELD);
+    IS(hs_table_commit(table, 1, 223, fresh_told()), HS_HELD);
     HOLDS(tells(2, UNTOLD, HS_BRIDGE, 1, UNTOLD));
-    IS(hs_table_commit(table, 1, 124, fresh_told()), HS_DONE);
+    IS(hs_table_commit(table, 1, 224, fresh_told()), HS_DONE);
 }
 
 static void reads_notes(struct hs_place *table) {
@@ -247,10 +279,11 @@ void check_tables(void) {
     proposes(&table);
     gives_committed(&table);
     grants(&table);
-    lists_rows(&table);
+    lists_one_row(&table);
     reads_notes(&table);
     hands_over(&table);
     hs_place_free(table);
+    lists_rows();
     loses_rows();
     spends_numbers();
 }

@@ -27,8 +27,9 @@ struct input {
 /* A text of these, changed in a few places, or random bytes. */
 struct input next_input(const char *const *texts, size_t count);
 
-/* Room that ends where no page is. */
+/* Room that ends where no page is; there is one, and one for each of two lists of numbers. */
 uint8_t *room_of(size_t length);
+uint64_t *numbers_of(size_t list, size_t count);
 
 /* What a call asked of the allocator. */
 void count_allocations(void);

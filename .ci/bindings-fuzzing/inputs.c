@@ -37,6 +37,14 @@ uint8_t *room_of(size_t length) {
     return end - length;
 }
 
+uint64_t *numbers_of(size_t list, size_t count) {
+    static uint64_t *ends[2];
+    if (!ends[list])
+        ends[list] = (uint64_t *)(void *)end_of_pages(LONGEST_INPUT);
+    MUST(count * sizeof **ends <= LONGEST_INPUT);
+    return ends[list] - count;
+}
+
 static char text[LONGEST_INPUT];
 static size_t length;
 

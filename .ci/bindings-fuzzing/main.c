@@ -1,5 +1,5 @@
 /* Plays inputs to the library: INPUTS [SEED]. A call that is refused changes nothing, an answer carries what its code
- * says, and no allocation of a call is longer than a small multiple of its input and a constant. */
+ * says, and no allocation of a call is longer than TIMES_INPUT times its input and BESIDE_INPUT. */
 #include "fuzz.h"
 
 #include <stdio.h>

@@ -36,6 +36,11 @@ static const char *const lines[] = {
     "{\"do\":\"forget\",\"clerk\":1}", "{\"do\":\"hash\",\"key\":\"hello\"}",
     "{\"do\":\"judge\",\"up\":true,\"last\":3,\"leases\":[{\"kind\":\"guard\",\"generation\":1,\"ranges\":[[0,5]],"
     "\"ends\":9}],\"key\":\"hello\",\"at\":5}"};
+#define JOB(redundancy, counts)                                                                                        \
+    "{\"job\":{\"redundancy\":" redundancy ",\"skew\":10,\"guard\":100,\"bridge\":100,\"job\":1000,\"numbers\":50," counts "}}"
+static const char *const jobs[] = {
+    JOB("[1,2]", "\"assigners\":1,\"tasks\":2,\"clerks\":1"), JOB("1", "\"assigners\":2,\"tasks\":64,\"clerks\":3"),
+    JOB("[2,5]", "\"assigners\":1,\"tasks\":5,\"clerks\":1,\"more\":[]")};
 static const char job[] = "{\"job\":{\"redundancy\":[1,2],\"skew\":10,\"guard\":100,\"bridge\":100,\"job\":1000,"
                           "\"numbers\":50,\"assigners\":1,\"tasks\":2,\"clerks\":1}}";
 static const struct hs_policy policy = {
@@ -114,6 +119,40 @@ static void begin_table(struct hs_place *place) {
     MUST(hs_table_commit(place, 1, 2, &told) == HS_DONE);
     for (uint64_t task = 1; task <= 2; task++)
         MUST(hs_table_grant(place, task, 1, 3, room_of(512), 512, &needed) == HS_DONE);
+}
+
+/* A number of a list: mostly one that may be taken, and sometimes a great one. */
+static uint64_t draw_number(uint64_t below) {
+    static const uint64_t great[] = {65, (uint64_t)1 << 40, ((uint64_t)1 << 40) + 1, UINT64_MAX};
+    return draw(64) ? draw(below) : great[draw(COUNT(great))];
+}
+
+static struct hs_plan_policy draw_policy(void) {
+    struct hs_plan_policy policy = {1, 1 + draw(3), draw(2) ? (uint64_t)1 << 63 : draw(9), draw(3), draw(20), 1 + draw(64)};
+    if (draw(16) == 0)
+        policy.low = draw(7);
+    if (draw(32) == 0)
+        policy.most = draw(2) ? 0 : 1025;
+    return policy;
+}
+
+/* What is planned is an assignment that a clerk learns. */
+static int32_t plan(struct hs_place *place, struct input input, struct hs_told *told) {
+    size_t loads_len = draw(8), tasks_len = draw(5), needed = 0, room = draw(4) ? LONGEST_INPUT : draw(64);
+    uint64_t *loads = numbers_of(0, loads_len), *tasks = numbers_of(1, tasks_len);
+    struct hs_plan_policy policy = draw_policy();
+    uint8_t *out = room_of(room);
+    for (size_t at = 0; at < loads_len; at++)
+        loads[at] = draw_number(100);
+    for (size_t at = 0; at < tasks_len; at++)
+        tasks[at] = draw(32) ? 1 + at : draw_number(66);
+    int32_t code = hs_plan(input.bytes, input.length, loads, loads_len, tasks, tasks_len, &policy, out, room, &needed);
+    MUST(code != HS_NO_ROOM || needed > room);
+    if (code == HS_DONE) {
+        MUST(needed <= room && hs_clerk_forget(place) == HS_DONE);
+        MUST(hs_clerk_learn(place, out, needed, told) == HS_DONE);
+    }
+    return code;
 }
 
 static int32_t propose(struct hs_place *place, struct input input, struct hs_told *told) {
@@ -201,11 +240,18 @@ static uint64_t session_state(struct hs_place *place) {
     return sum;
 }
 
+static int32_t open_session(struct hs_place *place, struct input input, struct hs_told *told) {
+    (void)told;
+    return hs_session_open(place, input.bytes, input.length, (uint32_t)draw(2));
+}
+
 const struct target targets[] = {
     {"hear", grants, COUNT(grants), begin_slicelet, hear, slicelet_state},
     {"learn", assignments, COUNT(assignments), begin_clerk, learn, clerk_state},
     {"propose", assignments, COUNT(assignments), begin_table, propose, table_state},
     {"free", notes, COUNT(notes), begin_table, free_rows, table_state},
+    {"plan", assignments, COUNT(assignments), begin_clerk, plan, clerk_state},
+    {"session", jobs, COUNT(jobs), begin_session, open_session, session_state},
     {"answer", lines, COUNT(lines), begin_session, answer, session_state},
 };
 const size_t targets_count = COUNT(targets);

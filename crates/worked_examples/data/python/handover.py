@@ -45,7 +45,7 @@ class Log:
         self.last = now
         return now // NANOSECONDS
 
-    def call(self, do, ask, given, tell, refused="refused ", **members):
+    def call(self, do, ask, given, tell, **members):
         """Makes a call at this moment, writes its line, and gives what it answers: None where it is refused."""
         at, made = self.read_clock(), None
         if do != "phase":
@@ -54,7 +54,7 @@ class Log:
             made = ask(*given)
             reply = tell(made)
         except Refused as refusal:
-            reply = f"{refused}{refusal}"
+            reply = tell_refusal(do, refusal)
         ticket = self.last * (len(TASKS) + 1) + self.process
         self.file.write(json.dumps({"ticket": ticket, "do": do, **members, "reply": reply}) + "\n")
         self.file.flush()
@@ -140,6 +140,13 @@ class Control:
                     key.fileobj.close()
 
 
+def tell_refusal(do, refusal):
+    """As a script tells it: a key is denied, a handle is broken, and any other call is refused."""
+    if refusal.name == "BROKEN":
+        return str(refusal)
+    return f"{'denied' if do in ('serve', 'hold') else 'refused'} {refusal}"
+
+
 def tell_phase(phase):
     return f"phase bridging {phase.committed} {phase.proposed}" if phase.proposed else f"phase steady {phase.committed}"
 
@@ -190,15 +197,15 @@ class Task:
         """Asks for each key, as an answer to a client would, and takes a handle on the first that it serves."""
         for key in KEYS:
             tell = "served {0.kind} {0.generation}".format
-            served = self.call("serve", [key.encode()], tell, refused="denied ", key=key)
+            served = self.call("serve", [key.encode()], tell, key=key)
             if served and self.handle is None:
                 tell = "handle life {0.life} position {0.position}".format
-                self.handle = self.call("hold", [key.encode()], tell, refused="denied ", key=key)
+                self.handle = self.call("hold", [key.encode()], tell, key=key)
         self.asks += 1
 
     def check_handle(self):
         members = {name: getattr(self.handle, name) for name, _ in self.handle._fields_}
-        self.call("check", [self.handle], "continuous".format, refused="", handle=members)
+        self.call("check", [self.handle], "continuous".format, handle=members)
 
     def run(self):
         self.call("start", [1], "started 1".format, life=1)

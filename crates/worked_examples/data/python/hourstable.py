@@ -29,31 +29,63 @@ CARRIED = {
 }
 KINDS = {"guard": 1, "bridge": 2}
 KIND_WORDS = {number: word for word, number in KINDS.items()}
+SCRIPT_WORDS = {"OLD_GENERATION": "old"}  # where a script has another word than the header
 ACTIONS = {1: "take", 2: "renew", 3: "commit", 4: "propose", 5: "rest"}
 
 
-class Refused(Exception):
-    """A call that is not done: the name of its code, and the numbers that it carries."""
+def name_of(code):
+    """The name of a code in the header, without its HS_; a later version of the library may have codes with none here."""
+    names, at = (REFUSALS, code) if code >= 0 else (UNREAD, -code)
+    return names[at] if at < len(names) else f"CODE {code}"
 
-    def __init__(self, code, told=None):
-        self.code = code
-        self.name = REFUSALS[code] if code >= 0 else UNREAD[-code]
-        self.carried = {name: getattr(told, name) for name in CARRIED.get(self.name, []) if told is not None}
-        if "kind" in self.carried:
-            self.carried["kind"] = KIND_WORDS[self.carried["kind"]]
-        super().__init__(" ".join([self.name.lower().replace("_", "-"), *map(str, self.carried.values())]))
+
+def carried_by(name, told):
+    """The numbers that an answer carries, by their names in the header, with the word of a kind."""
+    carried = {member: getattr(told, member) for member in CARRIED.get(name, [])}
+    if "kind" in carried:
+        carried["kind"] = KIND_WORDS[carried["kind"]]
+    return carried
+
+
+class Refused(Exception):
+    """A call that is not done: the name of its code, and the numbers that it carries. Its text is that of a script."""
+
+    def __init__(self, code, carried=None):
+        self.code, self.name, self.carried = code, name_of(code), dict(carried or {})
+        word = SCRIPT_WORDS.get(self.name, self.name.lower().replace("_", "-"))
+        super().__init__(" ".join([word, *map(str, self.carried.values())]))
+
+    def __reduce__(self):
+        return type(self), (self.code, self.carried)
+
+
+def fitting(c_type, value):
+    """The value, where the C type takes it; ctypes alone would cut it."""
+    limit = 1 << 8 * ctypes.sizeof(c_type)
+    if not isinstance(value, int) or not 0 <= value < limit:
+        raise ValueError(f"{value!r} is no whole number below {limit}")
+    return value
 
 
 def whole(c_type):
-    """A parameter that takes the numbers of a C type and no others; ctypes alone would cut them."""
-    limit = 1 << 8 * ctypes.sizeof(c_type)
+    """A parameter that takes the numbers of a C type and no others."""
+    return type("Whole", (), {"from_param": staticmethod(lambda value: c_type(fitting(c_type, value)))})
 
-    def from_param(value):
-        if not isinstance(value, int) or not 0 <= value < limit:
-            raise ValueError(f"{value!r} is no whole number below {limit}")
-        return c_type(value)
 
-    return type("Whole", (), {"from_param": staticmethod(from_param)})
+def array_of(c_type, values):
+    """An array of the numbers of a C type and no others."""
+    values = [fitting(c_type, value) for value in values]
+    return (c_type * len(values))(*values)
+
+
+class Numbers(ctypes.Structure):
+    """A struct of numbers, which takes those that its fields have room for and no others."""
+
+    def __setattr__(self, name, value):
+        c_type = dict(self._fields_).get(name)
+        if c_type is None:
+            raise AttributeError(f"{type(self).__name__} has no field {name}")
+        super().__setattr__(name, fitting(c_type, value))
 
 
 def fields(names, c_type=ctypes.c_uint64):
@@ -64,11 +96,11 @@ class Place(ctypes.Structure):
     _fields_ = [("at", ctypes.c_void_p)]
 
 
-class Told(ctypes.Structure):
+class Told(Numbers):
     _fields_ = fields("number generation kind task until")
 
 
-class KeyHandle(ctypes.Structure):
+class KeyHandle(Numbers):
     _fields_ = fields("task slice_key position") + [("life", ctypes.c_uint32)]
 
 
@@ -76,23 +108,23 @@ class Owners(ctypes.Structure):
     _fields_ = fields("generation count") + [("tasks", ctypes.c_uint64 * 5)]
 
 
-class Policy(ctypes.Structure):
+class Policy(Numbers):
     _fields_ = fields("low high skew guard bridge job numbers")
 
 
-class JobTerm(ctypes.Structure):
+class JobTerm(Numbers):
     _fields_ = fields("number assigner until")
 
 
-class Phase(ctypes.Structure):
+class Phase(Numbers):
     _fields_ = fields("committed proposed")
 
 
-class Row(ctypes.Structure):
+class Row(Numbers):
     _fields_ = fields("number task life kind generation table_ends")
 
 
-class PlanPolicy(ctypes.Structure):
+class PlanPolicy(Numbers):
     _fields_ = fields("low high churn cold hot most")
 
 
@@ -159,7 +191,7 @@ def done(code, told=None):
     if code == -1:
         raise MemoryError("hourstable")
     if code != 0:
-        raise Refused(code, told)
+        raise Refused(code, told and carried_by(name_of(code), told))
 
 
 def text_of(call, *given):
@@ -179,7 +211,7 @@ def slice_key(key):
 
 def plan(assignment, loads, tasks, policy):
     """The assignment of the next generation, as a message."""
-    loads, tasks = (ctypes.c_uint64 * len(loads))(*loads), (ctypes.c_uint64 * len(tasks))(*tasks)
+    loads, tasks = array_of(ctypes.c_uint64, loads), array_of(ctypes.c_uint64, tasks)
     given = (assignment, len(assignment), loads, len(loads), tasks, len(tasks), ctypes.byref(policy))
     return text_of(library.hs_plan, *given)
 
@@ -222,6 +254,15 @@ class Standing:
 
     def __exit__(self, *_):
         self.close()
+
+    def __copy__(self):
+        raise TypeError(f"a {self.kind} is not copied: the place that it stands in is freed once")
+
+    def __deepcopy__(self, _):
+        return self.__copy__()
+
+    def __reduce_ex__(self, _):
+        return self.__copy__()
 
 
 class Slicelet(Standing):

@@ -1,0 +1,209 @@
+/* Each function of hourstable.h, called with copies of what its caller passes, each of which ends where no page is. What it
+ * writes is copied back, and what it reads is found as it was. The checks call these by the names of the header. */
+#define GUARDED_ITSELF
+#include "checks.h"
+
+#include <string.h>
+
+#define MOST_LENT 8
+
+static struct lent {
+    const void *read;
+    void *written;
+    void *block;
+    size_t length;
+} lent[MOST_LENT];
+static size_t lent_count;
+
+static void *lend(const void *read, void *written, size_t length) {
+    HOLDS(lent_count < MOST_LENT);
+    lent[lent_count] = (struct lent){read, written, block_of(read, length), length};
+    return lent[lent_count++].block;
+}
+
+/* The call has returned: its blocks are dropped. */
+static int32_t returned(int32_t code) {
+    while (lent_count) {
+        struct lent *one = &lent[--lent_count];
+        if (one->written && one->length)
+            memcpy(one->written, one->block, one->length);
+        else if (one->length)
+            HOLDS(memcmp(one->read, one->block, one->length) == 0);
+        drop_block(one->block);
+    }
+    return code;
+}
+
+#define READ(pointer) lend((pointer), NULL, sizeof *(pointer))
+#define READ_ALL(pointer, count) lend((pointer), NULL, (count) * sizeof *(pointer)), (count)
+#define WRITTEN(pointer) lend((pointer), (pointer), sizeof *(pointer))
+#define WRITTEN_ALL(pointer, count) lend((pointer), (pointer), (count) * sizeof *(pointer)), (count)
+#define PLACE WRITTEN(place)
+#define KEY READ_ALL(key, key_len)
+#define TOLD WRITTEN(told)
+#define OUT WRITTEN_ALL(out, out_len), WRITTEN(needed)
+
+uint64_t guarded_slice_key(const uint8_t *key, size_t key_len) {
+    uint64_t found = hs_slice_key(KEY);
+    returned(HS_DONE);
+    return found;
+}
+
+int32_t guarded_place_new(struct hs_place *out) {
+    return returned(hs_place_new(WRITTEN(out)));
+}
+
+int32_t guarded_slicelet_close(struct hs_place *place) {
+    return returned(hs_slicelet_close(PLACE));
+}
+
+int32_t guarded_clerk_close(struct hs_place *place) {
+    return returned(hs_clerk_close(PLACE));
+}
+
+int32_t guarded_table_close(struct hs_place *place) {
+    return returned(hs_table_close(PLACE));
+}
+
+int32_t guarded_assigner_close(struct hs_place *place) {
+    return returned(hs_assigner_close(PLACE));
+}
+
+int32_t guarded_session_close(struct hs_place *place) {
+    return returned(hs_session_close(PLACE));
+}
+
+int32_t guarded_slicelet_open(struct hs_place *place, uint64_t task) {
+    return returned(hs_slicelet_open(PLACE, task));
+}
+
+int32_t guarded_slicelet_start(struct hs_place *place, uint32_t life, uint64_t at) {
+    return returned(hs_slicelet_start(PLACE, life, at));
+}
+
+int32_t guarded_slicelet_hear(struct hs_place *place, const uint8_t *grant, size_t grant_len, uint64_t at,
+                              struct hs_told *told) {
+    return returned(hs_slicelet_hear(PLACE, READ_ALL(grant, grant_len), at, TOLD));
+}
+
+int32_t guarded_slicelet_release(struct hs_place *place, uint32_t kind, uint64_t at, uint8_t *out, size_t out_len,
+                                 size_t *needed) {
+    return returned(hs_slicelet_release(PLACE, kind, at, OUT));
+}
+
+int32_t guarded_slicelet_serve(struct hs_place *place, const uint8_t *key, size_t key_len, uint64_t at,
+                               struct hs_told *told) {
+    return returned(hs_slicelet_serve(PLACE, KEY, at, TOLD));
+}
+
+int32_t guarded_slicelet_hold(struct hs_place *place, const uint8_t *key, size_t key_len, uint64_t at,
+                              struct hs_key_handle *out, struct hs_told *told) {
+    return returned(hs_slicelet_hold(PLACE, KEY, at, WRITTEN(out), TOLD));
+}
+
+int32_t guarded_slicelet_check(struct hs_place *place, const struct hs_key_handle *handle, uint64_t at) {
+    return returned(hs_slicelet_check(PLACE, READ(handle), at));
+}
+
+int32_t guarded_clerk_open(struct hs_place *place) {
+    return returned(hs_clerk_open(PLACE));
+}
+
+int32_t guarded_clerk_learn(struct hs_place *place, const uint8_t *assignment, size_t assignment_len,
+                            struct hs_told *told) {
+    return returned(hs_clerk_learn(PLACE, READ_ALL(assignment, assignment_len), TOLD));
+}
+
+int32_t guarded_clerk_look(struct hs_place *place, const uint8_t *key, size_t key_len, struct hs_owners *out) {
+    return returned(hs_clerk_look(PLACE, KEY, WRITTEN(out)));
+}
+
+int32_t guarded_clerk_forget(struct hs_place *place) {
+    return returned(hs_clerk_forget(PLACE));
+}
+
+int32_t guarded_table_open(struct hs_place *place, const struct hs_policy *policy) {
+    return returned(hs_table_open(PLACE, READ(policy)));
+}
+
+int32_t guarded_table_take(struct hs_place *place, uint64_t assigner, uint64_t at, struct hs_job_term *out,
+                           struct hs_told *told) {
+    return returned(hs_table_take(PLACE, assigner, at, WRITTEN(out), TOLD));
+}
+
+int32_t guarded_table_renew(struct hs_place *place, uint64_t number, uint64_t at, struct hs_job_term *out,
+                            struct hs_told *told) {
+    return returned(hs_table_renew(PLACE, number, at, WRITTEN(out), TOLD));
+}
+
+int32_t guarded_table_propose(struct hs_place *place, uint64_t number, const uint8_t *assignment, size_t assignment_len,
+                              uint64_t at, struct hs_told *told) {
+    return returned(hs_table_propose(PLACE, number, READ_ALL(assignment, assignment_len), at, TOLD));
+}
+
+int32_t guarded_table_commit(struct hs_place *place, uint64_t number, uint64_t at, struct hs_told *told) {
+    return returned(hs_table_commit(PLACE, number, at, TOLD));
+}
+
+int32_t guarded_table_grant(struct hs_place *place, uint64_t task, uint32_t life, uint64_t at, uint8_t *out,
+                            size_t out_len, size_t *needed) {
+    return returned(hs_table_grant(PLACE, task, life, at, OUT));
+}
+
+int32_t guarded_table_free(struct hs_place *place, const uint8_t *note, size_t note_len, uint64_t at, uint64_t *freed,
+                           struct hs_told *told) {
+    return returned(hs_table_free(PLACE, READ_ALL(note, note_len), at, WRITTEN(freed), TOLD));
+}
+
+int32_t guarded_table_restart(struct hs_place *place, uint64_t *lost) {
+    return returned(hs_table_restart(PLACE, WRITTEN(lost)));
+}
+
+int32_t guarded_table_phase(struct hs_place *place, struct hs_phase *out) {
+    return returned(hs_table_phase(PLACE, WRITTEN(out)));
+}
+
+int32_t guarded_table_rows(struct hs_place *place, struct hs_row *out, size_t out_len, size_t *needed) {
+    return returned(hs_table_rows(PLACE, OUT));
+}
+
+int32_t guarded_table_committed(struct hs_place *place, uint8_t *out, size_t out_len, size_t *needed) {
+    return returned(hs_table_committed(PLACE, OUT));
+}
+
+int32_t guarded_assigner_open(struct hs_place *place, uint64_t id, uint64_t job) {
+    return returned(hs_assigner_open(PLACE, id, job));
+}
+
+int32_t guarded_assigner_adopt(struct hs_place *place, const struct hs_job_term *term) {
+    return returned(hs_assigner_adopt(PLACE, READ(term)));
+}
+
+int32_t guarded_assigner_restart(struct hs_place *place) {
+    return returned(hs_assigner_restart(PLACE));
+}
+
+int32_t guarded_assigner_next(struct hs_place *place, uint64_t at, const struct hs_phase *phase, uint32_t wanted,
+                              uint32_t *action, uint64_t *number) {
+    return returned(hs_assigner_next(PLACE, at, READ(phase), wanted, WRITTEN(action), WRITTEN(number)));
+}
+
+int32_t guarded_plan(const uint8_t *assignment, size_t assignment_len, const uint64_t *loads, size_t loads_len,
+                     const uint64_t *tasks, size_t tasks_len, const struct hs_plan_policy *policy, uint8_t *out,
+                     size_t out_len, size_t *needed) {
+    return returned(hs_plan(READ_ALL(assignment, assignment_len), READ_ALL(loads, loads_len),
+                            READ_ALL(tasks, tasks_len), READ(policy), OUT));
+}
+
+int32_t guarded_session_open(struct hs_place *place, const uint8_t *line, size_t line_len, uint32_t json) {
+    return returned(hs_session_open(PLACE, READ_ALL(line, line_len), json));
+}
+
+int32_t guarded_session_answer(struct hs_place *place, const uint8_t *line, size_t line_len, uint8_t *out,
+                               size_t out_len, size_t *needed) {
+    return returned(hs_session_answer(PLACE, READ_ALL(line, line_len), OUT));
+}
+
+int32_t guarded_session_last(struct hs_place *place, uint8_t *out, size_t out_len, size_t *needed) {
+    return returned(hs_session_last(PLACE, OUT));
+}

@@ -1,0 +1,99 @@
+/* The functions of hourstable.h as the checks call them: see guarded.c. hs_place_free has no pointer. */
+#ifndef GUARDED_H
+#define GUARDED_H
+
+#include "hourstable.h"
+
+uint64_t guarded_slice_key(const uint8_t *key, size_t key_len);
+int32_t guarded_place_new(struct hs_place *out);
+int32_t guarded_slicelet_close(struct hs_place *place);
+int32_t guarded_clerk_close(struct hs_place *place);
+int32_t guarded_table_close(struct hs_place *place);
+int32_t guarded_assigner_close(struct hs_place *place);
+int32_t guarded_session_close(struct hs_place *place);
+int32_t guarded_slicelet_open(struct hs_place *place, uint64_t task);
+int32_t guarded_slicelet_start(struct hs_place *place, uint32_t life, uint64_t at);
+int32_t guarded_slicelet_hear(struct hs_place *place, const uint8_t *grant, size_t grant_len, uint64_t at,
+                              struct hs_told *told);
+int32_t guarded_slicelet_release(struct hs_place *place, uint32_t kind, uint64_t at, uint8_t *out, size_t out_len,
+                                 size_t *needed);
+int32_t guarded_slicelet_serve(struct hs_place *place, const uint8_t *key, size_t key_len, uint64_t at,
+                               struct hs_told *told);
+int32_t guarded_slicelet_hold(struct hs_place *place, const uint8_t *key, size_t key_len, uint64_t at,
+                              struct hs_key_handle *out, struct hs_told *told);
+int32_t guarded_slicelet_check(struct hs_place *place, const struct hs_key_handle *handle, uint64_t at);
+int32_t guarded_clerk_open(struct hs_place *place);
+int32_t guarded_clerk_learn(struct hs_place *place, const uint8_t *assignment, size_t assignment_len,
+                            struct hs_told *told);
+int32_t guarded_clerk_look(struct hs_place *place, const uint8_t *key, size_t key_len, struct hs_owners *out);
+int32_t guarded_clerk_forget(struct hs_place *place);
+int32_t guarded_table_open(struct hs_place *place, const struct hs_policy *policy);
+int32_t guarded_table_take(struct hs_place *place, uint64_t assigner, uint64_t at, struct hs_job_term *out,
+                           struct hs_told *told);
+int32_t guarded_table_renew(struct hs_place *place, uint64_t number, uint64_t at, struct hs_job_term *out,
+                            struct hs_told *told);
+int32_t guarded_table_propose(struct hs_place *place, uint64_t number, const uint8_t *assignment, size_t assignment_len,
+                              uint64_t at, struct hs_told *told);
+int32_t guarded_table_commit(struct hs_place *place, uint64_t number, uint64_t at, struct hs_told *told);
+int32_t guarded_table_grant(struct hs_place *place, uint64_t task, uint32_t life, uint64_t at, uint8_t *out,
+                            size_t out_len, size_t *needed);
+int32_t guarded_table_free(struct hs_place *place, const uint8_t *note, size_t note_len, uint64_t at, uint64_t *freed,
+                           struct hs_told *told);
+int32_t guarded_table_restart(struct hs_place *place, uint64_t *lost);
+int32_t guarded_table_phase(struct hs_place *place, struct hs_phase *out);
+int32_t guarded_table_rows(struct hs_place *place, struct hs_row *out, size_t out_len, size_t *needed);
+int32_t guarded_table_committed(struct hs_place *place, uint8_t *out, size_t out_len, size_t *needed);
+int32_t guarded_assigner_open(struct hs_place *place, uint64_t id, uint64_t job);
+int32_t guarded_assigner_adopt(struct hs_place *place, const struct hs_job_term *term);
+int32_t guarded_assigner_restart(struct hs_place *place);
+int32_t guarded_assigner_next(struct hs_place *place, uint64_t at, const struct hs_phase *phase, uint32_t wanted,
+                              uint32_t *action, uint64_t *number);
+int32_t guarded_plan(const uint8_t *assignment, size_t assignment_len, const uint64_t *loads, size_t loads_len,
+                     const uint64_t *tasks, size_t tasks_len, const struct hs_plan_policy *policy, uint8_t *out,
+                     size_t out_len, size_t *needed);
+int32_t guarded_session_open(struct hs_place *place, const uint8_t *line, size_t line_len, uint32_t json);
+int32_t guarded_session_answer(struct hs_place *place, const uint8_t *line, size_t line_len, uint8_t *out,
+                               size_t out_len, size_t *needed);
+int32_t guarded_session_last(struct hs_place *place, uint8_t *out, size_t out_len, size_t *needed);
+
+#ifndef GUARDED_ITSELF
+#define hs_slice_key guarded_slice_key
+#define hs_place_new guarded_place_new
+#define hs_slicelet_close guarded_slicelet_close
+#define hs_clerk_close guarded_clerk_close
+#define hs_table_close guarded_table_close
+#define hs_assigner_close guarded_assigner_close
+#define hs_session_close guarded_session_close
+#define hs_slicelet_open guarded_slicelet_open
+#define hs_slicelet_start guarded_slicelet_start
+#define hs_slicelet_hear guarded_slicelet_hear
+#define hs_slicelet_release guarded_slicelet_release
+#define hs_slicelet_serve guarded_slicelet_serve
+#define hs_slicelet_hold guarded_slicelet_hold
+#define hs_slicelet_check guarded_slicelet_check
+#define hs_clerk_open guarded_clerk_open
+#define hs_clerk_learn guarded_clerk_learn
+#define hs_clerk_look guarded_clerk_look
+#define hs_clerk_forget guarded_clerk_forget
+#define hs_table_open guarded_table_open
+#define hs_table_take guarded_table_take
+#define hs_table_renew guarded_table_renew
+#define hs_table_propose guarded_table_propose
+#define hs_table_commit guarded_table_commit
+#define hs_table_grant guarded_table_grant
+#define hs_table_free guarded_table_free
+#define hs_table_restart guarded_table_restart
+#define hs_table_phase guarded_table_phase
+#define hs_table_rows guarded_table_rows
+#define hs_table_committed guarded_table_committed
+#define hs_assigner_open guarded_assigner_open
+#define hs_assigner_adopt guarded_assigner_adopt
+#define hs_assigner_restart guarded_assigner_restart
+#define hs_assigner_next guarded_assigner_next
+#define hs_plan guarded_plan
+#define hs_session_open guarded_session_open
+#define hs_session_answer guarded_session_answer
+#define hs_session_last guarded_session_last
+#endif
+
+#endif
