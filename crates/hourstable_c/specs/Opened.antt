@@ -5,7 +5,7 @@ use Rattle.c_numbers.specs.Numbers.{answer_number}
 use Rattle.c_place.specs.declared.held.Held.{Held}
 use Rattle.c_place.specs.declared.held.Held.TheVariants.{Nothing}
 
--- the address that there is was written; where there is none for want of memory, nothing is written
+-- the address was written; or memory ran out, there is none, and nothing is written
 abbrev pub IsHandedOut : {A E : Type 0} → Result A E → A → A → ℤ → Type 0
 IsHandedOut (Ok address) was now number = (number ≡ answer_number Done) × (now ≡ address)
 IsHandedOut (Err _) was now number = (number ≡ answer_number NoMemory) × (now ≡ was)
