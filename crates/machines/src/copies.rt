@@ -1,12 +1,12 @@
-//! Copies of values that hold memory.
+//! Copies of values that own memory.
 
 ghost use Rattle.std.specs.Prelude.{◌≡◌, IfOk};
 
 use std::alloc::AllocError;
 
-/// A value of which there are copies where there is memory for them.
+/// A value that can be copied if there is memory for the copy.
 pub trait Duplicate {
-    /// A value that equals this one.
+    /// Returns a copy that equals this value. The only error is out of memory.
     fn copy(&self) -> Result<Self, AllocError>
         ensures { IfOk result (λ copied. copied ≡ self.now) };
 }

@@ -1,14 +1,14 @@
-//! Events: what happens to a machine.
+//! Events: the calls that a machine takes.
 
 ghost use Rattle.std.specs.Prelude.{◌≡◌, IfOk};
 
 use crate::copies::Duplicate;
 use std::alloc::AllocError;
 
-/// A call of a machine, and when it was made.
+/// A call of a machine, with the ticket that was drawn for it.
 #[derive(Debug, Drop)]
 pub struct Event<C> {
-    /// The place of the call among all calls that drew a ticket. No machine looks at it.
+    /// The position of the call among all calls that drew a ticket. No machine reads it.
     pub ticket: u64,
     /// The call.
     pub call: C,

@@ -1,8 +1,9 @@
-//! Machines: values that take calls one after another, and what they answer.
+//! Machines: deterministic state machines that take one call at a time.
 //!
-//! A machine answers each call by its step, a function of what it is and of the call; where it
-//! refuses one, or finds no memory for it, it stays as it was. Refusals are lists in the order in
-//! which they are looked for.
+//! The step of a machine is a function of its state and a call. It gives the next state and the
+//! reply, or the reason why the call is refused. A call that is refused, or for which memory runs
+//! out, leaves the machine unchanged. Refusals are lists, in the order of the checks; the first
+//! that applies is returned.
 #![tactic(auto)]
 
 mod copies;

@@ -1,35 +1,35 @@
-//! What the rule answers.
+//! The results of the written rule.
 
 use crate::lease::Kind;
 
-/// Why a key is not served.
+/// Why a task may not serve a key.
 #[derive(Clone, Copy, Debug, PartialEq, Eq)]
 pub enum Ground {
-    /// The task was not started.
+    /// The task has not started.
     Down,
-    /// The reading is below the task's last one.
+    /// The reading is below the task's last reading.
     ClockBack,
-    /// A lease that covers the key is held, and has ended.
+    /// A held lease covers the key, but has ended.
     Ended,
-    /// No held lease covers the key; a live one is of this generation, and none of a greater one.
+    /// No held lease covers the key, but a held lease is live.
     NotOwned {
-        /// The greatest generation of a live lease that is held.
+        /// The greatest generation of a held lease that is live.
         generation: u64,
     },
     /// No held lease covers the key, and none is live.
     NoLease,
 }
 
-/// Whether a key is served.
+/// Whether a task may serve a key: under which lease, or why not.
 #[derive(Clone, Copy, Debug, PartialEq, Eq)]
 pub enum Verdict {
-    /// It is, under a lease of this kind and generation.
+    /// The task may serve the key, under a lease of this kind and generation.
     Allow {
-        /// What the lease is for.
+        /// The kind of the lease.
         kind: Kind,
         /// The generation of the lease.
         generation: u64,
     },
-    /// It is not.
+    /// The task may not serve the key, for this reason.
     Deny(Ground),
 }

@@ -7,16 +7,16 @@ ghost use Rattle.std.specs.Cmp.{partial_equiv_from_equiv};
 use crate::lease::Lease;
 use std::alloc::AllocError;
 
-/// What a task holds, and how far its clock has come.
+/// The leases that a task holds, at most one of each kind, and its last reading.
 #[derive(Debug, Drop)]
 pub struct Holding {
-    /// Whether the task was started.
+    /// Whether the task has started.
     pub up: bool,
     /// The task's last reading, in ticks.
     pub last: u64,
-    /// The lease for a committed assignment.
+    /// The guard lease, if the task holds one: a lease for a committed assignment.
     pub guard: Option<Lease>,
-    /// The lease across a change.
+    /// The bridge lease, if the task holds one: a lease across a change of assignment.
     pub bridge: Option<Lease>,
 }
 
@@ -45,7 +45,7 @@ impl Eq for Holding {
 }
 
 impl Holding {
-    /// A holding that equals this one.
+    /// Returns a copy that equals this holding. The only error is out of memory.
     pub fn copy(&self) -> Result<Self, AllocError>
         ensures { IfOk result (λ holding. holding ≡ self.now) }
     {

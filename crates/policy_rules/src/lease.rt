@@ -1,4 +1,4 @@
-//! Leases on slices of keys.
+//! Leases on slice keys.
 
 ghost use Rattle.std.specs.Prelude.{◌≡◌, ◌↔◌, IfOk, nat_lt};
 ghost use Rattle.std.specs.Bool.{IsTrue};
@@ -8,25 +8,25 @@ ghost use Rattle.slice_ranges.specs.Sets.{has};
 use slice_ranges::{Ranges, SliceKey};
 use std::alloc::AllocError;
 
-/// What a lease is for.
+/// The kind of a lease: for a committed assignment, or across a change of assignment.
 #[derive(Clone, Copy, Debug, PartialEq, Eq)]
 pub enum Kind {
-    /// Its task serves the keys that it owns in a committed assignment.
+    /// A guard lease: its task serves the keys that it owns in a committed assignment.
     Guard,
-    /// Its task serves, across a change, the keys that it owns before and after it.
+    /// A bridge lease: its task serves, across a change, the keys that it owns before and after it.
     Bridge,
 }
 
-/// A lease, as the task that holds it knows it.
+/// A lease on slice keys, as the task that holds it sees it.
 #[derive(Debug, Drop)]
 pub struct Lease {
-    /// What the lease is for.
+    /// The kind of the lease.
     pub kind: Kind,
-    /// The generation of the assignment that it was granted for.
+    /// The generation of the assignment that the lease was granted for.
     pub generation: u64,
-    /// The keys that it covers.
+    /// The keys that the lease covers.
     pub ranges: Ranges,
-    /// The task's deadline: the first reading, in ticks, at which the lease is not live any more.
+    /// The task's deadline: the first reading, in ticks, at which the lease is no longer live.
     pub ends: u64,
 }
 
@@ -57,21 +57,21 @@ impl Eq for Lease {
 impl Lease {
     ghost use Rattle.policy_rules.specs.Leases.{is_live};
 
-    /// Whether the lease is live at a reading: it ends above it.
+    /// Whether the lease is live at the reading `at`, in ticks: `at` is below its deadline.
     pub fn is_live(&self, at: u64) -> bool
         ensures { result ≡ is_live self.now at }
     {
         at < self.ends
     }
 
-    /// Whether the lease covers a key.
+    /// Whether the lease covers the key, whether or not the lease is live.
     pub fn covers(&self, key: SliceKey) -> bool
         ensures { result ≡ has self.now.ranges key }
     {
         self.ranges.contains(key)
     }
 
-    /// A lease that equals this one.
+    /// Returns a copy that equals this lease. The only error is out of memory.
     pub fn copy(&self) -> Result<Self, AllocError>
         ensures { IfOk result (λ lease. lease ≡ self.now) }
     {

@@ -1,4 +1,4 @@
-//! The written rule: who may serve a key.
+//! The written rule: whether a task may serve a key.
 #![tactic(auto)]
 
 mod answer;

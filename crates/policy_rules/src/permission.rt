@@ -10,8 +10,10 @@ use crate::lease::Lease;
 use slice_ranges::Ranges;
 use std::alloc::{AllocError, Global};
 
-/// The keys that a task which holds this may serve at a reading of its clock, in ticks: those that
-/// [`verdict`](crate::verdict) allows at it.
+/// Returns the keys that a task with this holding may serve at the reading `at`, in ticks.
+///
+/// They are the keys that [`verdict`](crate::verdict) allows at this reading. The only error is out
+/// of memory.
 #[tactic(auto, using(crate::proofs::Permitting::permitted_live, crate::proofs::Permitting::permitted_down, crate::proofs::Permitting::permitted_back))]
 pub fn permitted(alloc: Global, holding: &Holding, at: u64) -> Result<Ranges, AllocError>
     ensures { IfOk result
@@ -23,7 +25,9 @@ pub fn permitted(alloc: Global, holding: &Holding, at: u64) -> Result<Ranges, Al
     live_keys(alloc, &holding.guard, &holding.bridge, at)
 }
 
-/// The keys that are covered by one of two leases, where it is held and is live at a reading.
+/// Returns the keys covered by those of two leases that are held and live at `at`, in ticks.
+///
+/// The only error is out of memory.
 pub fn live_keys(
     alloc: Global,
     guard: &Option<Lease>,
@@ -40,7 +44,7 @@ pub fn live_keys(
     }
 }
 
-// A lease that is held and live at a reading.
+// The lease, if it is held and live at the reading.
 fn live_lease(lease: &Option<Lease>, at: u64) -> Option<&Lease>
     ensures { (key : ℕ) → is_covered (option_map (λ live. seen_from key live.now) result)
         ≡ is_serving at (option_map (seen_from key) lease.now) }

@@ -1,4 +1,4 @@
-//! Who may serve a key.
+//! The written rule.
 
 ghost use Rattle.std.specs.Prelude.{◌≡◌, ℕ, option_map};
 ghost use Rattle.policy_rules.specs.Leases.{seen_from};
@@ -9,12 +9,17 @@ use crate::holding::Holding;
 use crate::lease::{Kind, Lease};
 use slice_ranges::SliceKey;
 
-/// Whether a task that holds this may serve a key at a reading of its clock, in ticks.
+/// Whether a task with this holding may serve the key at the reading `at`, in ticks.
 ///
-/// The first case that holds: the task is down (`Down`); the reading is below its last one
-/// (`ClockBack`); the guard is live and covers the key (`Allow`); the bridge is live and covers the key
-/// (`Allow`); a held lease covers the key, and so has ended (`Ended`); a held lease is live
-/// (`NotOwned`); else there is no lease (`NoLease`).
+/// The first case that holds decides:
+///
+/// - the task is down: `Down`;
+/// - the reading is below the task's last one: `ClockBack`;
+/// - the guard lease is live and covers the key: `Allow`;
+/// - the bridge lease is live and covers the key: `Allow`;
+/// - a held lease covers the key, and so has ended: `Ended`;
+/// - a held lease is live: `NotOwned`;
+/// - otherwise: `NoLease`.
 pub fn verdict(holding: &Holding, key: SliceKey, at: u64) -> Verdict
     ensures { result ≡ rule (holding_seen_from holding.now key) at }
 {
@@ -45,7 +50,7 @@ pub fn verdict(holding: &Holding, key: SliceKey, at: u64) -> Verdict
     }
 }
 
-// The generation of a lease that is held, is live and covers the key.
+// The generation of the lease, if it is held, live and covers the key.
 fn serving_generation(lease: &Option<Lease>, key: SliceKey, at: u64) -> Option<u64>
     ensures { result ≡ serving_generation at (option_map (seen_from key) lease.now) }
 {
@@ -55,7 +60,7 @@ fn serving_generation(lease: &Option<Lease>, key: SliceKey, at: u64) -> Option<u
     }
 }
 
-// Whether a lease is held that covers the key.
+// Whether a lease is held and covers the key.
 fn covers(lease: &Option<Lease>, key: SliceKey) -> bool
     ensures { result ≡ is_covered (option_map (seen_from key) lease.now) }
 {
@@ -65,7 +70,7 @@ fn covers(lease: &Option<Lease>, key: SliceKey) -> bool
     }
 }
 
-// The greatest generation of a live lease that is held.
+// The greatest generation of a held lease that is live.
 fn newest_live_generation(holding: &Holding, at: u64) -> Option<u64>
     ensures { (key : ℕ) → result ≡ greatest
         (live_generation at (option_map (seen_from key) holding.now.guard))
@@ -80,7 +85,7 @@ fn newest_live_generation(holding: &Holding, at: u64) -> Option<u64>
     }
 }
 
-// The generation of a lease that is held and live.
+// The generation of the lease, if it is held and live.
 fn live_generation(lease: &Option<Lease>, at: u64) -> Option<u64>
     ensures { (key : ℕ) → result ≡ live_generation at (option_map (seen_from key) lease.now) }
 {

@@ -1,12 +1,15 @@
-//! Why there is no set.
+//! Why pairs do not form a set of keys.
 
-/// Why pairs make no set: the first of these at the first pair that has one.
+/// Why a list of pairs does not form a set of slice keys.
+///
+/// The first pair with a fault decides. If that pair has several faults, the first in the order
+/// below is returned.
 #[derive(Clone, Copy, Debug, PartialEq, Eq)]
 pub enum RangesError {
     /// The pair starts before the end of the pair before it.
     Unsorted,
-    /// The pair does not end above its start.
+    /// The pair has no key: its end is not above its start.
     Empty,
-    /// The pair ends past the last key.
+    /// The pair ends above [`KEYS`](crate::KEYS), past the last key.
     PastEnd,
 }

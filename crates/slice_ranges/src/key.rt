@@ -6,10 +6,10 @@ ghost use Rattle.slice_ranges.specs.Hash.{slice_key};
 use sha2::{Digest, Sha256};
 use std::marker::Model;
 
-/// How many slice keys there are: they are the numbers below it.
+/// The number of slice keys, 2^63: slice keys are the numbers below it.
 pub const KEYS: u64 = 1 << 63;
 
-/// A key of the space that assignments slice: a number below [`KEYS`].
+/// A slice key: the 63-bit hash of an application key, a number below [`KEYS`].
 #[derive(Clone, Copy, Debug, PartialEq, Eq, PartialOrd, Ord, Hash)]
 pub struct SliceKey {
     number: u64,
@@ -29,7 +29,7 @@ impl Model for SliceKey {
 }
 
 impl SliceKey {
-    /// The slice key of this number, or `None` at [`KEYS`] and above.
+    /// Returns the slice key with this number, or `None` if the number is [`KEYS`] or above.
     pub fn new(number: u64) -> Option<Self>
         ensures valid { IsSome result ↔ (number < KEYS) }
         ensures value { IfSome result (λ key. key ≡ number) }
@@ -41,7 +41,7 @@ impl SliceKey {
         }
     }
 
-    /// The number that the key is.
+    /// Returns the number of the key, which is below [`KEYS`].
     pub fn value(self) -> u64
         ensures value { result ≡ self }
         ensures in_range { result < KEYS }
@@ -50,8 +50,10 @@ impl SliceKey {
     }
 }
 
-/// The slice key of an application key: the first eight bytes of its SHA-256 (FIPS 180-4), read
-/// as a number with the most significant byte first, without the lowest bit.
+/// Returns the slice key of an application key, from its SHA-256 (FIPS 180-4).
+///
+/// The slice key is the first eight bytes of the digest, read with the most significant byte first
+/// and shifted right by one bit.
 pub fn slice_key(key: &[u8]) -> SliceKey
     ensures { result ≡ slice_key key.now }
 {

@@ -1,4 +1,4 @@
-//! Levels, and the boundaries of the keys at which they say yes.
+//! Levels, and the boundaries of the keys at which they are true.
 
 ghost use Rattle.std.specs.Prelude.{◌≡◌, ℕ, ◌<◌, false, IfOk};
 ghost use Rattle.slice_ranges.specs.Sets.{has, IsRanges};
@@ -7,7 +7,7 @@ ghost use Rattle.slice_ranges.specs.Levels.{value_after, LevelsRise};
 use crate::key::KEYS;
 use std::alloc::{AllocError, Global};
 
-/// The keys where levels turn.
+/// Returns the keys at which the value of the levels changes. The only error is out of memory.
 pub fn boundaries_of_levels(alloc: Global, levels: &[(u64, bool)]) -> Result<Vec<u64>, AllocError>
     requires { LevelsRise 0 levels.now KEYS }
     ensures ranges { IfOk result (λ v. IsRanges v.items) }

@@ -1,4 +1,4 @@
-//! Slice keys, and sets of them.
+//! Slice keys, and sets of slice keys.
 #![tactic(auto)]
 
 mod error;

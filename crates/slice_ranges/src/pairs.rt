@@ -8,7 +8,9 @@ use crate::error::RangesError;
 use crate::key::KEYS;
 use std::alloc::{AllocError, Global};
 
-/// Why pairs make no set, if they make none: the first [`RangesError`] of the first pair that has one.
+/// Returns why the pairs do not form a set of keys, or `None` if they do.
+///
+/// The reason is the first [`RangesError`] of the first pair that has one.
 pub fn pairs_refusal(pairs: &[(u64, u64)]) -> Option<RangesError>
     ensures { result ≡ refusal_of pairs.now }
 {
@@ -28,7 +30,7 @@ pub fn pairs_refusal(pairs: &[(u64, u64)]) -> Option<RangesError>
     None
 }
 
-/// The boundaries of pairs in order.
+/// Returns the boundaries of the keys of pairs in order. The only error is out of memory.
 pub fn boundaries_of_pairs(alloc: Global, pairs: &[(u64, u64)]) -> Result<Vec<u64>, AllocError>
     requires { refusal_of pairs.now ≡ None }
     ensures ranges { IfOk result (λ v. IsRanges v.items) }

@@ -22,14 +22,15 @@ use std::alloc::{AllocError, Global};
 use std::marker::Model;
 use std::sync::ArcSlice;
 
-/// A set of slice keys. Equal sets are equal values: contracts see the keys at which membership
-/// turns, in rising order, the first of which turns it on.
+/// A set of slice keys, stored as half-open ranges of keys in rising order.
 ///
-/// Copies share the memory of their boundaries.
+/// Two sets are equal if they have the same keys. Contracts see a set as its boundaries: the keys
+/// at which membership changes, in rising order, the first of which starts the first range. Copies
+/// share the memory of their boundaries.
 #[derive(Debug, Drop)]
 pub struct Ranges {
     alloc: Global,
-    // None for the set without keys.
+    // `None` for the empty set.
     boundaries: Option<ArcSlice<u64>>,
 }
 
@@ -45,7 +46,7 @@ impl Model for Ranges {
     ghost invariant = { λ r. IsRanges (unwrap_or (option_map arc_slice_items r.boundaries) []) };
 }
 
-/// Sets of the same keys are equal.
+/// Sets are equal if they have the same keys.
 impl PartialEq for Ranges {
     ghost eq = { pointwise nat_eq };
 
@@ -64,7 +65,7 @@ impl Eq for Ranges {
 }
 
 impl Ranges {
-    /// The set without keys.
+    /// Creates the empty set.
     pub fn empty(alloc: Global) -> Self
         ensures { result ≡ [] }
     {
@@ -74,12 +75,13 @@ impl Ranges {
         }
     }
 
-    /// The keys of the ranges: each pair is a start and the end after its last key, and no pair
-    /// starts before the end of the one before it. Pairs that touch are joined, and no pairs make
-    /// the empty set.
+    /// Builds the set of the keys in `pairs`, each a start key and the end after its last key.
     ///
-    /// It is refused by the first [`RangesError`] of the first pair that has one. Where none has, it
-    /// may run out of memory.
+    /// No pair may start before the end of the pair before it. Pairs that touch are joined. An
+    /// empty list gives the empty set.
+    ///
+    /// Errors, in this order: the first [`RangesError`] of the first pair that has one; out of
+    /// memory.
     pub fn build(alloc: Global, pairs: &[(u64, u64)]) -> Result<Self, Trouble<RangesError>>
         ensures keys { IfOk result (λ r. (key : ℕ) → has r key ≡ pairs_cover pairs.now key) }
         ensures accepted { OnOk result (refusal_of pairs.now ≡ None) }
@@ -91,8 +93,11 @@ impl Ranges {
         Ok(Ranges::of(alloc, boundaries_of_pairs(alloc, pairs)?)?)
     }
 
-    /// The keys at which levels say yes: each level is a key and what holds from there on, up to the
-    /// key of the next level. Below the first level nothing is in the set.
+    /// Builds the set of the keys at which `levels` is true.
+    ///
+    /// Each level is a key and the value from this key up to the key of the next level. The keys of
+    /// the levels rise and are below [`KEYS`]. No key below the first level is in the set. The only
+    /// error is out of memory.
     pub fn from_levels(alloc: Global, levels: &[(u64, bool)]) -> Result<Self, AllocError>
         requires { LevelsRise 0 levels.now KEYS }
         ensures { IfOk result
@@ -101,14 +106,16 @@ impl Ranges {
         Ranges::of(alloc, boundaries_of_levels(alloc, levels)?)
     }
 
-    /// Whether the set has a key.
+    /// Whether the set has the key.
     pub fn contains(&self, key: SliceKey) -> bool
         ensures { result ≡ has self.now key }
     {
         slice_of(&self.boundaries).partition_point(|boundary| *boundary <= key.value()) % 2 == 1
     }
 
-    /// The keys at which membership turns, in rising order; the first of them turns it on.
+    /// Returns the keys at which membership changes, in rising order.
+    ///
+    /// The first boundary is the start of the first range, the second one its end, and so on.
     pub fn boundaries(&self) -> &[u64]
         ensures boundaries { result.now ≡ self.now }
         ensures ranges { IsRanges self.now }
@@ -116,21 +123,21 @@ impl Ranges {
         slice_of(&self.boundaries)
     }
 
-    /// How many keys the set has.
+    /// Returns the number of keys in the set.
     pub fn width(&self) -> u64
         ensures { result ≡ count (has self.now) KEYS }
     {
         width_of(self.boundaries())
     }
 
-    /// Whether each key of this set is in the other one. It takes no memory.
+    /// Whether every key of this set is in `other`. The call takes no memory.
     pub fn is_subset(&self, other: &Ranges) -> bool
         ensures { IsTrue result ↔ IsSubset self.now other.now }
     {
         is_subset(self.boundaries(), other.boundaries())
     }
 
-    /// The keys of both sets.
+    /// Returns the keys that are in both sets. The only error is out of memory.
     pub fn intersect(&self, other: &Ranges) -> Result<Self, AllocError>
         ensures { IfOk result
             (λ r. (key : ℕ) → has r key ≡ (has self.now key && has other.now key)) }
@@ -138,7 +145,7 @@ impl Ranges {
         self.combine(other, Operation::Both)
     }
 
-    /// The keys of either set.
+    /// Returns the keys that are in at least one of the sets. The only error is out of memory.
     pub fn union(&self, other: &Ranges) -> Result<Self, AllocError>
         ensures { IfOk result
             (λ r. (key : ℕ) → has r key ≡ (has self.now key || has other.now key)) }
@@ -146,7 +153,7 @@ impl Ranges {
         self.combine(other, Operation::Either)
     }
 
-    /// The keys of this set that are not in the other one.
+    /// Returns the keys of this set that are not in `other`. The only error is out of memory.
     pub fn without(&self, other: &Ranges) -> Result<Self, AllocError>
         ensures { IfOk result
             (λ r. (key : ℕ) → has r key ≡ (has self.now key && not (has other.now key))) }
@@ -162,7 +169,7 @@ impl Ranges {
         Ranges::of(self.alloc, boundaries)
     }
 
-    /// A set that equals this one.
+    /// Returns a copy that equals this set and shares its memory. The only error is out of memory.
     pub fn copy(&self) -> Result<Self, AllocError>
         ensures { IfOk result (λ r. r ≡ self.now) }
     {
@@ -172,7 +179,7 @@ impl Ranges {
         })
     }
 
-    // The set of these boundaries.
+    // The set with these boundaries.
     fn of(alloc: Global, boundaries: Vec<u64>) -> Result<Self, AllocError>
         requires { IsRanges boundaries.items }
         ensures { IfOk result (λ r. r ≡ boundaries.items) }
@@ -186,7 +193,10 @@ impl Ranges {
         })
     }
 
-    /// A set is that of the keys that it has, and the set of the keys that pass a test has them.
+    /// States that a set is determined by the test that its keys pass.
+    ///
+    /// A set is the set of the keys that pass a test if it has exactly these keys, and the set of
+    /// the keys that pass a test has exactly these keys.
     pub fn keys_where_law(set: &Ranges)
         ensures is { (member : ℕ → Bool) → ((key : ℕ) → key < KEYS → has set.now key ≡ member key)
             → set.now ≡ keys_where member }
@@ -197,7 +207,7 @@ impl Ranges {
         keys_where_law();
     }
 
-    /// Two sets of the same keys are equal.
+    /// States that two sets with the same keys are equal.
     pub fn same_keys_law(first: &Ranges, second: &Ranges)
         ensures { ((key : ℕ) → key < KEYS → has first.now key ≡ has second.now key)
             → first.now ≡ second.now }
@@ -207,12 +217,12 @@ impl Ranges {
     }
 }
 
-/// The set of the keys that pass a test has a key where it passes.
+/// States that the set of the keys that pass a test has exactly the keys that pass it.
 pub fn keys_where_law()
     ensures { (member : ℕ → Bool) (key : ℕ) → key < KEYS → has (keys_where member) key ≡ member key }
 {}
 
-// The boundaries that are shared.
+// The boundaries as a slice.
 fn slice_of(boundaries: &Option<ArcSlice<u64>>) -> &[u64]
     ensures { result.now ≡ unwrap_or (option_map arc_slice_items boundaries.now) [] }
 {
@@ -232,7 +242,7 @@ fn shared(boundaries: &Option<ArcSlice<u64>>) -> Result<Option<ArcSlice<u64>>, A
     }
 }
 
-// How many keys lie inside the boundaries.
+// The number of keys inside the boundaries.
 fn width_of(boundaries: &[u64]) -> u64
     requires { IsRanges boundaries.now }
     ensures { result ≡ count (has boundaries.now) KEYS }

@@ -5,8 +5,9 @@ ghost use Rattle.std.specs.Bool.{IsTrue};
 ghost use Rattle.slice_ranges.specs.Sets.{IsRanges, IsSubset};
 ghost use Rattle.slice_ranges.specs.internals.Pairs.{HasNoPair};
 
-/// Whether all keys inside some boundaries are inside others. The walk goes over the ranges of both
-/// once, in order.
+/// Whether all keys inside `keys` are inside `others`, both given as boundaries.
+///
+/// The function walks the ranges of both once, in order.
 pub fn is_subset(keys: &[u64], others: &[u64]) -> bool
     requires keys { IsRanges keys.now }
     requires others { IsRanges others.now }

@@ -7,14 +7,14 @@ ghost use Rattle.slice_ranges.specs.internals.Sweeps.{apply};
 
 use std::alloc::{AllocError, Global};
 
-/// Which keys of two sets are taken.
+/// Which keys of two sets to take.
 #[derive(Clone, Copy)]
 pub enum Operation {
-    /// Those in both.
+    /// The keys in both sets.
     Both,
-    /// Those in one of them at least.
+    /// The keys in at least one of the sets.
     Either,
-    /// Those in the first alone.
+    /// The keys in the first set only.
     Without,
 }
 
@@ -30,7 +30,7 @@ impl Operation {
     }
 }
 
-/// The boundaries of the keys that an operation takes.
+/// Returns the boundaries of the keys that the operation takes. The only error is out of memory.
 pub fn sweep(
     alloc: Global,
     first: &[u64],
@@ -61,7 +61,7 @@ pub fn sweep(
     Ok(boundaries)
 }
 
-/// The lower of the first boundaries of two lists.
+/// Returns the lower of the first boundaries of two lists, or `None` if both are empty.
 pub fn next_boundary(first: &[u64], second: &[u64]) -> Option<u64>
     ensures none { result ≡ None → (first.now ≡ []) × (second.now ≡ []) }
     ensures some { (key : ℕ) → result ≡ Some key → IsNext key first.now second.now }
@@ -73,8 +73,10 @@ pub fn next_boundary(first: &[u64], second: &[u64]) -> Option<u64>
     }
 }
 
-/// What is left of a list of boundaries, none of which is below a key, above the key, and whether
-/// the key is inside, where `inside` tells of the keys below the first of them.
+/// Returns the boundaries above `key`, and whether the set has `key`.
+///
+/// No boundary in `boundaries` may be below `key`. `inside` says whether the set has the keys just
+/// below the first boundary.
 pub fn boundaries_above(boundaries: &[u64], inside: bool, key: u64) -> (&[u64], bool)
     ensures { IsPast key inside boundaries.now result.1 result.0.now }
 {
