@@ -1,4 +1,4 @@
-//! Sets of the keys of tasks, each of which is made once and then shared.
+//! The key sets of tasks, each made once and then shared.
 
 ghost use Rattle.std.specs.Prelude.{◌≡◌, [], ◌∷◌, ◌++◌, option_map, unwrap_or, IfOk};
 ghost use Rattle.std.specs.Arc.{arc_slice_items};
@@ -17,7 +17,7 @@ pub struct KeySet {
     keys: Ranges,
 }
 
-/// Sets of the keys of tasks. Contracts see them in the order in which they were added.
+/// The key sets of tasks, which contracts see in the order in which they were added.
 ///
 /// Copies share the memory of the sets and of their list.
 #[derive(Drop)]
@@ -36,21 +36,21 @@ impl Model for KeySets {
 }
 
 impl KeySets {
-    /// No sets.
+    /// Creates an empty list of key sets.
     pub fn none() -> Self
         ensures { result ≡ [] }
     {
         KeySets { sets: None }
     }
 
-    /// The keys of a task, if its set is there.
+    /// Returns the keys of a task, if the list has them.
     pub fn keys(&self, task: TaskId) -> Option<&Ranges>
         ensures { option_map (λ keys. keys.now) result ≡ keys_in self.now task }
     {
         keys_among(slice_of(&self.sets), task)
     }
 
-    /// These sets and that of one task more.
+    /// Returns these sets with the keys of one more task added. The only error is out of memory.
     pub fn with(&self, alloc: Global, task: TaskId, keys: Ranges) -> Result<Self, AllocError>
         ensures { IfOk result (λ sets. sets ≡ self.now ++ record { task = task; keys = keys } ∷ []) }
     {
@@ -61,7 +61,7 @@ impl KeySets {
         })
     }
 
-    /// Sets that equal these.
+    /// Returns a copy that equals these sets. The only error is out of memory.
     pub fn copy(&self) -> Result<Self, AllocError>
         ensures { IfOk result (λ sets. sets ≡ self.now) }
     {
@@ -71,7 +71,7 @@ impl KeySets {
     }
 }
 
-// The sets that are shared.
+// The sets as a slice.
 fn slice_of(sets: &Option<ArcSlice<KeySet>>) -> &[KeySet]
     ensures { result.now ≡ unwrap_or (option_map arc_slice_items sets.now) [] }
 {

@@ -10,8 +10,9 @@ use slice_ranges::Ranges;
 use std::alloc::{AllocError, Global};
 use std::marker::Model;
 
-/// An assignment, and the keys of those of its tasks that were asked for. Contracts see the
-/// assignment.
+/// An assignment, with the key sets of the tasks that were asked for.
+///
+/// Contracts see only the assignment.
 #[derive(Drop)]
 pub struct KeyedAssignment {
     assignment: Assignment,
@@ -32,7 +33,7 @@ impl Model for KeyedAssignment {
 }
 
 impl KeyedAssignment {
-    /// An assignment of which no keys were asked for.
+    /// Wraps an assignment, with no key sets yet.
     pub fn new(assignment: Assignment) -> Self
         ensures { result ≡ assignment }
     {
@@ -42,14 +43,14 @@ impl KeyedAssignment {
         }
     }
 
-    /// The assignment.
+    /// Returns the assignment.
     pub fn assignment(&self) -> &Assignment
         ensures { result.now ≡ self.now }
     {
         &self.assignment
     }
 
-    /// The keys that a task owns.
+    /// Returns the keys that a task owns. The only error is out of memory.
     pub fn keys(&self, task: TaskId) -> Result<Ranges, AllocError>
         ensures { IfOk result (λ keys. keys ≡ keys_where (owned_in (Some self.now) task)) }
     {
@@ -59,7 +60,9 @@ impl KeyedAssignment {
         }
     }
 
-    /// Keeps the set of the keys that a task owns, if it is not there yet.
+    /// Computes and keeps the keys that a task owns, unless they are kept already.
+    ///
+    /// The only error is out of memory. The value that contracts see is unchanged in any case.
     pub fn keep_keys(&mut self, alloc: Global, task: TaskId) -> Result<(), AllocError>
         ensures { self.new ≡ self.old }
     {
@@ -70,7 +73,7 @@ impl KeyedAssignment {
         Ok(())
     }
 
-    /// An assignment that equals this one.
+    /// Returns a copy that equals this assignment. The only error is out of memory.
     pub fn copy(&self) -> Result<Self, AllocError>
         ensures { IfOk result (λ assignment. assignment ≡ self.now) }
     {

@@ -1,4 +1,4 @@
-//! What holds after every list of calls that a table answered.
+//! Laws that hold after every list of calls that a lease table answered.
 
 ghost use Rattle.std.specs.Prelude.{◌≡◌, ℕ, ◌+◌, ◌≤◌, ◌<◌, ◌&&◌, ◌⊎◌, ◌↔◌, List, [], ◌∷◌, ◌++◌, Some, None, Ok, Err, true, is_ok, is_some, slice_get, Contains, AllPairs};
 ghost use Rattle.slice_ranges.specs.Sets.{has};
@@ -29,21 +29,25 @@ use crate::policy::Policy;
 use crate::table::READINGS;
 use slice_ranges::KEYS;
 
-/// A policy is within its limits.
+/// States that every policy is within its limits.
 pub fn policy_law(policy: Policy)
     ensures { is_policy policy ≡ true }
 {}
 
-/// After every list of calls the table stands where the definitions over that list say, and its
-/// answers are those of its steps from there.
+/// States that the state and answers of a table are those defined over its list of calls.
+///
+/// The list may be any list of calls that the table answered, and the answer to the next call is
+/// that of the table's step from the state after the list.
 pub fn standing_law()
     ensures start { (policy : Terms) → standing_after policy [] ≡ opening policy }
     ensures next { (policy : Terms) (past : List AnsweredTableCall) (call : TableCall) → is_policy policy ≡ true
         → LeadsOn (LeadsTo policy) past (standing_after policy past) call (table_step (standing_after policy past) call) }
 {}
 
-/// The committed generation is the number of commits, the proposed one is the next, and an
-/// assignment is of the generation that it is the assignment of.
+/// States that generations are numbered by commits.
+///
+/// The committed generation is the number of commits, the proposed generation is the next one, and
+/// the assignment of a generation has the number of this generation.
 pub fn generations_law()
     ensures committed { (policy : Terms) (past : List AnsweredTableCall) → IsRun policy past
         → generation_of (committed_in past) ≡ commits_in past }
@@ -54,9 +58,10 @@ pub fn generations_law()
     ensures grows { (later past : List AnsweredTableCall) → newest_generation past ≤ newest_generation (later ++ past) }
 {}
 
-/// A generation up to the newest has one assignment for ever: that of the accepted commit of its
-/// number, or the proposed one while it is not committed. None has a slice with more owners than the
-/// job allows.
+/// States that each generation up to the newest has one assignment, which never changes.
+///
+/// It is the assignment of the accepted commit with the number of the generation, or the proposed
+/// assignment while it is not committed. No slice of it has more owners than the job allows.
 pub fn assignments_law()
     ensures stays { (policy : Terms) (later past : List AnsweredTableCall) (generation : ℕ) → IsRun policy (later ++ past)
         → generation ≤ newest_generation past → assignment_in generation (later ++ past) ≡ assignment_in generation past }
@@ -68,8 +73,9 @@ pub fn assignments_law()
         → HasFewOwners policy (assignment_in generation past) }
 {}
 
-/// Grants have the numbers 1, 2, and so on in the order in which they were sent, so that each is
-/// found by its number.
+/// States that grants are numbered 1, 2, and so on in the order in which they were sent.
+///
+/// Each grant that was sent is therefore found by its number.
 pub fn numbers_law()
     ensures place { (policy : Terms) (past : List AnsweredTableCall) (place : ℕ) → IsRun policy past
         → grant_numbered (place + 1) (grants_sent past) ≡ slice_get (grants_sent past) place }
@@ -79,8 +85,12 @@ pub fn numbers_law()
         → grant_numbered number (grants_sent past) ≡ Some grant → IsSent past grant × (grant.number ≡ number) }
 {}
 
-/// Of which generation a grant that was sent is, and when it ends: its lease by the skew before its
-/// row, and its row within the longest term of a task lease.
+/// States the generation of a grant that was sent, and when the grant ends.
+///
+/// Its generation is at most the newest one; that of a guard lease is at most the committed one,
+/// and a lease of the generation after the committed one is a bridge lease. The lease ends by the
+/// skew before its row, in ticks. The row ends at most the longest term of a task lease after the
+/// last accepted reading.
 pub fn leases_law()
     ensures generation { (policy : Terms) (past : List AnsweredTableCall) (grant : Grant) → is_policy policy ≡ true → IsRun policy past
         → IsSent past grant → grant.lease.generation ≤ newest_generation past }
@@ -94,9 +104,12 @@ pub fn leases_law()
         → IsSent past grant → grant.table_ends ≤ last_reading past + longest_term policy }
 {}
 
-/// A guard lease covers a key exactly where its task owns it in the committed assignment, a bridge
-/// lease exactly where the task owns it in the committed and in the proposed one; and so does every
-/// grant that was sent, by the assignments of its generations.
+/// States which keys the lease of a grant covers.
+///
+/// A guard lease covers exactly the keys that its task owns in the committed assignment. A bridge
+/// lease covers exactly the keys that the task owns in both the committed and the proposed
+/// assignment. The same holds for every grant that was sent, with the assignments of its
+/// generations.
 pub fn covers_law()
     ensures guard { (t : Standing) (task life at key : ℕ) → key < KEYS
         → has (guard_of t task life at).lease.ranges key ≡ owns (slices_of t.committed) key task }
@@ -107,10 +120,11 @@ pub fn covers_law()
         → IsSent past grant → key < KEYS → has grant.lease.ranges key ≡ covers_by_owners past key grant }
 {}
 
-/// The rows of a table are those of the grants sent that are open at the last accepted reading, in
-/// the order of the grants: a grant that was sent has its row, or has ended, or was freed, or its row
-/// was lost by a restart. A grant that has neither ended nor been freed is of the committed generation
-/// or a later one, also where its row was lost.
+/// States that the table's rows are those of the grants that are open at its last reading.
+///
+/// The rows are in the order of the grants. A grant that was sent has a row, or has ended, or was
+/// freed, or lost its row in a restart. A grant that has neither ended nor been freed is of the
+/// committed generation or a later one, even if its row was lost.
 pub fn rows_law()
     ensures listed { (policy : Terms) (past : List AnsweredTableCall) (row : Row) → IsRun policy past
         → Contains (standing_after policy past).rows row
@@ -124,10 +138,13 @@ pub fn rows_law()
         → IsOut past (last_reading past) grant → commits_in past ≤ grant.lease.generation }
 {}
 
-/// A grant whose row was lost by a restart ends at the grace of the table or before, which is the
-/// greatest deadline given before the last restart. A commit is refused with it while its reading is
-/// below, and accepted only from then on, so that none of the grants whose rows were lost is out. It is
-/// at most the longest term of a task lease after the last accepted reading before that restart.
+/// States that no commit is accepted while a lease whose row was lost may not have ended.
+///
+/// The grace is the greatest deadline given before the last restart, in ticks. Each grant whose row
+/// was lost in a restart ends at the grace or before. A commit that is refused with `Grace` has a
+/// reading below the grace, and a commit is accepted only at the grace or later, when all these
+/// grants have ended. The grace is at most the longest term of a task lease after the last accepted
+/// reading before that restart.
 pub fn grace_law()
     ensures covers { (past : List AnsweredTableCall) (grant : Grant) → IsLost past grant → grant.table_ends ≤ grace_in past }
     ensures greatest { (past : List AnsweredTableCall) (grant : Grant) → IsSent past grant → grant.table_ends ≤ deadline_in past }
@@ -141,11 +158,13 @@ pub fn grace_law()
         → IsRun policy (answered_call (call.Commit number at) (Ok reply) ∷ past) → grace_in past ≤ at }
 {}
 
-/// A commit is held up exactly where the row of a sent grant of the committed generation or an older
-/// one is open at its reading. The refusal names the grant of the lowest number that holds it up.
-/// Under a term that runs, with an assignment proposed, a commit is accepted exactly where nothing holds
-/// it up and the grace is over. Once it is accepted, every grant of the generation before it or an older
-/// one has ended or was freed, also where its row was lost.
+/// States exactly when a commit is held up, and which grant the refusal names.
+///
+/// A commit is held up exactly if, at its reading, a row of a sent grant of the committed
+/// generation or an older one is open. The refusal names the grant with the lowest number among
+/// those that hold it up. Under a running term, with an assignment proposed, a commit is accepted
+/// exactly if nothing holds it up and the grace is over. Once it is accepted, every grant of the
+/// generation before it or an older one has ended or was freed, even if its row was lost.
 pub fn held_law()
     ensures held { (policy : Terms) (past : List AnsweredTableCall) (at : ℕ) → IsRun policy past → last_reading past ≤ at
         → (is_some (held_up (standing_after policy past) at) ≡ true) ↔ IsHeldUp past at }
@@ -161,19 +180,22 @@ pub fn held_law()
         → grant.lease.generation ≤ commits_in past → (grant.table_ends ≤ at) ⊎ IsFreed past grant }
 {}
 
-/// A commit is not held up once its reading is the longest term of a task lease, or more, after that of
-/// the proposal.
+/// States that no commit is held up longer than the longest task-lease term after its proposal.
+///
+/// From the reading of the proposal plus that term on, in ticks, nothing holds it up.
 pub fn bound_law()
     ensures { (policy : Terms) (past : List AnsweredTableCall) (next : Slicing) (at : ℕ)
         → is_policy policy ≡ true → IsRun policy past → pending_in past ≡ Some next
         → proposed_at past + longest_term policy ≤ at → held_up (standing_after policy past) at ≡ None }
 {}
 
-/// The terms of the job lease have the numbers 1, 2, and so on in the order in which they were taken,
-/// and each ends a job term after its take or its last renewal. An accepted renewal, proposal or commit
-/// passed the number of the last term given, before its end; an accepted take came at the end of every
-/// term given before it, or later. So those terms that run at a reading, from the last accepted one on,
-/// are one term of one assigner.
+/// States that the terms of the job lease running at a reading belong to one assigner.
+///
+/// Terms are numbered 1, 2, and so on in the order in which they were taken, and each ends one job
+/// term after its take or its last renewal, in ticks. An accepted renewal, proposal or commit
+/// passed the number of the last term given, before the end of that term. An accepted take came
+/// when every term given before had ended. So all terms that run at a reading, from the last
+/// accepted one on, are one term of one assigner.
 pub fn terms_law()
     ensures number { (policy : Terms) (past : List AnsweredTableCall) → IsRun policy past → last_number (last_term past) ≡ takes_in past }
     ensures taken { (policy : Terms) (past : List AnsweredTableCall) (assigner at : ℕ) (reply : TableReply)

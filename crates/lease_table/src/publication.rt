@@ -11,14 +11,15 @@ use slice_ranges::Ranges;
 use std::alloc::{AllocError, Global};
 use std::marker::Model;
 
-/// The committed assignment and the proposed one, with the keys of those tasks that were asked for.
-/// Contracts see the two assignments.
+/// The committed and the proposed assignment, with the key sets of tasks that were asked for.
+///
+/// Contracts see only the two assignments.
 #[derive(Drop)]
 pub struct Publication {
     alloc: Global,
     committed: Option<KeyedAssignment>,
     pending: Option<KeyedAssignment>,
-    // The keys that tasks own in both.
+    // The keys that tasks own in both assignments.
     both: KeySets,
 }
 
@@ -34,7 +35,7 @@ impl Model for Publication {
 }
 
 impl Publication {
-    /// No assignment is committed or proposed.
+    /// Creates a publication with no committed and no proposed assignment.
     pub fn none(alloc: Global) -> Self
         ensures { result ≡ record { committed = None; pending = None } }
     {
@@ -46,21 +47,21 @@ impl Publication {
         }
     }
 
-    /// The committed assignment.
+    /// Returns the committed assignment, if there is one.
     pub fn committed(&self) -> Option<&Assignment>
         ensures { option_map (λ a. a.now) result ≡ self.now.committed }
     {
         assignment_of(&self.committed)
     }
 
-    /// The proposed assignment.
+    /// Returns the proposed assignment, if there is one.
     pub fn pending(&self) -> Option<&Assignment>
         ensures { option_map (λ a. a.now) result ≡ self.now.pending }
     {
         assignment_of(&self.pending)
     }
 
-    /// An assignment is proposed.
+    /// Makes `next` the proposed assignment.
     pub fn propose(&mut self, next: Assignment)
         ensures { self.new ≡ record self.old { pending = Some next } }
     {
@@ -68,7 +69,7 @@ impl Publication {
         self.both = KeySets::none();
     }
 
-    /// The proposed assignment is committed.
+    /// Makes the proposed assignment the committed one.
     pub fn commit(&mut self)
         ensures { self.new ≡ record { committed = self.old.pending; pending = None } }
     {
@@ -76,14 +77,17 @@ impl Publication {
         self.both = KeySets::none();
     }
 
-    /// The keys that a task owns in the committed assignment.
+    /// Returns the keys that a task owns in the committed assignment. The only error is out of
+    /// memory.
     pub fn guard_keys(&self, task: TaskId) -> Result<Ranges, AllocError>
         ensures { IfOk result (λ keys. keys ≡ keys_where (owned_in self.now.committed task)) }
     {
         keys_of(self.alloc, &self.committed, task)
     }
 
-    /// The keys that a task owns in the committed assignment and in the proposed one.
+    /// Returns the keys that a task owns in both the committed and the proposed assignment.
+    ///
+    /// The only error is out of memory.
     pub fn bridge_keys(&self, task: TaskId) -> Result<Ranges, AllocError>
         ensures { IfOk result (λ keys. keys ≡ keys_where (owned_in_both self.now task)) }
     {
@@ -93,7 +97,10 @@ impl Publication {
         }
     }
 
-    /// Keeps the set of the keys that a grant of the phase to a task has, if it is not there yet.
+    /// Computes and keeps the keys of a grant to the task in the current phase, if not kept
+    /// already.
+    ///
+    /// The only error is out of memory. The value that contracts see is unchanged in any case.
     pub fn keep_keys(&mut self, task: TaskId) -> Result<(), AllocError>
         ensures { self.new ≡ self.old }
     {
@@ -109,7 +116,7 @@ impl Publication {
         Ok(())
     }
 
-    /// Assignments that equal these.
+    /// Returns a copy that equals these assignments. The only error is out of memory.
     pub fn copy(&self) -> Result<Self, AllocError>
         ensures { IfOk result (λ copied. copied ≡ self.now) }
     {
@@ -131,7 +138,7 @@ fn assignment_of(assignment: &Option<KeyedAssignment>) -> Option<&Assignment>
     }
 }
 
-// The keys that a task owns in an assignment, none where there is none.
+// The keys that a task owns in an assignment; none if there is no assignment.
 fn keys_of(
     alloc: Global,
     assignment: &Option<KeyedAssignment>,
@@ -145,7 +152,7 @@ fn keys_of(
     }
 }
 
-// The keys of a task where there is no assignment.
+// The keys of a task if there is no assignment.
 fn no_keys(alloc: Global) -> Ranges
     ensures { (task : ℕ) → result ≡ keys_where (owned_in None task) }
 {
@@ -154,7 +161,7 @@ fn no_keys(alloc: Global) -> Ranges
     keys
 }
 
-// The keys that a task owns in two assignments.
+// The keys that a task owns in both assignments.
 fn keys_of_both(
     alloc: Global,
     committed: &Option<KeyedAssignment>,

@@ -22,11 +22,14 @@ use policy_rules::{Kind, Lease};
 use std::alloc::{AllocError, Global};
 use std::marker::Model;
 
-/// Readings are below this.
+/// The bound of readings, 2^62 ticks: every reading that the table accepts is below it.
 pub const READINGS: u64 = 1 << 62;
 
-/// Who may propose and commit assignments, which is committed and which is proposed, and the leases
-/// that are out.
+/// The lease table of a job: its job lease, its assignments, and the leases given to tasks.
+///
+/// The table decides which assigner may propose and commit assignments, and grants leases to tasks.
+/// It holds up a commit while a lease of the committed generation or an older one may still be in
+/// use. Readings and terms are in ticks of the table's clock.
 #[derive(Drop)]
 pub struct LeaseTable {
     policy: Policy,
@@ -63,7 +66,7 @@ impl Model for LeaseTable {
 }
 
 impl LeaseTable {
-    /// A table before its first call.
+    /// Creates a table before its first call: no job term, no assignment, no rows.
     pub fn new(alloc: Global, policy: Policy) -> Self
         ensures { result ≡ opening policy }
     {
@@ -79,14 +82,14 @@ impl LeaseTable {
         }
     }
 
-    /// The committed assignment.
+    /// Returns the committed assignment, if there is one.
     pub fn committed(&self) -> Option<&Assignment>
         ensures { option_map (λ a. a.now) result ≡ self.now.committed }
     {
         self.publication.committed()
     }
 
-    /// Whether an assignment is proposed, and the generations.
+    /// Returns the committed generation and, if an assignment is proposed, its generation.
     pub fn phase(&self) -> Phase
         ensures { result ≡ phase_of self.now }
     {
@@ -96,30 +99,36 @@ impl LeaseTable {
         }
     }
 
-    /// The last accepted reading, in ticks: 0 before the first.
+    /// Returns the last accepted reading, in ticks; 0 before the first.
     pub fn last_reading(&self) -> u64
         ensures { result ≡ self.now.last }
     {
         self.last
     }
 
-    /// The last term given.
+    /// Returns the last term of the job lease that was given, if any; it may have ended.
     pub fn job(&self) -> Option<JobTerm>
         ensures { result ≡ self.now.term }
     {
         self.term
     }
 
-    /// The rows that are neither freed nor lost, nor ended at the last accepted reading, in grant order.
+    /// Returns the open rows, in the order of their grants.
+    ///
+    /// A row is open if it was neither freed nor lost in a restart and has not ended at the last
+    /// accepted reading. The only error is out of memory.
     pub fn rows(&self) -> Result<Vec<Row>, AllocError>
         ensures { IfOk result (λ rows. rows.items ≡ self.now.rows) }
     {
         self.rows.running_at(self.last)
     }
 
-    /// Gives the job lease to an assigner, for the job's term from the reading on, in ticks.
+    /// Gives the job lease to an assigner and returns the new term.
     ///
-    /// Refused by `ReadingRange`, `ClockBack` and `JobHeld`, in this order.
+    /// The term lasts the job's term (`Policy::job`, in ticks) from the reading `at` on.
+    ///
+    /// Errors, in this order: `ReadingRange`, `ClockBack`, `JobHeld`. An error leaves the table
+    /// unchanged.
     pub fn job_take(&mut self, assigner: u64, at: u64) -> Result<JobTerm, TableError>
         ensures { Answers (take_step self.old assigner at) self.old result self.new }
     {
@@ -134,10 +143,13 @@ impl LeaseTable {
         Ok(term)
     }
 
-    /// Renews the term of this number, which is to be the last one given: it lasts the job's term from the
-    /// reading on, in ticks.
+    /// Renews the term with this number and returns it.
     ///
-    /// Refused by `ReadingRange`, `ClockBack` and `NotHolder`, in this order.
+    /// It must be the last term given, and then lasts the job's term (`Policy::job`, in ticks) from
+    /// the reading `at` on.
+    ///
+    /// Errors, in this order: `ReadingRange`, `ClockBack`, `NotHolder`. An error leaves the table
+    /// unchanged.
     pub fn job_renew(&mut self, number: u64, at: u64) -> Result<JobTerm, TableError>
         ensures { Answers (renew_step self.old number at) self.old result self.new }
     {
@@ -148,10 +160,10 @@ impl LeaseTable {
         Ok(term)
     }
 
-    /// Proposes the assignment of the next generation, under the job term of this number.
+    /// Proposes the assignment of the next generation, under the job term with this number.
     ///
-    /// Refused by `ReadingRange`, `ClockBack`, `NotHolder`, `StaleBase`, `Pending` and
-    /// `TooManyOwnersForJob`, in this order; out of memory comes last, and changes nothing.
+    /// Errors, in this order: `ReadingRange`, `ClockBack`, `NotHolder`, `StaleBase`, `Pending`,
+    /// `TooManyOwnersForJob`, out of memory. An error leaves the table unchanged.
     pub fn propose(
         &mut self,
         number: u64,
@@ -168,8 +180,10 @@ impl LeaseTable {
         Ok(())
     }
 
-    /// Why a proposal of an assignment with this generation and these slices is refused, if it is:
-    /// the refusals of [`propose`](Self::propose) in their order, with no need of the assignment.
+    /// Returns why a proposal of this generation and these slices would be refused, if it would.
+    ///
+    /// The refusals are those of [`propose`](Self::propose), in their order. The assignment need
+    /// not be built.
     pub fn propose_refusal(
         &self,
         number: u64,
@@ -184,8 +198,9 @@ impl LeaseTable {
         self.check_proposal(number, generation, too_many, at).err()
     }
 
-    /// Why a proposal of this assignment is refused, if it is: the refusals of
-    /// [`propose`](Self::propose) in their order.
+    /// Returns why a proposal of this assignment would be refused, if it would.
+    ///
+    /// The refusals are those of [`propose`](Self::propose), in their order.
     pub fn assignment_refusal(
         &self,
         number: u64,
@@ -197,11 +212,11 @@ impl LeaseTable {
         self.check_assignment(number, assignment, at).err()
     }
 
-    /// Commits the assignment that is proposed, under the job term of this number, and answers its
+    /// Commits the proposed assignment, under the job term with this number, and returns its
     /// generation.
     ///
-    /// Refused by `ReadingRange`, `ClockBack`, `NotHolder`, `NothingPending`, `Grace` and `Held`, in
-    /// this order.
+    /// Errors, in this order: `ReadingRange`, `ClockBack`, `NotHolder`, `NothingPending`, `Grace`,
+    /// `Held`. An error leaves the table unchanged.
     pub fn commit(&mut self, number: u64, at: u64) -> Result<u64, TableError>
         ensures { Answers (commit_step self.old number at) self.old result self.new }
     {
@@ -211,12 +226,16 @@ impl LeaseTable {
         Ok(generation)
     }
 
-    /// Grants a task a lease for one of its lives: in a steady phase a guard lease of the committed
-    /// assignment with the keys that the task owns in it, in a bridging one a bridge lease of the
-    /// proposed assignment with the keys that it owns in both. It may have no key.
+    /// Grants a task a lease for one of its lives, and keeps a row for it until it ends or is
+    /// freed.
     ///
-    /// Refused by `ReadingRange`, `ClockBack`, `NoAssignment` and `NumbersSpent`, in this order; want
-    /// of memory comes last, and changes nothing.
+    /// If no assignment is proposed, the grant is a guard lease of the committed assignment, with
+    /// the keys that the task owns in it. If one is proposed, the grant is a bridge lease of the
+    /// proposed assignment, with the keys that the task owns in both assignments. A lease may cover
+    /// no key.
+    ///
+    /// Errors, in this order: `ReadingRange`, `ClockBack`, `NoAssignment`, `NumbersSpent`, out of
+    /// memory. An error leaves the table unchanged.
     pub fn grant(&mut self, task: TaskId, life: u32, at: u64) -> Result<Grant, Trouble<TableError>>
         ensures { Takes (grant_step self.old task life at) self.old result self.new }
     {
@@ -227,9 +246,10 @@ impl LeaseTable {
         Ok(grant)
     }
 
-    /// The grant that [`grant`](Self::grant) would answer. The table stays as it is.
+    /// Returns the grant that [`grant`](Self::grant) would return, without granting it.
     ///
-    /// Refused as `grant` is; out of memory comes last.
+    /// The table is unchanged. Errors are those of `grant`, in the same order, with out of memory
+    /// last.
     pub fn next_grant(
         &mut self,
         task: TaskId,
@@ -246,17 +266,19 @@ impl LeaseTable {
         Ok(self.grant_of_phase(task, life, at)?)
     }
 
-    /// Why a grant at a reading is refused, if it is: the refusals of [`grant`](Self::grant) in their
-    /// order.
+    /// Returns why a grant at the reading `at`, in ticks, would be refused, if it would.
+    ///
+    /// The refusals are those of [`grant`](Self::grant), in their order.
     pub fn grant_refusal(&self, at: u64) -> Option<TableError>
         ensures { result ≡ first_of (grant_checks self.now at) }
     {
         self.check_grant(at).err()
     }
 
-    /// Frees the rows that a note closes and that have not ended, and answers how many they are.
+    /// Frees the rows that a note closes and that have not ended, and returns how many there are.
     ///
-    /// Refused by `ReadingRange`, `ClockBack` and `NoRow`, in this order.
+    /// Errors, in this order: `ReadingRange`, `ClockBack`, `NoRow`. An error leaves the table
+    /// unchanged.
     pub fn free(&mut self, note: &ReleaseNote, at: u64) -> Result<u64, TableError>
         ensures { Answers (free_step self.old note.now at) self.old result self.new }
     {
@@ -266,9 +288,11 @@ impl LeaseTable {
         Ok(count)
     }
 
-    /// The table restarts: it loses its rows, and answers how many they were. All else it keeps. From
-    /// then on no commit is accepted before the greatest deadline given so far, also of rows that were
-    /// freed. It takes no memory and is never refused.
+    /// Restarts the table: drops all rows, and returns how many were open.
+    ///
+    /// Everything else is kept. From then on, no commit is accepted at a reading below the greatest
+    /// deadline given so far, in ticks, which counts the deadlines of freed rows too. A restart
+    /// takes no memory and never fails.
     pub fn restart(&mut self) -> u64
         ensures count { result ≡ length self.old.rows }
         ensures left { self.new ≡ standing_after_restart self.old }
@@ -279,7 +303,7 @@ impl LeaseTable {
         count as u64
     }
 
-    /// A table that equals this one.
+    /// Returns a copy that equals this table. The only error is out of memory.
     pub fn copy(&self) -> Result<Self, AllocError>
         ensures { IfOk result (λ table. table ≡ self.now) }
     {
@@ -295,7 +319,7 @@ impl LeaseTable {
         })
     }
 
-    // The committed generation, 0 for none.
+    // The committed generation, or 0 if there is none.
     fn generation(&self) -> u64
         ensures { result ≡ generation_of self.now.committed }
     {
@@ -305,7 +329,7 @@ impl LeaseTable {
         }
     }
 
-    // The number of the last term given, 0 for none.
+    // The number of the last term given, or 0 if there is none.
     fn last_number(&self) -> u64
         ensures { result ≡ last_number self.now.term }
     {
@@ -315,7 +339,7 @@ impl LeaseTable {
         }
     }
 
-    // The grant of the phase.
+    // The grant of the current phase.
     fn grant_of_phase(&self, task: TaskId, life: u32, at: u64) -> Result<Grant, AllocError>
         requires reading { at < READINGS }
         requires number { self.now.granted < MOST_GRANTS }
@@ -376,7 +400,7 @@ impl LeaseTable {
         Ok(())
     }
 
-    // An accepted reading: rows that have ended do not count from then on.
+    // Accepts a reading: rows that have ended at it no longer count.
     fn advance(&mut self, at: u64)
         requires low { self.old.last ≤ at }
         requires high { at < READINGS }

@@ -1,4 +1,4 @@
-//! The calls that change a slicelet, and what they answer.
+//! The calls that change a slicelet, and their replies.
 
 ghost use Rattle.std.specs.Prelude.{◌≡◌, IfOk};
 
@@ -7,7 +7,7 @@ use machines::Duplicate;
 use policy_rules::Kind;
 use std::alloc::AllocError;
 
-/// A call that may change a slicelet, with its reading in ticks.
+/// A call that may change a slicelet; `at` is a reading of the task's clock, in ticks.
 #[derive(Debug, Drop)]
 pub enum SliceletCall {
     /// The task starts a life.
@@ -21,7 +21,7 @@ pub enum SliceletCall {
 impl SliceletCall {
     ghost use Rattle.slicelet.specs.Calls.{reading_of};
 
-    /// The reading of the call, in ticks.
+    /// Returns the reading of the call, in ticks.
     pub fn reading(&self) -> u64
         ensures { result ≡ reading_of self.now }
     {
@@ -52,13 +52,13 @@ impl Duplicate for SliceletCall {
     }
 }
 
-/// What an accepted call answers.
+/// The reply to an accepted call of a slicelet.
 #[derive(Clone, Copy, Debug, PartialEq, Eq)]
 pub enum SliceletReply {
-    /// The life is started.
+    /// The life was started.
     Started,
-    /// The grant is heard.
+    /// The grant was heard.
     Heard,
-    /// The lease is released, and this is the note of it.
+    /// The lease was released; this is the note for the lease table.
     Released(ReleaseNote),
 }

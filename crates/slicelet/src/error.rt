@@ -1,9 +1,9 @@
 //! Why a slicelet refuses a call.
 
-/// Why a slicelet refuses a call.
+/// Why a slicelet refuses a call; each method lists its refusals in their order.
 #[derive(Clone, Copy, Debug, PartialEq, Eq)]
 pub enum SliceletError {
-    /// The task was not started.
+    /// The task has not started a life.
     NotStarted,
     /// The life is not above the current one.
     OldLife,
@@ -13,20 +13,23 @@ pub enum SliceletError {
     OtherTask,
     /// The grant is for another life.
     OtherLife,
-    /// The number of the grant is not above the greatest that was heard of its kind in this life.
+    /// The grant's number is not above the greatest number of its kind that was heard in this life.
     Old {
         /// The greatest number heard.
         heard: u64,
     },
     /// The lease has ended.
     TooLate,
-    /// No lease of the kind is held.
+    /// The task holds no lease of this kind.
     NothingHeld,
-    /// As many calls were accepted as there may be.
+    /// The slicelet has accepted [`CALLS`](crate::CALLS) calls and accepts no more, not even a
+    /// release.
     HistoryFull,
 }
 
-/// A handle that the slicelet cannot have given: of another task, of a life above the current one,
-/// or of the current one after more calls than it accepted.
+/// The error for a handle that the slicelet cannot have given.
+///
+/// The handle is of another task, of a life above the current one, or of the current life at a
+/// position above the number of accepted calls.
 #[derive(Clone, Copy, Debug, PartialEq, Eq)]
 pub struct Stranger;

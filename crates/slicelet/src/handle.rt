@@ -7,22 +7,23 @@ use crate::stamped::Stamped;
 use assignment::TaskId;
 use slice_ranges::SliceKey;
 
-/// A handle on a key: what a task takes when it begins work on the key, to ask later whether it
-/// held the key all the time.
+/// A handle on a key: a task takes it when work on the key begins, and checks it later.
+///
+/// The check says whether the task has held the key without a break since it took the handle.
 #[derive(Clone, Copy, Debug, PartialEq, Eq)]
 pub struct KeyHandle {
-    /// The task that took it.
+    /// The task that took the handle.
     pub task: TaskId,
-    /// The task's life in which it was taken.
+    /// The life of the task in which the handle was taken.
     pub life: u32,
     /// The key.
     pub key: SliceKey,
-    /// How many calls the task's slicelet had accepted by then.
+    /// How many calls the slicelet of the task had accepted when the handle was taken.
     pub position: u64,
 }
 
 impl KeyHandle {
-    /// The handle that a task takes on a key in a life, after so many calls.
+    /// Creates the handle that a task takes on a key in a life, after `position` accepted calls.
     pub fn new(task: TaskId, life: u32, key: SliceKey, position: u64) -> Self
         ensures { result ≡ record { task = task; life = life; key = key; position = position } }
     {
@@ -34,7 +35,7 @@ impl KeyHandle {
         }
     }
 
-    /// Whether the handle is of this life, and its key has a stamp that is not above its position.
+    /// Whether the handle is of this life and its key has a stamp that is not above its position.
     pub fn still(&self, life: u32, stamps: &Stamped) -> bool
         ensures { result ≡ is_still self.now life stamps.now }
     {

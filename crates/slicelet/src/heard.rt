@@ -1,4 +1,4 @@
-//! What a slicelet keeps of each kind of lease.
+//! What a slicelet keeps for each kind of lease.
 
 ghost use Rattle.std.specs.Prelude.{◌≡◌, ℕ, true, Some, None, is_some, option_map, IfOk};
 ghost use Rattle.slice_ranges.specs.Sets.{has};
@@ -10,14 +10,14 @@ use policy_rules::{Holding, Kind, Lease, live_keys};
 use slice_ranges::Ranges;
 use std::alloc::{AllocError, Global};
 
-/// What is kept of a grant that was heard, beside its lease.
+/// What a slicelet keeps of a grant that it heard, besides the lease.
 #[derive(Clone, Copy)]
 pub struct HeardGrant {
     pub number: u64,
     pub table_ends: u64,
 }
 
-/// The last grant heard of each kind: the one with the greatest number.
+/// The last grant heard of each kind, which is the one with the greatest number.
 #[derive(Clone, Copy)]
 pub struct HeardGrants {
     pub guard: Option<HeardGrant>,
@@ -25,7 +25,7 @@ pub struct HeardGrants {
 }
 
 impl HeardGrants {
-    /// No grant was heard.
+    /// Returns the value for a task that has heard no grant.
     pub fn no_grants() -> Self
         ensures { result ≡ record { guard = None; bridge = None } }
     {
@@ -35,7 +35,7 @@ impl HeardGrants {
         }
     }
 
-    /// The number of the last grant of a kind.
+    /// Returns the number of the last grant heard of a kind, if any.
     pub fn number(&self, kind: Kind) -> Option<u64>
         ensures { result ≡ number_in (heard_of_kind self.now kind) }
     {
@@ -49,7 +49,7 @@ impl HeardGrants {
         }
     }
 
-    /// These grants with another one of its kind.
+    /// Returns these grants, with `grant` as the last one of its kind.
     pub fn with(self, grant: &Grant) -> Self
         ensures { result ≡ with_heard self grant.now.lease.kind
             (record { number = grant.now.number; table_ends = grant.now.table_ends }) }
@@ -71,18 +71,18 @@ impl HeardGrants {
     }
 }
 
-/// A lease that a task holds.
+/// A lease that a task holds; it may have ended.
 #[derive(Clone, Copy, Debug, PartialEq, Eq)]
 pub struct HeldLease {
     /// The number of its grant.
     pub number: u64,
     /// The generation that it was granted for.
     pub generation: u64,
-    /// The task's deadline, in ticks.
+    /// The task's deadline: the first reading, in ticks, at which the lease is no longer live.
     pub ends: u64,
 }
 
-/// A lease, if one is held, by the last grant heard of its kind.
+/// Returns a held lease with the number of the last grant heard of its kind, if one is held.
 pub fn held_as(lease: &Option<Lease>, heard: Option<HeardGrant>) -> Option<HeldLease>
     ensures { result ≡ option_map (λ lease. record { number = number_or_0 heard; generation = lease.generation; ends = lease.ends }) lease.now }
 {
@@ -100,7 +100,7 @@ pub fn held_as(lease: &Option<Lease>, heard: Option<HeardGrant>) -> Option<HeldL
     }
 }
 
-/// What a task holds that holds no lease.
+/// Returns the holding of a task that holds no lease.
 pub fn no_leases(up: bool, last: u64) -> Holding
     ensures { result ≡ record { up = up; last = last; guard = None; bridge = None } }
 {
@@ -112,7 +112,7 @@ pub fn no_leases(up: bool, last: u64) -> Holding
     }
 }
 
-/// Whether a lease of a kind is held.
+/// Whether the task holds a lease of a kind.
 pub fn holds(holding: &Holding, kind: Kind) -> bool
     ensures { result ≡ is_some (lease_of_kind holding.now kind) }
 {
@@ -122,7 +122,7 @@ pub fn holds(holding: &Holding, kind: Kind) -> bool
     }
 }
 
-/// Puts a lease, or none, in the place of that of a kind.
+/// Replaces the lease of a kind by `lease`, which may be none.
 pub fn put_lease(holding: &mut Holding, kind: Kind, lease: Option<Lease>)
     ensures { holding.new ≡ with_lease holding.old kind lease }
 {
@@ -132,8 +132,10 @@ pub fn put_lease(holding: &mut Holding, kind: Kind, lease: Option<Lease>)
     }
 }
 
-/// The keys of the leases that are live at a reading, with a lease, or none, in the place of that of
-/// a kind.
+/// Returns the keys that are served at a reading once `lease`, which may be none, is that of its
+/// kind.
+///
+/// The reading is in ticks. The only error is out of memory.
 pub fn live_keys_with(
     alloc: Global,
     holding: &Holding,
@@ -150,9 +152,11 @@ pub fn live_keys_with(
     }
 }
 
-/// Whether the keys that may be served stay what they are where a lease, or none, takes the place of that
-/// of a kind at a reading: all that is held is live, and the lease covers the same keys as the one before
-/// it, or the lease of the other kind covers those of both. It takes no memory.
+/// Whether the keys that may be served stay the same when `lease` replaces the one of its kind.
+///
+/// `lease` may be none, and the reading `at` is in ticks. Returns true if all held leases are live
+/// and, in addition, `lease` covers the same keys as the lease before it, or the lease of the other
+/// kind covers the keys of both. The call takes no memory.
 pub fn renews(holding: &Holding, kind: Kind, lease: &Option<Lease>, at: u64) -> bool
     ensures { result ≡ true → Renews holding.now (with_lease holding.now kind lease.now) at }
 {
@@ -162,7 +166,7 @@ pub fn renews(holding: &Holding, kind: Kind, lease: &Option<Lease>, at: u64) -> 
     }
 }
 
-// The same of a held lease, the one in its place, and that of the other kind.
+// The same for a held lease, its replacement, and the lease of the other kind.
 fn renews_beside(
     held: &Option<Lease>,
     lease: &Option<Lease>,
@@ -189,7 +193,7 @@ fn covers_same(held: &Option<Lease>, lease: &Option<Lease>, at: u64) -> bool
     }
 }
 
-// Whether a lease is live and covers all keys of another one, if there is another.
+// Whether `other` is live and covers all keys of `lease`, or there is no `lease`.
 fn covers_all(other: &Option<Lease>, lease: &Option<Lease>, at: u64) -> bool
     ensures { result ≡ true → ServesAll at other.now lease.now }
 {
@@ -200,7 +204,7 @@ fn covers_all(other: &Option<Lease>, lease: &Option<Lease>, at: u64) -> bool
     }
 }
 
-// Whether a lease, if it is held, is live.
+// Whether no lease is held, or the held one is live.
 fn is_none_or_live(held: &Option<Lease>, at: u64) -> bool
     ensures { result ≡ true → Stays at held.now }
 {

@@ -1,4 +1,4 @@
-//! What holds after every list of calls that a slicelet accepted, and what its rule rests on.
+//! Laws that hold after every list of calls that a slicelet accepted, and laws of its rule.
 
 ghost use Rattle.std.specs.Prelude.{◌≡◌, ℕ, ◌<◌, ◌≤◌, ◌↔◌, Bool, IsTrue, List, [], ◌∷◌, ◌++◌, length, Some, Ok, Contains};
 ghost use Rattle.std.specs.List.{AllByRecursion};
@@ -18,9 +18,10 @@ ghost use Rattle.slicelet.specs.Continuity.{IsContinuous, IsChecked, checked_in,
 ghost use Rattle.slicelet.specs.Accepted.{AreAccepted, StandsAfter, notes_sent};
 ghost use Rattle.slicelet.specs.Laws.{HoldsOwnLeases, IsAbove, HasCoveringLease, WasHeard, AgreeOnHeard};
 
-/// What a slicelet knows is what its calls say: before the first call, and after each accepted one,
-/// it is the state after these calls. Its leases, its numbers, the rule and its checks are those of
-/// the calls.
+/// States that what a slicelet knows is determined by the calls that it accepted.
+///
+/// Before the first call, and after each accepted one, its state is the state after these calls.
+/// Its leases, its greatest numbers, its rule and its checks of handles are those of the calls.
 pub fn state_law()
     ensures opening { (task : ℕ) → StandsAfter [] (opening task) }
     ensures next { (calls : List SliceletCall) (state : SliceletState) (call : SliceletCall) (taken : SliceletState × SliceletReply)
@@ -35,27 +36,31 @@ pub fn state_law()
         → IsChecked state.task calls handle at (checked_in state handle at) }
 {}
 
-/// A lease that is held was heard in the current life, is of its kind, and has the greatest number
-/// that was heard of it; a note that was sent is of the current life or an earlier one, and in the
-/// current one its number was heard, and is below that of a lease held now.
+/// States that a slicelet holds only leases that it heard in its current life.
+///
+/// A held lease is of its kind and has the greatest number that was heard of this kind. A note that
+/// was sent is of the current life or an earlier one. If it is of the current life, its number was
+/// heard, and is below the number of any lease of its kind that is held now.
 pub fn held_law()
     ensures { (task : ℕ) (h : List SliceletCall) → AreAccepted task h → HoldsOwnLeases task h }
 {}
 
-/// The lives of accepted starts rise.
+/// States that the lives of accepted starts rise.
 pub fn lives_law()
     ensures start { (task life at : ℕ) (h : List SliceletCall) → AreAccepted task (Start life at ∷ h) → life_of h < life }
     ensures later { (task : ℕ) (later h : List SliceletCall) → AreAccepted task (later ++ h) → life_of h ≤ life_of (later ++ h) }
 {}
 
-/// A number that was released is never heard again in its life.
+/// States that a number that was released is never heard again in the same life.
 pub fn released_law()
     ensures { (task : ℕ) (grant : Grant) (at : ℕ) (h : List SliceletCall) → AreAccepted task (Hear grant at ∷ h)
         → AllByRecursion (IsAbove grant) (notes_sent task h) }
 {}
 
-/// A key that is allowed has a held lease that is live, covers it, and is of the kind and the
-/// generation that are told; so has a key that is permitted, of some kind and generation.
+/// States that a key that may be served is covered by a held lease that is live.
+///
+/// If the rule allows the key, the lease has the kind and the generation that the rule returns. If
+/// the key is permitted, there is such a lease of some kind and generation.
 pub fn covering_lease_law()
     ensures allowed { (covers : Grant → Bool) (h : List SliceletCall) (at : ℕ) (kind : Kind) (generation : ℕ)
         → rule_after covers h at ≡ Allow kind generation → HasCoveringLease covers h at kind generation }
@@ -63,14 +68,16 @@ pub fn covering_lease_law()
         → (kind : Kind) × (generation : ℕ) × HasCoveringLease covers h at kind generation }
 {}
 
-/// The grant of a held lease is that of a `hear` among the calls.
+/// States that the grant of a held lease is that of a `hear` among the calls.
 pub fn heard_law()
     ensures held { (kind : Kind) (h : List SliceletCall) (grant : Grant) → held_grant kind h ≡ Some grant → WasHeard h grant }
     ensures among { (h : List SliceletCall) (grant : Grant) → (heard : WasHeard h grant) → Contains h (Hear grant heard.at) }
 {}
 
-/// The rule, what is permitted and what is continuous rest on what leases cover only at the grants
-/// that were heard: two tests that agree on each of these give the same.
+/// States that the rule depends on what leases cover only at the grants that were heard.
+///
+/// The same holds for what is permitted and what is continuous: two tests of coverage that agree on
+/// each grant that was heard give the same results.
 pub fn agreement_law()
     ensures rule { (covers other : Grant → Bool) (h : List SliceletCall) (at : ℕ) → AgreeOnHeard covers other h
         → rule_after covers h at ≡ rule_after other h at }
@@ -80,8 +87,10 @@ pub fn agreement_law()
         → IsContinuous covers h handle at ↔ IsContinuous other h handle at }
 {}
 
-/// Where a handle that was taken after some calls is continuous later, its key was permitted at
-/// every point between: at the reading of the next call, or at that of the check.
+/// States that the key of a continuous handle was permitted at every point since it was taken.
+///
+/// The handle was taken after some calls. At each point since then, the key was permitted at the
+/// reading of the next call, or at the reading of the check after the last call.
 pub fn between_law()
     ensures { (covers : Grant → Bool) (later before h : List SliceletCall) (handle : KeyHandle) (at : ℕ)
         → handle.position ≡ length h → IsContinuous covers (later ++ (before ++ h)) handle at

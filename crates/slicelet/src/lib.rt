@@ -1,5 +1,5 @@
-//! Slicelets: whether a task may serve a key, by the leases that it heard of, and whether it was held
-//! without a break since a handle was taken.
+//! Slicelets: whether a task may serve a key, by the leases that it heard of, and whether the task
+//! has held the key without a break since it took a handle.
 #![tactic(auto)]
 
 mod call;

@@ -1,4 +1,4 @@
-//! The stamps of a life, of which there may be none.
+//! The stamps of a life, which may have none.
 
 ghost use Rattle.std.specs.Prelude.{◌≡◌, ◌<◌, ℕ, Some, IfOk};
 ghost use Rattle.slice_ranges.specs.declared.key.TheConstants.{KEYS};
@@ -12,7 +12,9 @@ use crate::stamped::Stamped;
 use slice_ranges::{Ranges, SliceKey};
 use std::alloc::{AllocError, Global};
 
-/// The stamps with another one at the keys of `after` that keep none.
+/// Returns the stamps of the keys of `after`; a key that keeps no stamp gets `stamp`.
+///
+/// The only error is out of memory.
 pub fn restamp(
     alloc: Global,
     stamps: &Option<Stamped>,
@@ -29,7 +31,7 @@ pub fn restamp(
     }
 }
 
-/// Whether a handle is of a life, and its key has a stamp that is not above its position.
+/// Whether a handle is of this life and its key has a stamp that is not above its position.
 pub fn still(handle: &KeyHandle, life: u32, stamps: &Option<Stamped>) -> bool
     ensures { result ≡ is_still handle.now life (stamps_in stamps.now) }
 {
@@ -39,14 +41,14 @@ pub fn still(handle: &KeyHandle, life: u32, stamps: &Option<Stamped>) -> bool
     }
 }
 
-/// Puts stamps in the place of those of before.
+/// Replaces the stamps by new ones.
 pub fn put_stamps(stamps: &mut Option<Stamped>, new: Stamped)
     ensures { stamps.new ≡ Some new }
 {
     *stamps = Some(new);
 }
 
-/// Stamps that equal these.
+/// Returns a copy that equals these stamps. The only error is out of memory.
 pub fn copy_of(stamps: &Option<Stamped>) -> Result<Option<Stamped>, AllocError>
     ensures { IfOk result (λ copied. copied ≡ stamps.now) }
 {
@@ -56,7 +58,7 @@ pub fn copy_of(stamps: &Option<Stamped>) -> Result<Option<Stamped>, AllocError>
     }
 }
 
-/// A key is one of those that have stamps.
+/// States that a slice key is below [`KEYS`](slice_ranges::KEYS), the bound of keys with stamps.
 pub fn key_law(key: SliceKey)
     ensures { key < KEYS }
 {

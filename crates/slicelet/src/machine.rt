@@ -9,12 +9,14 @@ use crate::slicelet::Slicelet;
 use machines::{Duplicate, Event, Machine, Trouble};
 use std::alloc::AllocError;
 
-/// A call of a slicelet, and when it was made.
+/// A call of a slicelet, with the ticket that was drawn for it.
 pub type SliceletEvent = Event<SliceletCall>;
 
 impl Slicelet {
-    /// Makes the call that a value stands for, and answers what it answers: its refusals in their order; out of
-    /// memory comes last, and changes nothing.
+    /// Makes a call given as a value, and returns the reply of its method.
+    ///
+    /// Errors are those of the method, in its order, with out of memory last. An error leaves the
+    /// slicelet unchanged.
     pub fn call(&mut self, call: &SliceletCall) -> Result<SliceletReply, Trouble<SliceletError>>
         ensures { Takes (slicelet_step self.old call.now) self.old result self.new }
     {

@@ -29,13 +29,21 @@ use slice_ranges::SliceKey;
 use std::alloc::{AllocError, Global};
 use std::marker::Model;
 
-/// How many calls a slicelet accepts, over all lives.
+/// The greatest number of calls that a slicelet accepts, over all lives of its task.
 pub const CALLS: u64 = 65_536;
 
-/// What a task knows of its leases.
+/// A slicelet: the leases that one server task has heard of, which decide the keys it may serve.
 ///
-/// Contracts see its state (`SliceletState`), which is all that its answers rest on. Memory and the time
-/// of each call depend on the leases held and the keys permitted, not on how many calls were accepted.
+/// A slicelet hears the grants of the lease table, decides by the written rule whether its task may
+/// serve a key, and checks handles. Readings are in ticks of the task's clock. Contracts see its
+/// state (`SliceletState`), and its replies depend on nothing else.
+///
+/// Memory grows with the ranges of the held leases and with the levels of the stamps. A stamp says
+/// since which call a key has been permitted, and a level is a run of keys with the same stamp.
+/// Levels can grow with accepted calls: a held range whose edges move at each generation leaves a
+/// level for each, up to some 16,000 levels. A `hear` or `release` that may change the permitted
+/// keys walks the ranges and all levels; any other walks the ranges only. `serve`, `hold` and
+/// `continuous` search the ranges and the levels. A new life starts without levels.
 #[derive(Drop)]
 pub struct Slicelet {
     alloc: Global,
@@ -44,7 +52,7 @@ pub struct Slicelet {
     life: u32,
     holding: Holding,
     heard: HeardGrants,
-    // None where no call of this life made stamps.
+    // `None` if no call of this life made stamps.
     stamps: Option<Stamped>,
 }
 
@@ -65,10 +73,11 @@ impl Model for Slicelet {
 }
 
 impl Slicelet {
-    /// The slicelet of a task before its first call.
+    /// Creates the slicelet of a task, before its first call.
     ///
-    /// What a slicelet knows ends with it: one that takes the place of another of its task has to start
-    /// above each life that the other started, or it may hear again a grant that the other released.
+    /// A slicelet's knowledge is lost when it is destroyed. A slicelet that replaces another one of
+    /// the same task must start a life above every life that the other one started. Otherwise it
+    /// may hear again a grant that the other one released.
     pub fn new(alloc: Global, task: TaskId) -> Self
         ensures { result ≡ opening task }
     {
@@ -83,9 +92,12 @@ impl Slicelet {
         }
     }
 
-    /// Starts a life of the task at a reading in ticks of its clock. It holds nothing and has heard no number yet.
+    /// Starts a life of the task at the reading `at`, in ticks.
     ///
-    /// Refused by `OldLife`, `ClockBack` and `HistoryFull`, in this order. It takes no memory.
+    /// The new life holds no lease and has heard no grant. The call takes no memory.
+    ///
+    /// Errors, in this order: `OldLife`, `ClockBack`, `HistoryFull`. An error leaves the slicelet
+    /// unchanged.
     pub fn start(&mut self, life: u32, at: u64) -> Result<(), Trouble<SliceletError>>
         ensures { Takes (start_step self.old life at) self.old result self.new }
     {
@@ -98,10 +110,10 @@ impl Slicelet {
         Ok(())
     }
 
-    /// Hears a grant: its lease takes the place of the one of its kind.
+    /// Hears a grant at the reading `at`, in ticks: its lease replaces the held one of its kind.
     ///
-    /// Refused by `NotStarted`, `ClockBack`, `OtherTask`, `OtherLife`, `Old`, `TooLate` and
-    /// `HistoryFull`, in this order; out of memory comes last, and changes nothing.
+    /// Errors, in this order: `NotStarted`, `ClockBack`, `OtherTask`, `OtherLife`, `Old`,
+    /// `TooLate`, `HistoryFull`, out of memory. An error leaves the slicelet unchanged.
     pub fn hear(&mut self, grant: &Grant, at: u64) -> Result<(), Trouble<SliceletError>>
         ensures { Takes (hear_step self.old grant.now at) self.old result self.new }
     {
@@ -122,11 +134,13 @@ impl Slicelet {
         Ok(())
     }
 
-    /// Gives up the lease of a kind, which may have ended, and answers the note of it. The greatest
-    /// number heard of the kind stays.
+    /// Gives up the lease of a kind, which may have ended, and returns the note for the lease
+    /// table.
     ///
-    /// Refused by `NotStarted`, `ClockBack`, `NothingHeld` and `HistoryFull`, in this order; out of
-    /// memory comes last, and changes nothing.
+    /// The greatest number heard of the kind is unchanged.
+    ///
+    /// Errors, in this order: `NotStarted`, `ClockBack`, `NothingHeld`, `HistoryFull`, out of
+    /// memory. An error leaves the slicelet unchanged.
     pub fn release(&mut self, kind: Kind, at: u64) -> Result<ReleaseNote, Trouble<SliceletError>>
         ensures { Takes (release_step self.old kind at) self.old result self.new }
     {
@@ -151,16 +165,19 @@ impl Slicelet {
         Ok(note)
     }
 
-    /// Why the release of the lease of a kind is refused, if it is: the refusals of
-    /// [`release`](Self::release) in their order.
+    /// Returns why a release of the lease of a kind would be refused, if it would.
+    ///
+    /// The refusals are those of [`release`](Self::release), in their order.
     pub fn release_refusal(&self, kind: Kind, at: u64) -> Option<SliceletError>
         ensures { result ≡ first_of (release_checks self.now kind at) }
     {
         self.check_release(kind, at).err()
     }
 
-    /// Whether the task may serve a key at a reading of its clock, in ticks, by the written rule:
-    /// that of what it knows, which is that of every list of calls that lead there.
+    /// Whether the task may serve a key at the reading `at`, in ticks, by the written rule.
+    ///
+    /// The verdict depends only on what the slicelet knows, and is the same for every list of
+    /// accepted calls that leads there. The slicelet is unchanged.
     pub fn serve(&self, key: SliceKey, at: u64) -> Verdict
         ensures state { result ≡ rule_in_state (covers_key key) self.now at }
         ensures calls { (calls : List SliceletCall) → StandsAfter calls self.now
@@ -169,8 +186,9 @@ impl Slicelet {
         verdict(&self.holding, key, at)
     }
 
-    /// A handle on a key, where the task may serve it at a reading of its clock, in ticks; else the
-    /// reason why it may not.
+    /// Returns a handle on a key if the task may serve it at the reading `at`, in ticks.
+    ///
+    /// Otherwise returns why the task may not serve it. The slicelet is unchanged.
     pub fn hold(&self, key: SliceKey, at: u64) -> Result<KeyHandle, Ground>
         ensures state { result ≡ held_by (rule_in_state (covers_key key) self.now at) (handle_on key self.now) }
         ensures calls { (calls : List SliceletCall) → StandsAfter calls self.now
@@ -183,11 +201,15 @@ impl Slicelet {
         }
     }
 
-    /// Whether a handle is continuous at a reading of the task's clock, in ticks: it is of the current
-    /// life, each call since it was taken found its key permitted at its own reading, both just before
-    /// it and just after it, and the key is permitted at this reading.
+    /// Whether the task has held the key of a handle without a break, and may serve it at `at`, in
+    /// ticks.
     ///
-    /// Refused where the slicelet cannot have given the handle.
+    /// The handle must be of the current life. Each call since it was taken must have found its key
+    /// permitted at the reading of the call, both just before and just after the call. The key must
+    /// be permitted at `at`.
+    ///
+    /// The only error is `Stranger`, if the slicelet cannot have given the handle. The slicelet is
+    /// unchanged.
     pub fn continuous(&self, handle: &KeyHandle, at: u64) -> Result<bool, Stranger>
         ensures state { result ≡ checked_in self.now handle.now at }
         ensures calls { (calls : List SliceletCall) → StandsAfter calls self.now
@@ -200,7 +222,7 @@ impl Slicelet {
         Ok(self.is_continuous(handle, at))
     }
 
-    /// The lease of a kind that the task holds, which may have ended.
+    /// Returns the lease of a kind that the task holds, if any; it may have ended.
     pub fn held(&self, kind: Kind) -> Option<HeldLease>
         ensures { result ≡ option_map held_lease (held_in self.now kind) }
     {
@@ -210,28 +232,30 @@ impl Slicelet {
         }
     }
 
-    /// The task's life: 0 before the first.
+    /// Returns the current life of the task; 0 before the first.
     pub fn life(&self) -> u32
         ensures { result ≡ self.now.life }
     {
         self.life
     }
 
-    /// The reading of the last accepted call, in ticks: 0 before the first.
+    /// Returns the reading of the last accepted call, in ticks; 0 before the first.
     pub fn last_reading(&self) -> u64
         ensures { result ≡ self.now.last }
     {
         self.holding.last
     }
 
-    /// What a slicelet knows is what some calls leave, each of which was accepted after those before it.
+    /// States that some list of calls leads to the state of this slicelet.
+    ///
+    /// Each call of the list was accepted after those before it.
     pub fn standing_law(&self)
         ensures { (calls : List SliceletCall) × StandsAfter calls self.now }
     {
         let _ = &self.task;
     }
 
-    /// A slicelet that equals this one.
+    /// Returns a copy that equals this slicelet. The only error is out of memory.
     pub fn copy(&self) -> Result<Self, AllocError>
         ensures { IfOk result (λ slicelet. slicelet ≡ self.now) }
     {
@@ -262,7 +286,7 @@ impl Slicelet {
         is_kept && self.permits(handle.key, at)
     }
 
-    // The stamps after one call more, at which a lease, or none, takes the place of that of a kind.
+    // The stamps after one more call, at which `lease`, or none, replaces that of its kind.
     fn restamped(&self, kind: Kind, lease: &Option<Lease>, at: u64) -> Result<Stamped, AllocError>
         requires { self.now.count + 1 < 2 ^ 64 }
         ensures { IfOk result
@@ -273,7 +297,7 @@ impl Slicelet {
         restamp(self.alloc, &self.stamps, &before, &after, self.count + 1)
     }
 
-    // Whether the task may serve a key.
+    // Whether the task may serve the key.
     fn permits(&self, key: SliceKey, at: u64) -> bool
         ensures { result ≡ permits self.now key at }
     {
@@ -287,7 +311,7 @@ impl Slicelet {
         self.heard.number(kind)
     }
 
-    // The number of the held lease of a kind: the greatest heard of it.
+    // The number of the held lease of a kind, which is the greatest heard of it.
     fn held_number(&self, kind: Kind) -> Option<u64>
         ensures { result ≡ option_map (λ grant. grant.number) (held_in self.now kind) }
     {
@@ -362,7 +386,7 @@ impl Slicelet {
         self.check_room()
     }
 
-    // The number of the held lease of a kind, where it may be released.
+    // The number of the held lease of a kind, if it may be released.
     fn check_release(&self, kind: Kind, at: u64) -> Result<u64, SliceletError>
         ensures refusal { result_err result ≡ first_of (release_checks self.now kind at) }
         ensures accepted { OnOk result (first_of (release_checks self.now kind at) ≡ None) }

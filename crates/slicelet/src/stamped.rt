@@ -9,8 +9,11 @@ use slice_ranges::{Ranges, SliceKey};
 use std::alloc::{AllocError, Global};
 use std::marker::Model;
 
-/// A set of slice keys in which each key has a stamp. Contracts see the keys at which the stamp
-/// changes, in rising order, each with the stamp from there on.
+/// A set of slice keys in which each key has a stamp.
+///
+/// A slicelet stamps a key with the number of the accepted call since which the key has been
+/// permitted without a break. Contracts see the keys at which the stamp changes, in rising order,
+/// each with the stamp from this key on.
 #[derive(Debug, Drop)]
 pub struct Stamped {
     levels: Vec<(u64, Option<u64>)>,
@@ -27,7 +30,7 @@ impl Model for Stamped {
 }
 
 impl Stamped {
-    /// The set without keys.
+    /// Creates the empty set.
     pub fn empty(alloc: Global) -> Self
         ensures empty { result ≡ [] }
         ensures keys { (key : ℕ) → since result key ≡ None }
@@ -37,7 +40,7 @@ impl Stamped {
         }
     }
 
-    /// The stamp of a key, if it is in the set.
+    /// Returns the stamp of a key, or `None` if the key is not in the set.
     pub fn since(&self, key: SliceKey) -> Option<u64>
         ensures { result ≡ since self.now key }
     {
@@ -49,8 +52,9 @@ impl Stamped {
         }
     }
 
-    /// The keys of `after`: each keeps its stamp where it has one and is in `before`, else it gets
-    /// `stamp`.
+    /// Returns the set of the keys of `after`, each with the stamp that it keeps, or with `stamp`.
+    ///
+    /// A key keeps its stamp if it has one and is in `before`. The only error is out of memory.
     pub fn restamp(&self, before: &Ranges, after: &Ranges, stamp: u64) -> Result<Self, AllocError>
         ensures { IfOk result (λ s. (key : ℕ) → since s key
             ≡ stamp_after_change (since self.now key) (has before.now key) (has after.now key) stamp) }
@@ -66,7 +70,7 @@ impl Stamped {
         Ok(Stamped { levels })
     }
 
-    /// A set that equals this one.
+    /// Returns a copy that equals this set. The only error is out of memory.
     pub fn copy(&self) -> Result<Self, AllocError>
         ensures { IfOk result (λ s. s ≡ self.now) }
     {

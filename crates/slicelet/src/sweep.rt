@@ -8,7 +8,9 @@ ghost use Rattle.slicelet.specs.internals.Sweeping.{IsNextOfThree, IsPastLevel};
 use slice_ranges::{boundaries_above, next_boundary};
 use std::alloc::{AllocError, Global};
 
-/// The keys of `after` with their stamps, which a key keeps where it has one and is in `before`.
+/// Returns the keys of `after` with their stamps; a key that is in `before` keeps the stamp it has.
+///
+/// All others get `stamp`. The only error is out of memory.
 pub fn sweep(
     alloc: Global,
     levels: &[(u64, Option<u64>)],
@@ -44,7 +46,8 @@ pub fn sweep(
     Ok(written)
 }
 
-// The stamp of a key that had this one, if any, and was in the first set and is in the second.
+// The stamp of a key that had the stamp `old`, if any, and was in the first set and is in the
+// second.
 fn restamped(old: Option<u64>, before: bool, after: bool, stamp: u64) -> Option<u64>
     ensures { result ≡ stamp_after_change old before after stamp }
 {
