@@ -131,7 +131,8 @@ fn first_fall(
 ///
 /// - a ticket that occurs twice;
 /// - an entry whose ticket is not above that of the entry before it in its history;
-/// - the first call in the order of the tickets whose reply is not the one that was told.
+/// - in the order of the tickets, the first entry that the machines refuse, or record whose caller
+///   was told something else.
 ///
 /// A restart of the table is an entry like others. The replayed table loses its rows there, and
 /// refuses an entry of a commit that comes before its grace is over. A restart reads no clock, so

@@ -301,7 +301,7 @@ impl SharedTable {
         })
     }
 
-    /// Returns the rows that are neither freed nor ended at the last accepted reading, in grant
+    /// Returns the open rows: those neither freed nor ended at the last accepted reading, in grant
     /// order.
     ///
     /// Rows that a restart lost are not listed.

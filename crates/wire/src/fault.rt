@@ -19,7 +19,7 @@ pub enum Refusal {
     /// The bytes are not the text of a JSON value.
     #[error("not JSON")]
     NotJson,
-    /// The message has this version, which [`decode`](crate::decode) does not read.
+    /// The message has this version, which this crate does not read.
     #[error("version {0}")]
     Version(u64),
     /// The value is of another type.

@@ -119,7 +119,7 @@ pub enum Reply {
         table_ends: u64,
         ends: u64,
     },
-    /// The note closed this number of rows.
+    /// The table freed this number of rows.
     Freed(u64),
     /// The table restarted and lost this number of rows.
     Lost(u64),
