@@ -24,7 +24,7 @@ fn is_accepted(reply: &ClusterReply) -> bool
     !matches!(reply, ClusterReply::Refused(_))
 }
 
-// What is wrong with a reply, by what the caller was told.
+// Returns what is wrong with a reply, compared with what the caller was told.
 fn judge(reply: &ClusterReply, told: Option<&ClusterReply>) -> Option<Why>
     ensures { MatchOption result (Fits reply.now (shown_told told.entry)) (λ why. IsWrong why reply.now (shown_told told.entry)) }
 {
@@ -44,7 +44,7 @@ fn judge(reply: &ClusterReply, told: Option<&ClusterReply>) -> Option<Why>
 }
 
 impl<'a> Point<'a> {
-    // What the caller was told; of an entry nothing.
+    // Returns what the caller was told; `None` for an entry of a history.
     fn told(&self) -> Option<&'a ClusterReply>
         ensures { shown_told result ≡ (turn_of self.now).told }
     {
@@ -54,7 +54,7 @@ impl<'a> Point<'a> {
         }
     }
 
-    // Whose clock the call read.
+    // Returns the reading of the call.
     fn reading(&self) -> Reading
         ensures { result ≡ reading (turn_of self.now).call }
     {
@@ -66,7 +66,7 @@ impl<'a> Point<'a> {
         }
     }
 
-    // The cluster's reply to the call.
+    // Returns the cluster's reply to the call.
     fn play(&self, cluster: &mut Cluster) -> Result<ClusterReply, AllocError>
         ensures { (job : Job) (past : Past) → LeadsTo job past cluster.old
             → IsPlayed job past (turn_of self.now).call result cluster.new }
@@ -80,7 +80,7 @@ impl<'a> Point<'a> {
     }
 }
 
-// Plays points in order, up to the first that is answered otherwise than it was told.
+// Plays points in order, up to the first whose reply differs from what was told.
 fn replay(alloc: Global, job: Job, points: &[Point]) -> Result<Audit, AllocError>
     ensures { IfOk result (λ found. IsReplayed job (map turn_of points.now) found) }
 {
@@ -101,7 +101,7 @@ fn replay(alloc: Global, job: Job, points: &[Point]) -> Result<Audit, AllocError
     Ok(Audit::One { steps, timely })
 }
 
-// The ticket of the first entry that does not rise in its history.
+// Returns the ticket of the first entry that does not rise in its history, if there is one.
 fn first_fall(
     table: &History<TableEvent>,
     tasks: &[History<SliceletEvent>],
@@ -119,18 +119,26 @@ fn first_fall(
     falls(clerks)
 }
 
-/// Whether the entries of a job's closed histories and the records of its callers are one run of
-/// its machines, in the order of their tickets: each entry is accepted, and each record's caller was
-/// told just what the machines answer there. A history of a task or a clerk stands at the place of
-/// its number, the first of number 1; what the job has no actor for is refused.
+/// Audits whether a job's closed histories and its callers' records are one run of its machines.
 ///
-/// [`Audit::One`] says that they are; [`Audit::No`] names a fault and the ticket at which it stands: a
-/// ticket that stands twice; where all tickets are distinct, an entry that does not rise in its
-/// history; and where all of them rise, the first answer that is another.
+/// The run is in the order of the tickets. In it each entry is accepted, and each record's caller
+/// was told exactly what the machines reply at that point. `tasks` and `clerks` hold the history of
+/// each task and each clerk at the place of its number, number 1 first. An entry of an actor that
+/// the job does not have is refused.
 ///
-/// A restart of the table is an entry like others: the replayed table loses its rows there, and an
-/// entry of a commit that it would refuse until its grace is over is a refused one. A restart reads no
-/// clock, and whether clocks were timely does not depend on it. Out of memory, nothing is said.
+/// [`Audit::One`] says that they are one run. [`Audit::No`] names a fault and its ticket. The
+/// faults are looked for in this order:
+///
+/// - a ticket that occurs twice;
+/// - an entry whose ticket is not above that of the entry before it in its history;
+/// - in the order of the tickets, the first entry that the machines refuse, or record whose caller
+///   was told something else.
+///
+/// A restart of the table is an entry like others. The replayed table loses its rows there, and
+/// refuses an entry of a commit that comes before its grace is over. A restart reads no clock, so
+/// it does not affect whether the clocks were timely.
+///
+/// Fails only if memory runs out, and then says nothing about the run.
 pub fn audit(
     alloc: Global,
     job: &Job,

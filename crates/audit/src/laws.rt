@@ -1,5 +1,4 @@
-//! What an audit's run says of each call in it. What holds of every run of the cluster are the laws of
-//! `cluster`.
+//! Laws about each call of an audited run. The laws of `cluster` state what holds of every run.
 
 ghost use Rattle.std.specs.Prelude.{◌≡◌, ℕ, ◌++◌, ◌∷◌, List, Some, Ok, Err};
 ghost use Rattle.policy_rules.specs.declared.answer.Ground.{Ground};
@@ -20,9 +19,10 @@ ghost use Rattle.cluster.specs.Headline.{MayServe};
 ghost use Rattle.audit.specs.OneRun.{Turn, IsPastOf};
 ghost use Rattle.audit.specs.Points.{IsPoint};
 
-/// Entries and records are one run and no other, so that the reply to each entry is known too. Each of
-/// them is an event of the run, after those before it: what a record's caller was told is the cluster's
-/// reply there.
+/// States that entries and records make one run and no other.
+///
+/// So the reply to each entry is known too. Each entry and record is an event of the run, after
+/// those before it. What a record's caller was told is the cluster's reply there.
 pub fn points_law()
     ensures one { (job : Job) (run : List Turn) (past other : Past) → IsPastOf run past → IsRun job past
         → IsPastOf run other → IsRun job other → past ≡ other }
@@ -30,10 +30,12 @@ pub fn points_law()
         → (earlier : Past) × (answer : ClusterReply) × IsPoint job past before turn earlier answer }
 {}
 
-/// Whoever was told a verdict on a `serve` was told that of the written rule on the calls that the task
-/// accepted before; whoever was told a handle was told it where that rule allows the key, and else why it
-/// does not; and whoever was told that a handle is continuous, or that it is broken, was told what those
-/// calls say.
+/// States that what callers were told in an audited run follows the written rule.
+///
+/// - A verdict told on a `serve` is that of the written rule on the calls that the task accepted
+///   before.
+/// - A handle was told if that rule allows the key. Otherwise the caller was told why it does not.
+/// - That a handle is continuous, or that it is broken, was told if those calls say so.
 pub fn answers_law()
     ensures rule { (job : Job) (past earlier : Past) (before : List Turn) (turn : Turn) (answer : ClusterReply) (task key at : ℕ) (verdict : Verdict)
         → IsPoint job past before turn earlier answer → turn.call ≡ call.Serve task key at → turn.told ≡ Some (reply.Verdict verdict)
@@ -52,8 +54,10 @@ pub fn answers_law()
         → IsContinuous (covers earlier handle.key) (task_calls task earlier) handle at → ⊥ }
 {}
 
-/// In a run whose clocks were timely, each task of which a caller was told that it serves a key might
-/// serve it at that point, so that it owned the key in the committed assignment.
+/// States that each task that served a key in a timely run owned it.
+///
+/// If the clocks of the run were timely and a caller was told that a task serves a key, the task
+/// might serve it at that point, so it owned the key in the committed assignment.
 pub fn served_law()
     ensures { (job : Job) (past earlier : Past) (before : List Turn) (turn : Turn) (answer : ClusterReply) (task key at generation : ℕ) (kind : Kind)
         → IsTimely job.policy.skew (readings past) → IsPoint job past before turn earlier answer

@@ -1,4 +1,5 @@
-//! Whether the closed histories of locks and the records of callers are one run of a job's machines.
+//! An audit of whether the closed histories of locks and the records of callers are one run of a
+//! job's machines.
 #![tactic(auto)]
 
 mod auditing;

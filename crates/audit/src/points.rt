@@ -14,7 +14,7 @@ use machines::Event;
 use slicelet::{SliceletCall, SliceletEvent};
 use std::alloc::{AllocError, Global};
 
-// An entry or a record.
+// An entry of a history or a record of a caller.
 #[derive(Clone, Copy)]
 pub(crate) enum Point<'a> {
     Table(&'a TableEvent),
@@ -113,7 +113,7 @@ fn add_records<'a>(points: &mut Vec<Point<'a>>, records: &'a [CallRecord]) -> Re
     Ok(())
 }
 
-// All entries and records.
+// Returns all entries and records.
 fn points_of<'a>(
     alloc: Global,
     table: &'a History<TableEvent>,
@@ -132,7 +132,7 @@ fn points_of<'a>(
     Ok(points)
 }
 
-// By ticket.
+// Sorts points by ticket.
 fn sort(points: &mut Vec<Point>)
     ensures same { IsPermutation points.old.items points.new.items }
     ensures order { IsNonDecreasingBy (λ p. (turn_of p).ticket) points.new.items }
@@ -140,7 +140,7 @@ fn sort(points: &mut Vec<Point>)
     points.sort_unstable_by_key(|point| point.ticket());
 }
 
-// All entries and records, by ticket.
+// Returns all entries and records, sorted by ticket.
 pub(crate) fn sorted_points<'a>(
     alloc: Global,
     table: &'a History<TableEvent>,
@@ -157,7 +157,7 @@ pub(crate) fn sorted_points<'a>(
     Ok(points)
 }
 
-// A ticket that stands twice, of sorted points.
+// Returns a ticket that occurs twice in sorted points, if there is one.
 pub(crate) fn twice(points: &[Point]) -> Option<u64>
     requires { IsNonDecreasingBy (λ p. (turn_of p).ticket) points.now }
     ensures { MatchOption result (Rises (λ p. (turn_of p).ticket) points.now)
@@ -174,7 +174,7 @@ pub(crate) fn twice(points: &[Point]) -> Option<u64>
     None
 }
 
-// The ticket of the first entry that is not above that of the entry before it.
+// Returns the ticket of the first entry that is not above that of the entry before it.
 pub(crate) fn fall<C>(entries: &[Entry<Event<C>>]) -> Option<u64>
     ensures { MatchOption result (Rises ticket_of entries.now) (λ ticket. Falls entries.now ticket) }
 {
@@ -188,7 +188,7 @@ pub(crate) fn fall<C>(entries: &[Entry<Event<C>>]) -> Option<u64>
     None
 }
 
-// The same of several histories.
+// Does the same for several histories.
 pub(crate) fn falls<C>(histories: &[History<Event<C>>]) -> Option<u64>
     ensures { MatchOption result (All (Rises ticket_of) histories.now) (λ ticket. OneFalls histories.now ticket) }
 {

@@ -1,4 +1,4 @@
-//! Actors and things by their numbers.
+//! Finding actors and other things by their numbers.
 
 ghost use Rattle.std.specs.Prelude.{◌≡◌, ◌+◌, ◌<◌, false, not, length, MatchOption, option_map};
 ghost use Rattle.machines.specs.Numbers.{is_within};
@@ -7,7 +7,9 @@ ghost use Rattle.cluster.specs.Numbers.{with_number};
 
 use crate::error::ClusterError;
 
-/// The place of the actor of this number.
+/// Returns the place of the actor with this number, or `None` if there is no such actor.
+///
+/// Numbers begin with 1, places with 0.
 pub fn place_of<A>(number: u64, actors: &[A]) -> Option<usize>
     ensures { MatchOption result
         (is_within number (length actors.now) ≡ false)
@@ -20,14 +22,14 @@ pub fn place_of<A>(number: u64, actors: &[A]) -> Option<usize>
     }
 }
 
-/// Whether a number is from 1 to the most.
+/// Whether a number is from 1 to `most`.
 pub fn is_within(number: u64, most: u64) -> bool
     ensures { result ≡ is_within number most }
 {
     1 <= number && number <= most
 }
 
-/// The thing of this number among those that were made.
+/// Returns the thing with this number among those that were made, or `None` if there is none.
 pub(crate) fn with_number<T>(number: u64, made: &[T]) -> Option<&T>
     ensures { option_map (λ thing. thing.now) result ≡ with_number number made.now }
 {
@@ -37,7 +39,7 @@ pub(crate) fn with_number<T>(number: u64, made: &[T]) -> Option<&T>
     made.get((number - 1) as usize)
 }
 
-/// A refusal, unless this holds.
+/// Returns no refusal if `holds`, otherwise `why`.
 pub(crate) fn unless(holds: bool, why: ClusterError) -> Option<ClusterError>
     ensures { result ≡ when (not holds) why }
 {

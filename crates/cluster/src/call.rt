@@ -9,8 +9,10 @@ use slice_ranges::SliceKey;
 use slicelet::{KeyHandle, SliceletCall};
 use std::alloc::AllocError;
 
-/// A call of one actor, with what it delivers: grants, notes, handles and assignments themselves. `at` is a
-/// reading of a task's clock, in ticks.
+/// A call of the table, of one task or of one clerk, together with what it delivers.
+///
+/// A call carries the delivered grant, note, handle or assignment itself, not its number. `task`
+/// and `clerk` are numbers from 1. `at` is a reading of the task's clock, in ticks.
 #[derive(Debug, Drop)]
 pub enum ClusterCall {
     /// A call that may change the table.
@@ -25,29 +27,29 @@ pub enum ClusterCall {
         clerk: u64,
         call: ClerkCall,
     },
-    /// The table's phase is asked for.
+    /// Asks for the table's phase.
     Phase,
-    /// The table's open rows are asked for.
+    /// Asks for the table's open rows.
     Rows,
-    /// A task is asked for a key.
+    /// Asks whether a task may serve a key.
     Serve {
         task: u64,
         key: SliceKey,
         at: u64,
     },
-    /// A task takes a handle on a key.
+    /// Asks a task for a handle on a key.
     Hold {
         task: u64,
         key: SliceKey,
         at: u64,
     },
-    /// A task is asked whether it has held a handle's key all the time.
+    /// Asks a task whether it has held a handle's key ever since the handle was taken.
     Check {
         task: u64,
         handle: KeyHandle,
         at: u64,
     },
-    /// A clerk is asked who owns a key.
+    /// Asks a clerk who owns a key.
     Look {
         clerk: u64,
         key: SliceKey,

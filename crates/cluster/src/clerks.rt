@@ -19,7 +19,7 @@ use machines::Trouble;
 use slice_ranges::SliceKey;
 use std::alloc::AllocError;
 
-// What a clerk answers, as the cluster's reply.
+// Turns a clerk's answer into the cluster's reply.
 pub(crate) fn told_by_clerk(
     answer: Result<ClerkReply, Trouble<ClerkError>>,
 ) -> Result<ClusterReply, AllocError>
@@ -34,6 +34,12 @@ pub(crate) fn told_by_clerk(
 
 impl Cluster {
     /// Plays a call of a clerk, as [`Cluster::play`] does.
+    ///
+    /// # Errors
+    ///
+    /// The refusals, in this order: `NoActor`, `NotSent` for an assignment that was never
+    /// published, and those of the clerk. Out of memory comes last and leaves the cluster
+    /// unchanged.
     pub fn call_clerk(&mut self, clerk: u64, call: &ClerkCall) -> Result<ClusterReply, AllocError>
         ensures { (job : Job) (past : Past) → LeadsTo job past self.old
             → IsPlayed job past (asked.Clerk clerk call.now) result self.new }
@@ -47,7 +53,7 @@ impl Cluster {
         told_by_clerk(self.clerks[place].call(call))
     }
 
-    // Why a call does not come to a clerk of the job.
+    // Returns why a call is refused before it reaches the clerk, if it is.
     fn clerk_refusal(&self, call: &ClerkCall) -> Option<ClusterError>
         ensures { (job : Job) (past : Past) → LeadsTo job past self.now → result ≡ clerk_refusal past call.now }
     {
@@ -59,7 +65,7 @@ impl Cluster {
         }
     }
 
-    /// `look` of a clerk.
+    /// Plays `look` of a clerk.
     pub(crate) fn look(&self, clerk: u64, key: SliceKey) -> ClusterReply
         ensures { (job : Job) (past : Past) → LeadsTo job past self.now
             → IsPlayed job past (asked.Look clerk key) (Ok result) self.now }

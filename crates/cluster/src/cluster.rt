@@ -1,4 +1,4 @@
-//! The machines of a job.
+//! The machines of one job.
 
 ghost use Rattle.std.specs.Prelude.{◌≡◌, ℕ, [], ◌∷◌, ◌++◌, true, false, IsTrue, None, IfOk};
 ghost use Rattle.machines.specs.Numbers.{is_within};
@@ -32,8 +32,10 @@ use lease_table::{Grant, LeaseTable, ReleaseNote, policy_law};
 use slicelet::{KeyHandle, Slicelet};
 use std::alloc::{AllocError, Global};
 
-/// A job's table, slicelets and clerks, and all that was made so far: grants, notes, handles and
-/// published assignments, each of which may be delivered later, again and in any order.
+/// The machines of one job, its lease table, slicelets and clerks, with everything that they made.
+///
+/// A cluster keeps all grants, notes, handles and published assignments that were made so far. Each
+/// of them may be delivered later, more than once and in any order.
 #[derive(Drop)]
 pub struct Cluster {
     pub(crate) alloc: Global,
@@ -44,7 +46,7 @@ pub struct Cluster {
     pub(crate) grants: Vec<Grant>,
     pub(crate) notes: Vec<ReleaseNote>,
     pub(crate) handles: Vec<KeyHandle>,
-    // The same notes and handles, by what they say.
+    // The same notes and handles, found by their values.
     pub(crate) known_notes: IndexSet<KnownNote>,
     pub(crate) known_handles: IndexSet<KnownHandle>,
     pub(crate) proposals: Vec<Assignment>,
@@ -71,7 +73,7 @@ fn clerks_of(alloc: Global, job: Job) -> Result<Vec<Clerk>, AllocError>
 }
 
 impl Cluster {
-    /// A cluster before its first call.
+    /// Creates the machines of a job before their first call.
     #[tactic(auto, unfolding(crate::specs::Clusters::LeadsTo))]
     pub fn new(alloc: Global, job: Job) -> Result<Self, AllocError>
         ensures { IfOk result (λ cluster. LeadsTo job [] cluster) }
@@ -93,9 +95,10 @@ impl Cluster {
         })
     }
 
-    /// Plays a call, and answers it by the calls before it.
+    /// Plays a call and returns the reply that the calls before it determine.
     ///
-    /// Out of memory comes last, where the call would not be refused, and changes nothing.
+    /// A refused call changes nothing. Out of memory comes last, is returned only for a call that
+    /// would not be refused, and leaves the cluster unchanged.
     pub fn play(&mut self, call: &ClusterCall) -> Result<ClusterReply, AllocError>
         ensures { (job : Job) (past : Past) → LeadsTo job past self.old → IsPlayed job past call.now result self.new }
     {
@@ -112,23 +115,30 @@ impl Cluster {
         }
     }
 
-    /// A past that leads to a cluster is a run, of a job whose policy is within its limits.
+    /// States that every past that leads to a cluster is a run.
+    ///
+    /// The policy of the run's job is within its limits.
     #[tactic(auto, unfolding(crate::specs::Clusters::LeadsTo))]
     pub fn run_law(&self)
         ensures run { (job : Job) (past : Past) → LeadsTo job past self.now → IsRun job past }
         ensures within { (job : Job) (past : Past) → LeadsTo job past self.now → is_policy job.policy ≡ true }
     {}
 
-    /// A call that is refused leads on, and changes nothing.
+    /// States that a refused call leaves the cluster unchanged.
+    ///
+    /// The past with the refused call added leads to the same cluster.
     pub fn refusal_law(&self)
         ensures { (job : Job) (past : Past) (call : ClusterCall) (why : ClusterError) → LeadsTo job past self.now
             → IsReply job past (event call (reply.Refused why)) → LeadsTo job (event call (reply.Refused why) ∷ past) self.now }
     {}
 
-    /// At every point of what led to this cluster: a `serve` was told what the written rule says of its
-    /// key on the calls that its task accepted; a handle was continuous exactly when no call since took
-    /// its key away; and with timely clocks whoever may serve a key owns it in the committed assignment:
-    /// where a slice has at most one owner, never two tasks.
+    /// States what holds at every point of the past that led to this cluster.
+    ///
+    /// - A `serve` returned what the written rule says of its key on the calls that its task had
+    ///   accepted.
+    /// - A handle was continuous exactly if no call since it was taken had taken its key away.
+    /// - With timely clocks, a task that may serve a key owns it in the committed assignment. If a
+    ///   slice has at most one owner, two tasks may never serve one key.
     pub fn headline_law(&self)
         ensures rule { (job : Job) (later past : Past) (task key at : ℕ) (told : ClusterReply)
             → LeadsTo job (later ++ event (asked.Serve task key at) told ∷ past) self.now
@@ -149,9 +159,11 @@ impl Cluster {
         owner_law();
     }
 
-    /// As long as the clocks were timely: where a `check` by a task found a handle continuous, the task
-    /// owned its key in the committed assignment at each point from the handle's `hold` to that `check`,
-    /// and where a slice has at most one owner, no other task may serve the key at any of these points.
+    /// States what a continuous handle proves, as long as the clocks were timely.
+    ///
+    /// If a `check` by a task found a handle continuous, the task owned its key in the committed
+    /// assignment at each point from the handle's `hold` to that `check`. If a slice has at most
+    /// one owner, no other task may serve the key at any of these points.
     pub fn interval_law(&self)
         ensures owner { (job : Job) (later run past : Past) (task : ℕ) (handle : KeyHandle) → LeadsTo job (later ++ run) self.now
             → IsTimely job.policy.skew (readings run) → IsWhileHeld run past task handle → IsOwner past task handle.key }

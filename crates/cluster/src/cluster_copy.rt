@@ -12,9 +12,9 @@ use lease_table::Grant;
 use slicelet::Slicelet;
 use std::alloc::{AllocError, Global};
 
-// What a cluster holds a list of.
+// An element of one of a cluster's lists.
 trait Part {
-    // A part that equals this one.
+    // Returns an element that equals this one.
     fn copied(&self) -> Result<Self, AllocError>
         ensures { IfOk result (λ copied. copied ≡ self.now) };
 }
@@ -43,7 +43,7 @@ impl Part for Assignment {
     }
 }
 
-// The same parts in a vector of their own.
+// Copies the elements into a new vector.
 fn copies<T: Part + Drop>(alloc: Global, parts: &[T]) -> Result<Vec<T>, AllocError>
     ensures { IfOk result (λ copied. copied.items ≡ parts.now) }
 {
@@ -55,8 +55,10 @@ fn copies<T: Part + Drop>(alloc: Global, parts: &[T]) -> Result<Vec<T>, AllocErr
 }
 
 impl Cluster {
-    /// A cluster of its own that stands where this one does: every past that leads to this cluster
-    /// leads to its copy. This cluster stays as it is.
+    /// Copies the cluster.
+    ///
+    /// Every past that leads to this cluster also leads to the copy. This cluster is unchanged, and
+    /// later calls of one do not change the other. Fails only if memory runs out.
     #[tactic(auto, unfolding(crate::specs::Clusters::LeadsTo))]
     pub fn copy(&self) -> Result<Self, AllocError>
         ensures { (job : Job) (past : Past) → LeadsTo job past self.now

@@ -1,4 +1,4 @@
-//! Whether what a call delivers was made.
+//! Whether what a call delivers was ever made.
 
 ghost use Rattle.std.specs.Prelude.{◌≡◌, option_map};
 ghost use Rattle.cluster.specs.Jobs.{Job};
@@ -14,7 +14,7 @@ use assignment::Assignment;
 use lease_table::{Grant, LeaseTable, Phase, ReleaseNote};
 use slicelet::KeyHandle;
 
-// The committed assignment of a generation: that of the proposal of this place.
+// Returns the committed assignment of a generation, which is the proposal kept at that place.
 pub(crate) fn published<'a>(
     generation: u64,
     table: &LeaseTable,
@@ -31,7 +31,7 @@ pub(crate) fn published<'a>(
 }
 
 impl Cluster {
-    /// Whether a grant was sent.
+    /// Whether the table sent this grant.
     pub(crate) fn is_sent(&self, grant: &Grant) -> bool
         ensures { (job : Job) (past : Past) → LeadsTo job past self.now → result ≡ is_sent past grant.now }
     {
@@ -42,21 +42,21 @@ impl Cluster {
         }
     }
 
-    /// Whether a note was made.
+    /// Whether a task made this note.
     pub(crate) fn is_made(&self, note: &ReleaseNote) -> bool
         ensures { (job : Job) (past : Past) → LeadsTo job past self.now → result ≡ is_made past note.now }
     {
         self.known_notes.contains(&KnownNote::new(note))
     }
 
-    /// Whether a handle was given.
+    /// Whether a task returned this handle.
     pub(crate) fn is_given(&self, handle: &KeyHandle) -> bool
         ensures { (job : Job) (past : Past) → LeadsTo job past self.now → result ≡ is_given past handle.now }
     {
         self.known_handles.contains(&KnownHandle::new(handle))
     }
 
-    /// Whether an assignment was published.
+    /// Whether this assignment was published.
     pub(crate) fn is_published(&self, assignment: &Assignment) -> bool
         ensures { (job : Job) (past : Past) → LeadsTo job past self.now → result ≡ is_published past assignment.now }
     {

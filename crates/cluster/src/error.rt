@@ -4,21 +4,21 @@ use clerk::ClerkError;
 use lease_table::TableError;
 use slicelet::SliceletError;
 
-/// Why a call is refused.
+/// Why a call of a job's machines is refused.
 #[derive(Clone, Copy, Debug, PartialEq, Eq)]
 pub enum ClusterError {
-    /// The call's assigner, task or clerk is not of the job.
+    /// The job has no assigner, task or clerk with the number that the call names.
     NoActor,
     /// The grant, note, handle or published assignment that the call delivers was never made.
     NotSent,
-    /// The table refuses.
+    /// The table refuses the call, for this reason.
     Table(TableError),
-    /// The task's slicelet refuses.
+    /// The task's slicelet refuses the call, for this reason.
     Slicelet(SliceletError),
-    /// The handle is none that the task can have given.
+    /// The task cannot have returned this handle.
     Stranger,
-    /// The clerk refuses.
+    /// The clerk refuses the call, for this reason.
     Clerk(ClerkError),
-    /// The clerk has learnt no assignment.
+    /// The clerk knows no assignment.
     Unknown,
 }

@@ -9,13 +9,13 @@ use assignment::TASKS;
 use lease_table::Policy;
 use std::marker::Model;
 
-/// How many assigners a job has at the most.
+/// The largest number of assigners in a job.
 pub const MOST_ASSIGNERS: u64 = 8;
 
-/// How many clerks a job has at the most.
+/// The largest number of clerks in a job.
 pub const MOST_CLERKS: u64 = 16;
 
-/// A job: what it is held to, and how many actors of each kind it has.
+/// A job: its policy, and how many assigners, tasks and clerks it has.
 #[derive(Clone, Copy, Debug, PartialEq, Eq)]
 pub struct Job {
     policy: Policy,
@@ -39,7 +39,10 @@ impl Model for Job {
 }
 
 impl Job {
-    /// A job of this policy with 1 to 8 assigners, 1 to 64 tasks and 1 to 16 clerks, or `None`.
+    /// Creates a job with this policy and these numbers of actors, or returns `None`.
+    ///
+    /// A job has 1 to 8 assigners, 1 to 64 tasks and 1 to 16 clerks. `None` is returned if a number
+    /// is outside its range.
     pub fn new(policy: Policy, assigners: u64, tasks: u64, clerks: u64) -> Option<Self>
         ensures valid { is_some result ≡ (is_within assigners 8 && is_within tasks 64 && is_within clerks 16) }
         ensures value { IfSome result (λ job. job ≡ job_of policy assigners tasks clerks) }
@@ -60,14 +63,14 @@ impl Job {
         }
     }
 
-    /// What the table and its leases are held to.
+    /// Returns the policy of the table and its leases.
     pub fn policy(self) -> Policy
         ensures { result ≡ self.policy }
     {
         self.policy
     }
 
-    /// How many assigners there are.
+    /// Returns the number of assigners, from 1 to 8.
     pub fn assigners(self) -> u64
         ensures value { result ≡ self.assigners }
         ensures within { (1 ≤ result) × (result ≤ 8) }
@@ -75,7 +78,7 @@ impl Job {
         self.assigners
     }
 
-    /// How many tasks there are.
+    /// Returns the number of tasks, from 1 to 64.
     pub fn tasks(self) -> u64
         ensures value { result ≡ self.tasks }
         ensures within { (1 ≤ result) × (result ≤ 64) }
@@ -83,7 +86,7 @@ impl Job {
         self.tasks
     }
 
-    /// How many clerks there are.
+    /// Returns the number of clerks, from 1 to 16.
     pub fn clerks(self) -> u64
         ensures value { result ≡ self.clerks }
         ensures within { (1 ≤ result) × (result ≤ 16) }

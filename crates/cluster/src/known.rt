@@ -1,4 +1,4 @@
-//! The notes and handles that were made, as members of sets, so that one is found without a walk.
+//! The notes and handles that were made, as members of sets, so that one is found without a scan.
 
 ghost use Rattle.std.specs.Prelude.{◌≡◌, ◌<◌, ◌||◌, ◌++◌};
 ghost use Rattle.std.proofs.Common.{rules};
@@ -63,7 +63,7 @@ impl Eq for KnownNote {
     ghost laws = { Prim.search (comparing, rules) };
 }
 
-// Notes that differ in their kind alone hash alike.
+// Notes that differ only in their kind have the same hash.
 impl Hash for KnownNote {
     ghost hash_input = { λ note. fed.u64 note.task ++ fed.u32 note.life ++ fed.u64 note.number };
 
@@ -76,7 +76,7 @@ impl Hash for KnownNote {
     }
 }
 
-/// A handle that was given. Contracts see the handle.
+/// A handle that was returned. Contracts see the handle.
 pub(crate) struct KnownHandle {
     handle: KeyHandle,
 }
@@ -138,7 +138,7 @@ impl Hash for KnownHandle {
     }
 }
 
-/// Adds a member, for which there is room.
+/// Adds a member to a set that has room for it.
 pub(crate) fn insert_reserved<T: Hash + Eq + Drop>(known: &mut IndexSet<T>, member: T)
     requires { 0 < spare known.old }
     ensures { (other : T) → contains T.eq known.new other ≡ (T.eq member other || contains T.eq known.old other) }

@@ -1,4 +1,4 @@
-//! What holds of every run: laws over calls with their replies.
+//! Laws that hold of every run, stated over calls and their replies.
 
 ghost use Rattle.std.specs.Prelude.{◌≡◌, ℕ, ◌<◌, ◌≤◌, ◌++◌, ◌⊎◌, ◌∷◌, true, false, Some, Result, IsTrue, Contains};
 ghost use Rattle.machines.specs.Calls.{answered_call};
@@ -32,15 +32,19 @@ ghost use Rattle.cluster.specs.Runs.{IsRun};
 ghost use Rattle.cluster.specs.Headline.{MayServe, IsOwner, IsWhileHeld};
 ghost use Rattle.cluster.specs.Promises.{IsServedByRule, IsHeldByRule, IsCheckedByHistory, IsNoteOf, WasRead};
 
-/// In every run the calls of the table with its answers are a run of the table, and each task accepts its
-/// calls.
+/// States that in every run the calls of the table and its answers are a run of the table.
+///
+/// The slicelet of each task accepts the calls that the run records as accepted by it.
 pub fn told_law()
     ensures table { (job : Job) (past : Past) → IsRun job past → IsTableRun job.policy (table_calls past) }
     ensures tasks { (job : Job) (past : Past) (task : ℕ) → IsRun job past → AreAccepted task (task_calls task past) }
 {}
 
-/// Every lease that a task holds was sent, and to this task; every note that was made, or freed, was sent by its task;
-/// and the table's last reading is that of an earlier call, or 0 where it accepted none.
+/// States that every lease held in a run, and every note made or freed, was sent.
+///
+/// Every lease that a task holds was sent by the table, and to this task. Every note that was made
+/// or freed was sent by its task. The table's last reading is that of an earlier call, or 0 if it
+/// has accepted none.
 pub fn sent_law()
     ensures held { (job : Job) (past : Past) (task : ℕ) (kind : Kind) (grant : Grant) → IsRun job past
         → held_grant kind (task_calls task past) ≡ Some grant → IsSent (table_calls past) grant }
@@ -55,8 +59,9 @@ pub fn sent_law()
     slicelet::held_law();
 }
 
-/// The ranges of each lease that a task heard have a key exactly where the task owns the key in the
-/// generations that the lease is for.
+/// States that the ranges of each lease that a task heard are the keys that the task owns.
+///
+/// A key is in the ranges exactly if the task owns it in the generations that the lease is for.
 pub fn covers_law()
     ensures { (job : Job) (past : Past) (task key : ℕ) → is_policy job.policy ≡ true → IsRun job past → key < KEYS
         → AgreeOnHeard (covers_key key) (covers past key) (task_calls task past) }
@@ -64,7 +69,7 @@ pub fn covers_law()
     lease_table::covers_law();
 }
 
-/// The slices of a generation that is known, committed or proposed, never change.
+/// States that the slices of a known generation, committed or proposed, never change.
 pub fn known_generations_law()
     ensures { (job : Job) (later past : Past) (generation : ℕ) → IsRun job (later ++ past)
         → generation ≤ newest_generation (table_calls past)
@@ -73,8 +78,10 @@ pub fn known_generations_law()
     lease_table::assignments_law();
 }
 
-/// A `serve` is told what the written rule says of its key on the calls that its task accepted; a `hold` is
-/// told a handle where the rule allows its key, and else why it does not.
+/// States that `serve` and `hold` follow the written rule.
+///
+/// A `serve` returns what the written rule says of its key on the calls that its task accepted. A
+/// `hold` returns a handle if the rule allows its key, and otherwise why the rule does not.
 pub fn rule_law()
     ensures serve { (job : Job) (past : Past) (task key at : ℕ) (told : ClusterReply)
         → IsRun job (event (call.Serve task key at) told ∷ past) → IsServedByRule job past task key at told }
@@ -82,8 +89,10 @@ pub fn rule_law()
         → IsRun job (event (call.Hold task key at) told ∷ past) → IsHeldByRule job past task key at told }
 {}
 
-/// A handle that was given, and that the task can have given, is continuous exactly when no call
-/// since took its key away, and else it is broken.
+/// States when a handle is continuous.
+///
+/// A handle that was made, and that the task can have returned, is continuous exactly if no call
+/// since it was taken has taken its key away. Otherwise it is broken.
 pub fn handle_law()
     ensures { (job : Job) (past : Past) (task : ℕ) (handle : KeyHandle) (at : ℕ) (told : ClusterReply)
         → IsRun job (event (call.Check task handle at) told ∷ past) → IsTrue (is_within task job.tasks)
@@ -91,8 +100,10 @@ pub fn handle_law()
         → IsCheckedByHistory past task handle at told }
 {}
 
-/// With timely clocks, whoever may serve a key owns it in the committed assignment: where a slice has
-/// at most one owner, never two tasks. Each point of a run is the end of a run, so this holds at each.
+/// States that with timely clocks a task that may serve a key owns it in the committed assignment.
+///
+/// If a slice has at most one owner, two tasks may never serve one key. Each point of a run is the
+/// end of a run, so this holds at every point.
 pub fn owner_law()
     ensures owner { (job : Job) (past : Past) (task key : ℕ) → is_policy job.policy ≡ true → IsRun job past
         → MayServe job past task key → IsOwner past task key }
@@ -108,9 +119,11 @@ pub fn owner_law()
     slicelet::covering_lease_law();
 }
 
-/// In a run whose clocks were timely, where a `check` by a task found a handle continuous, the task
-/// owned its key in the committed assignment at each point from the handle's `hold` to that `check`:
-/// where a slice has at most one owner, no other task may serve the key at any of these points.
+/// States what a continuous handle proves in a run whose clocks were timely.
+///
+/// If a `check` by a task found a handle continuous, the task owned its key in the committed
+/// assignment at each point from the handle's `hold` to that `check`. If a slice has at most one
+/// owner, no other task may serve the key at any of these points.
 pub fn interval_law()
     ensures owner { (job : Job) (run past : Past) (task : ℕ) (handle : KeyHandle) → is_policy job.policy ≡ true → IsRun job run
         → IsTimely job.policy.skew (readings run) → IsWhileHeld run past task handle → IsOwner past task handle.key }

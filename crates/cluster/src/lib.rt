@@ -1,7 +1,8 @@
-//! The machines of a job, its table, slicelets and clerks, and what each call of them is answered.
+//! The machines of a job, which are its table, slicelets and clerks, and the reply to each of their
+//! calls.
 //!
-//! A call holds what it delivers: a grant, a note, a handle or an assignment itself. Every law here is over
-//! all runs of such calls.
+//! A call carries what it delivers: the grant, note, handle or assignment itself. Every law here is
+//! about all runs of such calls.
 #![tactic(auto)]
 
 mod actors;

@@ -1,4 +1,4 @@
-//! What was made, by its number, and what a front asks before it makes a call.
+//! What was made, found by its number, and what a front asks before it makes a call.
 
 ghost use Rattle.std.specs.Prelude.{◌≡◌, ◌+◌, length, option_map, reverse};
 ghost use Rattle.cluster.specs.Jobs.{Job};
@@ -34,8 +34,10 @@ use slicelet::{KeyHandle, Slicelet, SliceletError, SliceletReply};
 use std::alloc::AllocError;
 
 impl Cluster {
-    /// The grant of this number. Grants, notes and handles have the numbers 1, 2, and so on, each in the
-    /// order in which they were made.
+    /// Returns the grant with this number, or `None` if it was not made.
+    ///
+    /// Grants, notes and handles are each numbered 1, 2, and so on, in the order in which they were
+    /// made.
     pub fn grant(&self, number: u64) -> Option<&Grant>
         ensures { (job : Job) (past : Past) → LeadsTo job past self.now
             → option_map (λ grant. grant.now) result ≡ with_number number (grants past) }
@@ -43,7 +45,7 @@ impl Cluster {
         with_number(number, self.grants.as_slice())
     }
 
-    /// The note of this number.
+    /// Returns the note with this number, or `None` if it was not made.
     pub fn note(&self, number: u64) -> Option<&ReleaseNote>
         ensures { (job : Job) (past : Past) → LeadsTo job past self.now
             → option_map (λ note. note.now) result ≡ with_number number (reverse (notes_made past)) }
@@ -51,7 +53,7 @@ impl Cluster {
         with_number(number, self.notes.as_slice())
     }
 
-    /// The handle of this number.
+    /// Returns the handle with this number, or `None` if it was not made.
     pub fn handle(&self, number: u64) -> Option<&KeyHandle>
         ensures { (job : Job) (past : Past) → LeadsTo job past self.now
             → option_map (λ handle. handle.now) result ≡ with_number number (reverse (handles_made past)) }
@@ -59,7 +61,7 @@ impl Cluster {
         with_number(number, self.handles.as_slice())
     }
 
-    /// The published assignment of this generation.
+    /// Returns the published assignment of this generation, or `None` if there is none.
     pub fn published(&self, generation: u64) -> Option<&Assignment>
         ensures { (job : Job) (past : Past) → LeadsTo job past self.now
             → option_map (λ assignment. assignment.now) result ≡ published generation past }
@@ -68,21 +70,21 @@ impl Cluster {
         published(generation, &self.table, self.proposals.as_slice())
     }
 
-    /// The number that the next note gets.
+    /// Returns the number that the next note will get.
     pub fn next_note(&self) -> u64
         ensures { (job : Job) (past : Past) → LeadsTo job past self.now → result ≡ length (notes_made past) + 1 }
     {
         self.notes.as_slice().len() as u64 + 1
     }
 
-    /// The number that the next handle gets.
+    /// Returns the number that the next handle will get.
     pub fn next_handle(&self) -> u64
         ensures { (job : Job) (past : Past) → LeadsTo job past self.now → result ≡ length (handles_made past) + 1 }
     {
         self.handles.as_slice().len() as u64 + 1
     }
 
-    /// The lease table.
+    /// Returns the lease table.
     #[tactic(auto, unfolding(crate::specs::Clusters::LeadsTo))]
     pub fn table(&self) -> &LeaseTable
         ensures { (job : Job) (past : Past) → LeadsTo job past self.now → result.now ≡ standing job.policy past }
@@ -90,7 +92,7 @@ impl Cluster {
         &self.table
     }
 
-    /// The slicelet of a task of the job.
+    /// Returns the slicelet of a task, or `None` if the job has no task with this number.
     pub fn slicelet(&self, task: u64) -> Option<&Slicelet>
         ensures { (job : Job) (past : Past) → LeadsTo job past self.now
             → option_map (λ slicelet. slicelet.now) result ≡ slicelet_of job past task }
@@ -101,16 +103,18 @@ impl Cluster {
         Some(&self.tasks[place])
     }
 
-    /// The table's phase.
+    /// Returns the table's phase.
     pub fn phase(&self) -> Phase
         ensures { (job : Job) (past : Past) → LeadsTo job past self.now → result ≡ phase_of (standing job.policy past) }
     {
         self.table.phase()
     }
 
-    /// Why the table refuses a proposal of slices that make an assignment, if it does: its refusals in
-    /// their order, with no need of the assignment. `number` is that of a job term, and `at` a reading of
-    /// the table's clock, in ticks.
+    /// Returns why the table would refuse a proposal of slices that make an assignment, if it
+    /// would.
+    ///
+    /// Returns the first of the table's refusals that applies, without building the assignment.
+    /// `number` is the number of a job term, and `at` a reading of the table's clock, in ticks.
     pub fn proposal_refusal(
         &self,
         number: u64,
@@ -124,8 +128,10 @@ impl Cluster {
         self.table.propose_refusal(number, generation, slices, at)
     }
 
-    /// A task hears the grant of this number, at a reading of its clock in ticks. It is answered as the call that
-    /// holds the grant, of which no other copy is made; `NoActor` comes before `NotSent`.
+    /// Delivers the grant with this number to a task, at a reading of the task's clock in ticks.
+    ///
+    /// Returns the reply of the call that carries the grant, without copying the grant. `NoActor`
+    /// comes before `NotSent`, which is returned if there is no grant with this number.
     pub fn hear_numbered(
         &mut self,
         task: u64,
@@ -146,8 +152,11 @@ impl Cluster {
         told_by_task(hear(&mut self.tasks[place], grant, at))
     }
 
-    /// A clerk learns the published assignment of this generation. It is answered as the call that holds the
-    /// assignment, of which no other copy is made; `NoActor` comes before `NotSent`.
+    /// Delivers the published assignment of this generation to a clerk.
+    ///
+    /// Returns the reply of the call that carries the assignment, without copying the assignment.
+    /// `NoActor` comes before `NotSent`, which is returned if no assignment of this generation was
+    /// published.
     pub fn learn_published(
         &mut self,
         clerk: u64,

@@ -7,14 +7,14 @@ use crate::reply::ClusterReply;
 use machines::Duplicate;
 use std::alloc::AllocError;
 
-/// What a caller tells of a call: the call, and what it was told.
+/// A caller's record of one call: its ticket, the call and the reply that the caller got.
 #[derive(Debug, Drop)]
 pub struct CallRecord {
-    /// The place of the call among all calls that drew a ticket.
+    /// The ticket of the call: its place among all calls that drew a ticket.
     pub ticket: u64,
     /// The call.
     pub step: ClusterCall,
-    /// What the caller was told.
+    /// The reply that the caller got.
     pub reply: ClusterReply,
 }
 

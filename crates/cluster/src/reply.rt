@@ -1,4 +1,4 @@
-//! What calls are answered.
+//! Replies to calls.
 
 ghost use Rattle.std.specs.Prelude.{◌≡◌, IfOk};
 
@@ -11,30 +11,30 @@ use policy_rules::Verdict;
 use slicelet::{KeyHandle, SliceletReply};
 use std::alloc::AllocError;
 
-/// What the caller is told.
+/// The reply of a job's machines to a call.
 #[derive(Debug, Drop)]
 pub enum ClusterReply {
-    /// The table took the call.
+    /// The table accepted the call.
     Table(TableReply),
-    /// The task's slicelet took the call.
+    /// The task's slicelet accepted the call.
     Task(SliceletReply),
-    /// The clerk took the call.
+    /// The clerk accepted the call.
     Clerk(ClerkReply),
     /// The table's phase.
     Phase(Phase),
     /// The table's open rows.
     Rows(Listed<Row>),
-    /// What the rule says; of `hold`, why there is no handle.
+    /// What the written rule says of the key. For `hold`: why there is no handle.
     Verdict(Verdict),
-    /// A handle is taken.
+    /// The handle that was taken.
     Holding(KeyHandle),
-    /// The handle's key was held all the time.
+    /// The task has held the handle's key ever since the handle was taken.
     Continuous,
-    /// It was not.
+    /// The task has not held the handle's key all the time.
     Broken,
-    /// Who owns the key, as the clerk knows.
+    /// Who owns the key, as far as the clerk knows.
     Found(Found),
-    /// The call changed nothing.
+    /// The call is refused, for this reason, and changed nothing.
     Refused(ClusterError),
 }
 

@@ -22,7 +22,7 @@ use lease_table::{Grant, TableCall, TableError, TableReply};
 use machines::Trouble;
 use std::alloc::AllocError;
 
-// What the table answers, as the cluster's reply.
+// Turns the table's answer into the cluster's reply.
 fn told_by_table(
     answer: Result<TableReply, Trouble<TableError>>,
 ) -> Result<ClusterReply, AllocError>
@@ -37,6 +37,12 @@ fn told_by_table(
 
 impl Cluster {
     /// Plays a call of the table, as [`Cluster::play`] does.
+    ///
+    /// # Errors
+    ///
+    /// The refusals, in this order: `NoActor` for an assigner or a task that the job does not have,
+    /// `NotSent` for a note that was never made, and those of the table. Out of memory comes last
+    /// and leaves the cluster unchanged.
     pub fn call_table(&mut self, call: &TableCall) -> Result<ClusterReply, AllocError>
         ensures { (job : Job) (past : Past) → LeadsTo job past self.old
             → IsPlayed job past (asked.Table call.now) result self.new }
@@ -48,7 +54,7 @@ impl Cluster {
         told_by_table(self.take_table(call))
     }
 
-    // Why a call does not come to the table.
+    // Returns why a call is refused before it reaches the table, if it is.
     fn table_refusal(&self, call: &TableCall) -> Option<ClusterError>
         ensures { (job : Job) (past : Past) → LeadsTo job past self.now → result ≡ table_refusal job past call.now }
     {
@@ -66,7 +72,7 @@ impl Cluster {
         }
     }
 
-    // Makes a call of the table, and keeps what it makes.
+    // Makes a call of the table, and keeps what the table makes.
     fn take_table(&mut self, call: &TableCall) -> Result<TableReply, Trouble<TableError>>
         ensures step { Takes (table_step self.old.table call.now) self.old.table result self.new.table }
         ensures memory { OnlyTakes call.now result }
@@ -94,7 +100,7 @@ impl Cluster {
         }
     }
 
-    // Makes a call by which the table makes nothing that is kept.
+    // Makes a call in which the table makes nothing to keep.
     fn take_unkept(&mut self, call: &TableCall) -> Result<TableReply, Trouble<TableError>>
         requires { makes_nothing call.now ≡ true }
         ensures step { Takes (table_step self.old.table call.now) self.old.table result self.new.table }
@@ -106,7 +112,7 @@ impl Cluster {
         self.table.call(call)
     }
 
-    // Keeps a proposal, so that its commit takes no memory.
+    // Keeps a proposal, so that its commit needs no memory.
     fn propose(
         &mut self,
         number: u64,
@@ -129,7 +135,7 @@ impl Cluster {
         Ok(())
     }
 
-    // Keeps the grant that it answers.
+    // Makes a grant and keeps it.
     fn grant_lease(
         &mut self,
         task: TaskId,
@@ -149,7 +155,7 @@ impl Cluster {
         Ok(grant)
     }
 
-    /// The reply to a call that asks for the phase.
+    /// Returns the reply to a call that asks for the phase.
     pub(crate) fn phase_reply(&self) -> ClusterReply
         ensures { (job : Job) (past : Past) → LeadsTo job past self.now
             → IsPlayed job past asked.Phase (Ok result) self.now }
@@ -157,7 +163,7 @@ impl Cluster {
         ClusterReply::Phase(self.table.phase())
     }
 
-    /// The table's open rows.
+    /// Returns the table's open rows.
     pub(crate) fn rows(&self) -> Result<ClusterReply, AllocError>
         ensures { (job : Job) (past : Past) → LeadsTo job past self.now
             → IsPlayed job past asked.Rows result self.now }

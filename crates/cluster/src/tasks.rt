@@ -31,7 +31,7 @@ use slice_ranges::SliceKey;
 use slicelet::{KeyHandle, Slicelet, SliceletCall, SliceletError, SliceletReply};
 use std::alloc::AllocError;
 
-// What a slicelet answers, as the cluster's reply.
+// Turns a slicelet's answer into the cluster's reply.
 pub(crate) fn told_by_task(
     answer: Result<SliceletReply, Trouble<SliceletError>>,
 ) -> Result<ClusterReply, AllocError>
@@ -118,6 +118,11 @@ fn keep(
 
 impl Cluster {
     /// Plays a call of a task, as [`Cluster::play`] does.
+    ///
+    /// # Errors
+    ///
+    /// The refusals, in this order: `NoActor`, `NotSent` for a grant that the table never sent, and
+    /// those of the slicelet. Out of memory comes last and leaves the cluster unchanged.
     pub fn call_task(&mut self, task: u64, call: &SliceletCall) -> Result<ClusterReply, AllocError>
         ensures { (job : Job) (past : Past) → LeadsTo job past self.old
             → IsPlayed job past (asked.Task task call.now) result self.new }
@@ -136,7 +141,7 @@ impl Cluster {
         ))
     }
 
-    // Why a call does not come to a task of the job.
+    // Returns why a call is refused before it reaches the task, if it is.
     fn task_refusal(&self, call: &SliceletCall) -> Option<ClusterError>
         ensures { (job : Job) (past : Past) → LeadsTo job past self.now → result ≡ task_refusal past call.now }
     {
@@ -146,7 +151,7 @@ impl Cluster {
         }
     }
 
-    /// `serve` of a task.
+    /// Plays `serve` of a task.
     pub(crate) fn serve(&self, task: u64, key: SliceKey, at: u64) -> ClusterReply
         ensures { (job : Job) (past : Past) → LeadsTo job past self.now
             → IsPlayed job past (asked.Serve task key at) (Ok result) self.now }
@@ -160,7 +165,7 @@ impl Cluster {
         ClusterReply::Verdict(self.tasks[place].serve(key, at))
     }
 
-    /// `hold` of a task.
+    /// Plays `hold` of a task.
     pub(crate) fn hold(
         &mut self,
         task: u64,
@@ -187,7 +192,7 @@ impl Cluster {
         }
     }
 
-    /// `check` of a task.
+    /// Plays `check` of a task.
     pub(crate) fn check(&self, task: u64, handle: &KeyHandle, at: u64) -> ClusterReply
         ensures { (job : Job) (past : Past) → LeadsTo job past self.now
             → IsPlayed job past (asked.Check task handle.now at) (Ok result) self.now }

@@ -12,7 +12,9 @@ use crate::timing::Reading;
 use lease_table::TableCall;
 
 impl Reading {
-    /// The reading of a call of the table; a restart reads no clock.
+    /// Returns the reading of a call of the table.
+    ///
+    /// A restart reads no clock.
     pub fn of_table(call: &TableCall) -> Reading
         ensures { result ≡ at_table (reading_of call.now) }
     {
@@ -27,7 +29,8 @@ impl Reading {
         }
     }
 
-    // The least timely reading of a task's clock after this one; `None` where this one is not timely.
+    // Returns the least timely reading of a task's clock after this one, or `None` if this one is
+    // not timely.
     fn least_after(self, skew: u64, least: u64) -> Option<u64>
         ensures { result ≡ least_after self skew least }
     {
@@ -40,7 +43,7 @@ impl Reading {
 }
 
 impl ClusterCall {
-    /// Whose clock the call reads, and when.
+    /// Returns the reading of the call: whose clock it reads, and the ticks read.
     pub fn reading(&self) -> Reading
         ensures { result ≡ reading self.now }
     {
@@ -55,17 +58,19 @@ impl ClusterCall {
     }
 }
 
-/// Whether readings are timely, one after another: no reading of the table's clock is by more than the
-/// skew above a later one of a task's clock. Readings and skew are in ticks.
+/// A check of whether the readings of a run are timely, fed one reading after another.
+///
+/// Readings are timely if no reading of the table's clock is more than the skew above a later
+/// reading of a task's clock. Readings and skew are in ticks.
 #[derive(Clone, Copy, Debug)]
 pub struct Timeliness {
     pub(crate) skew: u64,
-    // The least timely reading of a task's clock; `None` once a reading was not timely.
+    // The least timely reading of a task's clock; `None` after a reading that was not timely.
     pub(crate) least: Option<u64>,
 }
 
 impl Timeliness {
-    /// Before the first reading.
+    /// Creates the check before its first reading, with a skew in ticks.
     pub fn new(skew: u64) -> Self
         ensures { IsTimelinessOf skew [] result }
     {
@@ -75,7 +80,7 @@ impl Timeliness {
         }
     }
 
-    /// Takes one reading more.
+    /// Adds the next reading.
     pub fn read(&mut self, reading: Reading)
         ensures { (skew : ℕ) (before : List Reading) → IsTimelinessOf skew before self.old
             → IsTimelinessOf skew (reading ∷ before) self.new }

@@ -1,12 +1,12 @@
 //! Readings of clocks.
 
-/// Whose clock a call reads, and when, in ticks.
+/// The clock that a call reads, and the reading in ticks.
 #[derive(Clone, Copy, Debug, PartialEq, Eq)]
 pub enum Reading {
-    /// A call of the table.
+    /// A reading of the table's clock.
     TableClock(u64),
-    /// A call of a task.
+    /// A reading of a task's clock.
     TaskClock(u64),
-    /// A call that reads no clock.
+    /// The call reads no clock.
     NoClock,
 }

@@ -12,7 +12,8 @@ use history_lock::Pass;
 use shared_objects::SharedClerk;
 use std::sync::Wait;
 
-/// The seat of the clerk's thread: its seat at the table, its clerk, and its pass of the clerk's lock.
+/// The seat of the clerk's thread: its seat at the table, its clerk, and its pass of the clerk's
+/// lock.
 #[derive(Drop)]
 pub(crate) struct ClerkSeat<'a> {
     pub(crate) table: TableSeat<'a>,
@@ -25,7 +26,7 @@ impl<'a> ClerkSeat<'a> {
     ghost use Rattle.std.specs.Prelude.{◌≡◌};
     ghost use Rattle.tickets.specs.Tickets.{DrawsFrom};
 
-    /// The seat of a thread with these passes.
+    /// Creates the seat of a thread with these passes.
     pub(crate) fn new(objects: &'a Objects, passes: ClerkPasses) -> ClerkSeat<'a>
         requires table { IsPassOf objects.now.table passes.table.pass }
         requires own { IsPassOf objects.now.clerk.lock passes.own }
@@ -54,7 +55,7 @@ impl ClerkSeat<'_> {
     ghost use Rattle.live_run.specs.internals.Notes.{TellsMemory};
     ghost use Rattle.live_run.specs.internals.Seats.{CalledForClerk, KeepsClerkSeat};
 
-    /// What is left of the seat.
+    /// Returns the passes of the seat.
     pub(crate) fn into_passes(self) -> ClerkPasses
         ensures table { IsPassOf self.entry.table.table.now result.table.pass }
         ensures clerk { IsPassOf self.entry.clerk.now.lock result.own }

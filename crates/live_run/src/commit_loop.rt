@@ -16,10 +16,10 @@ use crossbeam_utils::Backoff;
 use std::alloc::{AllocError, Global};
 use std::sync::Wait;
 
-// The second half of the key space starts here.
+// The start of the second half of the key space.
 const HALF: u64 = 1 << 62;
 
-/// Takes the job, and proposes and commits one generation after another.
+/// Takes the job lease, and proposes and commits one generation after another.
 pub(crate) fn assign<R: Wait>(
     rt: &R,
     alloc: Global,
@@ -39,7 +39,7 @@ pub(crate) fn assign<R: Wait>(
     }
 }
 
-// Takes the job, and proposes and commits the halves of each round.
+// Takes the job lease, and proposes and commits the halves of each round.
 #[tactic(auto, using(crate::proofs::Keeping::keeps_same, crate::proofs::Keeping::keeps_more))]
 fn commit_all<R: Wait>(
     rt: &R,
@@ -83,7 +83,7 @@ fn await_rows<R: Wait>(rt: &R, generation: u64, seat: &mut TableSeat<'_>) -> Res
     Err(Halt::Stopped)
 }
 
-// The assignment of a generation: two tasks that follow one another own a half of the keys each.
+// Returns the assignment of a generation: two successive tasks own half of the keys each.
 fn halves(alloc: Global, generation: u64, tasks: u64) -> Result<Assignment, Halt>
     requires few { generation ≤ 16 }
     requires some { (1 ≤ tasks) × (tasks ≤ 6) }
@@ -99,7 +99,7 @@ fn halves(alloc: Global, generation: u64, tasks: u64) -> Result<Assignment, Halt
     }
 }
 
-// The slice that starts at a key, with one owner.
+// Returns the slice that starts at a key, with one owner.
 fn half(alloc: Global, start: u64, owner: u64) -> Result<Slice, AllocError>
     ensures { IfOk result (λ slice. slice ≡ half_of start owner) }
 {

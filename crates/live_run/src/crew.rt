@@ -26,8 +26,8 @@ use std::sync::Wait;
 use std::thread::{Threads, join, map_vec};
 use tickets::{Ticket, TicketPass};
 
-/// A task of a live run: its slicelet, its pass of the table's lock, and the passes of its threads, of its own
-/// first.
+/// A task of a live run: its slicelet, its pass of the table's lock, and the passes of its threads,
+/// its own first.
 #[derive(Drop)]
 pub(crate) struct Crew {
     pub(crate) task: TaskId,
@@ -36,7 +36,7 @@ pub(crate) struct Crew {
     pub(crate) members: Vec<Member>,
 }
 
-/// Which task it is, how many workers it has, and how many the tasks before it have in all.
+/// Which task it is, how many workers it has, and how many workers the tasks before it have in all.
 #[derive(Clone, Copy)]
 pub(crate) struct CrewPlan {
     pub(crate) task: TaskId,
@@ -62,7 +62,7 @@ pub(crate) struct CrewLeft {
 }
 
 impl Crew {
-    /// The task of a plan, with a lane of its lock for its own thread and for each worker.
+    /// Creates the task of a plan, with a lane of its lock for its own thread and for each worker.
     pub(crate) fn new(
         alloc: Global,
         shared: &SharedTable,
@@ -98,7 +98,7 @@ impl Crew {
         })
     }
 
-    /// Runs the task's thread and its workers, and closes the task's lock once all have ended.
+    /// Runs the task's thread and its workers, and closes the task's lock when all have ended.
     pub(crate) fn run<R: Threads + Wait + Sync, G: Gate + Sync>(
         self,
         rt: &R,
@@ -135,7 +135,7 @@ impl Crew {
     }
 }
 
-// Closes a task's lock, and puts together what its threads leave.
+// Closes a task's lock, and combines what its threads leave.
 fn dismiss(
     slicelet: SharedSlicelet,
     ticket: &Ticket,
@@ -172,8 +172,8 @@ fn dismiss(
     }
 }
 
-// The threads of a task, by the passes of its lock and as many passes of the ticket. The tasks before it have this
-// many workers in all.
+// Returns the threads of a task, one for each pass of its lock and of the ticket. `before` is the
+// number of workers of the tasks before it.
 fn members_of(
     alloc: Global,
     slicelet: &SharedSlicelet,
@@ -207,7 +207,7 @@ fn members_of(
     Ok(members)
 }
 
-// What the task's own thread is given.
+// Returns the passes of the task's own thread.
 fn task_passes(alloc: Global, task: TaskId, table: Pass<LeaseTable>, member: Member) -> TaskPasses
     ensures table { result.table.pass ≡ table }
     ensures draws { result.table.draws ≡ member.draws }
@@ -227,14 +227,14 @@ fn task_passes(alloc: Global, task: TaskId, table: Pass<LeaseTable>, member: Mem
     }
 }
 
-/// What the threads of a task are given: the task's own, and its workers.
+/// The threads of a task: its own, and its workers.
 #[derive(Drop)]
 struct TaskThreads {
     passes: TaskPasses,
     workers: Vec<Member>,
 }
 
-// The task's thread beside its workers.
+// Runs the task's thread beside its workers.
 fn run_members<R: Threads + Wait + Sync, G: Gate + Sync>(
     rt: &R,
     alloc: Global,
@@ -282,7 +282,7 @@ fn run_members<R: Threads + Wait + Sync, G: Gate + Sync>(
     Ok((passes?, worked?))
 }
 
-// Each worker in a thread of its own: the workers of the lanes from 1 on.
+// Runs each worker in a thread of its own: the workers of the lanes from 1 on.
 #[tactic(auto, using(crate::proofs::Crewing::worked_from))]
 fn work_all<R: Threads + Wait + Sync, G: Gate + Sync>(
     rt: &R,
@@ -300,7 +300,7 @@ fn work_all<R: Threads + Wait + Sync, G: Gate + Sync>(
     work_each(rt, alloc, shared, gate, asks, workers)
 }
 
-// Apart from `work_all`, whose lemma turns what is said of each place into what is said of the list.
+// Separate from `work_all`, whose lemma turns a statement about each place into one about the list.
 fn work_each<R: Threads + Wait + Sync, G: Gate + Sync>(
     rt: &R,
     alloc: Global,
@@ -322,7 +322,7 @@ fn work_each<R: Threads + Wait + Sync, G: Gate + Sync>(
     )
 }
 
-// The pass of the table's lock, and what else the threads of a task leave.
+// Returns the pass of the table's lock, and what else the threads of a task leave.
 fn gather(
     alloc: Global,
     slicelet: &SharedSlicelet,
@@ -366,7 +366,7 @@ fn gather(
 }
 
 impl Gathered {
-    // What one worker leaves comes after what is there.
+    // Appends what one worker leaves.
     fn take_in(
         &mut self,
         slicelet: &SharedSlicelet,

@@ -1,4 +1,4 @@
-//! How large a live run is.
+//! The sizes of a live run.
 
 ghost use Rattle.std.specs.Prelude.{◌≡◌, ◌≤◌, is_some, IfSome};
 ghost use Rattle.live_run.specs.LiveJobs.{is_live_job, live_policy, live_sizes, played_job};
@@ -7,19 +7,19 @@ use cluster::Job;
 use lease_table::Policy;
 use std::marker::Model;
 
-/// How many tasks a live run has at the most.
+/// The largest number of tasks in a live run.
 pub const MOST_TASKS: u64 = 6;
 
-/// How many workers each task of a live run has at the most.
+/// The largest number of workers of each task of a live run.
 pub const MOST_WORKERS: u32 = 7;
 
-/// How many generations a live run commits at the most.
+/// The largest number of generations that a live run commits.
 pub const MOST_ROUNDS: u64 = 16;
 
-/// How many keys each worker asks for at the most.
+/// The largest number of keys that each worker asks for.
 pub const MOST_ASKS: u32 = 1000;
 
-/// How often a thread reads the table for one thing that it waits for.
+/// How often a thread reads the table while it waits for one thing.
 pub(crate) const TURNS: u64 = 1_000_000;
 
 /// The one assigner of a live run.
@@ -28,17 +28,20 @@ pub(crate) const ASSIGNER: u64 = 1;
 /// The one life of each task.
 pub(crate) const LIFE: u32 = 1;
 
-/// How many ticks each lease of a live run and its job lease last, and how many grants there may be.
+/// How many ticks each lease of a live run and its job lease last, and how many grants there may
+/// be.
 const LONG: u64 = 1 << 32;
 
-/// What the table of a live run and its leases are held to.
+/// Returns the policy of the table of a live run and its leases.
 pub(crate) fn live_policy() -> Policy
     ensures { result ≡ live_policy }
 {
     Policy::new(1, 1, 0, LONG, LONG, LONG, LONG).unwrap()
 }
 
-/// How large a live run is. Contracts see its sizes.
+/// The sizes of a live run: its tasks, their workers, the generations and the asks.
+///
+/// Contracts see these sizes.
 #[derive(Clone, Copy, Debug, PartialEq, Eq)]
 pub struct LiveJob {
     tasks: u64,
@@ -61,8 +64,10 @@ impl Model for LiveJob {
 }
 
 impl LiveJob {
-    /// A job of 1 to 6 tasks with 1 to 7 workers each, which commits 1 to 16 generations while each worker
-    /// asks for 1 to 1,000 keys; else `None`.
+    /// Creates the sizes of a live run, or returns `None` if one is outside its range.
+    ///
+    /// A live run has 1 to 6 tasks with 1 to 7 workers each, and commits 1 to 16 generations while
+    /// each worker asks for 1 to 1,000 keys.
     pub fn new(tasks: u64, workers: u32, rounds: u64, asks: u32) -> Option<Self>
         ensures valid { is_some result ≡ is_live_job (live_sizes tasks workers rounds asks) }
         ensures value { IfSome result (λ job. job ≡ live_sizes tasks workers rounds asks) }
@@ -84,7 +89,7 @@ impl LiveJob {
         }
     }
 
-    /// How many tasks there are.
+    /// Returns the number of tasks, from 1 to 6.
     pub fn tasks(self) -> u64
         ensures value { result ≡ self.tasks }
         ensures within { (1 ≤ result) × (result ≤ 6) }
@@ -92,7 +97,7 @@ impl LiveJob {
         self.tasks
     }
 
-    /// How many workers each task has.
+    /// Returns the number of workers of each task, from 1 to 7.
     pub fn workers(self) -> u32
         ensures value { result ≡ self.workers }
         ensures within { (1 ≤ result) × (result ≤ 7) }
@@ -100,7 +105,7 @@ impl LiveJob {
         self.workers
     }
 
-    /// How many generations are to be committed.
+    /// Returns the number of generations to commit, from 1 to 16.
     pub fn rounds(self) -> u64
         ensures value { result ≡ self.rounds }
         ensures within { (1 ≤ result) × (result ≤ 16) }
@@ -108,7 +113,7 @@ impl LiveJob {
         self.rounds
     }
 
-    /// How many keys each worker asks for.
+    /// Returns the number of keys that each worker asks for, from 1 to 1,000.
     pub fn asks(self) -> u32
         ensures value { result ≡ self.asks }
         ensures within { (1 ≤ result) × (result ≤ 1000) }
@@ -116,7 +121,7 @@ impl LiveJob {
         self.asks
     }
 
-    /// The job whose machines the threads of the run play: one assigner, the tasks, and one clerk.
+    /// Returns the job whose machines the threads play: one assigner, the tasks, and one clerk.
     pub fn played(self) -> Job
         ensures { result ≡ played_job self }
     {

@@ -1,6 +1,7 @@
 //! Live runs: the assigner, the clerk, the tasks and their workers of a job as threads.
 //!
-//! [`run_live`] starts the threads of a [`LiveJob`] over shared objects, and makes a [`LiveReport`] of what they did.
+//! [`run_live`] starts the threads of a [`LiveJob`] on shared objects, and returns a [`LiveReport`]
+//! of what they did.
 #![tactic(auto)]
 
 mod clerk_loop;

@@ -1,4 +1,4 @@
-//! What a thread of a live run notes of its calls.
+//! What a thread of a live run notes about its calls.
 
 ghost use Rattle.std.specs.Prelude.{◌≡◌, [], false, true};
 ghost use Rattle.live_run.specs.declared.notes.Halt.TheVariants as halt;
@@ -13,9 +13,9 @@ use tickets::Spent;
 /// Why a thread ends early.
 #[derive(Clone, Copy)]
 pub(crate) enum Halt {
-    /// A call was refused, or what was waited for did not come.
+    /// A call was refused, or what the thread waited for did not happen.
     Stopped,
-    /// There was no memory.
+    /// Memory ran out.
     NoMemory,
 }
 
@@ -43,7 +43,8 @@ impl From<Spent> for Halt {
     }
 }
 
-/// The records of a thread's calls that wrote no entry, and whether one of its calls found no memory.
+/// The records of a thread's calls that wrote no entry, and whether memory ran out in one of its
+/// calls.
 #[derive(Drop)]
 pub(crate) struct Notes {
     records: Vec<CallRecord>,
@@ -51,7 +52,7 @@ pub(crate) struct Notes {
 }
 
 impl Notes {
-    /// The notes of a thread that made no call.
+    /// Creates the notes of a thread that has made no call.
     pub(crate) fn new(alloc: Global) -> Notes
         ensures records { result.records.items ≡ [] }
         ensures fed { result.starved ≡ false }
@@ -62,7 +63,7 @@ impl Notes {
         }
     }
 
-    /// Notes what a call that may write answered: the record of a refusal, or that there was no memory.
+    /// Notes the result of a call that may write: the record of a refusal, or that memory ran out.
     pub(crate) fn note<A: Drop, F: Drop>(
         &mut self,
         answer: Result<A, CallError<F>>,
@@ -88,7 +89,7 @@ impl Notes {
         }
     }
 
-    /// Notes that a call found no memory.
+    /// Notes that memory ran out in a call.
     pub(crate) fn starve(&mut self) -> Halt
         ensures halt { result ≡ halt.NoMemory }
         ensures starved { self.new ≡ record self.old { starved = true } }
@@ -97,7 +98,7 @@ impl Notes {
         Halt::NoMemory
     }
 
-    /// The records.
+    /// Returns the records.
     pub(crate) fn into_records(self) -> Vec<CallRecord>
         ensures { result ≡ self.records }
     {

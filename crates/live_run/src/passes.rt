@@ -1,4 +1,4 @@
-//! The passes that the threads of a live run are given, and that they leave.
+//! The passes that the threads of a live run get, and that they leave.
 
 ghost use Rattle.std.specs.Prelude.{◌≡◌, [], false};
 
@@ -11,7 +11,7 @@ use slicelet::Slicelet;
 use std::alloc::Global;
 use tickets::TicketPass;
 
-/// The passes of a thread that calls the table, and what it noted of its calls.
+/// The passes of a thread that calls the table, and its notes about its calls.
 #[derive(Drop)]
 pub(crate) struct TablePasses {
     pub(crate) pass: Pass<LeaseTable>,
@@ -19,14 +19,14 @@ pub(crate) struct TablePasses {
     pub(crate) notes: Notes,
 }
 
-/// The passes of the clerk's thread, and what it noted of its calls.
+/// The passes of the clerk's thread, and its notes about its calls.
 #[derive(Drop)]
 pub(crate) struct ClerkPasses {
     pub(crate) table: TablePasses,
     pub(crate) own: Pass<Clerk>,
 }
 
-/// The passes of a task's thread, and what it noted of its calls.
+/// The passes of a task's thread, and its notes about its calls.
 #[derive(Drop)]
 pub(crate) struct TaskPasses {
     pub(crate) task: TaskId,
@@ -35,7 +35,7 @@ pub(crate) struct TaskPasses {
 }
 
 impl TablePasses {
-    /// The passes of a thread that made no call.
+    /// Creates the passes of a thread that has made no call.
     pub(crate) fn new(alloc: Global, pass: Pass<LeaseTable>, draws: TicketPass) -> TablePasses
         ensures pass { result.pass ≡ pass }
         ensures draws { result.draws ≡ draws }

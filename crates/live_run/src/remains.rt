@@ -1,4 +1,4 @@
-//! What the threads of a live run leave, and the report that is made of it.
+//! What the threads of a live run leave, and the report that is made from it.
 
 ghost use Rattle.std.specs.Prelude.{◌≡◌, ◌+◌, ◌*◌, ◌∷◌, [], ◌++◌, All, None, IfOk, OnOk, vec_len};
 ghost use Rattle.clerk.specs.Calls.{event_step as clerk_step};
@@ -27,7 +27,8 @@ use slicelet::SliceletEvent;
 use std::alloc::{AllocError, Global};
 use tickets::{Ticket, TicketPass};
 
-/// What all threads leave: passes, the histories of the tasks, and the records of the calls that wrote no entry.
+/// What all threads leave: passes, the histories of the tasks, and the records of the calls that
+/// wrote no entry.
 #[derive(Drop)]
 pub(crate) struct Remains {
     pub(crate) table: Vec<Pass<LeaseTable>>,
@@ -37,7 +38,7 @@ pub(crate) struct Remains {
     pub(crate) records: Vec<CallRecord>,
 }
 
-/// What all threads leave, put together.
+/// Combines what all threads leave.
 pub(crate) fn remains_of(
     alloc: Global,
     objects: &Objects,
@@ -60,7 +61,7 @@ pub(crate) fn remains_of(
 }
 
 impl Remains {
-    // What the assigner's thread and the clerk's leave.
+    // Combines what the threads of the assigner and of the clerk leave.
     fn of_two(
         alloc: Global,
         assigner: TablePasses,
@@ -89,7 +90,7 @@ impl Remains {
         Ok(remains)
     }
 
-    // What a thread that calls the table leaves comes after what is there.
+    // Appends what a thread that calls the table leaves.
     fn take_passes(&mut self, passes: TablePasses) -> Result<(), AllocError>
         ensures table { OnOk result (self.new.table.items ≡ self.old.table.items ++ passes.pass ∷ []) }
         ensures clerk { self.new.clerk ≡ self.old.clerk }
@@ -105,7 +106,7 @@ impl Remains {
         Ok(())
     }
 
-    // What a task leaves comes after what is there.
+    // Appends what a task leaves.
     fn take_crew(&mut self, crew: CrewLeft) -> Result<(), AllocError>
         ensures table { OnOk result (self.new.table.items ≡ self.old.table.items ++ crew.table ∷ []) }
         ensures clerk { self.new.clerk ≡ self.old.clerk }
@@ -127,7 +128,7 @@ impl Remains {
     }
 }
 
-/// Closes what is not closed yet, and reports.
+/// Closes what is not closed yet, and returns the report.
 pub(crate) fn close_all(
     alloc: Global,
     job: LiveJob,

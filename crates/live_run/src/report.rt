@@ -1,4 +1,4 @@
-//! What a live run reports.
+//! The report of a live run.
 
 ghost use Rattle.std.specs.Prelude.{◌≡◌};
 ghost use Rattle.live_run.specs.Reports.{commits, is_commit, is_serve, serves};
@@ -10,9 +10,10 @@ use history_lock::{Entry, History};
 use lease_table::{TableCall, TableEvent};
 use slicelet::SliceletEvent;
 
-/// What the threads of a live run did: the histories of all locks, and the records of all asks and of the writes
-/// that were refused. Looks at the table's phase, rows and committed assignment, by which threads wait, leave no
-/// record.
+/// The report of a live run: the histories of all locks, the callers' records and an audit of both.
+///
+/// The records are those of all asks and of the writes that were refused. When threads wait, they
+/// read the table's phase, rows and committed assignment. These reads leave no record.
 #[derive(Drop)]
 pub struct LiveReport {
     /// How many keys the workers asked for.
@@ -25,21 +26,21 @@ pub struct LiveReport {
     pub tasks: Vec<History<SliceletEvent>>,
     /// The histories of the clerks, in the order of their numbers.
     pub clerks: Vec<History<ClerkEvent>>,
-    /// The records. Those of keys that tasks were asked for stand task by task, of each worker by worker, in the
-    /// order in which it asked.
+    /// The records. Those of keys that tasks were asked for are grouped by task, and then by
+    /// worker, each worker's in the order in which it asked.
     pub records: Vec<CallRecord>,
     /// What an audit of these histories and records finds.
     pub audit: Audit,
 }
 
-// How many of the records tell of a key that a task was asked for.
+// Counts the records of a key that a task was asked for.
 pub(crate) fn count_serves(records: &[CallRecord]) -> u64
     ensures { result ≡ serves records.now }
 {
     records.iter().filter(|entry| is_asked(&entry.step)).count() as u64
 }
 
-// How many assignments were committed in a history of the table.
+// Counts the commits in a history of the table.
 pub(crate) fn count_commits(entries: &[Entry<TableEvent>]) -> u64
     ensures { result ≡ commits entries.now }
 {
@@ -49,14 +50,14 @@ pub(crate) fn count_commits(entries: &[Entry<TableEvent>]) -> u64
         .count() as u64
 }
 
-// Whether a task is asked for a key.
+// Whether the call asks a task for a key.
 fn is_asked(step: &ClusterCall) -> bool
     ensures { result ≡ is_serve step.now }
 {
     matches!(step, ClusterCall::Serve { .. })
 }
 
-// Whether a proposed assignment is committed.
+// Whether the call commits a proposed assignment.
 fn is_committed(call: &TableCall) -> bool
     ensures { result ≡ is_commit call.now }
 {

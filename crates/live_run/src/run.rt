@@ -20,11 +20,13 @@ use std::alloc::{AllocError, Global};
 use std::sync::Wait;
 use std::thread::{Threads, join, map_vec};
 
-/// Runs the assigner, the clerk, the tasks and their workers of a job, each in a thread of its own, and reports
-/// what they did. The gate is called by each worker inside each of its calls.
+/// Runs the assigner, the clerk, the tasks and their workers of a job in threads, and reports on
+/// them.
 ///
-/// A thread whose write is refused, or that waits in vain, ends early. `AllocError`: some thread found no memory,
-/// or there was none for the threads or the report.
+/// Each has a thread of its own. Each worker calls the gate inside each of its calls. A thread ends
+/// early if a write of it is refused, or if what it waits for does not happen.
+///
+/// Fails only if memory runs out, for a call of a thread, for the threads or for the report.
 pub fn run_live<R: Threads + Wait + Sync, G: Gate + Sync>(
     rt: &R,
     alloc: Global,
@@ -39,7 +41,7 @@ pub fn run_live<R: Threads + Wait + Sync, G: Gate + Sync>(
     close_all(alloc, *job, objects, remains)
 }
 
-// The assigner and the clerk beside the tasks.
+// Runs the assigner and the clerk beside the tasks.
 fn run_threads<R: Threads + Wait + Sync, G: Gate + Sync>(
     rt: &R,
     alloc: Global,
@@ -83,7 +85,7 @@ fn run_threads<R: Threads + Wait + Sync, G: Gate + Sync>(
     all_of(assigner, learner, crews)
 }
 
-// What all threads left, or that one of them found no memory.
+// Returns what all threads left, or that memory ran out in one of them.
 fn all_of(
     assigner: Result<TablePasses, AllocError>,
     learner: Result<ClerkPasses, AllocError>,
@@ -94,7 +96,7 @@ fn all_of(
     Ok((assigner?, learner?, crews?))
 }
 
-// The assigner beside the clerk.
+// Runs the assigner beside the clerk.
 fn run_pair<R: Threads + Wait + Sync>(
     rt: &R,
     alloc: Global,
@@ -118,7 +120,7 @@ fn run_pair<R: Threads + Wait + Sync>(
     )
 }
 
-// Each task in a thread of its own: the tasks from 1 on.
+// Runs each task in a thread of its own: the tasks from 1 on.
 #[tactic(auto, using(crate::proofs::Staging::left_from))]
 fn run_crews<R: Threads + Wait + Sync, G: Gate + Sync>(
     rt: &R,
@@ -136,7 +138,8 @@ fn run_crews<R: Threads + Wait + Sync, G: Gate + Sync>(
     run_each(rt, alloc, objects, gate, job, crews)
 }
 
-// Apart from `run_crews`, whose lemma turns what is said of each place into what is said of the list.
+// Separate from `run_crews`, whose lemma turns a statement about each place into one about the
+// list.
 fn run_each<R: Threads + Wait + Sync, G: Gate + Sync>(
     rt: &R,
     alloc: Global,

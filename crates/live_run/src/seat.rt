@@ -12,8 +12,8 @@ use shared_objects::{Draws, Proposal, RowsError, SharedTable, TaskLife, When};
 use std::sync::Wait;
 use tickets::Ticket;
 
-/// The seat of a thread at the table: the table, the thread's pass of its lock and its draws, and what it notes of
-/// its calls.
+/// The seat of a thread at the table: the table, the thread's pass of its lock and its draws, and
+/// its notes about its calls.
 #[derive(Drop)]
 pub(crate) struct TableSeat<'a> {
     pub(crate) table: &'a SharedTable,
@@ -27,7 +27,7 @@ impl<'a> TableSeat<'a> {
     ghost use Rattle.std.specs.Prelude.{◌≡◌};
     ghost use Rattle.tickets.specs.Tickets.{DrawsFrom};
 
-    /// The seat of a thread with these passes.
+    /// Creates the seat of a thread with these passes.
     pub(crate) fn new(
         table: &'a SharedTable,
         ticket: &'a Ticket,
@@ -59,7 +59,7 @@ impl TableSeat<'_> {
     ghost use Rattle.live_run.specs.internals.Notes.{IsReadNoted, TellsMemory};
     ghost use Rattle.live_run.specs.internals.Seats.{KeepsSeat, CalledForSeat};
 
-    /// What is left of the seat.
+    /// Returns the passes of the seat.
     pub(crate) fn into_passes(self) -> TablePasses
         ensures own { IsPassOf self.entry.table.now result.pass }
         ensures from { DrawsFrom self.entry.draws.ticket.now result.draws }
@@ -80,7 +80,7 @@ impl TableSeat<'_> {
         }
     }
 
-    /// Takes the job.
+    /// Takes the job lease.
     #[tactic(auto, using(crate::proofs::Lanes::called_lane, crate::proofs::Quiet::called_quiet, crate::proofs::Noting::called_noted))]
     pub(crate) fn take<R: Wait>(&mut self, rt: &R) -> Result<JobTerm, Halt>
         requires fed { self.old.notes.starved ≡ false }
@@ -141,7 +141,7 @@ impl TableSeat<'_> {
         self.notes.note(answer)
     }
 
-    /// Frees the rows of a lease that was given up.
+    /// Frees the rows of a lease that was released.
     #[tactic(auto, using(crate::proofs::Lanes::called_lane, crate::proofs::Quiet::called_quiet, crate::proofs::Noting::called_noted))]
     pub(crate) fn free<R: Wait>(&mut self, rt: &R, note: ReleaseNote) -> Result<u64, Halt>
         requires fed { self.old.notes.starved ≡ false }
@@ -154,7 +154,7 @@ impl TableSeat<'_> {
         self.notes.note(answer)
     }
 
-    /// Looks at the table's phase. No record is kept of it.
+    /// Reads the table's phase. No record is kept of it.
     #[tactic(auto, using(crate::proofs::Lanes::asked_lane))]
     pub(crate) fn phase<R: Wait>(&mut self, rt: &R) -> Result<Phase, Halt>
         requires fed { self.old.notes.starved ≡ false }
@@ -166,7 +166,7 @@ impl TableSeat<'_> {
         Ok(asked.answer)
     }
 
-    /// Looks at the table's open rows. No record is kept of it.
+    /// Reads the table's open rows. No record is kept of it.
     #[tactic(auto, using(crate::proofs::Lanes::rows_lane))]
     pub(crate) fn rows<R: Wait>(&mut self, rt: &R) -> Result<Listed<Row>, Halt>
         requires fed { self.old.notes.starved ≡ false }
@@ -181,7 +181,7 @@ impl TableSeat<'_> {
         }
     }
 
-    /// A copy of the committed assignment.
+    /// Returns a copy of the committed assignment.
     #[tactic(auto, using(crate::proofs::Lanes::committed_lane))]
     pub(crate) fn committed<R: Wait>(&mut self, rt: &R) -> Result<Option<Assignment>, Halt>
         requires fed { self.old.notes.starved ≡ false }

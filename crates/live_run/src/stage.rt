@@ -1,4 +1,4 @@
-//! What the threads of a live run share, and what each is given.
+//! What the threads of a live run share, and what each of them gets.
 
 ghost use Rattle.std.specs.Prelude.{◌≡◌, ◌≤◌, ◌<◌, ◌+◌, ◌*◌, All, IfOk, OnOk, vec_len};
 ghost use Rattle.history_lock.specs.Passes.{AreNewFrom, IsPassOf};
@@ -18,14 +18,14 @@ use shared_objects::{SharedClerk, SharedTable};
 use std::alloc::{AllocError, Global};
 use tickets::{MOST_DRAWS, Ticket, TicketPass};
 
-/// What the threads of a live run share, and what they are given.
+/// What the threads of a live run share, and what they get.
 #[derive(Drop)]
 pub(crate) struct Stage {
     pub(crate) objects: Objects,
     pub(crate) given: Given,
 }
 
-/// What the threads of a live run are given: those of the assigner and the clerk, and the tasks.
+/// What the threads of a live run get: those of the assigner and the clerk, and the tasks.
 #[derive(Drop)]
 pub(crate) struct Given {
     pub(crate) assigner: TablePasses,
@@ -33,7 +33,7 @@ pub(crate) struct Given {
     pub(crate) crews: Vec<Crew>,
 }
 
-/// All passes of a new table's lock, a new clerk's and a new ticket.
+/// All passes of the locks of a new table and a new clerk, and of a new ticket.
 #[derive(Drop)]
 struct NewPasses {
     table: Vec<Pass<LeaseTable>>,
@@ -42,7 +42,7 @@ struct NewPasses {
 }
 
 impl Stage {
-    /// Makes the ticket and all locks, and deals their passes to the threads.
+    /// Creates the ticket and all locks, and distributes their passes among the threads.
     pub(crate) fn open(alloc: Global, job: LiveJob) -> Result<Stage, AllocError>
         ensures { IfOk result (λ stage. IsStaged job stage) }
     {
@@ -73,7 +73,8 @@ impl Stage {
     }
 }
 
-// What the assigner's thread, the clerk's and the tasks are given, by new passes of all locks and of the ticket.
+// Distributes new passes of all locks and of the ticket among the threads of the assigner, the
+// clerk and the tasks.
 fn deal(
     alloc: Global,
     objects: &Objects,
@@ -112,7 +113,7 @@ fn deal(
     })
 }
 
-// What a thread that calls the table is given: the last of the passes of each.
+// Returns the last of the passes of each, for a thread that calls the table.
 fn last_passes(
     alloc: Global,
     table: &SharedTable,
@@ -135,7 +136,7 @@ fn last_passes(
     TablePasses::new(alloc, pass, drawn)
 }
 
-// What the clerk's thread is given.
+// Returns the passes of the clerk's thread.
 fn clerk_passes(
     table: &SharedTable,
     clerk: &SharedClerk,
@@ -156,7 +157,7 @@ fn clerk_passes(
     }
 }
 
-// The tasks with these passes of the table's lock, the first of which is task 1.
+// Returns the tasks with these passes of the table's lock, the first of which is that of task 1.
 fn crews(
     alloc: Global,
     table: &SharedTable,
@@ -193,7 +194,7 @@ fn crews(
     Ok(crews)
 }
 
-// The task of a plan, with the last of the passes of the ticket.
+// Returns the task of a plan, with the last of the passes of the ticket.
 fn next_crew(
     alloc: Global,
     table: &SharedTable,

@@ -1,4 +1,4 @@
-//! The thread of a task of a live run, which sees to its leases.
+//! The thread of a task of a live run, which keeps its leases up to date.
 
 ghost use Rattle.std.specs.Prelude.{◌≡◌, IfOk, false};
 ghost use Rattle.live_run.specs.internals.Notes.{TellsMemory};
@@ -31,7 +31,7 @@ impl HeldGenerations {
         }
     }
 
-    // The lease of a kind.
+    // Returns the generation of the lease of a kind.
     fn of(self, kind: Kind) -> Option<u64> {
         match kind {
             Kind::Guard => self.guard,
@@ -39,7 +39,7 @@ impl HeldGenerations {
         }
     }
 
-    // The same with another lease of a kind, or with none.
+    // Returns the same generations with another lease of a kind, or with none.
     fn with(self, kind: Kind, generation: Option<u64>) -> HeldGenerations {
         match kind {
             Kind::Guard => HeldGenerations {
@@ -53,7 +53,7 @@ impl HeldGenerations {
         }
     }
 
-    // Whether the guard is of a generation before that of a bridge which was heard.
+    // Whether the guard is of a generation before that of a bridge that was heard.
     fn guards_before(self, kind: Kind, generation: u64) -> bool {
         match self.guard {
             Some(older) => kind == Kind::Bridge && older < generation,
@@ -62,7 +62,7 @@ impl HeldGenerations {
     }
 }
 
-/// Starts the task's life, and sees to its leases until it has a guard lease of the last generation.
+/// Starts the task's life, and gets leases until it has a guard lease of the last generation.
 pub(crate) fn see_to_leases<R: Wait>(
     rt: &R,
     shared: &TaskObjects<'_>,
@@ -81,7 +81,8 @@ pub(crate) fn see_to_leases<R: Wait>(
     }
 }
 
-// Starts the task's life, and asks for a lease in each phase that wants another, up to the guard of the last round.
+// Starts the task's life, and asks for a lease in each phase that needs another, up to the guard of
+// the last round.
 #[tactic(auto, using(crate::proofs::Keeping::task_same, crate::proofs::Keeping::task_more, crate::proofs::Keeping::task_by_table))]
 fn follow_phases<R: Wait>(rt: &R, rounds: u64, seat: &mut TaskSeat<'_>) -> Result<(), Halt>
     requires fed { seat.old.table.notes.starved ≡ false }
@@ -108,8 +109,8 @@ fn follow_phases<R: Wait>(rt: &R, rounds: u64, seat: &mut TaskSeat<'_>) -> Resul
     Err(Halt::Stopped)
 }
 
-// Asks for a lease and hears it. The lease of its kind is given up before, and after a bridge a guard of a
-// lower generation.
+// Asks for a lease and hears it. The lease of its kind is released before, and after a bridge a
+// guard of a lower generation.
 #[tactic(auto, using(crate::proofs::Keeping::task_same, crate::proofs::Keeping::task_more, crate::proofs::Keeping::task_by_table))]
 fn renew<R: Wait>(
     rt: &R,
@@ -133,7 +134,7 @@ fn renew<R: Wait>(
     )
 }
 
-// Hears a grant. The lease of its kind is given up before, if one is held.
+// Hears a grant. The lease of its kind is released before, if one is held.
 #[tactic(auto, using(crate::proofs::Keeping::task_more))]
 fn replace<R: Wait>(
     rt: &R,
@@ -151,7 +152,7 @@ fn replace<R: Wait>(
     seat.hear(rt, grant)
 }
 
-// After a bridge was heard, gives up a guard of a lower generation.
+// Releases a guard of a lower generation after a bridge was heard.
 #[tactic(auto, using(crate::proofs::Keeping::task_same))]
 fn end_guard<R: Wait>(
     rt: &R,

@@ -15,7 +15,8 @@ use shared_objects::{SharedSlicelet, When};
 use slicelet::Slicelet;
 use std::sync::Wait;
 
-/// The seat of a task's thread: its seat at the table, its slicelet, and its pass of the slicelet's lock.
+/// The seat of a task's thread: its seat at the table, its slicelet, and its pass of the slicelet's
+/// lock.
 #[derive(Drop)]
 pub(crate) struct TaskSeat<'a> {
     pub(crate) task: TaskId,
@@ -29,7 +30,7 @@ impl<'a> TaskSeat<'a> {
     ghost use Rattle.std.specs.Prelude.{◌≡◌};
     ghost use Rattle.tickets.specs.Tickets.{DrawsFrom};
 
-    /// The seat of a thread with these passes.
+    /// Creates the seat of a thread with these passes.
     pub(crate) fn new(shared: &TaskObjects<'a>, passes: TaskPasses) -> TaskSeat<'a>
         requires table { IsPassOf shared.now.table.now passes.table.pass }
         requires own { IsPassOf shared.now.slicelet.now passes.own }
@@ -59,7 +60,7 @@ impl TaskSeat<'_> {
     ghost use Rattle.live_run.specs.internals.Notes.{TellsMemory};
     ghost use Rattle.live_run.specs.internals.Seats.{CalledForTask, HasFreed, KeepsTaskSeat};
 
-    /// What is left of the seat.
+    /// Returns the passes of the seat.
     pub(crate) fn into_passes(self) -> TaskPasses
         ensures table { IsPassOf self.entry.table.table.now result.table.pass }
         ensures slicelet { IsPassOf self.entry.slicelet.now result.own }
@@ -111,7 +112,7 @@ impl TaskSeat<'_> {
         table.notes.note(answer)
     }
 
-    // Gives up the lease of a kind.
+    // Releases the lease of a kind.
     #[tactic(auto, using(crate::proofs::Lanes::called_lane, crate::proofs::Quiet::called_quiet, crate::proofs::Noting::called_noted))]
     fn release<R: Wait>(&mut self, rt: &R, kind: Kind) -> Result<ReleaseNote, Halt>
         requires fed { self.old.table.notes.starved ≡ false }
@@ -127,7 +128,7 @@ impl TaskSeat<'_> {
         table.notes.note(answer)
     }
 
-    /// Gives up the lease of a kind, and frees its row at the table.
+    /// Releases the lease of a kind, and frees its row at the table.
     #[tactic(auto, using(crate::proofs::Keeping::task_more, crate::proofs::Keeping::task_by_table))]
     pub(crate) fn give_up<R: Wait>(&mut self, rt: &R, kind: Kind) -> Result<(), Halt>
         requires fed { self.old.table.notes.starved ≡ false }

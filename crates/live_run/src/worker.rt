@@ -18,8 +18,8 @@ use std::alloc::{AllocError, Global};
 use std::sync::Wait;
 use tickets::TicketPass;
 
-/// The passes of a thread of a task, and the number by which it calls the gate. The task's own thread calls none;
-/// it has lane 0 of the task's lock, and the workers the lanes from 1 on.
+/// The passes of a thread of a task, and the number by which it calls the gate. The task's own
+/// thread has lane 0 of the task's lock and calls no gate. The workers have the lanes from 1 on.
 #[derive(Drop)]
 pub(crate) struct Member {
     pub(crate) number: u32,
@@ -27,7 +27,7 @@ pub(crate) struct Member {
     pub(crate) draws: TicketPass,
 }
 
-/// What a worker gives back: its passes, and the records of its calls.
+/// What a worker leaves: its passes, and the records of its calls.
 #[derive(Drop)]
 pub(crate) struct Worked {
     pub(crate) pass: Pass<Slicelet>,
@@ -35,7 +35,8 @@ pub(crate) struct Worked {
     pub(crate) records: Vec<CallRecord>,
 }
 
-/// The seat of a worker: the slicelet of its task, and its pass of the slicelet's lock and its draws.
+/// The seat of a worker: the slicelet of its task, and its pass of the slicelet's lock and its
+/// draws.
 #[derive(Drop)]
 struct WorkerSeat<'a> {
     slicelet: &'a SharedSlicelet,
@@ -44,7 +45,7 @@ struct WorkerSeat<'a> {
     ghost own: { IsPassOf slicelet.now pass },
 }
 
-/// Asks the task for the keys that are the decimal texts of 0, 1 and so on, each by one call.
+/// Asks the task for the keys that are the decimal texts of 0, 1 and so on, one call for each.
 pub(crate) fn work<R: Wait, G: Gate>(
     rt: &R,
     alloc: Global,
@@ -78,7 +79,7 @@ pub(crate) fn work<R: Wait, G: Gate>(
     Ok(seat.into_worked(records))
 }
 
-// The key that is the decimal text of a number.
+// Returns the key that is the decimal text of a number.
 fn nth_key(alloc: Global, number: u32) -> Result<SliceKey, AllocError>
     ensures { IfOk result (λ key. key ≡ slice_key (decimal number)) }
 {
@@ -87,7 +88,7 @@ fn nth_key(alloc: Global, number: u32) -> Result<SliceKey, AllocError>
 }
 
 impl WorkerSeat<'_> {
-    // One ask for a key, at its ticket, and the record of it.
+    // Asks for a key at the ticket of the call, and returns the record.
     #[tactic(auto, using(crate::proofs::Lanes::asked_lane, crate::proofs::Asked::asked_drew, crate::proofs::Asked::asked_step, crate::proofs::Asked::asked_verdict, crate::proofs::Asked::spent_not))]
     fn ask_for<R: Wait, G: Gate>(&mut self, rt: &R, key: SliceKey, turn: &Turn<'_, G>) -> CallRecord
         requires can { CanDraw self.old.draws.pass }
@@ -110,7 +111,7 @@ impl WorkerSeat<'_> {
         asked.call
     }
 
-    // What is left of the seat, with the records of its asks.
+    // Returns the passes of the seat, with the records of its asks.
     fn into_worked(self, records: Vec<CallRecord>) -> Worked
         ensures own { IsPassOf self.entry.slicelet.now result.pass }
         ensures from { DrawsFrom self.entry.draws.ticket.now result.draws }

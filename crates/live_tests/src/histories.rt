@@ -16,7 +16,7 @@ use std::alloc::{AllocError, Global};
 /// Half of the key space.
 const HALF: u64 = 4_611_686_018_427_387_904;
 
-/// The policy with this redundancy.
+/// Returns the policy with this redundancy.
 pub fn policy(redundancy: u64) -> Option<Policy> {
     Policy::new(redundancy, redundancy, 10, 100, 100, 1000, 1000)
 }
@@ -33,7 +33,7 @@ fn slices_of(alloc: Global, owners: &[u64]) -> Result<Vec<Slice>, AllocError> {
     Ok(slices)
 }
 
-/// The first generation of two slices: the lower half is owned by these tasks.
+/// Returns a first generation of two slices, in which these tasks own the lower half.
 pub fn halves(alloc: Global, owners: &[u64]) -> Option<Assignment> {
     let slices = slices_of(alloc, owners).ok()?;
     Assignment::build(alloc, 1, &slices).ok()
@@ -119,8 +119,10 @@ fn write_grant(
     write(lock, pass, event(ticket, commit)) && write(lock, pass, event(4, grant))
 }
 
-/// The table's history: a term, a proposal, its commit and a grant, at readings 0, 1, 2 and 5. The
-/// tickets of the first three are these, that of the grant is 4.
+/// Returns the table's history: a term, a proposal, its commit and a grant, at readings 0, 1, 2 and
+/// 5.
+///
+/// The tickets of the first three are `tickets`, and that of the grant is 4.
 pub fn table_history(
     alloc: Global,
     policy: Policy,
@@ -137,7 +139,7 @@ pub fn table_history(
     taken.then_some(closed.history)
 }
 
-/// Grant 1 of task 1, of a lease on the lower half that ends at this reading.
+/// Returns grant 1 of task 1, of a lease on the lower half that ends at this reading.
 pub fn grant_1(alloc: Global, task: TaskId, ends: u64) -> Option<Grant> {
     let ranges = Ranges::build(alloc, &[(0, HALF)]).ok()?;
     Some(Grant {
@@ -170,8 +172,10 @@ fn write_life(lock: &LaneLock<Slicelet>, pass: &mut Pass<Slicelet>, grant: Grant
     write(lock, pass, start) && write(lock, pass, hear)
 }
 
-/// The history of task 1: its first life at 3 with ticket 3, and at 6 with ticket 5 it hears grant 1,
-/// of a lease on the lower half that ends at this reading.
+/// Returns the history of task 1: its first life at 3 with ticket 3, and a grant heard at 6 with
+/// ticket 5.
+///
+/// The grant is grant 1, of a lease on the lower half that ends at this reading.
 pub fn task_history(alloc: Global, ends: u64) -> Option<History<SliceletEvent>> {
     let task = TaskId::new(1)?;
     let grant = grant_1(alloc, task, ends)?;
@@ -181,7 +185,7 @@ pub fn task_history(alloc: Global, ends: u64) -> Option<History<SliceletEvent>> 
     taken.then_some(closed.history)
 }
 
-/// Task 1 was asked at 7 for a key of the lower half, and told this.
+/// Returns the record of an ask of task 1 at 7 for a key of the lower half, with this reply.
 pub fn asked(ticket: u64, reply: ClusterReply) -> CallRecord {
     CallRecord {
         ticket,
@@ -194,8 +198,9 @@ pub fn asked(ticket: u64, reply: ClusterReply) -> CallRecord {
     }
 }
 
-/// Assigner 9 asked for the job lease at this reading, and was refused, since the job has no such
-/// assigner.
+/// Returns the record of a refused call for the job lease by assigner 9 at this reading.
+///
+/// The job has no such assigner.
 pub fn refused(ticket: u64, at: u64) -> CallRecord {
     CallRecord {
         ticket,

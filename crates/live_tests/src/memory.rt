@@ -1,5 +1,5 @@
-//! Audits and live runs where memory is refused: each is asked once more, and answers then as with ample
-//! memory.
+//! Audits and live runs when memory runs out: each is made once more, and then returns what it
+//! returns with ample memory.
 
 ghost use Rattle.std.specs.Prelude.{◌≡◌, [], IfOk};
 ghost use Rattle.tickets.specs.Tickets.{DrawsFrom};

@@ -1,5 +1,5 @@
-//! A shared clerk where memory is refused: the call that wanted it leaves what the clerk knows as it was, and is
-//! answered the next time as with ample memory.
+//! A shared clerk when memory runs out: the call that needed it leaves what the clerk knows
+//! unchanged, and returns the next time what it returns with ample memory.
 
 ghost use Rattle.std.specs.Prelude.{IfOk};
 ghost use Rattle.history_lock.specs.Passes.{IsPassOf};

@@ -54,7 +54,7 @@ pub struct Objects {
     pub clerk: SharedClerk,
 }
 
-/// The one pass of each.
+/// The one pass of each object.
 #[derive(Drop)]
 pub struct Passes {
     pub table: Pass<LeaseTable>,
@@ -62,7 +62,7 @@ pub struct Passes {
     pub clerk: Pass<Clerk>,
 }
 
-/// All of them.
+/// Creates all objects and their passes.
 pub fn open_all(alloc: Global) -> Result<(Objects, Passes), Fail>
     ensures { IfOk result (λ made. IsPassOf made.0.table made.1.table × IsPassOf made.0.task made.1.task × IsPassOf made.0.clerk.lock made.1.clerk) }
 {
@@ -78,7 +78,7 @@ pub fn open_all(alloc: Global) -> Result<(Objects, Passes), Fail>
     Ok((objects, passes))
 }
 
-/// A table of one lane that takes so many entries, and its one pass.
+/// Creates a table of one lane whose history holds this many entries, and its one pass.
 pub fn open_table(alloc: Global, entries: usize) -> Result<(SharedTable, Pass<LeaseTable>), Fail>
     ensures { IfOk result (λ made. IsPassOf made.0 made.1) }
 {
@@ -106,7 +106,7 @@ fn open_clerk(alloc: Global) -> Result<(SharedClerk, Pass<Clerk>), Fail>
     Ok((clerk, pass))
 }
 
-/// A ticket of one pass that may draw so many numbers, and that pass.
+/// Creates a ticket of one pass that may draw this many numbers, and that pass.
 pub fn open_ticket(alloc: Global, draws: u64) -> Result<(Ticket, TicketPass), Fail>
     ensures { IfOk result (λ made. DrawsFrom made.0 made.1) }
 {

@@ -1,4 +1,4 @@
-//! What shared objects refuse, and the records that refusals leave.
+//! Refusals of shared objects, and the records that they leave.
 
 use crate::objects::{first_assignment, open_all, open_table, open_ticket};
 use clerk::{ClerkCall, ClerkError};

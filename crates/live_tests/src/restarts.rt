@@ -1,4 +1,4 @@
-//! A table that restarts under the lock, and the audit of what it did.
+//! A table that restarts under the lock, and the audit of it.
 
 ghost use Rattle.history_lock.specs.Passes.{IsPassOf};
 

@@ -1,20 +1,20 @@
-//! Why a live run is not started, or not answered.
+//! Why a live run is not started, or gives no report.
 
 use program_io::Fault;
 use thiserror::Error;
 
-/// The input is no job of a live run.
+/// The error for input that is not a job of a live run.
 #[derive(Clone, Copy, Debug, PartialEq, Eq, Error)]
 #[error("input refused")]
 pub struct InputError;
 
-/// Why the program `slicer_live` does not answer. Its words are what it says on the standard error.
+/// Why the program `slicer_live` fails. Its text is what the program writes to standard error.
 #[derive(Clone, Copy, Debug, PartialEq, Eq, Error)]
 pub enum LiveProgramError {
-    /// It was given an argument beside its name.
+    /// The program was given an argument beside its name.
     #[error("slicer_live: no arguments taken")]
     Arguments,
-    /// It did not answer.
+    /// The job was not run or reported, for this reason.
     #[error("slicer_live: {0}")]
     Fault(Fault<InputError>),
 }

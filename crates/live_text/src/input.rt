@@ -1,4 +1,4 @@
-//! The job of a live run, which a JSON object says.
+//! The job of a live run, read from a JSON object.
 
 ghost use Rattle.std.specs.Prelude.{◌≡◌, IfOk, IfErr};
 ghost use Rattle.serde_json.specs.View.{view};
@@ -11,7 +11,7 @@ use program_io::{Fault, Unread, WrongForm, exactly, number_in, value_of};
 use serde_json::Value;
 use std::alloc::Global;
 
-// The job that the value says.
+// Reads a job from the value.
 #[tactic(auto, unfolding(crate::specs::Jobs::live_job_of))]
 fn live_job_of(value: &Value) -> Result<LiveJob, WrongForm>
     ensures { result ≡ live_job_of (view value.now) }
@@ -27,7 +27,7 @@ fn live_job_of(value: &Value) -> Result<LiveJob, WrongForm>
     }
 }
 
-/// The job that the bytes say.
+/// Reads the job of a live run from bytes.
 pub fn parsed(alloc: Global, bytes: &[u8]) -> Result<LiveJob, Fault<InputError>>
     ensures ok { IfOk result (SaysJob bytes.now) }
     ensures err { IfErr result (IsUnread bytes.now) }

@@ -44,7 +44,7 @@ impl fmt::Display for AuditLines {
     }
 }
 
-/// The lines of a report.
+/// Returns the lines of a report.
 pub fn text_of(alloc: Global, report: &LiveReport) -> Result<String, AllocError>
     ensures { IfOk result (λ text. string_bytes text ≡ live_text report.now.asked report.now.generation report.now.audit) }
 {

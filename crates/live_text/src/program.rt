@@ -15,7 +15,7 @@ use std::process::ExitCode;
 use std::sync::Wait;
 use std::thread::Threads;
 
-// The status for what the audit found: 0 where it is one run, and else 4.
+// Returns the status for what the audit found: 0 if it is one run, otherwise 4.
 fn status_found(found: Audit) -> u8
     ensures { result ≡ status_found found }
 {
@@ -25,11 +25,11 @@ fn status_found(found: Audit) -> u8
     }
 }
 
-/// Runs the job of a reader in threads, writes the lines of its report on a writer, and says on the standard
-/// error why it is not run.
+/// Runs the job of a reader in threads and writes its report to a writer, or reports why not.
 ///
-/// The status is 0 where the audit found one run, 4 where it found none, 2 where the program was given arguments,
-/// or the input is refused, and 3 at another fault. Nothing is read where there are arguments.
+/// A failure is reported on standard error. Returns the exit status: 0 if the audit found one run,
+/// 4 if it did not, 2 if the program was given arguments or the input is refused, and 3 at any
+/// other fault. With arguments, nothing is read.
 pub fn slicer_live<R: Read, W: Write>(
     rt: &(impl Env + Eprint + AllocGlobal + Threads + Wait + Sync),
     reader: &mut R,

@@ -15,10 +15,11 @@ use std::io::{Read, Write};
 use std::sync::Wait;
 use std::thread::Threads;
 
-/// Reads the job of a live run to its end, runs it in threads, and then writes the lines of its report.
+/// Reads the job of a live run, runs it in threads, writes its report, and returns the audit's
+/// finding.
 ///
-/// What the audit found is answered. Nothing is written before the whole job was read, run and audited: after a
-/// refused input, a read fault or a memory fault nothing was written, after a write fault a first part.
+/// Nothing is written before the whole job was read, run and audited. So nothing was written after
+/// a refused input, a read fault or out of memory. After a write fault, a prefix was written.
 pub fn run_live_text<H: Threads + Wait + Sync, R: Read, W: Write, G: Gate + Sync>(
     rt: &H,
     alloc: Global,

@@ -1,8 +1,9 @@
 //! Counts the reads that threads make of a lease table under a lock, alone and beside a writer.
 //!
-//! `lock_bench MILLISECONDS` reads for so long under each lock and prints reads a second. With no argument
-//! each thread makes one round of reads, and the counts are printed, which are the same in each run.
-//! `lock_bench LANES SLICES WRITES` makes so many writes alone and prints nothing, for counting what they cost.
+//! `lock_bench MILLISECONDS` reads for this time under each lock and prints reads a second. With no
+//! argument each thread makes one round of reads, and the counts are printed, which are the same in
+//! each run. `lock_bench LANES SLICES WRITES` makes this many writes alone and prints nothing, to
+//! measure what they cost.
 #![tactic(auto)]
 
 mod measure;
@@ -21,7 +22,7 @@ use std::time::Clock;
 
 const READERS: [u64; 3] = [1, 2, 4];
 
-// The number that an argument writes, or 0.
+// Returns the number that an argument writes, or 0.
 fn number(rt: &impl Env, place: usize) -> u64 {
     let mut buffer = [0u8; 16];
     let read = rt.arg(place, &mut buffer).ok();
@@ -55,7 +56,7 @@ fn report<R: Threads + Wait + Clock + Print + Sync>(
     Ok(true)
 }
 
-// Runs all loads for so long. Whether there was memory for them.
+// Runs all loads for this time, and returns whether there was memory for them.
 fn report_all<R: Threads + Wait + Clock + Print + Sync>(
     rt: &R,
     alloc: Global,

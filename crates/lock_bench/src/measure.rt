@@ -40,7 +40,7 @@ enum Job<'a> {
     Write(Seat<'a>),
 }
 
-// Whether so much time has passed, or the clock cannot tell.
+// Whether this much time has passed, or the clock cannot tell.
 fn has_passed(rt: &impl Clock, start: &Option<Instant>, time: Duration) -> bool {
     match start.as_ref().map(|start| start.elapsed(rt)) {
         Some(Ok(passed)) => passed >= time,
@@ -83,7 +83,7 @@ fn write_for<R: Wait + Clock>(rt: &R, mut seat: Seat<'_>, time: Duration) -> Cou
     Count { reads: 0, writes }
 }
 
-// What a thread has done in the end: it only reads, or only writes.
+// Returns what a thread did: it only reads, or only writes.
 fn done<R: Wait + Clock>(rt: &R, job: Job<'_>, time: Duration) -> Count
     ensures { (result.reads ≡ 0) ⊎ (result.writes ≡ 0) }
 {
@@ -93,7 +93,7 @@ fn done<R: Wait + Clock>(rt: &R, job: Job<'_>, time: Duration) -> Count
     }
 }
 
-// What all threads have done in the end.
+// Returns what all threads did.
 fn work<R: Threads + Wait + Clock + Sync>(
     rt: &R,
     jobs: Vec<Job<'_>>,
@@ -117,7 +117,7 @@ fn work<R: Threads + Wait + Clock + Sync>(
     Ok(all)
 }
 
-// The jobs of a load, each with the seat that `seat` gives.
+// Returns the jobs of a load, each with the seat that `seat` returns.
 fn jobs_of<'a, F: Fn() -> Seat<'a>>(
     alloc: Global,
     load: Load,
@@ -135,7 +135,7 @@ fn jobs_of<'a, F: Fn() -> Seat<'a>>(
     Ok(jobs)
 }
 
-// A run under the lock that keeps the history.
+// Makes a run under the lock that keeps the history.
 #[tactic(auto, using(history_lock::proofs::Dealt::new_passes))]
 fn run_lanes<R: Threads + Wait + Clock + Sync>(
     rt: &R,
@@ -149,7 +149,7 @@ fn run_lanes<R: Threads + Wait + Clock + Sync>(
     work(rt, jobs, Duration::from_millis(load.millis)).ok()
 }
 
-// The same jobs, each with a pass of the lock.
+// Returns the same jobs, each with a pass of the lock.
 fn lane_jobs<'a>(
     alloc: Global,
     lock: &'a LaneLock<LeaseTable>,
@@ -171,7 +171,7 @@ fn lane_jobs<'a>(
     Ok(jobs)
 }
 
-/// What the threads of a load do under a lock of this kind, or `None` where memory is short.
+/// Returns what the threads of a load did under a lock of this kind, or `None` if memory ran out.
 pub(crate) fn run<R: Threads + Wait + Clock + Sync>(
     rt: &R,
     alloc: Global,
@@ -202,8 +202,8 @@ pub(crate) fn run<R: Threads + Wait + Clock + Sync>(
     }
 }
 
-/// Writes so often, alone, under a lock of so many lanes over a table of so many slices. `None` where the lock
-/// or the table could not be made.
+/// Makes this many writes, alone, under a lock with this many lanes over a table of this many
+/// slices. Returns `None` if the lock or the table could not be made.
 #[tactic(auto, using(history_lock::proofs::Dealt::last_new))]
 pub(crate) fn write_alone<R: Wait>(
     rt: &R,

@@ -1,4 +1,4 @@
-//! What a thread reads and writes by.
+//! How a thread reads and writes.
 
 use crate::table::TERM;
 use history_lock::{LaneLock, Pass};
@@ -7,7 +7,7 @@ use machines::Event;
 use std::marker::Model;
 use std::sync::{Mutex, RwLock, Wait};
 
-/// Which lock a run is of.
+/// The lock of a run.
 #[derive(Clone, Copy, Debug)]
 pub(crate) enum Kind {
     /// The lock that keeps the history, with a lane for each thread.
@@ -38,7 +38,7 @@ impl<'a> Model for LaneSeat<'a> {
     ghost invariant = { λ s. IsPassOf s.lock.now s.pass };
 }
 
-/// What a thread has of a lock.
+/// A thread's access to a lock.
 #[derive(Drop)]
 pub(crate) enum Seat<'a> {
     Lanes(LaneSeat<'a>),
@@ -47,7 +47,7 @@ pub(crate) enum Seat<'a> {
 }
 
 impl Seat<'_> {
-    /// The generation that is committed.
+    /// Returns the committed generation.
     pub(crate) fn read<R: Wait>(&mut self, rt: &R) -> u64 {
         match self {
             Seat::Lanes(seat) => seat.lock.shared(rt, &mut seat.pass, &mut committed),
@@ -56,7 +56,7 @@ impl Seat<'_> {
         }
     }
 
-    /// Renews the job lease. Whether the table took it.
+    /// Renews the job lease, and returns whether the table accepted it.
     pub(crate) fn write<R: Wait>(&mut self, rt: &R, at: u64) -> bool {
         match self {
             Seat::Lanes(seat) => seat

@@ -5,10 +5,10 @@ use lease_table::{LeaseTable, Policy};
 use slice_ranges::KEYS;
 use std::alloc::{AllocError, Global};
 
-/// How many slices its committed assignment has at the most.
+/// The largest number of slices in its committed assignment.
 pub(crate) const SLICES: u64 = 1024;
 
-/// The assigner's term number.
+/// The number of the assigner's term.
 pub(crate) const TERM: u64 = 1;
 
 fn slices(alloc: Global, count: u64) -> Result<Vec<Slice>, AllocError> {
@@ -22,7 +22,8 @@ fn slices(alloc: Global, count: u64) -> Result<Vec<Slice>, AllocError> {
     Ok(made)
 }
 
-/// A table of two tasks with an assignment of so many slices committed, or `None` where it could not be made.
+/// Creates a table of two tasks with a committed assignment of this many slices, or returns `None`
+/// if it could not be made.
 pub(crate) fn new_table(alloc: Global, count: u64) -> Option<LeaseTable> {
     let term = 1 << 32;
     let policy = Policy::new(1, 1, 10, term, term, term, term)?;

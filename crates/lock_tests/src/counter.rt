@@ -1,4 +1,4 @@
-//! A counter below 50,000, as a machine, and one whose copy can be refused.
+//! A counter below 50,000, as a machine, and one whose copy can fail.
 
 ghost use Rattle.std.specs.Prelude.{◌≡◌, ◌+◌, Ok, Err, IfOk, if◌then◌else◌, nat_lt};
 

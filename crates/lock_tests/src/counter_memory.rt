@@ -1,5 +1,5 @@
-//! Locks and tickets where memory is refused: the call that wanted it changes nothing, and answers the
-//! next time as with ample memory.
+//! Locks and tickets when memory runs out: the call that needed it changes nothing, and returns the
+//! next time what it returns with ample memory.
 
 ghost use Rattle.std.specs.Prelude.{IfOk};
 ghost use Rattle.history_lock.specs.Passes.{IsPassOf, ArePassesOf};

@@ -1,4 +1,4 @@
-//! Writes to a lock, and what they come to.
+//! Writes to a lock, and their outcomes.
 
 ghost use Rattle.history_lock.specs.Passes.{IsPassOf};
 

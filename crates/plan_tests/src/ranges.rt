@@ -1,4 +1,4 @@
-//! Plans where a slice may have more owners or fewer.
+//! Plans in which a slice may have more owners or fewer.
 
 use crate::samples::{ALL, HALF, QUARTER, planned, range_of};
 use std::test::Fail;

@@ -1,4 +1,4 @@
-//! What the tests speak of, and plans in words.
+//! Values that the tests share, and plans in words.
 
 use assignment::{Assignment, Listed, Slice, TaskId};
 use load_ledger::{LoadBook, LoadShare};

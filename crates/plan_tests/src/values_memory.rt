@@ -1,5 +1,5 @@
-//! Sets, assignments and the written rule where memory is refused: each call is asked once more, and
-//! answers then as with ample memory.
+//! Sets, assignments and the written rule when memory runs out: each call is made once more, and
+//! then returns what it returns with ample memory.
 
 use crate::samples::{HALF, again, task_of};
 use assignment::{Assignment, Listed, Slice};

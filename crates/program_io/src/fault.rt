@@ -1,4 +1,4 @@
-//! Why a program does not answer.
+//! Why a program fails to handle its input.
 
 ghost use Rattle.std.specs.Prelude.{◌≡◌};
 ghost use Rattle.program_io.specs.declared.fault.Fault.TheVariants as fault;
@@ -10,16 +10,16 @@ use std::alloc::{AllocError, AllocFailed};
 use std::fmt::Display;
 use thiserror::Error;
 
-/// A JSON value that has not the form that is wanted of it.
+/// The error for a JSON value that does not have the form that the reader wants.
 #[derive(Clone, Copy, Debug, PartialEq, Eq)]
 pub struct WrongForm;
 
 /// Why a part of the input was not read.
 #[derive(Drop)]
 pub enum Unread {
-    /// It has not the form that is wanted of it.
+    /// It does not have the form that the reader wants.
     WrongForm,
-    /// There was no memory for it.
+    /// Memory ran out.
     Memory,
 }
 
@@ -50,9 +50,9 @@ impl<T: Drop> From<AllocFailed<T>> for Unread {
 /// Why a reader was not read to its end.
 #[derive(Clone, Copy, Debug, PartialEq, Eq)]
 pub enum ReadError {
-    /// It failed, or did not come to its end.
+    /// The reader failed, or did not come to its end.
     Failed,
-    /// There was no memory for what it gave.
+    /// Memory ran out.
     Memory,
 }
 
@@ -72,11 +72,11 @@ impl From<AllocError> for ReadError {
     }
 }
 
-/// A writer failed, or took no more.
+/// The error for a writer that failed or accepted no more bytes.
 #[derive(Clone, Copy, Debug, PartialEq, Eq)]
 pub struct WriteError;
 
-/// Why a program did not answer its input.
+/// Why a program failed to handle its input.
 #[derive(Clone, Copy, Debug, PartialEq, Eq, Error)]
 #[error_bound(Refusal: Display)]
 pub enum Fault<Refusal> {
@@ -86,7 +86,7 @@ pub enum Fault<Refusal> {
     /// The reader failed, or did not come to its end.
     #[error("read fault")]
     Read,
-    /// The writer failed, or took no more.
+    /// The writer failed, or accepted no more bytes.
     #[error("write fault")]
     Write,
     /// Memory ran out.
@@ -95,7 +95,7 @@ pub enum Fault<Refusal> {
 }
 
 impl<Refusal> Fault<Refusal> {
-    /// The status that a program exits with at this fault: 2 where the input is refused, and else 3.
+    /// Returns the exit status for this fault: 2 if the input is refused, otherwise 3.
     pub fn status(&self) -> u8
         ensures { result ≡ status_of self.now }
     {

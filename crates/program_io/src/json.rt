@@ -1,4 +1,4 @@
-//! The JSON value that bytes are the text of.
+//! Parsing bytes as a JSON value.
 
 ghost use Rattle.std.specs.Prelude.{IfErr, IfOk};
 ghost use Rattle.serde_json.specs.View.{view};
@@ -8,7 +8,7 @@ use crate::fault::Unread;
 use serde_json::{Category, Value};
 use std::alloc::Global;
 
-/// The JSON value that the bytes are the text of.
+/// Parses the bytes as the text of one JSON value.
 pub fn value_of(alloc: Global, bytes: &[u8]) -> Result<Value, Unread>
     ensures ok { IfOk result (λ v. IsJson bytes.now (view v)) }
     ensures err { IfErr result (IsUnreadJson bytes.now) }

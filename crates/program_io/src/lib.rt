@@ -1,4 +1,4 @@
-//! What programs read and write: arguments, the bytes of streams, and what JSON values say.
+//! Input and output of programs: their arguments, the bytes of streams, and readers of JSON values.
 #![tactic(auto)]
 
 mod arguments;

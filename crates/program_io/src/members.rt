@@ -1,4 +1,4 @@
-//! What a JSON value says, each by one call.
+//! Readers of JSON values, one call for each kind of value.
 
 ghost use Rattle.std.specs.Prelude.{◌≡◌, List, Result, map, is_some};
 ghost use Rattle.std.specs.List.{list_all};
@@ -14,7 +14,7 @@ use assignment::Listed;
 use serde_json::Value;
 use std::alloc::Global;
 
-// How many members an object has.
+// Returns how many members an object has.
 #[tactic(auto, using(crate::proofs::Forms::members_len_view))]
 fn count_of(value: &Value) -> Result<usize, WrongForm>
     ensures { result ≡ count_of (view value.now) }
@@ -31,7 +31,9 @@ fn has_all(names: &[&str], value: &Value) -> bool
     names.iter().all(|name| value.get(*name).is_some())
 }
 
-/// Tests that the value is an object with these members and no other. No name stands twice.
+/// Checks that the value is an object with exactly these members.
+///
+/// `names` must not contain a name twice.
 #[tactic(auto, using(crate::proofs::Forms::all_of_names, crate::proofs::Forms::length_of_names))]
 pub fn exactly(names: &[&str], value: &Value) -> Result<(), WrongForm>
     ensures { result ≡ exactly (map (λ n. n.now) names.now) (view value.now) }
@@ -43,28 +45,28 @@ pub fn exactly(names: &[&str], value: &Value) -> Result<(), WrongForm>
     }
 }
 
-/// The member of this name.
+/// Returns the member with this name.
 pub fn member_at<'v>(name: &str, value: &'v Value) -> Result<&'v Value, WrongForm>
     ensures { IsRead (λ v. view v.now) result (member_at name.now (view value.now)) }
 {
     value.get(name).ok_or(WrongForm)
 }
 
-/// The value as a number below 2^64, written without a sign, a fraction or an exponent.
+/// Returns the value as a number below 2^64, written without a sign, a fraction or an exponent.
 pub fn number_of(value: &Value) -> Result<u64, WrongForm>
     ensures { result ≡ number_of (view value.now) }
 {
     value.as_u64().ok_or(WrongForm)
 }
 
-/// The member of this name, as a number.
+/// Returns the member with this name as a number below 2^64.
 pub fn number_at(name: &str, value: &Value) -> Result<u64, WrongForm>
     ensures { result ≡ number_at name.now (view value.now) }
 {
     number_of(member_at(name, value)?)
 }
 
-/// The member of this name, as a number from `low` to `high`.
+/// Returns the member with this name as a number from `low` to `high`.
 pub fn number_in(low: u64, high: u64, name: &str, value: &Value) -> Result<u64, WrongForm>
     ensures { result ≡ number_in low high name.now (view value.now) }
 {
@@ -76,21 +78,21 @@ pub fn number_in(low: u64, high: u64, name: &str, value: &Value) -> Result<u64, 
     }
 }
 
-/// The member of this name, as true or false.
+/// Returns the member with this name as true or false.
 pub fn flag_at(name: &str, value: &Value) -> Result<bool, WrongForm>
     ensures { result ≡ flag_at name.now (view value.now) }
 {
     member_at(name, value)?.as_bool().ok_or(WrongForm)
 }
 
-/// The member of this name, as a text.
+/// Returns the member with this name as a text.
 pub fn text_at<'v>(name: &str, value: &'v Value) -> Result<&'v str, WrongForm>
     ensures { IsRead (λ s. s.now) result (text_at name.now (view value.now)) }
 {
     member_at(name, value)?.as_str().ok_or(WrongForm)
 }
 
-/// The elements of an array.
+/// Returns the elements of an array.
 #[tactic(auto, using(crate::proofs::Forms::elements_view))]
 pub fn array_of(value: &Value) -> Result<&[Value], WrongForm>
     ensures { IsRead (λ vs. map view vs.now) result (array_of (view value.now)) }
@@ -101,7 +103,7 @@ pub fn array_of(value: &Value) -> Result<&[Value], WrongForm>
     }
 }
 
-/// The elements of an array of two.
+/// Returns the elements of an array of two.
 pub fn pair_of<'v>(value: &'v Value) -> Result<(&'v Value, &'v Value), WrongForm>
     ensures { IsRead (λ p. (view p.0.now, view p.1.now)) result (pair_of (view value.now)) }
 {
@@ -111,7 +113,7 @@ pub fn pair_of<'v>(value: &'v Value) -> Result<(&'v Value, &'v Value), WrongForm
     }
 }
 
-/// Two numbers, written as an array.
+/// Returns two numbers that are written as an array.
 #[tactic(auto, unfolding(crate::specs::Members::two_numbers_of))]
 pub fn two_numbers_of(value: &Value) -> Result<(u64, u64), WrongForm>
     ensures { result ≡ two_numbers_of (view value.now) }
@@ -120,19 +122,19 @@ pub fn two_numbers_of(value: &Value) -> Result<(u64, u64), WrongForm>
     Ok((number_of(first)?, number_of(second)?))
 }
 
-/// How a value is read of JSON.
+/// A way to read a JSON value, as a type parameter of the readers of lists.
 pub trait Form {
-    /// What is read.
+    /// The type of the value that is read.
     type Output: Drop;
 
     ghost form: { Data → Result Self.Output WrongForm };
 
-    /// The value that JSON says.
+    /// Reads the value from JSON.
     fn read(alloc: Global, value: &Value) -> Result<Self::Output, Unread>
         ensures { Gives result (form (view value.now)) };
 }
 
-/// A number below 2^64.
+/// The form of a number below 2^64.
 pub struct Number;
 
 impl Form for Number {
@@ -145,7 +147,7 @@ impl Form for Number {
     }
 }
 
-/// Two numbers, written as an array.
+/// The form of two numbers, written as an array.
 pub struct TwoNumbers;
 
 impl Form for TwoNumbers {
@@ -158,7 +160,7 @@ impl Form for TwoNumbers {
     }
 }
 
-/// The elements of an array, each of them read.
+/// Reads each element of an array.
 #[tactic(auto, unfolding(crate::specs::Members::list_of))]
 pub fn list_of<F: Form>(alloc: Global, value: &Value) -> Result<Listed<F::Output>, Unread>
     ensures { Gives result (list_of F.form (view value.now)) }
@@ -171,7 +173,7 @@ pub fn list_of<F: Form>(alloc: Global, value: &Value) -> Result<Listed<F::Output
     Ok(list)
 }
 
-/// The member of this name, as an array with each of its elements read.
+/// Reads each element of the member with this name, which is an array.
 #[tactic(auto, unfolding(crate::specs::Members::list_at))]
 pub fn list_at<F: Form>(
     alloc: Global,

@@ -1,4 +1,4 @@
-//! All bytes of a reader, and all bytes to a writer.
+//! Reading all bytes of a reader, and writing all bytes to a writer.
 
 ghost use Rattle.std.specs.Prelude.{◌≡◌, ℕ, take, IfOk, OnErr, OnOk};
 ghost use Rattle.std.specs.Io.KnownBytes.{Appends};
@@ -11,10 +11,10 @@ use std::io::{Read, Write};
 /// How many bytes are read at a time.
 const PIECE: usize = 4096;
 
-/// How many reads a reader has to come to its end.
+/// How many reads a reader may take to come to its end.
 const MOST_READS: u32 = 16_777_216;
 
-/// Reads to the end, which has to come within [`MOST_READS`] reads.
+/// Reads to the end of a reader, which must come within 16,777,216 reads.
 pub fn read_all<R: Read>(alloc: Global, reader: &mut R) -> Result<Vec<u8>, ReadError>
     ensures { IfOk result
         (λ v. ReadsAll (R.remaining reader.old) (R.remaining reader.new) v.items) }
@@ -31,7 +31,7 @@ pub fn read_all<R: Read>(alloc: Global, reader: &mut R) -> Result<Vec<u8>, ReadE
     Err(ReadError::Failed)
 }
 
-/// Writes the whole text. After an error the writer has got a prefix of it.
+/// Writes the whole text. After an error the writer has received a prefix of it.
 pub fn write_all<W: Write>(writer: &mut W, text: &[u8]) -> Result<(), WriteError>
     ensures ok { OnOk result (Appends (W.contents writer.old) (W.contents writer.new) text.now) }
     ensures err { OnErr result

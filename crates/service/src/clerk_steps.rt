@@ -44,7 +44,7 @@ fn forget_step(job: Job, step: &Value) -> Result<Step, WrongForm>
     })
 }
 
-/// The step of this name among those of a clerk, or else of loads and plans.
+/// Reads the step with this name: of a clerk, loads or plans.
 pub fn step_of_clerk(alloc: Global, job: Job, name: &str, step: &Value) -> Result<Step, Unread>
     ensures { Gives result (read_named (clerk_kinds ++ load_kinds) name.now job (view step.now)) }
 {

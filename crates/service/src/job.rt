@@ -1,4 +1,4 @@
-//! The job of a script, which its first element says.
+//! The job of a script, read from its first element.
 
 ghost use Rattle.std.specs.Prelude.{◌≡◌};
 ghost use Rattle.serde_json.specs.View.{view};
@@ -10,7 +10,7 @@ use program_io::{WrongForm, exactly, member_at, number_at, number_of, two_number
 use serde_json::Value;
 use world::Job;
 
-/// The one member of the job line.
+/// Returns the one member of the job line.
 #[tactic(auto, unfolding(crate::specs::Jobs::job_member))]
 pub fn job_member(line: &Value) -> Result<&Value, WrongForm>
     ensures { IsRead (λ v. view v.now) result (job_member (view line.now)) }
@@ -19,7 +19,7 @@ pub fn job_member(line: &Value) -> Result<&Value, WrongForm>
     member_at("job", line)
 }
 
-// How many tasks own a slice at the least and at the most: two numbers, or one for both.
+// Reads how many tasks own a slice at the least and at the most: two numbers, or one for both.
 fn redundancy_of(value: &Value) -> Result<(u64, u64), WrongForm>
     ensures { result ≡ redundancy_of (view value.now) }
 {
@@ -29,7 +29,7 @@ fn redundancy_of(value: &Value) -> Result<(u64, u64), WrongForm>
     }
 }
 
-// What the table and its leases are held to.
+// Reads the policy of the table and its leases.
 #[tactic(auto, unfolding(crate::specs::Jobs::policy_of))]
 fn policy_of(job: &Value) -> Result<Policy, WrongForm>
     ensures { result ≡ policy_of (view job.now) }
@@ -46,7 +46,7 @@ fn policy_of(job: &Value) -> Result<Policy, WrongForm>
     }
 }
 
-/// The job that the member says.
+/// Reads a job from the member of the job line.
 #[tactic(auto, unfolding(crate::specs::Jobs::job_of))]
 pub fn job_of(job: &Value) -> Result<Job, WrongForm>
     ensures { result ≡ job_of (view job.now) }

@@ -1,4 +1,4 @@
-//! The key that a member says.
+//! Reading a key from a member.
 
 ghost use Rattle.serde_json.specs.View.{view};
 ghost use Rattle.program_io.specs.Reading.{Gives};
@@ -9,10 +9,10 @@ use program_io::{Unread, text_at};
 use serde_json::Value;
 use std::alloc::Global;
 
-/// How many bytes a key has at the most.
+/// The largest number of bytes in a key.
 const MOST_KEY_BYTES: usize = 4096;
 
-/// The member of this name, as the bytes of a text of at most [`MOST_KEY_BYTES`].
+/// Returns the bytes of the text member with this name, at most 4096 of them.
 pub fn key_at(alloc: Global, name: &str, value: &Value) -> Result<Listed<u8>, Unread>
     ensures { Gives result (key_at name.now (view value.now)) }
 {

@@ -1,4 +1,4 @@
-//! What holds of every text that is printed for a script.
+//! Laws that hold of every text that is printed for a script.
 
 ghost use Rattle.std.specs.Prelude.{◌≡◌, ℕ, ◌++◌, List, true};
 ghost use Rattle.world.specs.Pasts.{Past};
@@ -6,13 +6,15 @@ ghost use Rattle.world.specs.Headline.{MayServe, IsOwner, IsWhileHeld};
 ghost use Rattle.service.specs.declared.script.Script.{Script};
 ghost use Rattle.service.specs.Output.{past_of, IsOutput};
 
-/// What is printed for a script tells a run of its job, and what holds of every run holds of it.
+/// States that the text printed for a script describes a run of its job, and what follows from
+/// that.
 ///
-/// After each step, with timely clocks, whoever may serve a key owns it in the committed assignment; where a
-/// slice has one owner at the most, no two tasks may serve it. Where the last line is `timely yes` and
-/// a `check` by a task was answered `continuous`, the task owned the key of the handle at each point from
-/// the `hold` to that `check`; where a slice has one owner at the most, no other task may serve the key
-/// at any of these points.
+/// After each step, with timely clocks, a task that may serve a key owns it in the committed
+/// assignment. If a slice has at most one owner, no two tasks may serve the key.
+///
+/// If the last line is `timely yes` and the reply to a `check` by a task was `continuous`, the task
+/// owned the key of the handle at each point from the `hold` to that `check`. If a slice has at
+/// most one owner, no other task may serve the key at any of these points.
 pub fn printed_law()
     ensures owner { (script : Script) (text : List ℕ) (output : IsOutput script text) (later past : Past) (task : ℕ) (key : List ℕ)
         → past_of script output.replies ≡ later ++ past → MayServe script.job past task key → IsOwner script.job past task key }

@@ -13,7 +13,7 @@ use std::fmt;
 use wire::kind_word;
 use world::Reply;
 
-/// A number in 16 hexadecimal digits.
+/// A number, written as 16 hexadecimal digits.
 #[derive(Clone, Copy)]
 pub struct Hex(pub u64);
 
@@ -88,7 +88,7 @@ impl fmt::Display for RowsText<'_> {
     }
 }
 
-/// The words of a verdict.
+/// The words for a verdict.
 #[derive(Clone, Copy)]
 struct VerdictWords(Verdict);
 
@@ -111,7 +111,7 @@ impl fmt::Display for VerdictWords {
     }
 }
 
-/// The words of the table's phase.
+/// The words for the table's phase.
 #[derive(Clone, Copy)]
 struct PhaseWords(Phase);
 
@@ -141,7 +141,7 @@ impl fmt::Display for Spaced<'_> {
     }
 }
 
-/// The line of a reply, without its end. `NoMemory` has no line.
+/// The line that is written for a reply, without its line feed. `NoMemory` has no line.
 #[derive(Clone, Copy)]
 pub struct Line<'a>(pub &'a Reply);
 

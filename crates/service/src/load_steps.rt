@@ -44,7 +44,9 @@ fn next_step(job: Job, step: &Value) -> Result<Step, WrongForm>
     })
 }
 
-/// The step of this name among those of loads and plans, and what an assigner does next. There are no others.
+/// Reads the step with this name: of loads or plans, or the question what an assigner does next.
+///
+/// No name is looked for after these.
 pub fn step_of_loads(alloc: Global, job: Job, name: &str, step: &Value) -> Result<Step, Unread>
     ensures { Gives result (read_named load_kinds name.now job (view step.now)) }
 {

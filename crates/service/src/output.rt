@@ -13,7 +13,9 @@ use lease_table::policy_law;
 use std::alloc::{AllocError, Global};
 use world::{Job, Reply, Step, World, timely};
 
-/// The replies to the steps, which are the first of their job. Out of memory, there are none.
+/// Returns the replies to the steps, which are the first steps of their job.
+///
+/// Fails only if memory runs out, and then returns no reply.
 pub fn replies_of(alloc: Global, job: Job, steps: &[Step]) -> Result<Vec<Reply>, AllocError>
     ensures many { IfOk result (λ replies. length replies.items ≡ length steps.now) }
     ensures run { IfOk result (λ replies. IsRun job (past_after [] steps.now replies.items)) }
@@ -31,7 +33,7 @@ pub fn is_timely(script: &Script) -> bool
     timely(script.steps.as_slice(), script.job.policy().skew())
 }
 
-// The lines of the replies, none of which is `NoMemory`.
+// Returns the lines of the replies, none of which is `NoMemory`.
 fn lines_of(alloc: Global, replies: &[Reply]) -> Result<String, AllocError>
     ensures lines { IfOk result (λ text. string_bytes text ≡ flat_map line_of replies.now) }
     ensures answers { IfOk result (λ text. list_all is_answer replies.now ≡ true) }
@@ -46,7 +48,7 @@ fn lines_of(alloc: Global, replies: &[Reply]) -> Result<String, AllocError>
     Ok(text)
 }
 
-// The lines of the replies, none of which is `NoMemory`, and the last line.
+// Returns the lines of the replies, none of which is `NoMemory`, and the last line.
 fn text_of(alloc: Global, replies: &[Reply], timely: bool) -> Result<String, AllocError>
     ensures text { IfOk result (λ text. string_bytes text ≡ text_of replies.now timely) }
     ensures answers { IfOk result (λ text. list_all is_answer replies.now ≡ true) }
@@ -60,7 +62,7 @@ fn text_of(alloc: Global, replies: &[Reply], timely: bool) -> Result<String, All
     Ok(text)
 }
 
-/// Plays the steps of a script, and gives the text of their replies with its last line.
+/// Plays the steps of a script, and returns the lines of their replies and the last line.
 pub fn output_of(alloc: Global, script: &Script) -> Result<String, AllocError>
     ensures { IfOk result (λ text. IsOutput script.now (string_bytes text)) }
 {

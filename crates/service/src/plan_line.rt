@@ -39,7 +39,7 @@ impl fmt::Display for SliceText<'_> {
     }
 }
 
-/// Slices, joined by spaces.
+/// Slices, written one after another and joined by spaces.
 #[derive(Clone, Copy)]
 pub struct SlicesText<'a>(pub &'a [Slice]);
 
@@ -59,7 +59,7 @@ impl fmt::Display for SlicesText<'_> {
     }
 }
 
-/// The owner that a slice loses, if it loses one, and the one that it gets, if it gets one.
+/// The owner that a slice loses, if any, and the owner that it gets, if any.
 #[derive(Clone, Copy)]
 struct OwnerChangeText(Option<TaskId>, Option<TaskId>);
 
@@ -97,7 +97,7 @@ impl fmt::Display for MoveText {
     }
 }
 
-/// Moves, joined by commas and spaces.
+/// Moves, written one after another and joined by commas and spaces.
 #[derive(Clone, Copy)]
 pub struct MovesText<'a>(pub &'a [Move]);
 

@@ -12,7 +12,7 @@ use std::alloc::Global;
 use weighted_move::{PlanBounds, TaskSet};
 use world::Step;
 
-/// The number of a task that there may be.
+/// The number of a task that a job may have.
 struct TaskForm;
 
 impl Form for TaskForm {
@@ -29,7 +29,7 @@ impl Form for TaskForm {
     }
 }
 
-// The member of this name, as a set of tasks in rising order.
+// Returns the member with this name as a set of tasks in rising order.
 #[tactic(auto, unfolding(crate::specs::Steps::tasks_at))]
 fn tasks_at(alloc: Global, name: &str, value: &Value) -> Result<TaskSet, Unread>
     ensures { Gives result (tasks_at name.now (view value.now)) }
@@ -41,7 +41,7 @@ fn tasks_at(alloc: Global, name: &str, value: &Value) -> Result<TaskSet, Unread>
     }
 }
 
-// What the plan is held to.
+// Reads the bounds of the plan.
 #[tactic(auto, unfolding(crate::specs::Steps::bounds_of))]
 fn bounds_of(step: &Value) -> Result<PlanBounds, WrongForm>
     ensures { result ≡ bounds_of (view step.now) }
@@ -56,7 +56,7 @@ fn bounds_of(step: &Value) -> Result<PlanBounds, WrongForm>
     }
 }
 
-/// A `plan`, as an element of a script says it.
+/// Reads a `plan` from an element of a script.
 #[tactic(auto, unfolding(crate::specs::Steps::plan_step))]
 pub fn plan_step(alloc: Global, step: &Value) -> Result<Step, Unread>
     ensures { Gives result (plan_step (view step.now)) }

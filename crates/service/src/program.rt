@@ -10,10 +10,11 @@ use std::env::Env;
 use std::io::{Eprint, Read, Write};
 use std::process::ExitCode;
 
-/// Plays the script of a reader on a writer, and says on the standard error why it is not played.
+/// Plays the script of a reader and writes its lines to a writer, or reports why not.
 ///
-/// The status is 0 where it was played, 2 where the program was given arguments, or the script is
-/// refused, and 3 at another fault. Nothing is read where there are arguments.
+/// A failure is reported on standard error. Returns the exit status: 0 if the script was played, 2
+/// if the program was given arguments or the script is refused, and 3 at any other fault. With
+/// arguments, nothing is read.
 pub fn slicer_run<R: Read, W: Write>(
     rt: &(impl Env + Eprint + AllocGlobal),
     reader: &mut R,

@@ -14,7 +14,7 @@ use std::alloc::Global;
 use wire::kind_at;
 use world::{Question, WrittenLease};
 
-/// A lease, as a `judge` writes it.
+/// The form of a lease, as a `judge` writes it.
 pub struct LeaseForm;
 
 impl Form for LeaseForm {
@@ -41,7 +41,7 @@ fn has_one_at_most(kind: Kind, leases: &[WrittenLease]) -> bool
     leases.iter().filter(|lease| lease.kind == kind).count() <= 1
 }
 
-/// The question that a `judge` asks.
+/// Reads the question of a `judge`.
 #[tactic(auto, unfolding(crate::specs::Questions::question_of))]
 pub fn question_of(alloc: Global, step: &Value) -> Result<Question, Unread>
     ensures { Gives result (question_of (view step.now)) }

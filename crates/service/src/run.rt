@@ -1,4 +1,4 @@
-//! A script's bytes in, the bytes of its replies out.
+//! The bytes of a script in, the bytes of its replies out.
 
 ghost use Rattle.std.specs.Prelude.{IfOk, IfErr, OnOk};
 ghost use Rattle.service.specs.Service.{SaysScript, IsUnread, Answered, Failed};
@@ -10,7 +10,7 @@ use program_io::{Fault, Unread, read_all, value_of, write_all};
 use std::alloc::Global;
 use std::io::{Read, Write};
 
-// The script that the bytes say.
+// Reads a script from bytes.
 fn parsed(alloc: Global, bytes: &[u8]) -> Result<Script, Fault<ScriptError>>
     ensures ok { IfOk result (SaysScript bytes.now) }
     ensures err { IfErr result (IsUnread bytes.now) }
@@ -24,8 +24,9 @@ fn parsed(alloc: Global, bytes: &[u8]) -> Result<Script, Fault<ScriptError>>
 
 /// Reads a script to its end, and then writes a line for each of its steps and a last line.
 ///
-/// Nothing is written before the whole script was read, checked and played: after a refused
-/// script, a read fault or a memory fault nothing was written, after a write fault a first part.
+/// Nothing is written before the whole script was read, checked and played. So nothing was written
+/// after a refused script, a read fault or out of memory. After a write fault, a prefix was
+/// written.
 pub fn run_script<R: Read, W: Write>(
     alloc: Global,
     reader: &mut R,

@@ -1,4 +1,4 @@
-//! What a JSON value says as a script.
+//! Reading a script from a JSON value.
 
 ghost use Rattle.std.specs.Prelude.{map};
 ghost use Rattle.serde_json.specs.View.{view};
@@ -16,18 +16,21 @@ use std::alloc::Global;
 use std::slice;
 use world::{Job, Step};
 
-/// How many steps a script has at the most.
+/// The largest number of steps in a script.
 const MOST_STEPS: usize = 4096;
 
-/// A job, and the steps of it.
+/// A script: a job, and the steps of it.
 #[derive(Drop)]
 pub struct Script {
     pub job: Job,
     pub steps: Listed<Step>,
 }
 
-/// The job, and the elements after the job line, or why there are none: in this order `NotArray`, `NoJob`,
-/// `BadJob` and `TooManySteps`.
+/// Returns the job of a script, and the elements after the job line.
+///
+/// # Errors
+///
+/// In this order: `NotArray`, `NoJob`, `BadJob`, `TooManySteps`.
 #[tactic(auto, unfolding(crate::specs::Scripts::head_of))]
 pub fn head_of(value: &Value) -> Result<(Job, &[Value]), ScriptError>
     ensures { IsReadOrRefused (λ p. (p.0, map view p.1.now)) result (head_of (view value.now)) }
@@ -50,7 +53,7 @@ pub fn head_of(value: &Value) -> Result<(Job, &[Value]), ScriptError>
     Ok((job, elements))
 }
 
-// The steps that the elements after the job line say, or the first that says none.
+// Reads the steps after the job line, or returns the place of the first element that is not a step.
 #[tactic(auto, unfolding(crate::specs::Scripts::steps_of))]
 fn steps_of(alloc: Global, job: Job, elements: &[Value]) -> Result<Listed<Step>, Fault<ScriptError>>
     ensures { Answers result (steps_of job (map view elements.now)) }
@@ -66,8 +69,9 @@ fn steps_of(alloc: Global, job: Job, elements: &[Value]) -> Result<Listed<Step>,
     Ok(steps)
 }
 
-/// The step that one element of a script of this job says.
-// The loop of a script is the one caller of `step_of`, so that each reader of steps is inlined into it.
+/// Reads one element of a script of this job as a step.
+// The loop of a script is the only caller of `step_of`, so that each reader of steps is inlined
+// into it.
 #[tactic(auto, unfolding(crate::specs::Scripts::steps_of))]
 pub fn lone_step(alloc: Global, job: Job, element: &Value) -> Result<Step, Unread>
     ensures { Gives result (step_of job (view element.now)) }
@@ -80,8 +84,9 @@ pub fn lone_step(alloc: Global, job: Job, element: &Value) -> Result<Step, Unrea
     }
 }
 
-/// The script that a JSON value says, or the first fault of it. Only steps take memory: each other
-/// fault is found without any.
+/// Reads a script from a JSON value, or returns its first fault.
+///
+/// Only steps need memory. Every other fault is found without any.
 #[tactic(auto, unfolding(crate::specs::Scripts::script_of))]
 pub fn script_of(alloc: Global, value: &Value) -> Result<Script, Fault<ScriptError>>
     ensures { AnswersScript result (view value.now) }

@@ -45,8 +45,8 @@ fn owners_step(alloc: Global, step: &Value) -> Result<Step, Unread>
     })
 }
 
-/// The step that an element of a script of this job says.
-// Its result is large: each caller would clear and copy it.
+/// Reads an element of a script of this job as a step.
+// The result is large: each caller would clear and copy it.
 #[tactic(auto, unfolding(crate::specs::Steps::step_of))]
 pub fn step_of(alloc: Global, job: Job, step: &Value) -> Result<Step, Unread>
     ensures { Gives result (step_of job (view step.now)) }

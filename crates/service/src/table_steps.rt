@@ -115,7 +115,7 @@ fn lose_step(step: &Value) -> Result<Step, WrongForm>
     Ok(Step::Lose)
 }
 
-/// The step of this name among those of the table and its assigners, or else of a task, a clerk, loads and plans.
+/// Reads the step with this name: of the table, an assigner, a task, a clerk, loads or plans.
 pub fn step_of_table(alloc: Global, job: Job, name: &str, step: &Value) -> Result<Step, Unread>
     ensures { Gives result (read_named (table_kinds ++ task_kinds ++ clerk_kinds ++ load_kinds) name.now job (view step.now)) }
 {

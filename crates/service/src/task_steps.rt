@@ -73,7 +73,7 @@ fn hold_step(alloc: Global, job: Job, step: &Value) -> Result<Step, Unread>
     })
 }
 
-// Where it is not inlined into the loop of a script, each step clears room for its result.
+// If it is not inlined into the loop of a script, each step clears room for its result.
 #[inline(always)]
 #[tactic(auto, unfolding(crate::specs::Steps::check_step))]
 fn check_step(job: Job, step: &Value) -> Result<Step, WrongForm>
@@ -87,7 +87,7 @@ fn check_step(job: Job, step: &Value) -> Result<Step, WrongForm>
     })
 }
 
-/// The step of this name among those of a task, or else of a clerk, loads and plans.
+/// Reads the step with this name: of a task, a clerk, loads or plans.
 pub fn step_of_task(alloc: Global, job: Job, name: &str, step: &Value) -> Result<Step, Unread>
     ensures { Gives result (read_named (task_kinds ++ clerk_kinds ++ load_kinds) name.now job (view step.now)) }
 {

@@ -15,7 +15,7 @@ use weighted_move::PlanError;
 use wire::kind_word;
 use world::Refusal;
 
-// The words for slices that make no assignment.
+// Returns the words for slices that make no assignment.
 fn slices_words(error: AssignmentError) -> &'static str
     ensures { result.now ≡ slices_words error }
 {
@@ -32,7 +32,7 @@ fn slices_words(error: AssignmentError) -> &'static str
     }
 }
 
-// The words for pairs that make no set.
+// Returns the words for pairs that make no set.
 fn ranges_words(error: RangesError) -> &'static str
     ensures { result.now ≡ ranges_words error }
 {
@@ -43,7 +43,7 @@ fn ranges_words(error: RangesError) -> &'static str
     }
 }
 
-/// The word for what an assigner does next.
+/// Returns the word for what an assigner does next.
 pub fn action_word(action: Action) -> &'static str
     ensures { result.now ≡ action_word action }
 {
@@ -56,7 +56,7 @@ pub fn action_word(action: Action) -> &'static str
     }
 }
 
-// The words for why work is not counted.
+// Returns the words for why work is not counted.
 fn load_words(error: LoadError) -> &'static str
     ensures { result.now ≡ load_words error }
 {
@@ -66,7 +66,7 @@ fn load_words(error: LoadError) -> &'static str
     }
 }
 
-// The words for why there is no plan.
+// Returns the words for why there is no plan.
 fn plan_words(error: PlanError) -> &'static str
     ensures { result.now ≡ plan_words error }
 {
@@ -127,7 +127,7 @@ impl fmt::Display for SliceletWords {
     }
 }
 
-/// The words for why a step is refused. No step of a script has an actor that is not of the job.
+/// The words for why a step is refused. Every actor of a script's step is one of the job.
 #[derive(Clone, Copy)]
 pub struct RefusalWords(pub Refusal);
 

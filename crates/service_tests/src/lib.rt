@@ -1,5 +1,5 @@
-//! Tests of messages, of scripts and of the jobs of live runs, from the bytes that are read to the bytes that are
-//! written.
+//! Tests of messages, of scripts and of the jobs of live runs, from the bytes that are read to the
+//! bytes that are written.
 #![tactic(auto)]
 
 #[cfg(test)]

@@ -1,4 +1,4 @@
-//! What the job of a live run is answered where memory is refused.
+//! The job of a live run when memory runs out.
 
 use audit::Audit;
 use live_text::{InputError, run_live_text};
@@ -13,7 +13,7 @@ const JOB: &str = r#"{"tasks":1,"workers":1,"rounds":1,"asks":2}"#;
 
 const TEXT: &str = "asked 2\ngeneration 1\naudit one\ntimely yes\n";
 
-/// What the job is answered, once more where memory is refused and nothing was written.
+/// Returns the result of the job, once more if memory ran out and nothing was written.
 fn answer_at_last<R: Threads + Wait + Sync>(
     rt: &R,
     alloc: Global,

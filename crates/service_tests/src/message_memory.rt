@@ -1,4 +1,4 @@
-//! What is answered where memory is refused.
+//! Messages when memory runs out.
 
 use lease_table::TableReply;
 use std::alloc::Global;

@@ -1,4 +1,4 @@
-//! What values are written as, and what is read of it.
+//! What values are written as, and what is read from it.
 
 use assignment::{Assignment, Listed, Slice, TaskId};
 use clerk::{ClerkCall, ClerkReply};

@@ -1,4 +1,4 @@
-//! What a script is answered.
+//! The lines written for a script.
 
 use program_io::Fault;
 use service::{ProgramError, ScriptError, run_script};
@@ -8,7 +8,7 @@ use std::test::Fail;
 const JOB: &str =
     "{\"job\":{\"redundancy\":1,\"skew\":10,\"guard\":100,\"bridge\":100,\"job\":1000,\"numbers\":1000,\"assigners\":2,\"tasks\":2,\"clerks\":2}}";
 
-/// What a script gives: why it is not answered, or nothing, and the bytes that are written.
+/// Returns the outcome of a script: why it failed, if it did, and the bytes that are written.
 fn outcome(alloc: Global, script: &str) -> (Result<(), Fault<ScriptError>>, Vec<u8>) {
     let mut reader = script.as_bytes();
     let mut written = Vec::new(alloc);

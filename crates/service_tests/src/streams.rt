@@ -1,4 +1,4 @@
-//! Readers and writers that fail, give a byte at a time, or have no end.
+//! Readers and writers that fail, take or give a byte at a time, or have no end.
 
 use program_io::Fault;
 use service::{ScriptError, run_script};
@@ -58,7 +58,7 @@ continuous\n\
 timely yes\n\
 ";
 
-/// Takes a byte at each write, as long as there is room, and then takes none or fails.
+/// Accepts a byte at each write as long as there is room, and then accepts none or fails.
 #[derive(Drop)]
 struct Narrow {
     room: usize,
@@ -98,7 +98,7 @@ fn stops_where_the_writer_takes_no_more(rt: HostRuntime) -> Result<(), Fail> {
     Ok(())
 }
 
-/// Gives a byte at each read, and fails at the last of a number of reads.
+/// Returns a byte at each read, and fails at the last of a number of reads.
 #[derive(Drop)]
 struct Slow<'a> {
     left: &'a [u8],
@@ -156,7 +156,8 @@ fn reads_the_bridge_story_a_byte_at_a_time(rt: HostRuntime) -> Result<(), Fail> 
     Ok(())
 }
 
-/// What the story is answered, with room for its text, and whether nothing is written where memory is refused.
+/// Returns the result of the story, with room for its text. Nothing may be written when memory runs
+/// out.
 fn story_at_last(alloc: Global, written: &mut Vec<u8>) -> Result<(), Fault<ScriptError>> {
     match run_script(alloc, &mut STORY.as_bytes(), written) {
         Err(Fault::Memory) if written.is_empty() => {
@@ -177,7 +178,7 @@ fn plays_the_story_as_before_without_memory(rt: HostRuntime) -> Result<(), Fail>
     Ok(())
 }
 
-/// Gives a space at each read, without an end.
+/// Returns a space at each read, without an end.
 #[derive(Drop)]
 struct Endless {
     reads: u64,

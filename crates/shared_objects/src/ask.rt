@@ -1,4 +1,4 @@
-//! Calls that read.
+//! Calls that only read.
 
 ghost use Rattle.std.specs.Prelude.{◌≡◌, ℕ};
 ghost use Rattle.history_lock.specs.Passes.{IsPassOf};
@@ -14,20 +14,20 @@ use machines::Machine;
 use std::sync::Wait;
 use tickets::Spent;
 
-/// What a machine is asked.
+/// A question to a machine.
 pub(crate) trait Question<M> {
-    /// What it answers.
+    /// The type of the answer.
     type Answer;
 
-    // What the machine answers to the call of a ticket.
+    // What the machine answers to the call with a ticket.
     ghost answers: { Self → M → ℕ → Self.Answer → Type 0 };
 
-    /// The machine's answer to the call that drew this ticket.
+    /// Returns the machine's answer to the call that drew this ticket.
     fn ask(&self, machine: &M, ticket: u64) -> Self::Answer
         ensures { answers self.now machine.now ticket result };
 }
 
-// One shared call of the lock, which draws a ticket, calls the gate and asks the machine.
+// Makes one shared call of the lock, which draws a ticket, calls the gate and asks the machine.
 pub(crate) fn read_gated<R: Wait, M: Machine, Q: Question<M>, G: Gate>(
     rt: &R,
     lock: &LaneLock<M>,
@@ -59,7 +59,7 @@ pub(crate) fn read_gated<R: Wait, M: Machine, Q: Question<M>, G: Gate>(
     Ok(lock.shared(rt, pass, &mut inside))
 }
 
-// The same with a gate that does nothing.
+// Does the same with a gate that does nothing.
 pub(crate) fn read<R: Wait, M: Machine, Q: Question<M>>(
     rt: &R,
     lock: &LaneLock<M>,
@@ -82,7 +82,7 @@ pub(crate) fn read<R: Wait, M: Machine, Q: Question<M>>(
     read_gated(rt, lock, pass, draws, question, &turn)
 }
 
-// The same without waiting.
+// Does the same without waiting.
 pub(crate) fn try_read<M: Machine, Q: Question<M>>(
     lock: &LaneLock<M>,
     pass: &mut Pass<M>,

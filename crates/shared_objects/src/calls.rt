@@ -11,29 +11,29 @@ use lease_table::{TableCall, TableError};
 use machines::Duplicate;
 use slicelet::{SliceletCall, SliceletError};
 
-/// A call of a machine, which is recorded where the machine refuses it.
+/// A call of a machine, which is recorded if the machine refuses it.
 pub(crate) trait SharedCall<Fault>: Duplicate + Drop {
-    // How the call of an actor is recorded.
+    // The record of the call of an actor.
     ghost recorded: { ℕ → Self → ClusterCall };
 
-    // How a refusal is told.
+    // The reply for a refusal.
     ghost told: { Fault → ClusterReply };
 
-    /// The call of the actor with this number, as it is recorded.
+    /// Returns the call of the actor with this number, as it is recorded.
     fn into_record(self, actor: u64) -> ClusterCall
         ensures { result ≡ recorded actor self };
 
-    /// A refusal of the machine, as its caller is told.
+    /// Returns the reply that the caller of a refused call gets.
     fn tell(fault: Fault) -> ClusterReply
         ensures { result ≡ told fault };
 }
 
-/// What a machine is asked to do, which is a call once its reading is known.
+/// A request to a machine, which becomes a call once its reading is known.
 pub(crate) trait Request<Call>: Drop {
     // The call at a reading.
     ghost call_at: { Self → ℕ → Call };
 
-    /// The call at a reading, in ticks.
+    /// Returns the call at a reading, in ticks.
     fn into_call(self, at: u64) -> Call
         ensures { result ≡ call_at self at };
 }

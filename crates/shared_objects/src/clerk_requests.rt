@@ -1,4 +1,4 @@
-//! What a clerk is asked to do.
+//! Requests to a clerk.
 
 ghost use Rattle.std.specs.Prelude.{◌≡◌, ℕ};
 ghost use Rattle.clerk.specs.declared.call.ClerkCall.TheVariants as clerk_call;
@@ -14,7 +14,7 @@ pub(crate) struct Learn {
 }
 
 impl Request<ClerkCall> for Learn {
-    // A clerk looks at no reading.
+    // A clerk does not use the reading.
     ghost call_at = { λ request _. clerk_call.Learn request.assignment };
 
     fn into_call(self, _at: u64) -> ClerkCall {
@@ -23,7 +23,7 @@ impl Request<ClerkCall> for Learn {
     }
 }
 
-/// Forgets what was learnt.
+/// Forgets the assignment that the clerk knows.
 #[derive(Drop)]
 pub(crate) struct Forget;
 

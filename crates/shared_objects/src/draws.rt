@@ -6,7 +6,9 @@ ghost use Rattle.shared_objects.specs.Draws.{CanDraw};
 
 use tickets::{Ticket, TicketPass};
 
-/// A pass of a ticket, beside the ticket that it draws from: what a thread calls shared objects with.
+/// The right of a thread to draw numbers of a ticket: the ticket, and a pass of it.
+///
+/// Each call of a shared object draws one number, its own ticket.
 #[derive(Drop)]
 pub struct Draws<'a> {
     ticket: &'a Ticket,
@@ -15,7 +17,7 @@ pub struct Draws<'a> {
 }
 
 impl<'a> Draws<'a> {
-    /// The draws of a pass of this ticket.
+    /// Creates the draws of a pass of this ticket.
     pub fn new(ticket: &'a Ticket, pass: TicketPass) -> Draws<'a>
         requires { DrawsFrom ticket.now pass }
         ensures ticket { result.ticket.now ≡ ticket.now }
@@ -24,14 +26,14 @@ impl<'a> Draws<'a> {
         Draws { ticket, pass }
     }
 
-    /// How many numbers may still be drawn.
+    /// Returns how many numbers may still be drawn.
     pub fn left(&self) -> u64
         ensures { result + length self.now.pass.drawn ≡ self.now.pass.terms.quota }
     {
         self.pass.left()
     }
 
-    /// The pass, by which its ticket is closed.
+    /// Returns the pass, which is needed to close the ticket.
     pub fn into_pass(self) -> TicketPass
         ensures pass { result ≡ self.entry.pass }
         ensures own { DrawsFrom self.entry.ticket.now result }
@@ -39,7 +41,7 @@ impl<'a> Draws<'a> {
         self.pass
     }
 
-    // The next number, where one is left.
+    // Draws the next number. One must be left.
     pub(crate) fn draw(&mut self) -> u64
         requires { CanDraw self.old.pass }
         ensures ticket { self.new.ticket ≡ self.old.ticket }

@@ -1,4 +1,4 @@
-//! Why calls of shared objects give no reply.
+//! Why calls of shared objects return no answer.
 
 use cluster::CallRecord;
 use history_lock::{Busy, Pass};
@@ -9,43 +9,43 @@ use machines::Machine;
 pub struct RefusedCall<Fault> {
     /// Why the machine refuses the call.
     pub fault: Fault,
-    /// The record of the call.
+    /// The record of the call, with the ticket that it drew.
     pub call: CallRecord,
 }
 
-/// Why a call did not write, in the order in which it is looked for.
+/// Why a call that may write an entry failed, in the order in which the reasons are checked.
 #[derive(Debug, Drop)]
 pub enum CallError<Fault> {
-    /// The ticket pass has drawn all that it may. Nothing was claimed.
+    /// The ticket pass has drawn all numbers that it may. No lane was claimed.
     Spent,
-    /// The history of the lock has as many entries as it may have. No ticket was drawn.
+    /// The history of the lock holds as many entries as it may. No ticket was drawn.
     HistoryFull,
-    /// The machine refuses the call.
+    /// The machine refuses the call, for the reason in the record.
     Refused(RefusedCall<Fault>),
-    /// There was no memory for the write, or none for the record of its refusal. A ticket may have been
+    /// Memory ran out for the write, or for the record of its refusal. A ticket may have been
     /// drawn.
     NoMemory,
 }
 
-/// Why a call that does not wait read nothing, in the order in which it is looked for.
+/// Why a call that does not wait failed, in the order in which the reasons are checked.
 #[derive(Clone, Copy, Debug, PartialEq, Eq)]
 pub enum TryError {
-    /// The ticket pass has drawn all that it may. Nothing was claimed.
+    /// The ticket pass has drawn all numbers that it may. No lane was claimed.
     Spent,
     /// A lane was held. No ticket was drawn.
     Busy(Busy),
 }
 
-/// Why rows are not answered, in the order in which it is looked for.
+/// Why a call for the table's rows failed, in the order in which the reasons are checked.
 #[derive(Clone, Copy, Debug, PartialEq, Eq)]
 pub enum RowsError {
-    /// The ticket pass has drawn all that it may. Nothing was claimed.
+    /// The ticket pass has drawn all numbers that it may. No lane was claimed.
     Spent,
-    /// There was no memory for the rows. A ticket was drawn.
+    /// Memory ran out for the rows. A ticket was drawn.
     NoMemory,
 }
 
-/// What a call that writes no entry answered, with its record.
+/// The answer of a call that writes no entry, with the record of the call.
 #[derive(Debug, Drop)]
 pub struct Recorded<Answer> {
     /// The answer.
@@ -54,11 +54,13 @@ pub struct Recorded<Answer> {
     pub call: CallRecord,
 }
 
-/// A shared object was not closed, since one of its passes is missing: all comes back as it was.
+/// A shared object that was not closed because one of its passes is missing, with its passes.
+///
+/// The object and the passes are unchanged.
 #[derive(Drop)]
 pub struct NotClosed<Object, M: Machine> {
     /// The object.
     pub object: Object,
-    /// The passes that were to close it.
+    /// The passes that were given to close it.
     pub passes: Vec<Pass<M>>,
 }

@@ -2,12 +2,14 @@
 
 use std::sync::Wait;
 
-/// What each worker calls inside its shared call, after it drew its ticket and while its lane is held.
+/// A hook that each worker calls inside its shared call, after its draw and while it holds its
+/// lane.
 pub trait Gate {
-    /// Called by the worker with this number for its ask of this number, from 0 on, which drew this ticket.
+    /// Runs inside a shared call, with the numbers of the worker and its ask, and the ticket drawn.
     ///
-    /// The workers of a job are numbered from 1 on through all its tasks: of a job with `workers` workers a task,
-    /// worker `w` of task `t`, both from 1 on, has the number `(t - 1) * workers + w`.
+    /// `ask` counts the asks of the worker from 0. The workers of a job are numbered from 1 through
+    /// all its tasks: if each task has `workers` workers, worker `w` of task `t`, both counted from
+    /// 1, has the number `(t - 1) * workers + w`.
     fn inside<R: Wait>(&self, rt: &R, worker: u32, ask: u32, ticket: u64);
 }
 
@@ -19,13 +21,13 @@ impl Gate for OpenGate {
     fn inside<R: Wait>(&self, _rt: &R, _worker: u32, _ask: u32, _ticket: u64) {}
 }
 
-/// One ask of a worker: the gate that it calls, its own number, and that of the ask.
+/// One ask of a worker: the gate that it calls, its own number, and the number of the ask.
 #[derive(Drop)]
 pub struct Turn<'g, G> {
     /// The gate.
     pub gate: &'g G,
-    /// The number of the worker.
+    /// The number of the worker, from 1.
     pub worker: u32,
-    /// The number of the ask.
+    /// The number of the ask, from 0.
     pub ask: u32,
 }

@@ -1,8 +1,9 @@
-//! The table, the tasks and the clerks of a key ownership service as objects that threads share.
+//! The table, the tasks and the clerks of a key ownership service, as objects that threads share.
 //!
-//! [`SharedTable`], [`SharedSlicelet`] and [`SharedClerk`] put a machine under a lock of lanes. Each call takes the
-//! caller's pass of that lock and its [`Draws`], draws one ticket while it holds its lanes, and answers what the
-//! machine answers; a call that writes no entry hands out its record besides.
+//! [`SharedTable`], [`SharedSlicelet`] and [`SharedClerk`] put a machine under a lock of lanes.
+//! Each call takes the caller's pass of that lock and its [`Draws`], draws one ticket while it
+//! holds its lanes, and returns the machine's answer. A call that writes no entry also returns its
+//! record.
 #![tactic(auto)]
 
 mod ask;

@@ -30,8 +30,9 @@ use std::marker::Model;
 use std::sync::Wait;
 use tickets::Spent;
 
-/// A clerk under a lock of its own. Contracts see the lock, and the number by which its calls are
-/// recorded.
+/// A clerk under a lock of its own, which threads share.
+///
+/// Contracts see the lock, and the number under which its calls are recorded.
 #[derive(Drop)]
 pub struct SharedClerk {
     number: u64,
@@ -65,11 +66,16 @@ impl Question<Clerk> for Look {
 }
 
 impl SharedClerk {
-    /// The clerk of this number, which has learnt nothing, and a pass for each lane of its lock, of
-    /// lane 0 first.
+    /// Creates a clerk that knows no assignment, and a pass for each lane of its lock, lane 0
+    /// first.
     ///
-    /// Its history is to have `limit` entries at the most. It is refused with [`NewLockError::Lanes`]
-    /// where `lanes` is not 1 to 8 or `limit` not 1 to 65,536, and then where memory runs out.
+    /// `number` is the number under which the clerk's calls are recorded. The history of the lock
+    /// holds at most `limit` entries.
+    ///
+    /// # Errors
+    ///
+    /// In this order: [`NewLockError::Lanes`] if `lanes` is not 1 to 8 or `limit` is not 1 to
+    /// 65,536, and out of memory.
     pub fn new(
         alloc: Global,
         number: u64,
@@ -87,9 +93,12 @@ impl SharedClerk {
         }
     }
 
-    /// Learns an assignment that is newer than the one that the clerk keeps.
+    /// Learns an assignment that is newer than the one that the clerk knows.
     ///
-    /// Refused as [`CallError`] says; the clerk refuses by `Old`.
+    /// # Errors
+    ///
+    /// Those of [`CallError`], in its order. The clerk refuses with `Old`. An error leaves the
+    /// clerk and its history unchanged.
     pub fn learn<R: Wait>(
         &self,
         rt: &R,
@@ -108,9 +117,12 @@ impl SharedClerk {
         }
     }
 
-    /// Forgets what the clerk learnt.
+    /// Forgets the assignment that the clerk knows.
     ///
-    /// Refused as [`CallError`] says; the clerk refuses nothing.
+    /// # Errors
+    ///
+    /// Those of [`CallError`], in its order. The clerk refuses nothing. An error leaves the clerk
+    /// and its history unchanged.
     pub fn forget<R: Wait>(
         &self,
         rt: &R,
@@ -128,8 +140,10 @@ impl SharedClerk {
         }
     }
 
-    /// The tasks that own a key, as the clerk knows, and the generation that says so; `Unknown` where it
-    /// keeps no assignment. Refused where the ticket pass is spent.
+    /// Returns the tasks that own a key as far as the clerk knows, and the generation that says so.
+    ///
+    /// The answer is `Unknown` if the clerk knows no assignment. Fails with [`Spent`] if the ticket
+    /// pass may draw no more.
     pub fn look<R: Wait>(
         &self,
         rt: &R,
@@ -164,9 +178,10 @@ impl SharedClerk {
         })
     }
 
-    /// Gives back the clerk and the history of its calls, if the passes of all lanes are there.
+    /// Closes the object and returns the clerk and the history of its calls.
     ///
-    /// [`NotClosed`] hands the object and the passes back.
+    /// The passes of all lanes must be given. If one is missing, [`NotClosed`] returns the object
+    /// and the passes unchanged.
     pub fn close(
         self,
         passes: Vec<Pass<Clerk>>,
@@ -188,7 +203,7 @@ impl SharedClerk {
         }
     }
 
-    // One write of the call that is requested, and the reply of the clerk.
+    // Makes one write of the requested call, and returns the clerk's reply.
     fn call<R: Wait, Q: Request<ClerkCall>>(
         &self,
         rt: &R,

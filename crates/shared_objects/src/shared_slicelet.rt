@@ -39,7 +39,7 @@ use std::marker::Model;
 use std::sync::Wait;
 use tickets::Spent;
 
-/// The slicelet of a task under a lock of its own. Contracts see the lock.
+/// The slicelet of a task under a lock of its own, which threads share. Contracts see the lock.
 #[derive(Drop)]
 pub struct SharedSlicelet {
     task: TaskId,
@@ -58,12 +58,12 @@ impl Model for SharedSlicelet {
     ghost invariant = { λ s. s.lock.opened.machine.task ≡ s.task };
 }
 
-/// Whether the task may serve a key at a reading of its clock, in ticks.
+/// A question whether the task may serve a key at a reading of its clock.
 #[derive(Clone, Copy, Debug, PartialEq, Eq)]
 pub struct KeyAsk {
     /// The key.
     pub key: SliceKey,
-    /// The reading.
+    /// The reading of the task's clock, in ticks.
     pub when: When,
 }
 
@@ -124,10 +124,15 @@ impl Question<Slicelet> for AskCheck {
 }
 
 impl SharedSlicelet {
-    /// The slicelet of a task before its first call, and a pass for each lane of its lock, of lane 0 first.
+    /// Creates the slicelet of a task before its first call, and a pass for each lane, lane 0
+    /// first.
     ///
-    /// Its history is to have `limit` entries at the most. It is refused with [`NewLockError::Lanes`]
-    /// where `lanes` is not 1 to 8 or `limit` not 1 to 65,536, and then where memory runs out.
+    /// The history of the lock holds at most `limit` entries.
+    ///
+    /// # Errors
+    ///
+    /// In this order: [`NewLockError::Lanes`] if `lanes` is not 1 to 8 or `limit` is not 1 to
+    /// 65,536, and out of memory.
     pub fn new(
         alloc: Global,
         task: TaskId,
@@ -145,9 +150,12 @@ impl SharedSlicelet {
         }
     }
 
-    /// Starts a life of the task.
+    /// Starts a life of the task, at a reading of its clock in ticks.
     ///
-    /// Refused as [`CallError`] says; the slicelet refuses by `OldLife`, `ClockBack` and `HistoryFull`.
+    /// # Errors
+    ///
+    /// Those of [`CallError`], in its order. The slicelet refuses with `OldLife`, `ClockBack` and
+    /// `HistoryFull`, in this order. An error leaves the slicelet and its history unchanged.
     pub fn start<R: Wait>(
         &self,
         rt: &R,
@@ -164,10 +172,13 @@ impl SharedSlicelet {
         self.call(rt, pass, draws, Start { life }, when)
     }
 
-    /// Hears a grant: its lease takes the place of the one of its kind.
+    /// Hears a grant, whose lease replaces the one of its kind.
     ///
-    /// Refused as [`CallError`] says; the slicelet refuses by `NotStarted`, `ClockBack`, `OtherTask`,
-    /// `OtherLife`, `Old`, `TooLate` and `HistoryFull`.
+    /// # Errors
+    ///
+    /// Those of [`CallError`], in its order. The slicelet refuses with `NotStarted`, `ClockBack`,
+    /// `OtherTask`, `OtherLife`, `Old`, `TooLate` and `HistoryFull`, in this order. An error leaves
+    /// the slicelet and its history unchanged.
     pub fn hear<R: Wait>(
         &self,
         rt: &R,
@@ -184,10 +195,13 @@ impl SharedSlicelet {
         self.call(rt, pass, draws, Hear { grant }, when)
     }
 
-    /// Gives up the lease of a kind, and answers the note of it.
+    /// Releases the lease of a kind, and returns the note of the release.
     ///
-    /// Refused as [`CallError`] says; the slicelet refuses by `NotStarted`, `ClockBack`, `NothingHeld` and
-    /// `HistoryFull`.
+    /// # Errors
+    ///
+    /// Those of [`CallError`], in its order. The slicelet refuses with `NotStarted`, `ClockBack`,
+    /// `NothingHeld` and `HistoryFull`, in this order. An error leaves the slicelet and its history
+    /// unchanged.
     pub fn release<R: Wait>(
         &self,
         rt: &R,
@@ -204,8 +218,9 @@ impl SharedSlicelet {
         self.call(rt, pass, draws, Release { kind }, when)
     }
 
-    /// Whether the task may serve a key at a reading of its clock, in ticks. Refused where the ticket pass is
-    /// spent.
+    /// Returns whether the task may serve a key at a reading of its clock, in ticks.
+    ///
+    /// Fails with [`Spent`] if the ticket pass may draw no more.
     pub fn serve<R: Wait>(
         &self,
         rt: &R,
@@ -227,8 +242,9 @@ impl SharedSlicelet {
         Ok(self.served(ask, drawn, answer))
     }
 
-    /// [`Self::serve`] by a worker, which calls the gate of its turn once it drew its ticket, while its lane is
-    /// held.
+    /// Does what [`Self::serve`] does, and calls a gate inside the call.
+    ///
+    /// The gate of `turn` is called after the ticket was drawn, while the lane is held.
     pub fn serve_gated<R: Wait, G: Gate>(
         &self,
         rt: &R,
@@ -249,7 +265,11 @@ impl SharedSlicelet {
         Ok(self.served(ask, drawn, answer))
     }
 
-    /// [`Self::serve`] that does not wait: refused where the ticket pass is spent, and then where a lane is held.
+    /// Does what [`Self::serve`] does, without waiting.
+    ///
+    /// # Errors
+    ///
+    /// Those of [`TryError`], in its order: the ticket pass may draw no more, or a lane is held.
     pub fn try_serve(
         &self,
         pass: &mut Pass<Slicelet>,
@@ -270,8 +290,10 @@ impl SharedSlicelet {
         Ok(self.served(ask, drawn, answer))
     }
 
-    /// A handle on a key, where the task may serve it at a reading of its clock, in ticks; else the reason why it
-    /// may not. Refused where the ticket pass is spent.
+    /// Returns a handle on a key if the task may serve it at a reading of its clock, in ticks.
+    ///
+    /// Otherwise the answer is the ground on which the key is denied. Fails with [`Spent`] if the
+    /// ticket pass may draw no more.
     pub fn hold<R: Wait>(
         &self,
         rt: &R,
@@ -311,8 +333,10 @@ impl SharedSlicelet {
         })
     }
 
-    /// Whether a handle is continuous at a reading of the task's clock, in ticks; `Stranger` where the slicelet
-    /// cannot have given it. Refused where the ticket pass is spent.
+    /// Returns whether a handle is continuous at a reading of the task's clock, in ticks.
+    ///
+    /// The answer is `Stranger` if the slicelet cannot have returned the handle. Fails with
+    /// [`Spent`] if the ticket pass may draw no more.
     pub fn check<R: Wait>(
         &self,
         rt: &R,
@@ -335,9 +359,10 @@ impl SharedSlicelet {
         Ok(self.checked(&question, drawn, answer))
     }
 
-    /// Gives back the slicelet and the history of its calls, if the passes of all lanes are there.
+    /// Closes the object and returns the slicelet and the history of its calls.
     ///
-    /// [`NotClosed`] hands the object and the passes back.
+    /// The passes of all lanes must be given. If one is missing, [`NotClosed`] returns the object
+    /// and the passes unchanged.
     pub fn close(
         self,
         passes: Vec<Pass<Slicelet>>,
@@ -359,7 +384,7 @@ impl SharedSlicelet {
         }
     }
 
-    // What is handed out of a key that was asked for.
+    // Returns the answer for a key with its record.
     fn served(&self, ask: KeyAsk, drawn: u64, answer: Verdict) -> Recorded<Verdict>
         ensures answer { result.answer ≡ answer }
         ensures ticket { result.call.ticket ≡ drawn }
@@ -382,7 +407,7 @@ impl SharedSlicelet {
         }
     }
 
-    // What is handed out of a handle that was checked.
+    // Returns the answer for a checked handle with its record.
     fn checked(
         &self,
         question: &AskCheck,
@@ -415,7 +440,7 @@ impl SharedSlicelet {
         }
     }
 
-    // One write of the call that is requested.
+    // Makes one write of the requested call.
     fn call<R: Wait, Q: SliceletRequest>(
         &self,
         rt: &R,

@@ -31,7 +31,7 @@ use std::marker::Model;
 use std::sync::Wait;
 use tickets::Spent;
 
-/// A lease table under a lock of its own. Contracts see the lock.
+/// A lease table under a lock of its own, which threads share. Contracts see the lock.
 #[derive(Drop)]
 pub struct SharedTable {
     lock: LaneLock<LeaseTable>,
@@ -76,7 +76,7 @@ impl Question<LeaseTable> for AskRows {
     }
 }
 
-// A copy of the committed assignment.
+// Copies the committed assignment.
 fn committed_in(table: &LeaseTable) -> Result<Option<Assignment>, AllocError>
     ensures { IfOk result (λ assignment. assignment ≡ table.now.committed) }
 {
@@ -87,10 +87,14 @@ fn committed_in(table: &LeaseTable) -> Result<Option<Assignment>, AllocError>
 }
 
 impl SharedTable {
-    /// A table before its first call, and a pass for each lane of its lock, of lane 0 first.
+    /// Creates a table before its first call, and a pass for each lane of its lock, lane 0 first.
     ///
-    /// Its history is to have `limit` entries at the most. It is refused with [`NewLockError::Lanes`]
-    /// where `lanes` is not 1 to 8 or `limit` not 1 to 65,536, and then where memory runs out.
+    /// The history of the lock holds at most `limit` entries.
+    ///
+    /// # Errors
+    ///
+    /// In this order: [`NewLockError::Lanes`] if `lanes` is not 1 to 8 or `limit` is not 1 to
+    /// 65,536, and out of memory.
     pub fn new(
         alloc: Global,
         policy: Policy,
@@ -110,7 +114,10 @@ impl SharedTable {
 
     /// Gives the job lease to an assigner, for the job's term from the reading on, in ticks.
     ///
-    /// Refused as [`CallError`] says; the table refuses by `ReadingRange`, `ClockBack` and `JobHeld`.
+    /// # Errors
+    ///
+    /// Those of [`CallError`], in its order. The table refuses with `ReadingRange`, `ClockBack` and
+    /// `JobHeld`, in this order. An error leaves the table and its history unchanged.
     pub fn take<R: Wait>(
         &self,
         rt: &R,
@@ -127,9 +134,13 @@ impl SharedTable {
         self.call(rt, pass, draws, Take { assigner }, when)
     }
 
-    /// Renews the job lease of the term with this number, for the job's term from the reading on, in ticks.
+    /// Renews the job lease of the term with this number, for the job's term from the reading on,
+    /// in ticks.
     ///
-    /// Refused as [`CallError`] says; the table refuses by `ReadingRange`, `ClockBack` and `NotHolder`.
+    /// # Errors
+    ///
+    /// Those of [`CallError`], in its order. The table refuses with `ReadingRange`, `ClockBack` and
+    /// `NotHolder`, in this order. An error leaves the table and its history unchanged.
     pub fn renew<R: Wait>(
         &self,
         rt: &R,
@@ -148,8 +159,11 @@ impl SharedTable {
 
     /// Proposes the assignment of the next generation under a term.
     ///
-    /// Refused as [`CallError`] says; the table refuses by `ReadingRange`, `ClockBack`, `NotHolder`,
-    /// `StaleBase`, `Pending` and `TooManyOwnersForJob`.
+    /// # Errors
+    ///
+    /// Those of [`CallError`], in its order. The table refuses with `ReadingRange`, `ClockBack`,
+    /// `NotHolder`, `StaleBase`, `Pending` and `TooManyOwnersForJob`, in this order. An error
+    /// leaves the table and its history unchanged.
     pub fn propose<R: Wait>(
         &self,
         rt: &R,
@@ -166,10 +180,13 @@ impl SharedTable {
         self.call(rt, pass, draws, proposal, when)
     }
 
-    /// Commits the assignment that is proposed, under the term with this number, and answers its generation.
+    /// Commits the proposed assignment under the term with this number, and returns its generation.
     ///
-    /// Refused as [`CallError`] says; the table refuses by `ReadingRange`, `ClockBack`, `NotHolder`,
-    /// `NothingPending`, `Grace` and `Held`.
+    /// # Errors
+    ///
+    /// Those of [`CallError`], in its order. The table refuses with `ReadingRange`, `ClockBack`,
+    /// `NotHolder`, `NothingPending`, `Grace` and `Held`, in this order. An error leaves the table
+    /// and its history unchanged.
     pub fn commit<R: Wait>(
         &self,
         rt: &R,
@@ -188,8 +205,11 @@ impl SharedTable {
 
     /// Grants a task a lease for one of its lives.
     ///
-    /// Refused as [`CallError`] says; the table refuses by `ReadingRange`, `ClockBack`, `NoAssignment` and
-    /// `NumbersSpent`.
+    /// # Errors
+    ///
+    /// Those of [`CallError`], in its order. The table refuses with `ReadingRange`, `ClockBack`,
+    /// `NoAssignment` and `NumbersSpent`, in this order. An error leaves the table and its history
+    /// unchanged.
     pub fn grant<R: Wait>(
         &self,
         rt: &R,
@@ -206,9 +226,12 @@ impl SharedTable {
         self.call(rt, pass, draws, life, when)
     }
 
-    /// Frees the rows that a note closes and that have not ended, and answers how many they are.
+    /// Frees the rows that a note closes and that have not ended, and returns how many they are.
     ///
-    /// Refused as [`CallError`] says; the table refuses by `ReadingRange`, `ClockBack` and `NoRow`.
+    /// # Errors
+    ///
+    /// Those of [`CallError`], in its order. The table refuses with `ReadingRange`, `ClockBack` and
+    /// `NoRow`, in this order. An error leaves the table and its history unchanged.
     pub fn free<R: Wait>(
         &self,
         rt: &R,
@@ -225,11 +248,15 @@ impl SharedTable {
         self.call(rt, pass, draws, Free { note }, when)
     }
 
-    /// Restarts the table, which loses its rows, and answers how many of them were open at the last accepted
-    /// reading, as [`Self::rows`] lists them.
+    /// Restarts the table, which loses its rows, and returns how many of them were open.
     ///
-    /// A restart has no reading. Fails as [`CallError`] says, but the table never refuses it, so that it never
-    /// has a record.
+    /// The rows counted are those that [`Self::rows`] listed at the last accepted reading. A
+    /// restart has no reading.
+    ///
+    /// # Errors
+    ///
+    /// Those of [`CallError`], in its order. The table never refuses a restart, so it never has a
+    /// record. An error leaves the table and its history unchanged.
     #[tactic(auto, using(crate::proofs::Restarting::restart_accepts))]
     pub fn restart<R: Wait>(
         &self,
@@ -246,7 +273,9 @@ impl SharedTable {
         self.call(rt, pass, draws, Restart, When::AtTicket)
     }
 
-    /// Whether an assignment is proposed, and the generations. Refused where the ticket pass is spent.
+    /// Returns whether an assignment is proposed, and the generations.
+    ///
+    /// Fails with [`Spent`] if the ticket pass may draw no more.
     pub fn phase<R: Wait>(
         &self,
         rt: &R,
@@ -272,8 +301,14 @@ impl SharedTable {
         })
     }
 
-    /// The rows that are neither freed nor ended at the last accepted reading, in grant order. Refused where
-    /// the ticket pass is spent, and then where memory runs out.
+    /// Returns the open rows: those neither freed nor ended at the last accepted reading, in grant
+    /// order.
+    ///
+    /// Rows that a restart lost are not listed.
+    ///
+    /// # Errors
+    ///
+    /// Those of [`RowsError`], in its order: the ticket pass may draw no more, or memory ran out.
     pub fn rows<R: Wait>(
         &self,
         rt: &R,
@@ -306,8 +341,9 @@ impl SharedTable {
         })
     }
 
-    /// A copy of the committed assignment, where one is committed. No ticket is drawn for it, and it has no
-    /// record.
+    /// Returns a copy of the committed assignment, if one is committed.
+    ///
+    /// The call draws no ticket and has no record. Fails only if memory runs out.
     pub fn committed<R: Wait>(
         &self,
         rt: &R,
@@ -320,9 +356,10 @@ impl SharedTable {
         self.lock.shared(rt, pass, &mut committed_in)
     }
 
-    /// Gives back the table and the history of its calls, if the passes of all lanes are there.
+    /// Closes the object and returns the table and the history of its calls.
     ///
-    /// [`NotClosed`] hands the object and the passes back.
+    /// The passes of all lanes must be given. If one is missing, [`NotClosed`] returns the object
+    /// and the passes unchanged.
     pub fn close(
         self,
         passes: Vec<Pass<LeaseTable>>,
@@ -344,7 +381,7 @@ impl SharedTable {
         }
     }
 
-    // One write of the call that is requested.
+    // Makes one write of the requested call.
     fn call<R: Wait, Q: TableRequest>(
         &self,
         rt: &R,

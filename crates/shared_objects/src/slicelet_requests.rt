@@ -1,4 +1,4 @@
-//! What a slicelet is asked to do.
+//! Requests to a slicelet.
 
 ghost use Rattle.std.specs.Prelude.{◌≡◌, ℕ, Ok, Some};
 ghost use Rattle.slicelet.specs.Steps.{slicelet_step};
@@ -13,15 +13,15 @@ use lease_table::{Grant, ReleaseNote};
 use policy_rules::Kind;
 use slicelet::{SliceletCall, SliceletReply};
 
-/// A request to a slicelet, and the answer that its caller has.
+/// A request to a slicelet, and the answer that its caller gets.
 pub(crate) trait SliceletRequest: Request<SliceletCall> {
-    /// What the caller is answered.
+    /// The answer that the caller gets.
     type Answer;
 
-    // The reply of the slicelet that an answer stands for.
+    // The slicelet's reply for an answer.
     ghost reply_for: { Self.Answer → SliceletReply };
 
-    /// The answer that a reply stands for, if it replies to such a request.
+    /// Returns the answer for a reply, if it is a reply to such a request.
     fn answer(reply: SliceletReply) -> Option<Self::Answer>
         ensures { (answer : Self.Answer) → reply ≡ reply_for answer → result ≡ Some answer };
 
@@ -92,7 +92,7 @@ impl SliceletRequest for Hear {
     ghost named = { λ slicelet request at after reply answered. named_reply _ _ _ _ answered };
 }
 
-/// Gives up the lease of a kind.
+/// Releases the lease of a kind.
 #[derive(Drop)]
 pub(crate) struct Release {
     pub(crate) kind: Kind,

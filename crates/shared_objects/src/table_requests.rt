@@ -1,4 +1,4 @@
-//! What a lease table is asked to do.
+//! Requests to a lease table.
 
 ghost use Rattle.std.specs.Prelude.{◌≡◌, ℕ, Ok, Some};
 ghost use Rattle.lease_table.specs.Calls.{table_step};
@@ -13,15 +13,15 @@ use crate::calls::Request;
 use assignment::{Assignment, TaskId};
 use lease_table::{Grant, JobTerm, ReleaseNote, TableCall, TableReply};
 
-/// A request to the table, and the answer that its caller has.
+/// A request to the table, and the answer that its caller gets.
 pub(crate) trait TableRequest: Request<TableCall> {
-    /// What the caller is answered.
+    /// The answer that the caller gets.
     type Answer;
 
-    // The reply of the table that an answer stands for.
+    // The table's reply for an answer.
     ghost reply_for: { Self.Answer → TableReply };
 
-    /// The answer that a reply stands for, if it replies to such a request.
+    /// Returns the answer for a reply, if it is a reply to such a request.
     fn answer(reply: TableReply) -> Option<Self::Answer>
         ensures { (answer : Self.Answer) → reply ≡ reply_for answer → result ≡ Some answer };
 
@@ -94,7 +94,7 @@ impl TableRequest for Renew {
     ghost named = { λ table request at after reply answered. named_reply _ _ _ _ answered };
 }
 
-/// An assignment that is to be proposed under a term.
+/// A proposal for the table: an assignment, and the term under which it is proposed.
 #[derive(Drop)]
 pub struct Proposal {
     /// The number of the term.
@@ -131,7 +131,7 @@ impl TableRequest for Proposal {
     ghost named = { λ table request at after reply answered. named_reply _ _ _ _ answered };
 }
 
-/// Commits what is proposed under a term.
+/// Commits the proposal under a term.
 #[derive(Drop)]
 pub(crate) struct Commit {
     pub(crate) term: u64,

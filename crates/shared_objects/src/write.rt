@@ -15,7 +15,7 @@ use history_lock::{LaneLock, Pass, WriteError};
 use machines::{Duplicate, Event, Machine};
 use std::sync::Wait;
 
-// One write of the lock, whose event is the call that is ordered, at the ticket that it draws.
+// Makes one write of the lock, whose event is the ordered call at the ticket that it draws.
 pub(crate) fn write<
     R: Wait,
     X: Copy,
@@ -69,7 +69,7 @@ pub(crate) fn write<
     }
 }
 
-// What is handed out of an event of an actor that the machine refuses.
+// Returns the refusal of an actor's event by the machine, with its record.
 fn refused_call<X: Copy, C: SharedCall<X>>(actor: u64, event: Event<C>, fault: X) -> RefusedCall<X>
     ensures fault { result.fault ≡ fault }
     ensures ticket { result.call.ticket ≡ event.ticket }

@@ -1,4 +1,4 @@
-//! What a clerk learns, answers and forgets.
+//! What a clerk learns, returns and forgets.
 
 use crate::samples::{HALF, again, assignment_of};
 use assignment::Assignment;

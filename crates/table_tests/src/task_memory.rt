@@ -1,5 +1,5 @@
-//! A slicelet where memory is refused: the call that wanted it leaves the slicelet as it was, and answers
-//! the next time as with ample memory.
+//! A slicelet when memory runs out: the call that needed it leaves the slicelet unchanged, and
+//! returns the next time what it returns with ample memory.
 
 use crate::samples::again;
 use crate::task_samples::{allow, copy_of, grant_of, hear, release, serve, slicelet_of, start};

@@ -1,4 +1,5 @@
-//! A task that writes only while it may serve: what a caller of the step machine knows.
+//! A task that writes only while it may serve: an example of what a caller of the step machine
+//! knows.
 #![tactic(auto)]
 
 mod writes;

@@ -13,12 +13,12 @@ use policy_rules::Verdict;
 use std::alloc::AllocError;
 use world::{Reply, Step, World};
 
-/// Writes a value to what a task keeps where the task may serve the key at its reading, and answers
-/// whether it did.
+/// Writes a value to a task's record if the task may serve the key, and returns whether it did.
 ///
-/// Where it did, and the clocks were timely, the task owned the key in the committed assignment when
-/// it wrote, and where a slice has at most one owner, no other task might serve the key. Where there was no memory to
-/// ask, nothing changed.
+/// `at` is a reading of the task's clock, in ticks. If it wrote and the clocks were timely, the
+/// task owned the key in the committed assignment when it wrote. If a slice has at most one owner,
+/// no other task might serve the key at that time. Fails only if memory runs out, and then changes
+/// nothing.
 pub fn write_if_served(
     world: &mut World,
     task: u64,

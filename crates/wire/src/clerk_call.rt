@@ -13,7 +13,7 @@ use program_io::{exactly, text_at};
 use serde_json::{Value, json};
 use std::alloc::{AllocError, Global};
 
-// The call as JSON.
+// Writes the call as JSON.
 fn clerk_call_json(alloc: Global, call: &ClerkCall) -> Result<Value, AllocError>
     ensures { IfOk result (λ v. view v ≡ clerk_call_data call.now) }
 {
@@ -47,7 +47,7 @@ fn forget_of(value: &Value) -> Result<ClerkCall, Refusal>
     Ok(ClerkCall::Forget)
 }
 
-// The call that JSON says.
+// Reads a call from JSON.
 #[tactic(auto, unfolding(crate::specs::ClerkCalls::clerk_call_of))]
 fn clerk_call_of(alloc: Global, value: &Value) -> Result<ClerkCall, DecodeError>
     ensures { Gives result (clerk_call_of (view value.now)) }
@@ -59,7 +59,7 @@ fn clerk_call_of(alloc: Global, value: &Value) -> Result<ClerkCall, DecodeError>
     }
 }
 
-// What is written of a call is read as the call.
+// States that reading what was written of a call gives the same call.
 fn clerk_call_law(call: &ClerkCall)
     ensures { clerk_call_of (clerk_call_data call.now) ≡ Ok call.now }
 {
@@ -93,7 +93,7 @@ impl Wire for ClerkCall {
     }
 }
 
-// The reply as JSON.
+// Writes the reply as JSON.
 fn clerk_reply_json(alloc: Global, reply: &ClerkReply) -> Result<Value, AllocError>
     ensures { IfOk result (λ v. view v ≡ clerk_reply_data reply.now) }
 {
@@ -119,7 +119,7 @@ fn forgotten_of(value: &Value) -> Result<ClerkReply, Refusal>
     Ok(ClerkReply::Forgotten)
 }
 
-// The reply that JSON says.
+// Reads a reply from JSON.
 #[tactic(auto, unfolding(crate::specs::ClerkCalls::clerk_reply_of))]
 fn clerk_reply_of(value: &Value) -> Result<ClerkReply, Refusal>
     ensures { result ≡ clerk_reply_of (view value.now) }

@@ -11,19 +11,21 @@ use slice_ranges::RangesError;
 use std::alloc::{AllocError, AllocFailed};
 use thiserror::Error;
 
-/// Why bytes are no message of a type. The version is looked at first, then the type, then the value.
+/// Why bytes are not a message of a type.
+///
+/// The version is checked first, then the type, then the value.
 #[derive(Clone, Copy, Debug, PartialEq, Eq, Error)]
 pub enum Refusal {
-    /// The bytes are the text of no JSON value.
+    /// The bytes are not the text of a JSON value.
     #[error("not JSON")]
     NotJson,
-    /// The message has this version, which is not read here.
+    /// The message has this version, which this crate does not read.
     #[error("version {0}")]
     Version(u64),
     /// The value is of another type.
     #[error("another type")]
     OtherType,
-    /// A member is missing, is not known, or has not the form that is wanted of it.
+    /// A member is missing, is unknown, or does not have the form that it must have.
     #[error("wrong form")]
     WrongForm,
     /// The slices make no assignment, for this reason.
@@ -34,13 +36,13 @@ pub enum Refusal {
     Ranges(RangesError),
 }
 
-/// Why bytes are not decoded.
+/// Why decoding failed: the bytes are refused, or memory ran out.
 #[derive(Clone, Copy, Debug, PartialEq, Eq, Error)]
 pub enum DecodeError {
-    /// They are no message of the type.
+    /// The bytes are not a message of the type, for this reason.
     #[error("{0}")]
     Refused(Refusal),
-    /// There was no memory for the value.
+    /// Memory ran out.
     #[error("out of memory")]
     NoMemory,
 }

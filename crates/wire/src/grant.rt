@@ -15,7 +15,7 @@ use program_io::{exactly, member_at, number_at};
 use serde_json::{Value, json};
 use std::alloc::{AllocError, Global};
 
-/// The grant as JSON.
+/// Writes the grant as JSON.
 pub fn grant_json(alloc: Global, grant: &Grant) -> Result<Value, AllocError>
     ensures { IfOk result (λ v. view v ≡ grant_data grant.now) }
 {
@@ -32,7 +32,7 @@ pub fn grant_json(alloc: Global, grant: &Grant) -> Result<Value, AllocError>
     })
 }
 
-/// The grant that JSON says.
+/// Reads a grant from JSON.
 #[tactic(auto, unfolding(crate::specs::Grants::grant_of))]
 pub fn grant_of(alloc: Global, value: &Value) -> Result<Grant, DecodeError>
     ensures { Gives result (grant_of (view value.now)) }
@@ -72,7 +72,7 @@ pub fn grant_of(alloc: Global, value: &Value) -> Result<Grant, DecodeError>
     })
 }
 
-/// What is written of a grant is read as the grant.
+/// States that reading what was written of a grant gives the same grant.
 #[tactic(auto, using(crate::proofs::Grants::grant_read))]
 pub fn grant_law(grant: &Grant)
     ensures { grant_of (grant_data grant.now) ≡ Ok grant.now }

@@ -14,7 +14,7 @@ use slice_ranges::SliceKey;
 use slicelet::KeyHandle;
 use std::alloc::{AllocError, Global};
 
-/// The handle as JSON.
+/// Writes the handle as JSON.
 pub fn handle_json(alloc: Global, handle: &KeyHandle) -> Result<Value, AllocError>
     ensures { IfOk result (λ v. view v ≡ handle_data handle.now) }
 {
@@ -26,7 +26,7 @@ pub fn handle_json(alloc: Global, handle: &KeyHandle) -> Result<Value, AllocErro
     })
 }
 
-// The member of this name, as a slice key.
+// Returns the member with this name as a slice key.
 fn slice_key_at(name: &str, value: &Value) -> Result<SliceKey, WrongForm>
     ensures { result ≡ slice_key_at name.now (view value.now) }
 {
@@ -36,7 +36,7 @@ fn slice_key_at(name: &str, value: &Value) -> Result<SliceKey, WrongForm>
     }
 }
 
-/// The handle that JSON says.
+/// Reads a handle from JSON.
 #[tactic(auto, unfolding(crate::specs::Handles::handle_of))]
 pub fn handle_of(value: &Value) -> Result<KeyHandle, WrongForm>
     ensures { result ≡ handle_of (view value.now) }
@@ -50,7 +50,7 @@ pub fn handle_of(value: &Value) -> Result<KeyHandle, WrongForm>
     })
 }
 
-// What is written of a handle is read as the handle.
+// States that reading what was written of a handle gives the same handle.
 #[tactic(auto, using(crate::proofs::Handles::handle_read))]
 fn handle_law(handle: &KeyHandle)
     ensures { handle_of (handle_data handle.now) ≡ Ok handle.now }

@@ -1,4 +1,4 @@
-//! What the members of leases and their calls say, each by one call.
+//! Readers of the members of leases and their calls.
 
 ghost use Rattle.std.specs.Prelude.{◌≡◌};
 ghost use Rattle.serde_json.specs.View.{view};
@@ -12,7 +12,7 @@ use serde_json::Value;
 /// How many lives there are.
 const LIVES: u64 = 1 << 32;
 
-/// The word for a kind of lease.
+/// Returns the word for a kind of lease.
 pub fn kind_word(kind: Kind) -> &'static str
     ensures { result.now ≡ kind_word kind }
 {
@@ -22,7 +22,7 @@ pub fn kind_word(kind: Kind) -> &'static str
     }
 }
 
-/// The member of this name, as a kind of lease.
+/// Returns the member with this name as a kind of lease.
 pub fn kind_at(name: &str, value: &Value) -> Result<Kind, WrongForm>
     ensures { result ≡ kind_at name.now (view value.now) }
 {
@@ -33,7 +33,7 @@ pub fn kind_at(name: &str, value: &Value) -> Result<Kind, WrongForm>
     }
 }
 
-/// The member of this name, as the number of a life.
+/// Returns the member with this name as the number of a life.
 pub fn life_at(name: &str, value: &Value) -> Result<u32, WrongForm>
     ensures { result ≡ life_at name.now (view value.now) }
 {
@@ -45,7 +45,7 @@ pub fn life_at(name: &str, value: &Value) -> Result<u32, WrongForm>
     }
 }
 
-/// The member of this name, as a task that there may be.
+/// Returns the member with this name as a task number that a job may have.
 pub fn task_at(name: &str, value: &Value) -> Result<TaskId, WrongForm>
     ensures { result ≡ task_at name.now (view value.now) }
 {

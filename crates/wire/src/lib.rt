@@ -1,7 +1,7 @@
 //! Values as bytes, so that any transport can carry them.
 //!
-//! A message is a JSON object with the type of its value, the value and a version. [`encode`] writes it and
-//! [`decode`] reads it; what is decoded from the bytes of a value is that value.
+//! A message is a JSON object with the type of its value, the value and a version. [`encode`]
+//! writes it and [`decode`] reads it. Decoding the bytes of a value gives the same value.
 #![tactic(auto)]
 
 mod clerk_call;

@@ -12,10 +12,10 @@ use program_io::{Unread, exactly, member_at, number_at, text_at, value_of};
 use serde_json::{Value, json};
 use std::alloc::{AllocError, Global};
 
-/// The version of the messages that are written and read here.
+/// The version of the messages that this crate writes and reads.
 pub const VERSION: u64 = 1;
 
-/// A value that travels as bytes.
+/// A value that can be written as the bytes of a message and read back.
 pub trait Wire: Drop {
     // The name of its type.
     ghost name: { List ℕ };
@@ -25,29 +25,29 @@ pub trait Wire: Drop {
 
     ghost form: { Data → Result Self Refusal };
 
-    /// The name of its type in a message.
+    /// Returns the name of the type in a message.
     fn name() -> &'static str
         ensures { result.now ≡ name };
 
-    /// The value as JSON.
+    /// Writes the value as JSON.
     fn to_json(&self, alloc: Global) -> Result<Value, AllocError>
         ensures { IfOk result (λ v. IsWritten data_of form self.now (view v)) };
 
-    /// The value that JSON says.
+    /// Reads a value from JSON.
     fn of_json(alloc: Global, value: &Value) -> Result<Self, DecodeError>
     where
         Self: Sized,
         ensures { Gives result (form (view value.now)) };
 }
 
-// The value of a type in a message.
+// Writes a message with a value of the type with this name.
 fn message_json(alloc: Global, name: &str, value: Value) -> Result<Value, AllocError>
     ensures { IfOk result (λ v. view v ≡ message_data name.now (view value)) }
 {
     json!(in alloc; {"type": name, "value": value, "version": VERSION})
 }
 
-// What a message of the type of this name has as its value.
+// Returns the value in a message of the type with this name.
 #[tactic(auto, unfolding(crate::specs::Messages::content_of))]
 fn content_of<'v>(name: &str, message: &'v Value) -> Result<&'v Value, Refusal>
     ensures { IsRead (λ v. view v.now) result (content_of name.now (view message.now)) }
@@ -63,7 +63,9 @@ fn content_of<'v>(name: &str, message: &'v Value) -> Result<&'v Value, Refusal>
     Ok(member_at("value", message)?)
 }
 
-/// The bytes of a value, as a message of its type.
+/// Encodes a value as the bytes of a message of its type.
+///
+/// Fails only if memory runs out.
 pub fn encode<T: Wire>(alloc: Global, value: &T) -> Result<Vec<u8>, AllocError>
     ensures text { IfOk result (λ bytes. bytes.items ≡ message_text T.name (T.data_of value.now)) }
     ensures reads { IfOk result (λ bytes. IsMessage T.name T.form bytes.items value.now) }
@@ -72,9 +74,9 @@ pub fn encode<T: Wire>(alloc: Global, value: &T) -> Result<Vec<u8>, AllocError>
     message.to_vec(alloc)
 }
 
-/// The value that a message of its type says, or why the bytes are no such message.
+/// Decodes the bytes of a message of the type, or returns why they are not such a message.
 ///
-/// What is decoded from the bytes of a value is that value, unless memory runs out.
+/// Decoding the bytes of a value gives the same value, unless memory runs out.
 pub fn decode<T: Wire>(alloc: Global, bytes: &[u8]) -> Result<T, DecodeError>
     ensures ok { IfOk result (IsMessage T.name T.form bytes.now) }
     ensures err { IfErr result (IsUndecoded T.name T.form bytes.now) }

@@ -13,7 +13,7 @@ use program_io::{WrongForm, exactly, number_at};
 use serde_json::{Value, json};
 use std::alloc::{AllocError, Global};
 
-/// The note as JSON.
+/// Writes the note as JSON.
 pub fn note_json(alloc: Global, note: &ReleaseNote) -> Result<Value, AllocError>
     ensures { IfOk result (λ v. view v ≡ note_data note.now) }
 {
@@ -25,7 +25,7 @@ pub fn note_json(alloc: Global, note: &ReleaseNote) -> Result<Value, AllocError>
     })
 }
 
-/// The note that JSON says.
+/// Reads a note from JSON.
 #[tactic(auto, unfolding(crate::specs::Notes::note_of))]
 pub fn note_of(value: &Value) -> Result<ReleaseNote, WrongForm>
     ensures { result ≡ note_of (view value.now) }
@@ -39,7 +39,7 @@ pub fn note_of(value: &Value) -> Result<ReleaseNote, WrongForm>
     })
 }
 
-/// What is written of a note is read as the note.
+/// States that reading what was written of a note gives the same note.
 #[tactic(auto, using(crate::proofs::Notes::note_read))]
 pub fn note_law(note: &ReleaseNote)
     ensures { note_of (note_data note.now) ≡ Ok note.now }

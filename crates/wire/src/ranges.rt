@@ -12,7 +12,7 @@ use serde_json::{Value, json};
 use slice_ranges::Ranges;
 use std::alloc::{AllocError, Global};
 
-/// The set as pairs of a start and an end.
+/// Writes the set as pairs of a start and an end.
 pub fn ranges_json(alloc: Global, ranges: &Ranges) -> Result<Value, AllocError>
     ensures { IfOk result (λ v. view v ≡ ranges_data ranges.now) }
 {
@@ -25,7 +25,7 @@ pub fn ranges_json(alloc: Global, ranges: &Ranges) -> Result<Value, AllocError>
     Ok(Value::Array(pairs))
 }
 
-/// The set that an array of pairs says.
+/// Reads a set from an array of pairs.
 #[tactic(auto, unfolding(crate::specs::Ranges::ranges_of))]
 pub fn ranges_of(alloc: Global, value: &Value) -> Result<Ranges, DecodeError>
     ensures { Gives result (ranges_of (view value.now)) }

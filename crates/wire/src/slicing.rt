@@ -31,7 +31,7 @@ fn slice_json(alloc: Global, slice: &OwnedSlice) -> Result<Value, AllocError>
     json!(in alloc; [slice.start().value(), owners])
 }
 
-/// The slices as JSON.
+/// Writes the slices as JSON.
 pub fn slices_json(alloc: Global, slices: &[OwnedSlice]) -> Result<Value, AllocError>
     ensures { IfOk result (λ v. view v ≡ list_data slice_data slices.now) }
 {
@@ -42,7 +42,7 @@ pub fn slices_json(alloc: Global, slices: &[OwnedSlice]) -> Result<Value, AllocE
     Ok(Value::Array(list))
 }
 
-/// The assignment as JSON.
+/// Writes the assignment as JSON.
 pub fn assignment_json(alloc: Global, assignment: &Assignment) -> Result<Value, AllocError>
     ensures { IfOk result (λ v. view v ≡ assignment_data assignment.now) }
 {
@@ -50,7 +50,7 @@ pub fn assignment_json(alloc: Global, assignment: &Assignment) -> Result<Value, 
     json!(in alloc; {"generation": assignment.generation(), "slices": slices})
 }
 
-/// A slice, written as `[start, [owner, ..]]`.
+/// The form of a slice, written as `[start, [owner, ..]]`.
 pub struct SliceForm;
 
 impl Form for SliceForm {
@@ -68,7 +68,7 @@ impl Form for SliceForm {
     }
 }
 
-/// The members `generation` and `slices` of an object, as an assignment.
+/// Reads an assignment from the members `generation` and `slices` of an object.
 #[tactic(auto, unfolding(crate::specs::Assignments::slicing_in))]
 pub fn assignment_in(alloc: Global, value: &Value) -> Result<Assignment, DecodeError>
     ensures { Gives result (slicing_in (view value.now)) }
@@ -82,7 +82,7 @@ pub fn assignment_in(alloc: Global, value: &Value) -> Result<Assignment, DecodeE
     }
 }
 
-/// The assignment that JSON says.
+/// Reads an assignment from JSON.
 #[tactic(auto, unfolding(crate::specs::Assignments::assignment_of))]
 pub fn assignment_of(alloc: Global, value: &Value) -> Result<Assignment, DecodeError>
     ensures { Gives result (assignment_of (view value.now)) }
@@ -91,7 +91,7 @@ pub fn assignment_of(alloc: Global, value: &Value) -> Result<Assignment, DecodeE
     assignment_in(alloc, value)
 }
 
-// What is written of an assignment is read as the assignment.
+// States that reading what was written of an assignment gives the same assignment.
 #[tactic(auto, using(crate::proofs::Assignments::assignment_read))]
 fn assignment_law(assignment: &Assignment)
     ensures { assignment_of (assignment_data assignment.now) ≡ Ok assignment.now }

@@ -30,7 +30,7 @@ fn free_json(alloc: Global, note: &ReleaseNote, at: u64) -> Result<Value, AllocE
     json!(in alloc; {"at": at, "do": "free", "note": note})
 }
 
-// The call as JSON.
+// Writes the call as JSON.
 fn call_json(alloc: Global, call: &TableCall) -> Result<Value, AllocError>
     ensures { IfOk result (λ v. view v ≡ call_data call.now) }
 {
@@ -143,7 +143,7 @@ fn lose_of(value: &Value) -> Result<TableCall, Refusal>
     Ok(TableCall::Restart)
 }
 
-// The call that JSON says.
+// Reads a call from JSON.
 #[tactic(auto, unfolding(crate::specs::TableCalls::call_of))]
 fn call_of(alloc: Global, value: &Value) -> Result<TableCall, DecodeError>
     ensures { Gives result (call_of (view value.now)) }
@@ -160,7 +160,7 @@ fn call_of(alloc: Global, value: &Value) -> Result<TableCall, DecodeError>
     }
 }
 
-// What is written of a call is read as the call.
+// States that reading what was written of a call gives the same call.
 fn call_law(call: &TableCall)
     ensures { call_of (call_data call.now) ≡ Ok call.now }
 {

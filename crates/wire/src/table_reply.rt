@@ -13,7 +13,7 @@ use program_io::{exactly, member_at, number_at, text_at};
 use serde_json::{Value, json};
 use std::alloc::{AllocError, Global};
 
-// The reply as JSON.
+// Writes the reply as JSON.
 fn reply_json(alloc: Global, reply: &TableReply) -> Result<Value, AllocError>
     ensures { IfOk result (λ v. view v ≡ reply_data reply.now) }
 {
@@ -90,7 +90,7 @@ fn lost_of(value: &Value) -> Result<TableReply, Refusal>
     Ok(TableReply::Lost(number_at("rows", value)?))
 }
 
-// The reply that JSON says.
+// Reads a reply from JSON.
 #[tactic(auto, unfolding(crate::specs::TableReplies::reply_of))]
 fn reply_of(alloc: Global, value: &Value) -> Result<TableReply, DecodeError>
     ensures { Gives result (reply_of (view value.now)) }
@@ -106,7 +106,7 @@ fn reply_of(alloc: Global, value: &Value) -> Result<TableReply, DecodeError>
     }
 }
 
-// What is written of a reply is read as the reply.
+// States that reading what was written of a reply gives the same reply.
 fn reply_law(reply: &TableReply)
     ensures { reply_of (reply_data reply.now) ≡ Ok reply.now }
 {

@@ -15,7 +15,7 @@ use serde_json::{Value, json};
 use slicelet::{SliceletCall, SliceletReply};
 use std::alloc::{AllocError, Global};
 
-// The call as JSON.
+// Writes the call as JSON.
 fn task_call_json(alloc: Global, call: &SliceletCall) -> Result<Value, AllocError>
     ensures { IfOk result (λ v. view v ≡ task_call_data call.now) }
 {
@@ -65,7 +65,7 @@ fn release_of(value: &Value) -> Result<SliceletCall, Refusal>
     })
 }
 
-// The call that JSON says.
+// Reads a call from JSON.
 #[tactic(auto, unfolding(crate::specs::TaskCalls::task_call_of))]
 fn task_call_of(alloc: Global, value: &Value) -> Result<SliceletCall, DecodeError>
     ensures { Gives result (task_call_of (view value.now)) }
@@ -78,7 +78,7 @@ fn task_call_of(alloc: Global, value: &Value) -> Result<SliceletCall, DecodeErro
     }
 }
 
-// What is written of a call is read as the call.
+// States that reading what was written of a call gives the same call.
 fn task_call_law(call: &SliceletCall)
     ensures { task_call_of (task_call_data call.now) ≡ Ok call.now }
 {
@@ -113,7 +113,7 @@ impl Wire for SliceletCall {
     }
 }
 
-// The reply as JSON.
+// Writes the reply as JSON.
 fn task_reply_json(alloc: Global, reply: &SliceletReply) -> Result<Value, AllocError>
     ensures { IfOk result (λ v. view v ≡ task_reply_data reply.now) }
 {
@@ -152,7 +152,7 @@ fn released_of(value: &Value) -> Result<SliceletReply, Refusal>
     Ok(SliceletReply::Released(note))
 }
 
-// The reply that JSON says.
+// Reads a reply from JSON.
 #[tactic(auto, unfolding(crate::specs::TaskCalls::task_reply_of))]
 fn task_reply_of(value: &Value) -> Result<SliceletReply, Refusal>
     ensures { result ≡ task_reply_of (view value.now) }
@@ -165,7 +165,7 @@ fn task_reply_of(value: &Value) -> Result<SliceletReply, Refusal>
     }
 }
 
-// What is written of a reply is read as the reply.
+// States that reading what was written of a reply gives the same reply.
 fn task_reply_law(reply: &SliceletReply)
     ensures { task_reply_of (task_reply_data reply.now) ≡ Ok reply.now }
 {

@@ -1,4 +1,4 @@
-//! Actors by their numbers, and what a layer below refuses.
+//! Finding actors by their numbers, and refusals of the layers below as refusals of a step.
 
 ghost use Rattle.std.specs.Prelude.{◌≡◌, ◌+◌, ◌<◌, true, false, length, MatchResult};
 ghost use Rattle.machines.specs.declared.machine.Trouble.TheVariants as trouble;
@@ -12,7 +12,9 @@ use load_ledger::LoadError;
 use machines::Trouble;
 use weighted_move::PlanError;
 
-/// The place of the actor of this number; refused where there is none.
+/// Returns the place of the actor with this number, or refuses with `NoActor`.
+///
+/// Numbers begin with 1, places with 0.
 pub fn place_of<A>(number: u64, actors: &[A]) -> Result<usize, Trouble<Refusal>>
     ensures { MatchResult result
         (λ place. (place + 1 ≡ number) × (place < length actors.now))
@@ -24,7 +26,7 @@ pub fn place_of<A>(number: u64, actors: &[A]) -> Result<usize, Trouble<Refusal>>
     }
 }
 
-/// Refused where there is no actor of this number.
+/// Refuses with `NoActor` if `number` is not from 1 to `most`.
 pub fn check_actor(number: u64, most: u64) -> Result<(), Trouble<Refusal>>
     ensures { MatchResult result
         (λ _. is_within number most ≡ true)
@@ -37,7 +39,7 @@ pub fn check_actor(number: u64, most: u64) -> Result<(), Trouble<Refusal>>
     }
 }
 
-/// Why work is not counted, as a step's refusal.
+/// Returns the reason why work is not counted, as a step's refusal.
 pub fn of_load(error: Trouble<LoadError>) -> Trouble<Refusal>
     ensures { result ≡ of_layer refusal.Load error }
 {
@@ -47,7 +49,7 @@ pub fn of_load(error: Trouble<LoadError>) -> Trouble<Refusal>
     }
 }
 
-/// Why slices make no assignment, as a step's refusal.
+/// Returns the reason why slices make no assignment, as a step's refusal.
 pub fn of_slices(error: Trouble<AssignmentError>) -> Trouble<Refusal>
     ensures { result ≡ of_layer refusal.Slices error }
 {
@@ -57,7 +59,7 @@ pub fn of_slices(error: Trouble<AssignmentError>) -> Trouble<Refusal>
     }
 }
 
-/// Why there is no plan, as a step's refusal.
+/// Returns the reason why there is no plan, as a step's refusal.
 pub fn of_plan(error: Trouble<PlanError>) -> Trouble<Refusal>
     ensures { result ≡ of_layer refusal.Plan error }
 {

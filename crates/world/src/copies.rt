@@ -1,4 +1,4 @@
-//! Copies of what holds a collection.
+//! Copies of values that hold a collection.
 
 use crate::judge::{Question, WrittenLease};
 use crate::reply::Reply;

@@ -1,4 +1,4 @@
-//! The written rule over leases that a step hands in.
+//! The written rule, applied to leases that a step supplies.
 
 ghost use Rattle.std.specs.Prelude.{◌≡◌};
 ghost use Rattle.machines.specs.Answers.{trouble_of};
@@ -13,27 +13,27 @@ use policy_rules::{Holding, Kind, Lease, verdict};
 use slice_ranges::{Ranges, SliceKey, pairs_refusal};
 use std::alloc::Global;
 
-/// A lease as a script writes it.
+/// A lease as a script writes it, for the written rule to judge.
 #[derive(Debug, Drop)]
 pub struct WrittenLease {
-    /// What the lease is for.
+    /// The kind of the lease.
     pub kind: Kind,
-    /// The generation that it was granted for.
+    /// The generation that the lease was granted for.
     pub generation: u64,
-    /// The keys that it covers, each pair a start and an end.
+    /// The slice keys that it covers, as pairs of a start and an end.
     pub ranges: Listed<(u64, u64)>,
-    /// The first reading at which it is not live any more, in ticks.
+    /// The first reading at which the lease is no longer live, in ticks.
     pub ends: u64,
 }
 
-/// What a step asks the rule: what a task holds, a key and a reading.
+/// A question for the written rule: what a task holds, a key and a reading.
 #[derive(Debug, Drop)]
 pub struct Question {
     /// Whether the task was started.
     pub up: bool,
     /// The task's last reading, in ticks.
     pub last: u64,
-    /// The leases that it holds, at most one of each kind.
+    /// The leases that the task holds, at most one of each kind.
     pub leases: Listed<WrittenLease>,
     /// The bytes of the key.
     pub key: Listed<u8>,
@@ -41,7 +41,7 @@ pub struct Question {
     pub at: u64,
 }
 
-// The refusal of the first of these leases that has one, or else out of memory.
+// Returns the refusal of the first of these leases that has one, otherwise out of memory.
 fn first_refusal(leases: &[WrittenLease]) -> Trouble<Refusal>
     ensures { result ≡ of_layer refusal.Ranges (trouble_of (leases_refusal leases.now)) }
 {
@@ -53,7 +53,11 @@ fn first_refusal(leases: &[WrittenLease]) -> Trouble<Refusal>
     Trouble::NoMemory
 }
 
-/// What the rule says of a slice key, or why the first lease at fault is refused.
+/// Returns what the written rule says of a slice key.
+///
+/// # Errors
+///
+/// The refusal of the first lease whose ranges make no set. Out of memory comes last.
 pub fn judge(alloc: Global, question: &Question, key: SliceKey) -> Result<Reply, Trouble<Refusal>>
     ensures { IsJudged question.now key result }
 {

@@ -1,4 +1,4 @@
-//! What holds of every run: laws over steps with their replies.
+//! Laws that hold of every run, stated over steps and their replies.
 
 ghost use Rattle.std.specs.Prelude.{◌≡◌, ℕ, List, ◌∷◌, true, false, Some, IsTrue};
 ghost use Rattle.machines.specs.Numbers.{is_within};
@@ -20,23 +20,27 @@ ghost use Rattle.world.specs.Calls.{calls_in, handles_made, history};
 ghost use Rattle.world.specs.Runs.{IsRun};
 ghost use Rattle.world.specs.Headline.{IsServedByRule, IsCheckedByHistory, IsPlannedFromDraft, MayServe, IsOwner, IsWhileHeld};
 
-/// The calls that the steps of a run make, with their replies, are a run of the cluster, so that each of its
-/// laws holds of them; and they are timely where the steps are.
+/// States that the calls that a run's steps make, with their replies, are a run of the cluster.
+///
+/// So each law of the cluster holds of them. The calls are timely if the steps are.
 pub fn calls_law()
     ensures run { (job : Job) (past : Past) → IsRun job past → IsClusterRun job (calls_in job past) }
     ensures timely { (job : Job) (skew : ℕ) (past : Past) → IsTimely skew (steps_of past)
         → AreTimely skew (readings (calls_in job past)) }
 {}
 
-/// A request is served exactly when the written rule allows its key on what its task was told, and
-/// each denial names its ground.
+/// States that a key is served exactly if the written rule allows it on what its task was told.
+///
+/// Each denial names its ground.
 pub fn rule_law()
     ensures { (job : Job) (past : Past) (task : ℕ) (key : List ℕ) (at : ℕ) (answer : Reply)
         → IsRun job (event (step.Serve task key at) answer ∷ past) → IsServedByRule job past task key at answer }
 {}
 
-/// A handle that was made, and that the task can have given, is continuous exactly when no step
-/// since took its key away, and else it is broken.
+/// States when a handle is continuous.
+///
+/// A handle that was made, and that the task can have returned, is continuous exactly if no step
+/// since it was taken has taken its key away. Otherwise it is broken.
 pub fn handle_law()
     ensures { (job : Job) (past : Past) (task number at : ℕ) (handle : KeyHandle) (answer : Reply)
         → IsRun job (event (step.Check task number at) answer ∷ past) → IsTrue (is_within task job.tasks)
@@ -44,8 +48,9 @@ pub fn handle_law()
         → IsCheckedByHistory job past task handle at answer }
 {}
 
-/// What a `plan` is answered is a plan of the draft by the numbers of owners of the job, and its slices
-/// make an assignment.
+/// States that the reply to a `plan` is a plan of the draft within the job's numbers of owners.
+///
+/// The slices of the plan make an assignment.
 pub fn planned_law()
     ensures { (job : Job) (past : Past) (loads tasks : List ℕ) (bounds : Bounds) (plan : Plan)
         → IsRun job (event (step.Plan loads tasks bounds) (reply.Planned plan) ∷ past)
@@ -54,8 +59,10 @@ pub fn planned_law()
     weighted_move::plan_law();
 }
 
-/// With timely clocks, whoever may serve a key owns it in the committed assignment: where a slice has
-/// at most one owner, never two tasks. Each point of a run is the end of a run, so this holds at each.
+/// States that with timely clocks a task that may serve a key owns it in the committed assignment.
+///
+/// If a slice has at most one owner, two tasks may never serve one key. Each point of a run is the
+/// end of a run, so this holds at every point.
 pub fn owner_law()
     ensures owner { (job : Job) (past : Past) (task : ℕ) (key : List ℕ) → is_policy job.policy ≡ true → IsRun job past
         → MayServe job past task key → IsOwner job past task key }
@@ -66,9 +73,11 @@ pub fn owner_law()
     cluster::owner_law();
 }
 
-/// In a run whose clocks were timely, where a `check` by a task found a handle continuous, the task
-/// owned its key in the committed assignment at each point from the handle's `hold` to that `check`:
-/// where a slice has at most one owner, no other task may serve the key at any of these points.
+/// States what a continuous handle proves in a run whose clocks were timely.
+///
+/// If a `check` by a task found a handle continuous, the task owned its key in the committed
+/// assignment at each point from the handle's `hold` to that `check`. If a slice has at most one
+/// owner, no other task may serve the key at any of these points.
 pub fn interval_law()
     ensures owner { (job : Job) (run past : Past) (task : ℕ) (key : List ℕ) → is_policy job.policy ≡ true → IsRun job run
         → IsTimely job.policy.skew (steps_of run) → IsWhileHeld run past task key → IsOwner job past task key }

@@ -1,4 +1,5 @@
-//! A key ownership service for scripts: a front on a job's cluster, by numbers.
+//! A key ownership service for scripts: the machines of a job, whose grants, notes and handles a
+//! script names by numbers.
 #![tactic(auto)]
 
 mod actors;

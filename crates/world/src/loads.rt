@@ -25,7 +25,7 @@ use slice_ranges::slice_key;
 use std::alloc::{AllocError, Global};
 use std::mem;
 
-/// The share of each task before its first record.
+/// Returns the share of each task before its first record.
 pub fn shares_of(alloc: Global, job: Job) -> Result<Vec<LoadShare>, AllocError>
     ensures { IfOk result (λ shares. AreActors (λ n. record { task = n; records = [] }) job.tasks shares.items) }
 {
@@ -36,7 +36,7 @@ pub fn shares_of(alloc: Global, job: Job) -> Result<Vec<LoadShare>, AllocError>
     Ok(shares)
 }
 
-// The total of each task of a job in a book.
+// Adds the total of each task of a job in a book.
 fn add_totals(totals: &mut Vec<u64>, job: Job, book: &LoadBook)
     requires empty { totals.old.items ≡ [] }
     requires room { job.tasks ≤ vec_capacity totals.old }
@@ -91,7 +91,7 @@ impl World {
         }
     }
 
-    // Why nothing is gathered when out of memory.
+    // Returns why nothing is gathered when memory runs out.
     fn ungathered(&self) -> Trouble<Refusal>
         ensures { result ≡ of_layer refusal.Load (trouble_of (first_of (gather_checks self.now.shares.items self.now.book))) }
     {
@@ -102,7 +102,7 @@ impl World {
     }
 }
 
-// What a gather puts in the place of the shares, and room for its totals.
+// Returns the shares that a gather starts anew, and room for its totals.
 fn room_for_gather(alloc: Global, job: Job) -> Result<(Vec<LoadShare>, Vec<u64>), AllocError>
     ensures { IfOk result (λ room. AreActors (λ n. record { task = n; records = [] }) job.tasks room.0.items
         × (room.1.items ≡ []) × (job.tasks ≤ vec_capacity room.1)) }

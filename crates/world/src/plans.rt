@@ -14,7 +14,7 @@ use lease_table::{Policy, policy_law};
 use machines::Trouble;
 use weighted_move::{PlanBounds, PlanPolicy, TaskSet};
 
-// What a plan with these bounds is held to in a job of this policy.
+// Returns the policy for a plan with these bounds in a job of this policy.
 #[tactic(auto, using(crate::proofs::Planning::are_limits))]
 fn plan_policy(policy: Policy, bounds: PlanBounds) -> PlanPolicy
     ensures { result ≡ limits_of policy.low policy.high bounds }

@@ -7,7 +7,7 @@ use crate::step::Step;
 use cluster::{Reading, Timeliness};
 
 impl Step {
-    /// Whose clock the step reads, and when, in ticks.
+    /// Returns the reading of the step: whose clock it reads, and the ticks read.
     pub fn reading(&self) -> Reading
         ensures { result ≡ reading self.now }
     {
@@ -29,8 +29,10 @@ impl Step {
     }
 }
 
-/// Whether steps are timely: no earlier reading of the table, accepted or not, is by more than the
-/// skew above a reading of a task. Readings and skew are in ticks.
+/// Whether the readings of the steps are timely.
+///
+/// They are timely if no earlier reading of the table, accepted or not, is more than the skew above
+/// a later reading of a task. Readings and skew are in ticks.
 pub fn timely(steps: &[Step], skew: u64) -> bool
     ensures { MatchBool result (IsTimely skew (reverse steps.now)) (IsTimely skew (reverse steps.now) → ⊥) }
 {

@@ -1,4 +1,4 @@
-//! What steps answer.
+//! Replies to steps.
 
 ghost use Rattle.std.specs.Prelude.{◌≡◌};
 
@@ -19,33 +19,33 @@ use weighted_move::{Plan, PlanError};
 /// Why a step is refused.
 #[derive(Clone, Copy, Debug, PartialEq, Eq)]
 pub enum Refusal {
-    /// The step's assigner, task or clerk is not of the job.
+    /// The job has no assigner, task or clerk with the number that the step names.
     NoActor,
-    /// No grant, note, handle or published assignment of this number was made.
+    /// No grant, note, handle or published assignment with this number was made.
     NotSent,
     /// There is no draft.
     NoDraft,
-    /// The slices make no assignment.
+    /// The slices make no assignment, for this reason.
     Slices(AssignmentError),
-    /// The ranges of a lease make no set.
+    /// The ranges of a lease make no set, for this reason.
     Ranges(RangesError),
-    /// The table refuses.
+    /// The table refuses the step, for this reason.
     Table(TableError),
-    /// The task's slicelet refuses.
+    /// The task's slicelet refuses the step, for this reason.
     Slicelet(SliceletError),
-    /// The handle is none that the task can have given.
+    /// The task cannot have returned this handle.
     Stranger,
-    /// The clerk refuses.
+    /// The clerk refuses the step, for this reason.
     Clerk(ClerkError),
-    /// The clerk has learnt no assignment.
+    /// The clerk knows no assignment.
     Unknown,
-    /// The work cannot be counted.
+    /// The work cannot be counted, for this reason.
     Load(LoadError),
-    /// There is no plan.
+    /// There is no plan, for this reason.
     Plan(PlanError),
 }
 
-/// The owners of a key. Clauses see the list of them.
+/// The list of the tasks that own a key. Contracts see the list.
 #[derive(Debug, Drop)]
 pub struct OwnerList {
     tasks: Owners,
@@ -60,14 +60,14 @@ impl Model for OwnerList {
 }
 
 impl OwnerList {
-    /// The list of these tasks.
+    /// Creates the list of these tasks.
     pub fn new(tasks: Owners) -> Self
         ensures { result ≡ tasks.items }
     {
         OwnerList { tasks }
     }
 
-    /// The tasks in order.
+    /// Returns the tasks in order.
     pub fn as_slice(&self) -> &[TaskId]
         ensures { result.now ≡ self.now }
     {
@@ -83,33 +83,35 @@ impl Duplicate for OwnerList {
     }
 }
 
-/// What a step answers.
+/// The reply to a step.
 #[derive(Debug, Drop)]
 pub enum Reply {
-    /// The slice key that was asked for.
+    /// The slice key of the key.
     Key(SliceKey),
-    /// The draft is of this generation, and of so many slices.
+    /// The draft now has this generation and this number of slices.
     Assigned {
         generation: u64,
         slices: usize,
     },
-    /// The owners that were asked for.
+    /// The owners of the key in the draft.
     Owners(OwnerList),
-    /// What the rule says.
+    /// What the written rule says of the key.
     Verdict(Verdict),
-    /// The job lease is taken.
+    /// The assigner took the job lease, with this term.
     Term(JobTerm),
-    /// The job lease is renewed.
+    /// The assigner renewed the job lease, with this term.
     Renewed(JobTerm),
     /// The assignment of this generation is proposed.
     Proposed(u64),
-    /// The assignment of this generation is committed, and published.
+    /// The assignment of this generation is committed and published.
     Committed(u64),
     /// The table's phase.
     Phase(Phase),
     /// The table's open rows.
     Rows(Listed<Row>),
-    /// A lease is granted: the number of the grant, what its lease is for, and both deadlines.
+    /// The table granted a lease. `number` is the number of the grant, `kind` and `generation` are
+    /// those of the lease, `table_ends` is its deadline on the table's clock and `ends` on the
+    /// task's, in ticks.
     Granted {
         number: u64,
         kind: Kind,
@@ -117,35 +119,35 @@ pub enum Reply {
         table_ends: u64,
         ends: u64,
     },
-    /// So many rows were freed.
+    /// The table freed this number of rows.
     Freed(u64),
-    /// So many rows were lost.
+    /// The table restarted and lost this number of rows.
     Lost(u64),
-    /// The life is started.
+    /// The task started this life.
     Started(u32),
-    /// The grant of this number is heard.
+    /// The task heard the grant with this number.
     Heard(u64),
-    /// A lease is released: the number of the note, and the note.
+    /// The task released a lease; `number` is the number of the note.
     Released {
         number: u64,
         note: ReleaseNote,
     },
-    /// A handle is taken: its number, and the handle.
+    /// The task took a handle; `number` is the number of the handle.
     Holding {
         number: u64,
         handle: KeyHandle,
     },
-    /// The handle's key was held all the time.
+    /// The task has held the handle's key ever since the handle was taken.
     Continuous,
-    /// It was not.
+    /// The task has not held the handle's key all the time.
     Broken,
-    /// The assignment of this generation is learnt.
+    /// The clerk learnt the assignment of this generation.
     Learnt(u64),
-    /// Who owns the key, as the clerk knows.
+    /// Who owns the key, as far as the clerk knows.
     Found(Found),
-    /// What was learnt is forgotten.
+    /// The clerk forgot its assignment.
     Forgotten,
-    /// The work is recorded: the total of the task's records since the last gather.
+    /// The work is recorded; the value is the total of the task's records since the last gather.
     Recorded(u64),
     /// The load of each slice of the draft, and the total of each task of the job.
     Gathered {
@@ -156,10 +158,10 @@ pub enum Reply {
     Planned(Plan),
     /// What the assigner does next.
     Next(Action),
-    /// The assigner keeps no term.
+    /// The assigner forgot its term.
     Restarted,
-    /// The step changed nothing.
+    /// The step is refused, for this reason, and changed nothing.
     Refused(Refusal),
-    /// Memory was refused, and the step changed nothing.
+    /// Memory ran out, and the step changed nothing.
     NoMemory,
 }

@@ -24,7 +24,7 @@ use cluster::{Cluster, ClusterCall};
 use lease_table::TableCall;
 use machines::Trouble;
 
-// Offers an assigner the term that it was told, if it was told one.
+// Offers an assigner the term in the reply, if there is one.
 fn adopt(assigner: &mut Assigner, reply: &Reply)
     ensures { assigner.new ≡ with_told reply.now assigner.old }
 {
@@ -36,7 +36,7 @@ fn adopt(assigner: &mut Assigner, reply: &Reply)
     }
 }
 
-// What is told of slices that make an assignment where there is no memory for it.
+// Returns the reply to a proposal whose slices make an assignment for which there is no memory.
 fn unproposed(cluster: &Cluster, number: u64, generation: u64, slices: &[Slice], at: u64) -> Reply
     ensures asked { (job : Job) (calls : ClusterPast) (s : Step) → LeadsToCluster job calls cluster.now → IsAsked job calls s
         (call.Table (Propose number (record { generation = generation; slices = slices.now }) at)) result cluster.now }

@@ -1,4 +1,4 @@
-//! Calls of the machines, and what a script is told of them.
+//! Calls of the machines, and the replies of a script's steps to them.
 
 ghost use Rattle.std.specs.Prelude.{◌≡◌};
 ghost use Rattle.cluster.specs.Jobs.{Job};
@@ -16,7 +16,7 @@ use lease_table::{Grant, JobTerm, TableReply};
 use slicelet::SliceletReply;
 use std::alloc::AllocError;
 
-/// The numbers that the next note and the next handle get.
+/// The numbers that the next note and the next handle will get.
 #[derive(Clone, Copy, Debug)]
 pub struct NextNumbers {
     pub note: u64,
@@ -24,7 +24,7 @@ pub struct NextNumbers {
 }
 
 impl NextNumbers {
-    /// Those of a cluster.
+    /// Returns the next numbers of a cluster.
     pub fn of(cluster: &Cluster) -> Self
         ensures { (job : Job) (calls : ClusterPast) → LeadsToCluster job calls cluster.now
             → result ≡ next_numbers calls }
@@ -36,7 +36,7 @@ impl NextNumbers {
     }
 }
 
-// The life that a step names.
+// Returns the life that a step names, or 0.
 fn life_in(step: &Step) -> u32
     ensures { result ≡ life_in step.now }
 {
@@ -46,7 +46,7 @@ fn life_in(step: &Step) -> u32
     }
 }
 
-// The number that a step names, of a grant or of a generation.
+// Returns the number that a step names, of a grant or of a generation, or 0.
 fn number_in(step: &Step) -> u64
     ensures { result ≡ number_in step.now }
 {
@@ -66,7 +66,7 @@ fn term_reply(step: &Step, term: JobTerm) -> Reply
     }
 }
 
-/// A grant that the table sent, as it is told.
+/// Returns a grant of the table as a step's reply.
 pub fn grant_reply(grant: &Grant) -> Reply
     ensures { result ≡ grant_reply grant.now }
 {
@@ -111,7 +111,7 @@ fn clerk_reply(step: &Step, reply: ClerkReply) -> Reply
     }
 }
 
-/// A refusal by the machines, as it is told.
+/// Returns a refusal by the machines as a step's refusal.
 pub fn refusal_by(error: ClusterError) -> Refusal
     ensures { result ≡ refusal_by error }
 {
@@ -126,7 +126,7 @@ pub fn refusal_by(error: ClusterError) -> Refusal
     }
 }
 
-// A reply of the machines to a step's call, as it is told.
+// Turns a reply of the machines to a step's call into the step's reply.
 fn told_as(step: &Step, next: NextNumbers, reply: ClusterReply) -> Reply
     ensures { result ≡ told_as step.now next reply }
 {
@@ -148,7 +148,7 @@ fn told_as(step: &Step, next: NextNumbers, reply: ClusterReply) -> Reply
     }
 }
 
-/// A reply of the machines to a step's call, as it is told, or that they are out of memory.
+/// Turns a reply of the machines to a step's call, or out of memory, into the step's reply.
 pub fn told_of(step: &Step, next: NextNumbers, answer: Result<ClusterReply, AllocError>) -> Reply
     ensures { result ≡ told_of step.now next answer }
 {
@@ -158,7 +158,7 @@ pub fn told_of(step: &Step, next: NextNumbers, answer: Result<ClusterReply, Allo
     }
 }
 
-/// Plays a call that a step makes, and tells its reply.
+/// Plays a call that a step makes, and returns the step's reply.
 pub fn ask(cluster: &mut Cluster, step: &Step, call: &ClusterCall) -> Reply
     ensures asked { (job : Job) (calls : ClusterPast) → LeadsToCluster job calls cluster.old
         → IsAsked job calls step.now call.now result cluster.new }

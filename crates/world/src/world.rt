@@ -31,8 +31,10 @@ use machines::Trouble;
 use slice_ranges::slice_key;
 use std::alloc::{AllocError, Global};
 
-/// A front on a job's cluster for scripts: it finds by its number what a step delivers, and keeps the
-/// job's assigners, the draft and loads.
+/// A step machine: the machines of a job, played by the steps of a script.
+///
+/// A step names what it delivers by a number, which the world looks up. The world also keeps the
+/// job's assigners, the draft and the loads.
 #[derive(Drop)]
 pub struct World {
     pub(crate) alloc: Global,
@@ -57,7 +59,7 @@ fn assigners_of(alloc: Global, job: Job) -> Result<Vec<Assigner>, AllocError>
 }
 
 impl World {
-    /// A world before its first step.
+    /// Creates a world before its first step.
     #[tactic(auto, unfolding(crate::specs::Worlds::LeadsTo))]
     pub fn new(alloc: Global, job: Job) -> Result<Self, AllocError>
         ensures { IfOk result (λ world. LeadsTo job [] world) }
@@ -73,8 +75,10 @@ impl World {
         })
     }
 
-    /// Runs steps, one after another, and answers each: by the steps before it, those of earlier calls
-    /// among them. Where there is no room for the replies, no step is run.
+    /// Runs steps one after another, and returns the reply to each.
+    ///
+    /// The steps before a step determine its reply, those of earlier calls included. If there is no
+    /// memory for the replies, no step runs and the world is unchanged.
     pub fn run(&mut self, steps: &[Step]) -> Result<Vec<Reply>, AllocError>
         ensures leads { (job : Job) (past : Past) → LeadsTo job past self.old
             → IfOk result (λ replies. LeadsTo job (past_after past steps.now replies.items) self.new) }
@@ -92,7 +96,9 @@ impl World {
         Ok(replies)
     }
 
-    /// A past that leads to a world is a run, of a job whose policy is within its limits.
+    /// States that every past that leads to a world is a run.
+    ///
+    /// The policy of the run's job is within its limits.
     #[tactic(auto, unfolding(crate::specs::Worlds::LeadsTo))]
     pub fn run_law(&self)
         ensures run { (job : Job) (past : Past) → LeadsTo job past self.now → IsRun job past }
@@ -101,10 +107,13 @@ impl World {
         self.cluster.run_law();
     }
 
-    /// At every point of what led to this world: a request was served exactly when the written rule
-    /// allowed its key on what its task had been told, and each denial named its ground; a handle was
-    /// continuous exactly when no step since took its key away; and with timely clocks whoever may serve a
-    /// key owns it in the committed assignment: where a slice has at most one owner, never two tasks.
+    /// States what holds at every point of the past that led to this world.
+    ///
+    /// - A key was served exactly if the written rule allowed it on what its task had been told.
+    ///   Each denial named its ground.
+    /// - A handle was continuous exactly if no step since it was taken had taken its key away.
+    /// - With timely clocks, a task that may serve a key owns it in the committed assignment. If a
+    ///   slice has at most one owner, two tasks may never serve one key.
     pub fn headline_law(&self)
         ensures rule { (job : Job) (later past : Past) (task : ℕ) (key : List ℕ) (at : ℕ) (answer : Reply)
             → LeadsTo job (later ++ event (step.Serve task key at) answer ∷ past) self.now
@@ -125,9 +134,11 @@ impl World {
         owner_law();
     }
 
-    /// As long as the clocks were timely: where a `check` by a task found a handle continuous, the task
-    /// owned its key in the committed assignment at each point from the handle's `hold` to that `check`,
-    /// and where a slice has at most one owner, no other task may serve the key at any of these points.
+    /// States what a continuous handle proves, as long as the clocks were timely.
+    ///
+    /// If a `check` by a task found a handle continuous, the task owned its key in the committed
+    /// assignment at each point from the handle's `hold` to that `check`. If a slice has at most
+    /// one owner, no other task may serve the key at any of these points.
     pub fn interval_law(&self)
         ensures owner { (job : Job) (later run past : Past) (task : ℕ) (key : List ℕ) → LeadsTo job (later ++ run) self.now
             → IsTimely job.policy.skew (steps_of run) → IsWhileHeld run past task key → IsOwner job past task key }
@@ -139,7 +150,7 @@ impl World {
         interval_law();
     }
 
-    /// The machines of the job, after the calls that the steps made of them.
+    /// Returns the machines of the job, after the calls that the steps made.
     #[tactic(auto, unfolding(crate::specs::Worlds::LeadsTo))]
     pub fn cluster(&self) -> &Cluster
         ensures { (job : Job) (past : Past) → LeadsTo job past self.now
@@ -148,7 +159,7 @@ impl World {
         &self.cluster
     }
 
-    // Plays one more step, and answers it.
+    // Plays the next step, and returns its reply.
     #[tactic(auto, unfolding(crate::specs::Worlds::LeadsTo))]
     fn play(&mut self, step: &Step) -> Reply
         ensures { (job : Job) (past : Past) → LeadsTo job past self.old

@@ -11,7 +11,7 @@ use load_ledger::LoadShare;
 use machines::Duplicate;
 use std::alloc::{AllocError, Global};
 
-// The same shares in a vector of their own.
+// Copies the shares into a new vector.
 fn copies(alloc: Global, shares: &[LoadShare]) -> Result<Vec<LoadShare>, AllocError>
     ensures { IfOk result (λ copied. copied.items ≡ shares.now) }
 {
@@ -22,7 +22,7 @@ fn copies(alloc: Global, shares: &[LoadShare]) -> Result<Vec<LoadShare>, AllocEr
     Ok(copied)
 }
 
-// The same draft, or none where there is none.
+// Copies the draft, if there is one.
 fn draft_of(draft: &Option<Assignment>) -> Result<Option<Assignment>, AllocError>
     ensures { IfOk result (λ copied. copied ≡ draft.now) }
 {
@@ -33,8 +33,10 @@ fn draft_of(draft: &Option<Assignment>) -> Result<Option<Assignment>, AllocError
 }
 
 impl World {
-    /// A world of its own that stands where this one does: every past that leads to this world leads
-    /// to its copy. This world stays as it is.
+    /// Copies the world.
+    ///
+    /// Every past that leads to this world also leads to the copy. This world is unchanged, and
+    /// later steps of one do not change the other. Fails only if memory runs out.
     #[tactic(auto, unfolding(crate::specs::Worlds::LeadsTo))]
     pub fn copy(&self) -> Result<Self, AllocError>
         ensures { (job : Job) (past : Past) → LeadsTo job past self.now

@@ -1,4 +1,4 @@
-//! Copies of steps and of what they are answered.
+//! Copies of steps and of their replies.
 
 use crate::acts::Act;
 use crate::stories::{STORIES, Told, has_text, replies_of, steps_of, world_of};

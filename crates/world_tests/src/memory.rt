@@ -1,5 +1,5 @@
-//! A world where memory is refused: the step that wanted it leaves the world as it was, and is answered
-//! the next time as with ample memory.
+//! A world when memory runs out: the step that needed it leaves the world unchanged, and gets the
+//! next time the reply that it gets with ample memory.
 
 use crate::acts::{Act, step_of};
 use crate::stories::{STORIES, Told, job_of, new_world, replies_of, text_of};

@@ -1,4 +1,4 @@
-//! Stories: acts, and the text of what each is answered in turn.
+//! Stories: acts, and the text of the reply to each.
 
 use crate::acts::{Act, Leases, Slices, step_of};
 use lease_table::Policy;

@@ -1,4 +1,4 @@
-//! What steps are answered.
+//! The replies to steps.
 
 use crate::acts::{Act, step_of};
 use crate::stories::{
