@@ -2,12 +2,12 @@
 
 use lease_table::Phase;
 
-/// What an assigner looks at when it decides.
+/// What an assigner sees when it decides what to do next.
 #[derive(Clone, Copy, Debug, PartialEq, Eq)]
 pub struct View {
-    /// Its reading, in ticks.
+    /// The assigner's reading, in ticks.
     pub reading: u64,
-    /// Where the table stands.
+    /// The phase of the lease table.
     pub phase: Phase,
     /// Whether another assignment is wanted.
     pub wanted: bool,
@@ -16,14 +16,14 @@ pub struct View {
 /// What an assigner does next.
 #[derive(Clone, Copy, Debug, PartialEq, Eq)]
 pub enum Action {
-    /// It takes the job lease.
+    /// Take the job lease.
     Take,
-    /// It renews its term.
+    /// Renew its term.
     Renew,
-    /// It commits the proposed assignment.
+    /// Commit the proposed assignment.
     Commit,
-    /// It proposes another assignment.
+    /// Propose another assignment.
     Propose,
-    /// It has nothing to do.
+    /// Nothing.
     Rest,
 }

@@ -1,4 +1,4 @@
-//! An assigner.
+//! Assigners.
 
 ghost use Rattle.std.specs.Prelude.{◌≡◌, None};
 ghost use Rattle.lease_table.specs.Tables.{last_number};
@@ -9,7 +9,7 @@ use crate::action::{Action, View};
 use lease_table::{JobTerm, Phase};
 use std::marker::Model;
 
-/// An assigner, and the term of the job lease that it keeps.
+/// An assigner: it keeps its term of the job lease, and decides what to do next.
 #[derive(Clone, Copy, Debug, PartialEq, Eq)]
 pub struct Assigner {
     id: u64,
@@ -28,7 +28,9 @@ impl Model for Assigner {
 }
 
 impl Assigner {
-    /// The assigner of this number, which keeps no term; a job lease lasts `job_term` ticks.
+    /// Creates the assigner with this number, which keeps no term.
+    ///
+    /// A job lease lasts `job_term` ticks.
     pub fn new(id: u64, job_term: u64) -> Self
         ensures { result ≡ opening id job_term }
     {
@@ -39,8 +41,11 @@ impl Assigner {
         }
     }
 
-    /// Keeps a term where it is the assigner's own and its pair of number and `until` is above that
-    /// of the term that it keeps; answers whether it does.
+    /// Keeps `term` if it is the assigner's own and newer than the kept one, and returns whether it
+    /// did.
+    ///
+    /// A term is newer if its number is greater, or if its number is the same and its `until` is
+    /// later. Any term is newer than none.
     pub fn adopt(&mut self, term: JobTerm) -> bool
         ensures adopts { result ≡ is_adopted self.old.id term self.old.term }
         ensures kept { self.new ≡ record self.old { term = adopted_term self.old.id term self.old.term } }
@@ -52,21 +57,21 @@ impl Assigner {
         is_adopted
     }
 
-    /// Forgets the term.
+    /// Forgets the term that the assigner keeps.
     pub fn restart(&mut self)
         ensures { self.new ≡ record self.old { term = None } }
     {
         self.term = None;
     }
 
-    /// The term that is kept.
+    /// Returns the term that the assigner keeps, if any; it may have ended.
     pub fn term(&self) -> Option<JobTerm>
         ensures { result ≡ self.now.term }
     {
         self.term
     }
 
-    /// The number of the term that is kept, 0 for none.
+    /// Returns the number of the term that the assigner keeps, or 0 if it keeps none.
     pub fn number(&self) -> u64
         ensures { result ≡ last_number self.now.term }
     {
@@ -76,9 +81,15 @@ impl Assigner {
         }
     }
 
-    /// What to do next: take the job lease where no term is kept or it has ended; renew it where at
-    /// most half of the length of a job lease, rounded down, is left; commit while an assignment is
-    /// proposed; propose where another one is wanted; and else rest.
+    /// Returns what the assigner does next.
+    ///
+    /// The first case that holds decides:
+    ///
+    /// - no term is kept, or the kept one has ended at the reading: `Take`;
+    /// - at most half of `job_term`, rounded down, is left of the term: `Renew`;
+    /// - an assignment is proposed: `Commit`;
+    /// - another assignment is wanted: `Propose`;
+    /// - otherwise: `Rest`.
     pub fn next(&self, view: &View) -> Action
         ensures { result ≡ next_action self.now view.now }
     {

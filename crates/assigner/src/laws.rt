@@ -1,10 +1,12 @@
-//! What holds after every list of calls.
+//! Laws that hold after every list of calls of an assigner.
 
 ghost use Rattle.std.specs.Prelude.{ℕ, List};
 ghost use Rattle.assigner.specs.Terms.{Call, kept_after, offered_since_restart, IsGreatest};
 
-/// After every list of calls an assigner keeps the greatest, by number and then by end, of its own
-/// terms that were offered to it since its last `restart`, and none where none was.
+/// States that an assigner keeps the greatest of its own terms that it was offered.
+///
+/// After every list of calls, it keeps the greatest, by number and then by end, of its own terms
+/// that were offered to it since its last `restart`, or no term if none was offered.
 pub fn terms_law()
     ensures { (id : ℕ) (calls : List Call) → IsGreatest (offered_since_restart id calls) (kept_after id calls) }
 {}

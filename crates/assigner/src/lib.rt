@@ -1,4 +1,4 @@
-//! Assigners: which term of the job lease an assigner holds.
+//! Assigners: which term of the job lease an assigner holds, and what it does next.
 #![tactic(auto)]
 
 mod action;

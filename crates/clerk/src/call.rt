@@ -1,4 +1,4 @@
-//! Calls of a clerk, and what they answer.
+//! The calls of a clerk, and their replies.
 
 use assignment::Assignment;
 use machines::Duplicate;
@@ -7,18 +7,18 @@ use std::alloc::AllocError;
 /// A call that may change a clerk.
 #[derive(Debug, Drop)]
 pub enum ClerkCall {
-    /// It learns an assignment.
+    /// The clerk learns an assignment.
     Learn(Assignment),
-    /// It forgets what it learnt.
+    /// The clerk forgets the assignment that it keeps.
     Forget,
 }
 
-/// What an accepted call answers.
+/// The reply to an accepted call of a clerk.
 #[derive(Clone, Copy, Debug, PartialEq, Eq)]
 pub enum ClerkReply {
-    /// The assignment is learnt.
+    /// The assignment was learnt.
     Learnt,
-    /// What was learnt is forgotten.
+    /// The clerk keeps no assignment any more.
     Forgotten,
 }
 

@@ -1,4 +1,4 @@
-//! A clerk.
+//! Clerks.
 
 ghost use Rattle.std.specs.Prelude.{◌≡◌, None, IfOk};
 ghost use Rattle.machines.specs.Answers.{Takes};
@@ -12,7 +12,9 @@ use slice_ranges::SliceKey;
 use std::alloc::AllocError;
 use std::marker::Model;
 
-/// What a client knows of who owns a key: the newest assignment that it has learnt since it last
+/// A clerk tells a client which tasks own a key, by the newest assignment that it has learnt.
+///
+/// It keeps the assignment with the greatest generation of those that it has learnt since it last
 /// forgot.
 #[derive(Drop)]
 pub struct Clerk {
@@ -28,17 +30,17 @@ impl Model for Clerk {
     ghost view = { λ c. c.assignment };
 }
 
-/// Who owns a key.
+/// The owners of a key, and the generation of the assignment that names them.
 #[derive(Debug, PartialEq, Eq, Drop)]
 pub struct Found {
-    /// The generation of the assignment that says so.
+    /// The generation of the assignment.
     pub generation: u64,
-    /// The tasks that own the key in it, in rising order.
+    /// The tasks that own the key in this assignment, in rising order.
     pub owners: Owners,
 }
 
 impl Found {
-    /// An answer that equals this one.
+    /// Returns a copy that equals this value.
     pub fn copy(&self) -> Self
         ensures { result ≡ self.now }
     {
@@ -54,17 +56,17 @@ impl Found {
 }
 
 impl Clerk {
-    /// A clerk that has learnt nothing.
+    /// Creates a clerk that has learnt no assignment.
     pub fn new() -> Self
         ensures { result ≡ None }
     {
         Clerk { assignment: None }
     }
 
-    /// Keeps an assignment in place of the one that is kept.
+    /// Learns an assignment, which replaces the one that the clerk keeps.
     ///
-    /// Refused by `Old` where its generation is not above that of the one that is kept; want of
-    /// memory comes last, and changes nothing.
+    /// Errors, in this order: `Old`, if the generation is not above that of the kept assignment;
+    /// out of memory. An error leaves the clerk unchanged.
     pub fn learn(&mut self, assignment: &Assignment) -> Result<(), Trouble<ClerkError>>
         ensures { Takes (learn_step self.old assignment.now) self.old result self.new }
     {
@@ -79,8 +81,10 @@ impl Clerk {
         Ok(())
     }
 
-    /// The tasks that own a key in the assignment that is kept, and its generation; `Unknown` where
-    /// none is kept.
+    /// Returns the tasks that own a key in the kept assignment, and the generation of the
+    /// assignment.
+    ///
+    /// The only error is `Unknown`, if the clerk keeps no assignment.
     pub fn look(&self, key: SliceKey) -> Result<Found, Unknown>
         ensures { result ≡ look_at self.now key }
     {
@@ -93,14 +97,14 @@ impl Clerk {
         }
     }
 
-    /// Keeps no assignment from now on, until the next one is learnt.
+    /// Forgets the kept assignment; the clerk keeps none until it learns the next one.
     pub fn forget(&mut self)
         ensures { self.new ≡ None }
     {
         self.assignment = None;
     }
 
-    /// A clerk that equals this one.
+    /// Returns a copy that equals this clerk. The only error is out of memory.
     pub fn copy(&self) -> Result<Self, AllocError>
         ensures { IfOk result (λ clerk. clerk ≡ self.now) }
     {

@@ -1,4 +1,4 @@
-//! What holds of every clerk.
+//! Laws that hold of every clerk.
 
 ghost use Rattle.std.specs.Prelude.{◌≡◌, ◌↔◌, ℕ, List, [], Option, Some, None};
 ghost use Rattle.assignment.specs.Slices.{Slicing};
@@ -8,9 +8,12 @@ ghost use Rattle.clerk.specs.Steps.{look_at};
 ghost use Rattle.clerk.specs.Calls.{AnsweredClerkCall, LeadsTo, clerk_step};
 ghost use Rattle.clerk.specs.Knowledge.{IsGreatest, accepted_since_forget, clerk_answer, greatest_of};
 
-/// After every list of calls that a clerk answered it keeps the assignment of greatest generation
-/// that it accepted since the last `forget`, of which there is one at the most, and it answers the
-/// generation and the owners of a key in it, or that it knows none. Its steps lead on from there.
+/// States that a clerk keeps the newest assignment that it accepted since it last forgot.
+///
+/// After every list of calls that a clerk answered, it keeps the assignment with the greatest
+/// generation that it accepted since the last `forget`; there is at most one. `look` returns the
+/// generation and the owners of the key in this assignment, or `Unknown` if the clerk keeps none.
+/// The reply to the next call is that of the clerk's step from there.
 pub fn learnt_law()
     ensures start { LeadsTo [] None }
     ensures next { (past : List AnsweredClerkCall) (state : Option Slicing) (call : ClerkCall) → LeadsTo past state

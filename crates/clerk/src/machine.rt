@@ -12,13 +12,14 @@ use crate::error::ClerkError;
 use machines::{Duplicate, Event, Machine, Trouble};
 use std::alloc::AllocError;
 
-/// A call of a clerk, and when it was made.
+/// A call of a clerk, with the ticket that was drawn for it.
 pub type ClerkEvent = Event<ClerkCall>;
 
 impl Clerk {
-    /// Makes the call that a value stands for, and answers what it answers: its refusal.
+    /// Makes a call given as a value, and returns the reply of its method.
     ///
-    /// Only `Learn` can be out of memory: this comes last, and changes nothing.
+    /// Errors are those of the method, in its order, then out of memory, which is possible only for
+    /// `Learn`. An error leaves the clerk unchanged.
     pub fn call(&mut self, call: &ClerkCall) -> Result<ClerkReply, Trouble<ClerkError>>
         ensures step { Takes (clerk_step self.old call.now) self.old result self.new }
         ensures memory { IfErr result (λ trouble. trouble ≡ NoMemory → takes_memory call.now ≡ true) }

@@ -1,4 +1,4 @@
-//! How a lock ends.
+//! How a lock is closed.
 
 ghost use Rattle.std.specs.Prelude.{◌≡◌, ◌⊎◌, ℕ, ◌<◌, [], ◌∷◌, true, false, IfOk, OnOk, IfErr, MatchBool, map};
 ghost use Rattle.history_lock.specs.Passes.{ArePassesOf};
@@ -15,17 +15,18 @@ use machines::Machine;
 use std::alloc::AllocError;
 use std::marker::Model;
 
-/// What a lock leaves.
+/// The machine and the history that a closed lock leaves.
 #[derive(Drop)]
 pub struct Closed<M: Machine> {
-    /// The machine after the whole history.
+    /// The machine after all events of the history.
     pub machine: SharedMachine<M>,
     /// The history, which is legal from the machine that the lock was opened with.
     pub history: History<M::Event>,
 }
 
 impl<M: Machine> Closed<M> {
-    /// A machine and a history that equal these.
+    /// Returns a copy that equals this value and shares the machine. The only error is out of
+    /// memory.
     pub fn copy(&self) -> Result<Self, AllocError>
         ensures { IfOk result (λ copied. copied ≡ self.now) }
     {
@@ -36,7 +37,7 @@ impl<M: Machine> Closed<M> {
     }
 }
 
-/// A lock was not closed, since one of its passes is missing.
+/// The error of a close that lacks the pass of some lane; it holds the lock and the passes.
 #[derive(Drop)]
 pub struct PassesMissing<M: Machine> {
     lock: LaneLock<M>,
@@ -52,7 +53,7 @@ impl<M: Machine> Model for PassesMissing<M> {
 }
 
 impl<M: Machine> PassesMissing<M> {
-    /// The lock, and the passes that were to close it, as they were.
+    /// Returns the lock, and the passes that were to close it, unchanged.
     pub fn into_parts(self) -> (LaneLock<M>, Vec<Pass<M>>)
         ensures { (result.0 ≡ self.lock) × (result.1.items ≡ self.passes) }
     {
@@ -62,9 +63,9 @@ impl<M: Machine> PassesMissing<M> {
 }
 
 impl<M: Machine> LaneLock<M> {
-    /// Gives back the machine and the history, if the passes of all lanes are there.
+    /// Closes the lock and returns its machine and history, if the passes of all lanes are given.
     ///
-    /// [`PassesMissing`] hands the lock and the passes back.
+    /// The only error is [`PassesMissing`], which returns the lock and the passes unchanged.
     pub fn close(self, passes: Vec<Pass<M>>) -> Result<Closed<M>, PassesMissing<M>>
         requires { ArePassesOf self passes.items }
         ensures closed { IfOk result (λ closed. IsWhole M.step self passes.items closed.machine closed.history) }
@@ -79,7 +80,7 @@ impl<M: Machine> LaneLock<M> {
         }
     }
 
-    // Takes all passes in, the first ones into the last, and ends the table.
+    // Joins all passes into the last one, and closes the table.
     fn finish(self, mut passes: Vec<Pass<M>>) -> Closed<M>
         requires own { ArePassesOf self passes.items }
         requires all { (lane : ℕ) → lane < self.opened.lanes → has_lane lane passes.items ≡ true }
@@ -121,7 +122,7 @@ fn has_pass<M: Machine>(passes: &[Pass<M>], lane: u64) -> bool
     passes.iter().any(|pass| pass.lane() == lane)
 }
 
-// Takes all passes in.
+// Joins all passes.
 fn take_in<M: Machine>(
     common: &Common<M, M::Event>,
     place: &mut Place<M, M::Event>,
@@ -140,7 +141,7 @@ fn take_in<M: Machine>(
     }
 }
 
-// Takes one pass in.
+// Joins one pass.
 fn take_one<M: Machine>(
     common: &Common<M, M::Event>,
     place: &mut Place<M, M::Event>,
@@ -160,7 +161,7 @@ fn take_one<M: Machine>(
     common.join_seat::<Gather>(place, other);
 }
 
-// The book of a table at which no seat but this one holds a lane.
+// The book of a table, if no seat but this one holds a lane.
 fn close_table<M: Machine>(
     board: Board<M, M::Event>,
     place: Place<M, M::Event>,

@@ -1,4 +1,4 @@
-//! What callers do with a lock.
+//! The calls of a lock.
 
 ghost use Rattle.std.specs.Prelude.{◌≡◌, Ok, IfErr, MatchResult};
 ghost use Rattle.std.specs.Fn.{CalledAt, TakesAt};
@@ -13,7 +13,7 @@ use machines::Machine;
 use std::sync::Wait;
 
 impl<M: Machine> LaneLock<M> {
-    // A write, or the refusal of its claim.
+    // Makes a write, or returns why its claim was refused.
     fn attempt<F: FnMut() -> M::Event>(
         &self,
         pass: &mut Pass<M>,
@@ -38,12 +38,15 @@ impl<M: Machine> LaneLock<M> {
         )
     }
 
-    /// Adds the event that `make` answers to the history, and gives the machine's reply.
+    /// Adds the event that `make` returns to the history, and returns the machine's reply.
     ///
-    /// `make` is called once, while the lock is held; on `Busy` and `HistoryFull` it is not called.
-    /// In the order of the refusals: the lock is held ([`LockError::Busy`]), the history is full, the
-    /// machine refuses the event. Want of memory may come in place of the last, or of a reply, as long
-    /// as `make` was not called; afterwards only where the machine would take the event.
+    /// `make` is called at most once, while the lock is held; on `Busy` and `HistoryFull` it is not
+    /// called.
+    ///
+    /// Errors, in this order: the lock is held ([`LockError::Busy`]), the history is full, the
+    /// machine refuses the event. Out of memory may be returned instead of the last error or of a
+    /// reply if `make` was not called, and afterwards only if the machine would accept the event. A
+    /// write that fails adds nothing to the history.
     pub fn try_write<F: FnMut() -> M::Event>(
         &self,
         pass: &mut Pass<M>,
@@ -61,7 +64,9 @@ impl<M: Machine> LaneLock<M> {
         }
     }
 
-    /// [`Self::try_write`] that waits until the lock is free.
+    /// Waits until the lock is free, then adds the event that `make` returns and returns the reply.
+    ///
+    /// `make` and the errors are as in [`try_write`](Self::try_write), without `Busy`.
     #[tactic(auto, using(crate::proofs::Waits::waits_not, crate::proofs::Waits::waits_once_more))]
     pub fn write<R: Wait, F: FnMut() -> M::Event>(
         &self,
@@ -84,8 +89,9 @@ impl<M: Machine> LaneLock<M> {
         unreachable!()
     }
 
-    /// Lends the machine to `f`, once, and gives its answer. Where a writer holds the lane of the pass, `f` is
-    /// not called.
+    /// Lends the machine to `f`, once, and returns the result of `f`.
+    ///
+    /// The only error is `Busy`, if a writer holds the lane of the pass; `f` is then not called.
     pub fn try_shared<T, F: FnMut(&M) -> T>(&self, pass: &mut Pass<M>, f: &mut F) -> Result<T, Busy>
         requires own { IsPassOf self.now pass.old }
         requires may { (machine : M) → TakesAt F.FnMut f.old machine }
@@ -97,7 +103,9 @@ impl<M: Machine> LaneLock<M> {
         share_at(&self.board.shared, &mut pass.place, pass.lane, f)
     }
 
-    /// [`Self::try_shared`] that waits until no writer holds the lane.
+    /// Waits until no writer holds the lane of the pass, then lends the machine to `f`, once.
+    ///
+    /// Returns the result of `f`, as [`try_shared`](Self::try_shared) does.
     #[tactic(auto, using(crate::proofs::Waits::waits_not, crate::proofs::Waits::waits_once_more))]
     pub fn shared<R: Wait, T, F: FnMut(&M) -> T>(&self, rt: &R, pass: &mut Pass<M>, f: &mut F) -> T
         requires own { IsPassOf self.now pass.old }
@@ -115,8 +123,10 @@ impl<M: Machine> LaneLock<M> {
         unreachable!()
     }
 
-    /// Afterwards the first pass has seen all that the second had. Refused with `Busy` where a writer holds the
-    /// first pass's lane.
+    /// Lets the first pass see all that the second one has seen.
+    ///
+    /// The only error is `Busy`, if a writer holds the lane of the first pass. The second pass is
+    /// unchanged.
     pub fn try_meet(&self, first: &mut Pass<M>, second: &mut Pass<M>) -> Result<(), Busy>
         requires own { IsPassOf self.now first.old }
         requires other { IsPassOf self.now second.old }

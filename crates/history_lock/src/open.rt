@@ -17,18 +17,19 @@ use machines::Machine;
 use std::alloc::{AllocError, Global};
 use std::snapshot::Snapshot;
 
-/// How many lanes a lock has at the most.
+/// The greatest number of lanes of a lock.
 pub const MOST_LANES: u64 = 8;
 
-/// How many entries a history has at the most.
+/// The greatest number of entries that the limit of a history may allow.
 pub const MOST_ENTRIES: usize = 65_536;
 
 impl<M: Machine> LaneLock<M> {
-    /// A lock round a machine, and a pass for each of its lanes, of lane 0 first.
+    /// Creates a lock around a machine, and a pass for each of its lanes, lane 0 first.
     ///
-    /// The history is to have `limit` entries at the most. It is refused with [`NewLockError::Lanes`]
-    /// where `lanes` is not 1 to 8 or `limit` not 1 to 65,536, and then where memory runs out. Where it is
-    /// refused, the machine is dropped.
+    /// The history takes at most `limit` entries.
+    ///
+    /// Errors, in this order: [`NewLockError::Lanes`], if `lanes` is not 1 to 8 or `limit` is not 1
+    /// to 65,536; out of memory. On an error, the machine is dropped.
     pub fn new(
         alloc: Global,
         machine: M,
@@ -74,7 +75,7 @@ fn open<M: Machine>(
     Ok((lock, passes))
 }
 
-// The table with a line of words and a book for each lane, and the seat that deals the lanes.
+// The table with a cache line of words and a book for each lane, and the seat that deals the lanes.
 fn new_table<M: Machine>(
     alloc: Global,
     opened: Opened<M>,

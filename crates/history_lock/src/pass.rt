@@ -1,4 +1,4 @@
-//! The lock and its passes, as types.
+//! The types of the lock and its passes.
 
 ghost use Rattle.std.specs.Prelude.{◌≡◌};
 
@@ -7,10 +7,10 @@ use machines::Machine;
 use std::alloc::Global;
 use std::marker::Model;
 
-/// A lock round a machine, which keeps the history of the events that the machine took.
+/// A lock around a machine that keeps the history of the events that the machine took.
 ///
-/// Contracts see which lock it is, and the machine, the number of passes and the limit of the history
-/// that it was opened with.
+/// Contracts see which lock it is, and with which machine, number of passes and limit of the
+/// history it was opened.
 #[derive(Drop)]
 pub struct LaneLock<M: Machine> {
     pub(crate) board: Board<M, M::Event>,
@@ -30,10 +30,10 @@ impl<M: Machine> Model for LaneLock<M> {
     ghost invariant = { λ l. IsOfLanes l.board.shared.table_id l.board.shared.key.value l.lanes l.limit };
 }
 
-/// The right to call a lock as the pass of one lane.
+/// A pass: the right to call a lock as one of its lanes.
 ///
 /// Contracts see what the pass has seen of the history, its own events, and its refused claims.
-/// None of them is kept when the program runs.
+/// None of them exists when the program runs.
 #[derive(Drop)]
 pub struct Pass<M: Machine> {
     pub(crate) place: Place<M, M::Event>,
@@ -52,7 +52,7 @@ impl<M: Machine> Model for Pass<M> {
 }
 
 impl<M: Machine> Pass<M> {
-    /// The lane of the pass, from 0 on.
+    /// Returns the lane of the pass, from 0 on.
     pub fn lane(&self) -> u64
         ensures { result ≡ self.now.lane }
     {

@@ -1,9 +1,9 @@
 //! The rule of a lock over lanes, and what each step tells.
 //!
-//! A lane is a word and a slot with a book. The word is 0 while the book is at home, 1 while a pass
-//! reads, and `n + 2` while the pass of lane n writes. `specs/Rule.antt` has the rule. Every
-//! book has the machine, and that of the last lane has the history. The words of two lanes are a cache
-//! line apart, so that readers do not meet there; the words between them stay 0.
+//! A lane is a word and a slot with a book. The word is 0 while the book is in its slot, 1 while a
+//! pass reads, and `n + 2` while the pass of lane n writes. `specs/Rule.antt` has the rule. Every
+//! book has the machine, and that of the last lane has the history. The words of two lanes are a
+//! cache line apart, so that readers do not share a cache line; the words between them stay 0.
 
 use crate::view::{Book, Opened, View};
 use atomic_table::{Join, Play, Seat, Shared, Split, Table, TableRule};
@@ -11,7 +11,7 @@ use machines::Machine;
 use std::alloc::Global;
 use std::snapshot::Snapshot;
 
-/// How many words of the table a lane has, of which the first is in use: as many as a cache line has.
+/// The number of table words per lane, as many as a cache line has; only the first one is used.
 pub(crate) const WORDS_A_LANE: usize = 8;
 
 pub type Board<M, E> = Table<Option<Book<M, E>>, View<M, E>, Snapshot<Opened<M>>, Lanes, Global>;
@@ -20,7 +20,7 @@ pub type Common<M, E> = Shared<Option<Book<M, E>>, View<M, E>, Snapshot<Opened<M
 
 pub type Place<M, E> = Seat<Option<Book<M, E>>, View<M, E>>;
 
-/// What holds of the words, the books and all seats between any two steps.
+/// The rule of the table: what holds of the words, the books and all seats between two steps.
 pub struct Lanes;
 
 impl<M: Machine> TableRule<Option<Book<M, M::Event>>, View<M, M::Event>, Snapshot<Opened<M>>>
@@ -33,7 +33,7 @@ impl<M: Machine> TableRule<Option<Book<M, M::Event>>, View<M, M::Event>, Snapsho
     ghost first = { λ key. first_view key.value };
 }
 
-/// A reader's claim of its own lane: its book comes out, or its word shows which writer holds it.
+/// A reader claims its own lane: its book comes out, or its word shows which writer holds it.
 pub struct Claim;
 
 impl<M: Machine> Play<Option<Book<M, M::Event>>, View<M, M::Event>> for Claim {
@@ -42,7 +42,7 @@ impl<M: Machine> Play<Option<Book<M, M::Event>>, View<M, M::Event>> for Claim {
     ghost then = { ClaimsOwn M.step };
 }
 
-/// A writer's claim of the next lane: its book comes out, or its word shows who holds it.
+/// A writer claims the next lane: its book comes out, or its word shows who holds it.
 pub struct ClaimNext;
 
 impl<M: Machine> Play<Option<Book<M, M::Event>>, View<M, M::Event>> for ClaimNext {
@@ -51,7 +51,7 @@ impl<M: Machine> Play<Option<Book<M, M::Event>>, View<M, M::Event>> for ClaimNex
     ghost then = { ClaimsNext M.step };
 }
 
-/// A writer gives back a lane with a new book. This is when its event happens.
+/// A writer gives back a lane with a new book, which is when its event happens.
 pub struct Publish;
 
 impl<M: Machine> Play<Option<Book<M, M::Event>>, View<M, M::Event>> for Publish {
@@ -60,7 +60,7 @@ impl<M: Machine> Play<Option<Book<M, M::Event>>, View<M, M::Event>> for Publish 
     ghost then = { Publishes };
 }
 
-/// A lane is given back with the book as it was.
+/// A pass gives back a lane with an unchanged book.
 pub struct GiveBack;
 
 impl<M: Machine> Play<Option<Book<M, M::Event>>, View<M, M::Event>> for GiveBack {
@@ -69,7 +69,7 @@ impl<M: Machine> Play<Option<Book<M, M::Event>>, View<M, M::Event>> for GiveBack
     ghost then = { GivesBack };
 }
 
-/// A lane is dealt.
+/// The dealer deals a lane.
 pub struct Deal;
 
 impl<M: Machine> Split<View<M, M::Event>> for Deal {
@@ -91,7 +91,7 @@ impl<M: Machine> Split<View<M, M::Event>> for Tell {
     ghost right = { news_view };
 }
 
-/// A pass is told what another has seen.
+/// A pass learns what another one has seen.
 pub struct Meet;
 
 impl<M: Machine> Join<View<M, M::Event>> for Meet {
@@ -102,7 +102,7 @@ impl<M: Machine> Join<View<M, M::Event>> for Meet {
     ghost spent = { spent_view };
 }
 
-/// A pass is taken in, when the lock closes.
+/// The closing lock takes in a pass.
 pub struct Gather;
 
 impl<M: Machine> Join<View<M, M::Event>> for Gather {

@@ -6,7 +6,7 @@ use std::alloc::{AllocError, Global};
 use std::marker::Model;
 use std::sync::Arc;
 
-/// A machine in memory that several owners share. Contracts see the machine.
+/// A machine in memory that several owners share; contracts see the machine.
 #[derive(Drop)]
 pub struct SharedMachine<M> {
     machine: Arc<M>,
@@ -21,14 +21,14 @@ impl<M> Model for SharedMachine<M> {
 }
 
 impl<M> SharedMachine<M> {
-    /// The machine.
+    /// Returns the machine.
     pub fn get(&self) -> &M
         ensures { result.now ≡ self.now }
     {
         &self.machine
     }
 
-    /// One owner more of the same machine.
+    /// Returns one more owner of the same machine. The only error is out of memory.
     pub fn share(&self) -> Result<Self, AllocError>
         ensures { IfOk result (λ shared. shared ≡ self.now) }
     {

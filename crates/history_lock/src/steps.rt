@@ -16,7 +16,7 @@ use crate::rule::{Claim, ClaimNext, Common, GiveBack, Place, Publish, WORDS_A_LA
 use crate::view::Book;
 use machines::Machine;
 
-// A reader's claim of its own lane, whose book stays in its slot, or a writer has the lane.
+// Claims a reader's own lane, whose book stays in its slot, unless a writer holds the lane.
 pub(crate) fn claim<M: Machine>(
     common: &Common<M, M::Event>,
     place: &mut Place<M, M::Event>,
@@ -40,7 +40,7 @@ pub(crate) fn claim<M: Machine>(
     }
 }
 
-// A writer's claim of the next lane, whose book stays in its slot.
+// Claims the next lane for a writer; the book stays in its slot.
 fn claim_next<M: Machine>(
     common: &Common<M, M::Event>,
     place: &mut Place<M, M::Event>,
@@ -83,7 +83,7 @@ fn busy_of(lane: u64, word: u64) -> Busy
     Busy { lane, holder }
 }
 
-// Gives the lane that was claimed last back with a book of the same history.
+// Gives back the lane that was claimed last, with a book of the same history.
 pub(crate) fn give_back<M: Machine>(
     common: &Common<M, M::Event>,
     place: &mut Place<M, M::Event>,
@@ -101,7 +101,7 @@ pub(crate) fn give_back<M: Machine>(
     common.store::<GiveBack>(place, lane as usize * WORDS_A_LANE, 0);
 }
 
-// Gives the lane that was claimed last back as it was.
+// Gives back the lane that was claimed last, unchanged.
 pub(crate) fn hand_back<M: Machine>(
     common: &Common<M, M::Event>,
     place: &mut Place<M, M::Event>,
@@ -116,7 +116,7 @@ pub(crate) fn hand_back<M: Machine>(
     common.store::<GiveBack>(place, lane as usize * WORDS_A_LANE, 0);
 }
 
-// Gives the last lane back with a book that has one event more, by which the event happens.
+// Gives back the last lane with a book that has one more event, by which the event happens.
 pub(crate) fn publish<M: Machine>(
     common: &Common<M, M::Event>,
     place: &mut Place<M, M::Event>,
@@ -136,7 +136,7 @@ pub(crate) fn publish<M: Machine>(
     common.store::<Publish>(place, lane as usize * WORDS_A_LANE, 0);
 }
 
-// Gives the lanes below this one back as they were, the highest first.
+// Gives back the lanes below this one unchanged, the highest first.
 pub(crate) fn give_all_back<M: Machine>(
     common: &Common<M, M::Event>,
     place: &mut Place<M, M::Event>,
@@ -157,7 +157,7 @@ pub(crate) fn give_all_back<M: Machine>(
     }
 }
 
-// Claims the lanes below this one in rising order, or gives those back that it claimed.
+// Claims the lanes below this one in rising order, or gives back those that it claimed.
 pub(crate) fn claim_all<M: Machine>(
     common: &Common<M, M::Event>,
     place: &mut Place<M, M::Event>,
@@ -182,7 +182,7 @@ pub(crate) fn claim_all<M: Machine>(
     Ok(())
 }
 
-// The book of the lane that was claimed last, which leaves its slot.
+// Takes the book of the lane that was claimed last out of its slot.
 pub(crate) fn take_book<M: Machine>(
     common: &Common<M, M::Event>,
     place: &mut Place<M, M::Event>,

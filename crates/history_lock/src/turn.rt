@@ -19,7 +19,8 @@ use crate::view::Book;
 use machines::Machine;
 use std::alloc::{AllocError, Global};
 
-// Adds the event that `make` answers to the book, if the machine takes it, and shares the machine with so many other lanes.
+// Adds the event that `make` returns to the book, if the machine takes it, and shares the machine
+// with `others` other lanes.
 fn take_event<M: Machine, F: FnMut() -> M::Event>(
     alloc: Global,
     book: &mut Book<M, M::Event>,
@@ -46,7 +47,7 @@ fn take_event<M: Machine, F: FnMut() -> M::Event>(
     Ok((reply, machines))
 }
 
-// So many owners more of a machine.
+// `count` more owners of a machine.
 fn owners<M: Machine>(
     machine: &SharedMachine<M>,
     alloc: Global,
@@ -62,7 +63,7 @@ fn owners<M: Machine>(
     Ok(made)
 }
 
-// Gives the lanes below this one back with new machines, the highest first.
+// Gives back the lanes below this one with new machines, the highest first.
 fn spread<M: Machine>(
     alloc: Global,
     common: &Common<M, M::Event>,
@@ -87,7 +88,7 @@ fn spread<M: Machine>(
     }
 }
 
-// A write by the pass of a lane, or the refusal of its claim.
+// Makes a write by the pass of a lane, or returns why its claim was refused.
 pub(crate) fn write_at<M: Machine, F: FnMut() -> M::Event>(
     common: &Common<M, M::Event>,
     place: &mut Place<M, M::Event>,
@@ -129,7 +130,7 @@ pub(crate) fn write_at<M: Machine, F: FnMut() -> M::Event>(
     }
 }
 
-// One call of `f` at the machine, or the refusal of its claim.
+// Calls `f` once with the machine, or returns why the claim was refused.
 pub(crate) fn share_at<M: Machine, T, F: FnMut(&M) -> T>(
     common: &Common<M, M::Event>,
     place: &mut Place<M, M::Event>,
@@ -156,7 +157,7 @@ pub(crate) fn share_at<M: Machine, T, F: FnMut(&M) -> T>(
     Ok(answer)
 }
 
-// The first pass sees all that the second had, or its claim is refused.
+// Lets the first pass see all that the second one has seen, unless its claim is refused.
 pub(crate) fn meet_at<M: Machine>(
     common: &Common<M, M::Event>,
     first: &mut Place<M, M::Event>,

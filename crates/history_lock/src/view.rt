@@ -1,4 +1,4 @@
-//! What is known of a lock: by the table, and by each seat at it.
+//! What the table of a lock, and each seat at it, knows of the lock.
 
 use crate::entry::Entry;
 use crate::error::Busy;
@@ -10,55 +10,57 @@ use std::collections::LinkedList;
 pub struct Opened<M> {
     /// The machine before any event.
     pub machine: M,
-    /// How many passes there are.
+    /// The number of passes.
     pub lanes: u64,
-    /// How many entries the history has at the most.
+    /// The greatest number of entries of the history.
     pub limit: usize,
 }
 
-/// A machine and, in the last lane, the events that led to it. In the other lanes `history` is empty.
+/// A machine and, in the last lane, the events that led to it.
+///
+/// In the other lanes, `history` is empty.
 #[derive(Drop)]
 pub struct Book<M, E> {
     pub machine: SharedMachine<M>,
     pub history: Vec<Entry<E>>,
 }
 
-/// What a seat at the table is for. No value of it is made.
+/// The role of a seat at the table; it exists only in proofs.
 pub enum Role {
-    /// It gives out the lanes, from this one on.
+    /// The seat gives out the lanes, from this one on.
     Dealer(u64),
-    /// It is the pass of this lane.
+    /// The seat is the pass of this lane.
     Lane(u64),
-    /// It only knows what it has seen.
+    /// The seat only knows what it has seen.
     Bare,
 }
 
-/// What is known of a pass that was taken in when the lock closes. No value of it is made.
+/// What is known of a pass that the closing lock took in; it exists only in proofs.
 pub struct GatheredPass<E> {
     pub lane: u64,
     pub seen: LinkedList<Entry<E>>,
     pub mine: LinkedList<E>,
 }
 
-/// What a seat at the table knows. No value of it is made.
+/// What a seat at the table knows; it exists only in proofs.
 pub struct View<M, E> {
-    /// What the lock was opened with, which a spent seat does not know.
+    /// What the lock was opened with; a spent seat does not know it.
     pub opened: Option<Opened<M>>,
     pub role: Role,
-    /// The lanes that it holds are those from this one on,
+    /// The first of the lanes that the seat holds.
     pub start: u64,
-    /// below this one,
+    /// The end of the lanes that the seat holds, which is above the last one.
     pub end: u64,
-    /// and their words show this.
+    /// The word of each lane that the seat holds.
     pub word: u64,
     /// A beginning of the history.
     pub seen: LinkedList<Entry<E>>,
     /// A beginning of the history that another pass had seen.
     pub news: LinkedList<Entry<E>>,
-    /// Its own events.
+    /// The seat's own events.
     pub mine: LinkedList<E>,
-    /// Its refused claims.
+    /// The seat's refused claims.
     pub turned: LinkedList<Busy>,
-    /// The passes that it took in.
+    /// The passes that the seat took in.
     pub passes: LinkedList<GatheredPass<E>>,
 }

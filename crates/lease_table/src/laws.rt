@@ -34,10 +34,10 @@ pub fn policy_law(policy: Policy)
     ensures { is_policy policy ≡ true }
 {}
 
-/// States that the state and answers of a table are those defined over its list of calls.
+/// States that the state and replies of a table are those defined over its list of calls.
 ///
-/// The list may be any list of calls that the table answered, and the answer to the next call is
-/// that of the table's step from the state after the list.
+/// The list may be any list of calls that the table answered. The reply to the next call is that of
+/// the table's step from the state after the list.
 pub fn standing_law()
     ensures start { (policy : Terms) → standing_after policy [] ≡ opening policy }
     ensures next { (policy : Terms) (past : List AnsweredTableCall) (call : TableCall) → is_policy policy ≡ true

@@ -13,20 +13,21 @@ use machines::Trouble;
 use std::alloc::Global;
 use std::marker::Model;
 
-// How many tasks a job has at the most.
+// The greatest number of tasks in a job.
 const TASKS: usize = assignment::TASKS as usize;
 
-/// Shares that were not gathered.
+/// The error of a gather; it holds the shares, unchanged.
 #[derive(Debug, Drop)]
 pub struct Ungathered {
-    /// Why they were not.
+    /// Why the shares were not gathered.
     pub why: Trouble<LoadError>,
-    /// The shares, as they were.
+    /// The shares.
     pub shares: Listed<LoadShare>,
 }
 
-/// How much work each task has done, by the shares that were gathered. Contracts see the totals of
-/// the tasks in the order of their numbers.
+/// A load book: the total weight of the work that each task has done, by the gathered shares.
+///
+/// Contracts see the totals of the tasks in the order of the tasks' numbers.
 #[derive(Debug, Drop)]
 pub struct LoadBook {
     totals: [u64; TASKS],
@@ -44,18 +45,19 @@ impl Model for LoadBook {
 }
 
 impl LoadBook {
-    /// A book in which nothing is gathered.
+    /// Creates a book with all totals 0.
     pub fn new() -> Self
         ensures { result ≡ book_of [] }
     {
         LoadBook { totals: [0; TASKS] }
     }
 
-    /// Adds shares to the totals of their tasks, and answers the load of each slice of an assignment
-    /// by these shares.
+    /// Adds shares to the totals of their tasks, and returns the shares' load of each slice.
     ///
-    /// Refused by `TotalRange` where all totals together would be above [`MOST_TOTAL`]; want of
-    /// memory comes last. On any error nothing changes, and the shares are handed back.
+    /// The loads are in the order of the slices of the assignment.
+    ///
+    /// Errors, in this order: `TotalRange`, if the sum of all totals would be above [`MOST_TOTAL`];
+    /// out of memory. An error leaves the book unchanged and returns the shares.
     pub fn gather(
         &mut self,
         alloc: Global,
@@ -82,7 +84,7 @@ impl LoadBook {
         }
     }
 
-    /// Why a gather of shares is refused, if it is.
+    /// Returns why a gather of shares would be refused, if it would.
     pub fn gather_refusal(&self, shares: &[LoadShare]) -> Option<LoadError>
         ensures { result ≡ first_of (gather_checks shares.now self.now) }
     {
@@ -96,14 +98,14 @@ impl LoadBook {
         None
     }
 
-    /// How much work a task has done.
+    /// Returns the total weight of the work that a task has done.
     pub fn total(&self, task: TaskId) -> u64
         ensures { result ≡ task_total self.now task }
     {
         self.totals[task.number() as usize - 1]
     }
 
-    /// A book that equals this one.
+    /// Returns a copy that equals this book.
     pub fn copy(&self) -> Self
         ensures { result ≡ self.now }
     {

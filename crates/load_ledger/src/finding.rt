@@ -1,4 +1,4 @@
-//! The slice of a key, among many.
+//! How the slice of a key is found.
 
 ghost use Rattle.std.specs.Prelude.{◌≡◌, ◌==◌, ◌<◌, ℕ, None, length, slice_index_or};
 ghost use Rattle.assignment.specs.declared.slice.Slice.{Slice};
@@ -8,7 +8,7 @@ ghost use Rattle.load_ledger.specs.Loads.{is_in};
 use assignment::OwnedSlice;
 use slice_ranges::SliceKey;
 
-/// The place of the slice that a key is in.
+/// Returns the index of the slice that has the key.
 pub fn place_of(slices: &[OwnedSlice], key: SliceKey) -> usize
     requires { refusal_of slices.now ≡ None }
     ensures within { result < length slices.now }

@@ -1,4 +1,4 @@
-//! Loads: how much work the keys of each slice were, and how much each task did.
+//! Loads: how much work the keys of each slice caused, and how much work each task did.
 #![tactic(auto)]
 
 mod book;

@@ -12,7 +12,7 @@ use crate::share::{LoadRecord, LoadShare, MOST_TOTAL};
 use assignment::OwnedSlice;
 use std::alloc::{AllocError, Global};
 
-/// The load of each slice.
+/// Returns the load of each slice, in order. The only error is out of memory.
 pub fn loads_of(
     alloc: Global,
     shares: &[LoadShare],
@@ -29,7 +29,7 @@ pub fn loads_of(
     Ok(loads)
 }
 
-// Adds the weight of each record to the load of the slice that its key is in.
+// Adds the weight of each record to the load of the slice that has its key.
 fn add_records(loads: &mut [u64], records: &[LoadRecord], slices: &[OwnedSlice])
     requires accepted { refusal_of slices.now ≡ None }
     requires each { length loads.old ≡ length slices.now }

@@ -11,22 +11,22 @@ use slice_ranges::SliceKey;
 use std::alloc::{AllocError, Global};
 use std::marker::Model;
 
-/// How much work a record tells of at the most.
+/// The greatest weight of a record, 2^32.
 pub const MOST_WEIGHT: u64 = 1 << 32;
 
-/// How much work a share tells of at the most, and how much a book.
+/// The greatest total weight of a share, and of a book, 2^40.
 pub const MOST_TOTAL: u64 = 1 << 40;
 
-/// That a task did some work for a key.
+/// A record that a task did some work for a key.
 #[derive(Clone, Copy, Debug, PartialEq, Eq)]
 pub struct LoadRecord {
     /// The key.
     pub key: SliceKey,
-    /// How much work it was.
+    /// The weight of the work.
     pub weight: u64,
 }
 
-/// The records of one task since its shares were last gathered.
+/// A load share: the records of one task since its shares were last gathered.
 #[derive(Debug, Drop)]
 pub struct LoadShare {
     task: TaskId,
@@ -47,7 +47,7 @@ impl Model for LoadShare {
 }
 
 impl LoadShare {
-    /// A share without records.
+    /// Creates a share without records.
     pub fn new(alloc: Global, task: TaskId) -> Self
         ensures { result ≡ record { task = task; records = [] } }
     {
@@ -58,10 +58,10 @@ impl LoadShare {
         }
     }
 
-    /// Adds a record, and answers the total of the share.
+    /// Adds a record for a key, and returns the total weight of the share.
     ///
-    /// Refused by `WeightRange` and `TotalRange`, in this order; out of memory comes last. Either
-    /// way nothing changes.
+    /// Errors, in this order: `WeightRange`, `TotalRange`, out of memory. An error leaves the share
+    /// unchanged.
     pub fn add(&mut self, key: SliceKey, weight: u64) -> Result<u64, Trouble<LoadError>>
         ensures { Takes (add_step key weight self.old) self.old result self.new }
     {
@@ -77,14 +77,14 @@ impl LoadShare {
         Ok(total)
     }
 
-    /// The task whose records these are.
+    /// Returns the task whose records these are.
     pub fn task(&self) -> TaskId
         ensures { result ≡ self.now.task }
     {
         self.task
     }
 
-    /// The sum of the weights.
+    /// Returns the sum of the weights of all records.
     pub fn total(&self) -> u64
         ensures value { result ≡ share_total self.now }
         ensures small { result ≤ MOST_TOTAL }
@@ -92,7 +92,7 @@ impl LoadShare {
         self.total
     }
 
-    /// The records, the first one first.
+    /// Returns the records, the oldest first.
     pub fn records(&self) -> &[LoadRecord]
         ensures { result.now ≡ self.now.records }
     {

@@ -1,4 +1,4 @@
-//! Tickets: numbers that any number of threads draw, each once and none left out.
+//! Tickets: numbers that any number of threads draw, each number once and none left out.
 #![tactic(auto)]
 
 mod ticket;

@@ -1,4 +1,4 @@
-//! Tickets: numbers that any number of threads draw, each once and none left out.
+//! Tickets: numbers that any number of threads draw, each number once and none left out.
 
 ghost use Rattle.std.specs.Prelude.{◌≡◌, ◌≢◌, ◌+◌, ◌<◌, [], ◌++◌, true, if◌then◌else◌, All, length, vec_len};
 ghost use Rattle.std.specs.Prelude.{IfOk, OnOk, IfErr, IsErr};
@@ -15,14 +15,15 @@ use atomic_table::Table;
 use std::alloc::{AllocError, Global};
 use std::marker::Model;
 
-/// How many passes a ticket has at the most.
+/// The greatest number of passes of a ticket.
 pub const MOST_PASSES: u64 = 128;
 
-/// How many numbers a pass may draw at the most.
+/// The greatest number of draws of a pass, 2^32.
 pub const MOST_DRAWS: u64 = 1 << 32;
 
-/// Numbers from 0 on, to be drawn by passes. Contracts see which ticket it is, how many passes it has, and
-/// how many numbers each may draw.
+/// A ticket: a counter whose numbers, from 0 on, are drawn by passes, each number once.
+///
+/// Contracts see which ticket it is, how many passes it has, and how many numbers each may draw.
 #[derive(Drop)]
 pub struct Ticket {
     table: TicketTable,
@@ -40,7 +41,7 @@ impl Model for Ticket {
     ghost invariant = { λ t. IsOfOneWord t.table.shared.table_id t.table.shared.key t.passes };
 }
 
-/// The right to draw some numbers of one ticket.
+/// A pass: the right to draw a given number of numbers from one ticket.
 ///
 /// Contracts see the numbers that the pass drew, which are not kept when the program runs.
 #[derive(Drop)]
@@ -61,7 +62,7 @@ impl Model for TicketPass {
 }
 
 impl TicketPass {
-    /// How many numbers the pass may still draw.
+    /// Returns how many numbers the pass may still draw.
     pub fn left(&self) -> u64
         ensures { result + length self.now.drawn ≡ self.now.terms.quota }
     {
@@ -72,9 +73,9 @@ impl TicketPass {
 /// Why no ticket was made.
 #[derive(Debug, Drop)]
 pub enum TicketError {
-    /// There are to be no passes or more than 128, or no draws of a pass or more than 2^32.
+    /// The number of passes is not 1 to 128, or the number of draws of a pass is not 1 to 2^32.
     Passes,
-    /// There was no memory for the ticket and its passes.
+    /// Memory for the ticket and its passes ran out.
     NoMemory,
 }
 
@@ -86,11 +87,11 @@ impl From<AllocError> for TicketError {
     }
 }
 
-/// A pass has drawn all the numbers that it may.
+/// The error of a pass that has drawn all the numbers that it may.
 #[derive(Clone, Copy, Debug, PartialEq, Eq)]
 pub struct Spent;
 
-/// A ticket was not closed, since one of its passes is missing: all comes back as it was.
+/// The error of a close that lacks a pass; it holds the ticket and the passes, unchanged.
 #[derive(Drop)]
 pub struct PassesMissing {
     /// The ticket.
@@ -100,10 +101,10 @@ pub struct PassesMissing {
 }
 
 impl Ticket {
-    /// A ticket, and its passes, each of which may draw `quota` numbers.
+    /// Creates a ticket with `passes` passes, each of which may draw `quota` numbers.
     ///
-    /// It is refused with [`TicketError::Passes`] where `passes` is not 1 to 128 or `quota` not 1 to 2^32,
-    /// and then where memory runs out.
+    /// Errors, in this order: [`TicketError::Passes`], if `passes` is not 1 to 128 or `quota` is
+    /// not 1 to 2^32; out of memory.
     pub fn new(
         alloc: Global,
         passes: u64,
@@ -124,7 +125,10 @@ impl Ticket {
         Ok((Ticket { table, passes }, dealt))
     }
 
-    /// The next number of the ticket, for this pass. Refused only where the pass has drawn all that it may.
+    /// Draws the next number of the ticket for this pass.
+    ///
+    /// The only error is `Spent`, if the pass has drawn all the numbers that it may; it leaves the
+    /// pass unchanged.
     pub fn draw(&self, pass: &mut TicketPass) -> Result<u64, Spent>
         requires own { DrawsFrom self.now pass.old }
         ensures own { DrawsFrom self.now pass.new }
@@ -140,9 +144,9 @@ impl Ticket {
         Ok(number)
     }
 
-    /// How many numbers were drawn, if all passes are there.
+    /// Closes the ticket and returns how many numbers were drawn, if all passes are given.
     ///
-    /// [`PassesMissing`] hands the ticket and the passes back.
+    /// The only error is [`PassesMissing`], which returns the ticket and the passes unchanged.
     pub fn close(self, passes: Vec<TicketPass>) -> Result<u64, PassesMissing>
         requires own { All (DrawsFrom self) passes.items }
         ensures closed { IfOk result (λ drawn. DrewEachBelow drawn passes.items) }
@@ -201,7 +205,7 @@ fn deal_one(word: &TicketWord, dealer: &mut TicketSeat, terms: TicketTerms) -> T
     }
 }
 
-// One seat that stands for all these passes.
+// One seat for all these passes.
 fn gather(word: &TicketWord, mut passes: Vec<TicketPass>) -> TicketSeat
     requires word { word.now.table_id.words ≡ 1 }
     requires some { 0 < vec_len passes }
@@ -216,7 +220,7 @@ fn gather(word: &TicketWord, mut passes: Vec<TicketPass>) -> TicketSeat
     seat
 }
 
-// The seat stands for one pass more.
+// Joins one more pass into the seat.
 fn take_in(word: &TicketWord, seat: &mut TicketSeat, pass: TicketPass)
     requires table { (seat.old.table_id ≡ word.now.table_id) × (word.now.table_id.words ≡ 1) }
     requires own { pass.table ≡ word.now.table_id }

@@ -1,37 +1,37 @@
-//! What is known of a ticket's word, and the steps that there are on it.
+//! What is known of a ticket's word, and the steps on it.
 
 use atomic_table::{Join, Play, Seat, Shared, Split, Table, TableRule};
 use std::alloc::Global;
 use std::collections::LinkedList;
 
-/// How many passes a ticket has, and how many draws each of them.
+/// The number of passes of a ticket, and the number of draws of each.
 #[derive(Clone, Copy)]
 pub struct TicketTerms {
     pub passes: u64,
     pub quota: u64,
 }
 
-/// What a seat at the word knows. No value of it is made.
+/// What a seat at the word knows; it exists only in proofs.
 pub struct TicketShare {
     pub terms: TicketTerms,
-    /// For how many passes it stands.
+    /// How many passes the seat stands for.
     pub passes: u64,
-    /// The draws that remain to it.
+    /// How many draws the seat has left.
     pub left: u64,
-    /// The numbers that it drew, in order.
+    /// The numbers that the seat drew, in order.
     pub drawn: LinkedList<u64>,
 }
 
-/// The table of a ticket's one word, which one owner has.
+/// The table of a ticket's one word, which has one owner.
 pub type TicketTable = Table<(), TicketShare, TicketTerms, EachOnce, Global>;
 
-/// The same table, as threads share it.
+/// The same table as threads share it.
 pub type TicketWord = Shared<(), TicketShare, TicketTerms, EachOnce>;
 
 /// The seat of a pass at that table.
 pub type TicketSeat = Seat<(), TicketShare>;
 
-/// What holds of the word and all seats between any two steps.
+/// The rule of the table: what holds of the word and all seats between two steps.
 pub struct EachOnce;
 
 impl TableRule<(), TicketShare, TicketTerms> for EachOnce {
@@ -42,7 +42,7 @@ impl TableRule<(), TicketShare, TicketTerms> for EachOnce {
     ghost first = { first_share };
 }
 
-/// A number is drawn.
+/// A pass draws a number.
 pub struct Draw;
 
 impl Play<(), TicketShare> for Draw {
@@ -51,7 +51,7 @@ impl Play<(), TicketShare> for Draw {
     ghost then = { λ _ before number after. IsDrawnOn before number after };
 }
 
-/// A pass is dealt.
+/// The dealer deals a pass.
 pub struct DealPass;
 
 impl Split<TicketShare> for DealPass {
@@ -62,7 +62,7 @@ impl Split<TicketShare> for DealPass {
     ghost right = { λ share. new_share share.terms };
 }
 
-/// A pass is taken in, when the ticket is closed.
+/// The closing ticket takes in a pass.
 pub struct GatherPass;
 
 impl Join<TicketShare> for GatherPass {

@@ -1,4 +1,4 @@
-//! What a plan is held to, beside the numbers of owners.
+//! The bounds of a plan, besides the numbers of owners.
 
 ghost use Rattle.std.specs.Prelude.{◌≡◌, IfSome, is_some};
 ghost use Rattle.weighted_move.specs.Bounds.{bounds, is_bounds};
@@ -7,7 +7,7 @@ use assignment::MOST_SLICES;
 use slice_ranges::KEYS;
 use std::marker::Model;
 
-/// What a plan is held to, beside how many tasks own a slice.
+/// The bounds of a plan, besides how many tasks may own a slice.
 #[derive(Clone, Copy, Debug, PartialEq, Eq)]
 pub struct PlanBounds {
     pub(crate) churn: u64,
@@ -30,9 +30,12 @@ impl Model for PlanBounds {
 }
 
 impl PlanBounds {
-    /// Bounds, or `None` where an argument is outside its limits: how many keys may move (up to
-    /// 2^63); the load up to which neighbours merge; the load above which a slice is halved; and up
-    /// to how many slices that is done (1 to 1024).
+    /// Creates bounds, or returns `None` if an argument is outside its limits.
+    ///
+    /// - `churn`: how many keys the moves of a plan may move in all, up to 2^63;
+    /// - `cold`: the load up to which neighbours merge;
+    /// - `hot`: the load above which a slice is halved;
+    /// - `most`: slices are halved while there are fewer than this many, 1 to 1024.
     pub fn new(churn: u64, cold: u64, hot: u64, most: u64) -> Option<Self>
         ensures valid { is_some result ≡ is_bounds (bounds churn cold hot most) }
         ensures value { IfSome result (λ b. b ≡ bounds churn cold hot most) }

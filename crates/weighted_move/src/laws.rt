@@ -1,4 +1,4 @@
-//! What holds of every plan.
+//! Laws that hold of every plan.
 
 ghost use Rattle.std.specs.Prelude.{◌≡◌, ◌<◌, ◌+◌, ◌-◌, ◌↔◌, ℕ, min, max, length, List, Some, None, All};
 ghost use Rattle.slice_ranges.specs.declared.key.TheConstants.{KEYS};
@@ -18,9 +18,11 @@ ghost use Rattle.weighted_move.specs.Settling.{IsLeastLoaded, IsMostLoaded, leas
 ghost use Rattle.weighted_move.specs.Keys.{bare, owners_after};
 ghost use Rattle.weighted_move.specs.Handovers.{IsHandover, IsPlanOfHandovers};
 
-/// The slices of a plan make an assignment of any generation. Their owners are tasks of the set, as
-/// many as a slice may have. The owners of a key are those that it had before the moves, with each
-/// move made that takes the key along: merging and halving change no owner.
+/// States that the slices of a plan form an assignment, with owners changed only by its moves.
+///
+/// They form an assignment of any generation. Their owners are tasks of the set, as many as a slice
+/// may have. The owners of a key are those that it had before the moves, changed by each move of a
+/// slice that has the key. Merging and halving change no owner.
 pub fn plan_law()
     ensures accepted { (slices : List Slice) (loads tasks : List ℕ) (limits : Limits) (plan : Plan)
         → CanPlan slices loads tasks limits → IsPlan slices loads tasks limits plan
@@ -36,9 +38,11 @@ pub fn plan_law()
         ≡ owners_after key (owners_of (bare (slices_for_plan slices loads tasks limits)) key) plan.moves }
 {}
 
-/// The owner that a slice loses has the greatest load of its owners, and the task that it gets the least load of
-/// those that are no owners; of equal loads it is the lowest number. One is found wherever there is a task to
-/// choose from.
+/// States which owner a slice loses and which task it gains when its number of owners changes.
+///
+/// The owner that it loses has the greatest load of its owners. The task that it gains has the
+/// least load of the tasks that do not own it. Among equal loads, the lowest number is taken. One
+/// is found whenever there is a task to choose from.
 pub fn settling_law()
     ensures loses { (load : ℕ → ℕ) (owners : List ℕ) → IsTaskSet owners
         → IsMostLoaded load owners (most_loaded load owners) }
@@ -46,8 +50,11 @@ pub fn settling_law()
         → IsLeastLoaded load (strangers tasks owners) (least_loaded load (strangers tasks owners)) }
 {}
 
-/// The loads after a candidate are those of the list with it made. Where as many owners must be as may be, a
-/// candidate is a task in the place of an owner, and gains what the greater of their two loads falls by.
+/// States how a candidate changes the loads, and what it gains if the number of owners is fixed.
+///
+/// The loads after a candidate are those of the list with the candidate made. If the least number
+/// of owners equals the greatest one, a candidate replaces an owner by another task, and its gain
+/// is how much the greater of their two loads falls.
 pub fn move_law()
     ensures loads { (slices : List WeighedSlice) (tasks : List ℕ) (range : OwnerRange) (left : ℕ) (move : Move) (candidate : IsCandidate slices tasks range left move) (task : ℕ)
         → Tiles 0 slices KEYS
@@ -61,9 +68,11 @@ pub fn move_law()
         - max (load_of slices a - share_of candidate.slice) (load_of slices b + share_of candidate.slice) }
 {}
 
-/// Where as many owners must be as may be, a plan hands slices over and does nothing else to their owners: each slice
-/// is given that number of owners, or as many as there are tasks, and keeps it, and each move is the best handover
-/// where the earlier ones were made. The candidates are then the handovers, no more and no fewer.
+/// States that a plan changes owners by handovers alone if the number of owners is fixed.
+///
+/// The number is fixed if the least number of owners equals the greatest one. Each slice then gets
+/// that number of owners, or as many as there are tasks, and keeps it. Each move is the best
+/// handover after the earlier ones were made. The candidates are exactly the handovers.
 pub fn fixed_law()
     ensures plan { (slices : List Slice) (loads tasks : List ℕ) (limits : Limits) (plan : Plan)
         → CanPlan slices loads tasks limits → IsPlan slices loads tasks limits plan → limits.low ≡ limits.high

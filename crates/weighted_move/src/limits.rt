@@ -1,12 +1,12 @@
-//! What the next move is held to.
+//! The limits of the next move.
 
 use crate::range::OwnerRange;
 
 /// How many tasks may own a slice, and how many keys may still move.
 #[derive(Clone, Copy, Debug)]
 pub struct MoveLimits {
-    /// How many tasks own a slice.
+    /// How many tasks may own a slice.
     pub range: OwnerRange,
-    /// How many keys may move.
+    /// How many keys may still move.
     pub left: u64,
 }

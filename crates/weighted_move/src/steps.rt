@@ -8,17 +8,19 @@ use crate::range::OwnerRange;
 use crate::weighed::WeighedSlice;
 use std::alloc::{AllocError, Global};
 
-/// By how much the moves of a slice change the loads of tasks. They stay the same while it has as many owners.
+/// By how much the moves of a slice change the loads of tasks.
+///
+/// The values stay the same while the slice has the same number of owners.
 #[derive(Clone, Copy)]
 pub struct Steps {
-    /// The share that each owner has of the load.
+    /// The share of the load that each owner has.
     pub share: u64,
     /// The least change of a load.
     pub least: u64,
 }
 
 impl Steps {
-    /// The steps of a slice.
+    /// Computes the steps of a slice.
     pub fn of(slice: &WeighedSlice, range: OwnerRange) -> Self
         requires low { 0 < range.low }
         requires some { 0 < length slice.now.owners }
@@ -31,7 +33,7 @@ impl Steps {
     }
 }
 
-/// The steps of each slice, in order.
+/// Returns the steps of each slice, in order. The only error is out of memory.
 pub fn steps_of(
     alloc: Global,
     slices: &[WeighedSlice],
