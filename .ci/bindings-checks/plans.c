@@ -1,4 +1,4 @@
-/* Plans: the plan of examples/load-moves-a-slice.json, and why there is none. */
+/* Plans: the plan of examples/scripts/load-moves-a-slice.json, and why there is none. */
 #include "checks.h"
 
 #include <string.h>

@@ -12,7 +12,7 @@ const SCRIPT: &str =
 
 const TEXT: &str = "key 167926dd2fd85187\ntimely yes\n";
 
-/// The story of `examples/bridge-carries-a-key-over-a-change.json`, and its text.
+/// The story of `examples/scripts/bridge-carries-a-key-over-a-change.json`, and its text.
 const STORY: &str =
     r#"[{"job":{"redundancy":1,"skew":10,"guard":100,"bridge":100,"job":1000,"numbers":1000,"assigners":2,"tasks":2,"clerks":2}},
 {"do":"take","assigner":1,"at":0},

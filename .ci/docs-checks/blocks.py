@@ -1,0 +1,196 @@
+"""The command blocks of the pages are run, and print what the pages say.
+
+A block fenced as ```sh is run. If a block fenced as ```text follows it, with nothing but blank lines between, that
+is exactly what it prints on standard output and standard error together. If none follows, it must end with status 0.
+A line `<!-- not run: REASON -->` directly above leaves a block out, with the text that follows it.
+
+The blocks of a page are run in order, in a copy of this checkout that is made for the page, as if they were typed
+into one bash at the top of the repository: variables and the current directory last from block to block. Each has
+120 seconds, and what it left running is ended with it. `/tmp/` in a block is a folder of this check, which is removed
+when the page is done.
+
+No block proves, and none compiles Rattle. `hourstable`, `slicer_run` and `slicer_live` are on the PATH as the gate
+built them (programs.py). `rt` on that PATH is a stand-in: `rt try` and `rt run` in the folder of a program run the
+proved program at once, with the arguments after `--`; `rt lib` in crates/hourstable_c leaves the proved archive in
+out/; `rt doc` and `rt version` are those of the kit; all else fails.
+"""
+import difflib
+import os
+import re
+import shutil
+import signal
+import subprocess
+import tempfile
+import time
+from collections.abc import Iterator
+from pathlib import Path
+
+from pages import TOP, Fault, Fence, Page, Result, all_pages, repository_files
+from programs import ARCHIVE, Missing, Programs
+
+SECONDS = 120
+NOT_RUN = re.compile(r"^not run: \S")
+OTHER_NAMES = {"bash", "shell", "console", "shell-session", "sh-session", "zsh"}
+COMMANDS = r"rt|hourstable|slicer_run|slicer_live|python3?|gcc|g\+\+|cargo|rustc|go|git|cd|cp|mkdir|pip|curl|export"
+LIKE_COMMAND = re.compile(
+    rf"^(?: {{4,}}|\t)\(?(?:\$ )?(?:[A-Z_]+=\S+ )*(?:{COMMANDS}|[A-Z]+=\S+|\.ci/\w+|bench/\w+)(?: |$)"
+)
+IN_CRATE = re.compile(r"cd crates/(\w+) && rt (?:try|run)\b")
+ON_PATH = ("hourstable", "slicer_run", "slicer_live")
+
+STAND_IN = """#!/usr/bin/env bash
+name=$(basename "$PWD")
+case "${1:-} $name" in
+  "try "* | "run "*)
+    shift
+    [ "${1:-}" != -- ] || shift
+    [ ! -x "out/$name" ] || exec "out/$name" "$@"
+    ;;
+  "lib hourstable_c") [ ! -e "out/@ARCHIVE@" ] || exit 0 ;;
+  "doc "* | "version "*) exec "@RT@" "$@" ;;
+esac
+echo "rt: .ci/docs does not run this here: $*" >&2
+exit 2
+"""
+
+# Runs the file $1, and keeps variables in $2 and the current directory in $3 for the next block.
+RUN_BLOCK = """trap 'code=$?; env -0 >"$2"; pwd >"$3"; exit $code' EXIT
+set -a
+[ -z "$4" ] || set -eo pipefail
+. "$1"
+"""
+
+
+class Copy:
+    """A copy of the checkout with the proved programs, in which the blocks of one page are run."""
+
+    def __init__(self, room: Path, programs: Programs, page: Page) -> None:
+        self.room, self.top, self.temporary = room, room / "repository", room / "tmp"
+        self.bin = room / "bin"
+        self.folder = self.top
+        for folder in (self.top, self.temporary, self.bin):
+            folder.mkdir()
+        for path in repository_files():
+            target = self.top / path
+            target.parent.mkdir(parents=True, exist_ok=True)
+            shutil.copy2(TOP / path, target, follow_symlinks=False)
+        crates = {*ON_PATH, *(name for fence in page.fences for name in IN_CRATE.findall(fence.text))}
+        for name in sorted(crates):
+            self.link(programs.find(name), self.top / "crates" / name / "out" / name)
+            self.link(programs.find(name), self.bin / name)
+        if any("rt lib" in fence.text for fence in page.fences):
+            self.link(programs.archive(), self.top / "crates/hourstable_c/out" / ARCHIVE)
+        stand_in = self.bin / "rt"
+        stand_in.write_text(STAND_IN.replace("@RT@", shutil.which("rt") or "rt").replace("@ARCHIVE@", ARCHIVE))
+        stand_in.chmod(0o755)
+        self.variables = {
+            **os.environ,
+            "PATH": f"{self.bin}:{os.environ['PATH']}",
+            "TMPDIR": str(self.temporary),
+            "LC_ALL": "C.UTF-8",
+            "PYTHONDONTWRITEBYTECODE": "1",
+        }
+
+    @staticmethod
+    def link(program: Path, place: Path) -> None:
+        place.parent.mkdir(parents=True, exist_ok=True)
+        place.symlink_to(program)
+
+    def run(self, text: str, strict: bool) -> tuple[int | None, str]:
+        """Runs a block: its status, None if time ran out, and what it printed."""
+        block, variables, folder, said = (self.room / it for it in ("block", "variables", "folder", "said"))
+        block.write_text(text.replace("/tmp/", f"{self.temporary}/"))
+        words = ["bash", "--noprofile", "--norc", "-c", RUN_BLOCK, "bash"]
+        words += [str(block), str(variables), str(folder), "yes" if strict else ""]
+        with open(said, "wb") as output:
+            ran = subprocess.Popen(
+                words,
+                cwd=self.folder,
+                env=self.variables,
+                stdin=subprocess.DEVNULL,
+                stdout=output,
+                stderr=subprocess.STDOUT,
+                start_new_session=True,
+            )
+            in_time = wait_for(ran, SECONDS)
+        if folder.exists():
+            self.folder = Path(folder.read_text().rstrip("\n"))
+            pairs = (it.partition("=") for it in variables.read_text().split("\0") if it)
+            self.variables = {name: value for name, _, value in pairs}
+        printed = said.read_text(encoding="utf-8", errors="replace").replace(f"{self.temporary}/", "/tmp/")
+        return ran.returncode if in_time else None, printed
+
+
+def wait_for(ran: "subprocess.Popen[bytes]", seconds: float) -> bool:
+    """Waits for a process that leads a group, ends what is left of the group, and says whether it ended in time."""
+    until = time.monotonic() + seconds
+    options = os.WEXITED | os.WNOHANG | os.WNOWAIT
+    while not (ended := os.waitid(os.P_PID, ran.pid, options)) and time.monotonic() < until:
+        time.sleep(0.02)
+    os.killpg(ran.pid, signal.SIGKILL)
+    ran.wait()
+    return ended is not None
+
+
+def text_after(page: Page, fence: Fence) -> Fence | None:
+    """The ```text block that follows directly."""
+    for other in page.fences:
+        if other.line > fence.last and not any(it.strip() for it in page.lines[fence.last : other.line - 1]):
+            return other if other.language == "text" else None
+    return None
+
+
+def misplaced(page: Page) -> Iterator[Fault]:
+    """Blocks that look like commands or their output, and would not be run."""
+    after = {it.line for fence in page.fences if fence.language == "sh" and (it := text_after(page, fence))}
+    for fence in page.fences:
+        if fence.language in OTHER_NAMES:
+            yield Fault(page.path, fence.line, f"fence commands as ```sh, not as ```{fence.language}")
+        if fence.language == "text" and fence.line not in after:
+            why = "a ```text block stands directly after a ```sh block; fence other texts as ``` alone"
+            yield Fault(page.path, fence.line, why)
+    above = ""
+    for number, line in enumerate(page.prose.split("\n"), 1):
+        if LIKE_COMMAND.match(line) and not above.strip():
+            yield Fault(page.path, number, "an indented block of commands is not run: fence it as ```sh")
+        above = line
+
+
+def difference(expected: str, printed: str) -> str:
+    old, new = expected.splitlines(), printed.splitlines()
+    lines = difflib.unified_diff(old, new, "the page", "the commands", lineterm="", n=1)
+    return "".join(f"\n    {it}" for it in lines)
+
+
+def outcome(copy: Copy, page: Page, fence: Fence, text: Fence | None) -> list[Fault]:
+    status, printed = copy.run(fence.text, strict=text is None)
+    if status is None:
+        return [Fault(page.path, fence.line, f"the commands did not end within {SECONDS} seconds")]
+    if text and printed.rstrip("\n") != text.text.rstrip("\n"):
+        return [Fault(page.path, fence.line, f"the commands print something else:{difference(text.text, printed)}")]
+    if not text and status != 0:
+        return [Fault(page.path, fence.line, f"status {status}:\n    " + printed[-1000:].replace("\n", "\n    "))]
+    return []
+
+
+def check_page(page: Page, programs: Programs) -> Iterator[Result]:
+    with tempfile.TemporaryDirectory(prefix="docs.") as room:
+        copy = Copy(Path(room).resolve(), programs, page)
+        for fence in page.fences:
+            if fence.language == "sh":
+                if NOT_RUN.match(fence.comment):
+                    print(f"{page.path}:{fence.line}: {fence.comment}")
+                else:
+                    yield Result(f"{page.path}:{fence.line}", outcome(copy, page, fence, text_after(page, fence)))
+
+
+def check(programs: Programs) -> Iterator[Result]:
+    """A result for each command block, and for each page whose blocks are as they should be."""
+    for page in all_pages():
+        yield Result(page.path, list(misplaced(page)))
+        first = next((it for it in page.fences if it.language == "sh"), None)
+        if first:
+            try:
+                yield from check_page(page, programs)
+            except Missing as why:
+                yield Result(page.path, [Fault(page.path, first.line, str(why))])

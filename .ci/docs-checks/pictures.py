@@ -1,0 +1,60 @@
+"""Each picture docs/NAME.svg that a page shows is what `hourstable timeline` draws.
+
+A line `<!-- picture: timeline ARGS < FILE -->` stands directly above the image, with FILE from the top of the
+repository. Every picture under docs/ is shown in this way by some page.
+"""
+import re
+import shlex
+import subprocess
+from collections.abc import Iterator
+
+from pages import COMMENT, TOP, Fault, Page, Result, all_pages, repository_files
+from programs import Missing, Programs
+
+IMAGE = re.compile(r"(?:!\[[^\]]*\]\(|<img\s[^>]*src=[\"'])([^)\s\"']+\.svg)")
+CLAIM = re.compile(r"^picture: (timeline\b.*?) < (\S+)$")
+
+
+def drawn(words: list[str], script: str, programs: Programs) -> bytes | str:
+    """The picture of a script, or why there is none."""
+    try:
+        command = [str(programs.find("hourstable")), *words]
+        text = (TOP / script).read_bytes()
+        ran = subprocess.run(command, input=text, capture_output=True, timeout=120, check=False)
+    except (OSError, subprocess.TimeoutExpired, Missing) as why:
+        return str(why)
+    return ran.stdout if ran.returncode == 0 else ran.stderr.decode(errors="replace").strip()
+
+
+def look(page: Page, number: int, shown: str, programs: Programs) -> str | None:
+    """What is wrong with a picture that a page shows on a line, or None."""
+    above = next((it for it in reversed(page.lines[: number - 1]) if it.strip()), "")
+    comment = COMMENT.match(above)
+    claim = CLAIM.match(comment[1]) if comment else None
+    if not claim:
+        return f"{shown}: no line `<!-- picture: timeline ARGS < FILE -->` stands above it"
+    made = drawn(shlex.split(claim[1]), claim[2], programs)
+    if isinstance(made, str):
+        return f"{shown}: {made}"
+    picture = TOP / shown
+    if not picture.is_file():
+        return f"{shown}: there is no such picture"
+    if made != picture.read_bytes():
+        return f"{shown}: hourstable {claim[1]} < {claim[2]} draws another picture"
+    return None
+
+
+def check(programs: Programs) -> Iterator[Result]:
+    """A result for each picture that a page shows, and one for each that none shows."""
+    claimed: set[str] = set()
+    for page in all_pages():
+        for number, line in enumerate(page.prose.split("\n"), 1):
+            for target in IMAGE.findall(line):
+                place = ((TOP / page.path).parent / target).resolve()
+                shown = str(place.relative_to(TOP)) if place.is_relative_to(TOP) else target
+                claimed.add(shown)
+                why = look(page, number, shown, programs)
+                yield Result(shown, [Fault(page.path, number, why)] if why else [])
+    for path in repository_files():
+        if path.startswith("docs/") and path.endswith(".svg") and path not in claimed:
+            yield Result(path, [Fault(path, 1, "no page shows this picture")])
