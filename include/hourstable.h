@@ -1,37 +1,50 @@
-/* hourstable.h: Hourstable for programs in C, and for all that call C.
+/* hourstable.h: Hourstable for C, and for every language that calls C.
  *
- * A slicelet is what a server task knows of its leases, a clerk what a client knows of who owns a key, a table the
- * leases of a job, an assigner what keeps a term of the job lease, and a session all of a job, step by step in the words
- * of scripts. Each stands in a place, which the caller keeps. Readings are those of the caller's own clock, in ticks.
- * Grants, notes and assignments are messages: bytes of JSON, as they go over the network (docs/FORMATS.md).
+ * A place holds one of these objects:
+ *   - a slicelet, which knows the leases of a server task and decides whether it may serve a key;
+ *   - a clerk, which knows the newest assignment that a client was given;
+ *   - a table, which gives out the leases of a job and commits its assignments;
+ *   - an assigner, which keeps a term of the job lease;
+ *   - a session, which is a whole job, played step by step in the words of scripts.
+ * Readings are those of the caller's own clock, in ticks. Grants, notes and assignments are
+ * messages: bytes of JSON, as they go over the network (docs/FORMATS.md). docs/CONCEPTS.md explains
+ * the terms, and docs/BINDINGS.md says how to build, link and call.
  *
- * Every function but hs_slice_key and hs_place_free returns a code of hs_code: 0 where the call is done, a positive one
- * where it is refused, a negative one where an argument cannot be read or there is no memory. The first of the codes
- * that stand beside a function is returned; where two are joined by `or`, either may come. A call that is not done
- * changes nothing, and writes nothing but what hs_told carries and `needed`, unless its line says otherwise. Any function
- * of a place but those that open may return HS_OTHER_PLACE, and before every other code. Where a function reads a message,
- * HS_NO_MEMORY may also come while it is read.
+ * Every function but hs_library_version, hs_slice_key and hs_place_free returns a code of hs_code:
+ * 0 if the call is done, a positive one if it is refused, a negative one if an argument cannot be
+ * read, a buffer is too short or memory runs out. If several codes apply, the first listed is
+ * returned; of codes joined by `or`, either may be returned. A function that is called for another
+ * object than the place holds returns HS_OTHER_PLACE, before any other code. `Message codes` are
+ * those of bytes that are not a message of the type, in the order of docs/FORMATS.md; a function
+ * that lists them may also return HS_NO_MEMORY while it reads the message.
  *
- * A text that a function gives is written to `out` whole or not at all; `needed` is its length. Where it is longer than
- * `out_len`, HS_NO_ROOM is returned and nothing is lost: ask again with a longer buffer, of hs_session_answer by
- * hs_session_last.
+ * A call that is not done changes nothing and writes nothing but `needed` and the fields of
+ * hs_told that its code sets, unless its comment says otherwise.
  *
- * What a caller owes, and nothing tests:
- *   - a place is one that hs_place_new wrote at code 0, and that hs_place_free did not take;
- *   - a pointer to bytes, numbers or rows is not null, also at length 0, and its length is true; every other pointer is to
- *     a value of its type. Each is aligned for what it points to, and no two of one call overlap. What a call only writes
- *     need not hold a value;
- *   - one call at a time on a place, on any thread. Two places share nothing that a thread would have to guard;
- *   - malloc, realloc and free are those of one allocator, whose blocks are aligned to each power of two up to 16 that
- *     divides their size; no call comes from a signal handler, nor from the forked child of a program with threads.
+ * A text or a list of rows is written to `out` whole or not at all; `needed` is its length in bytes
+ * or in rows. If it is longer than `out_len`, the function returns HS_NO_ROOM and nothing is lost:
+ * call again with a longer buffer. After hs_session_answer, call hs_session_last instead.
  *
- * What the laws on who may serve rest on, and nothing tests either:
- *   - a life is above every life that the task ever started, in earlier processes too: that number outlasts the process;
- *   - a grant that is heard was given by the table of this job, and a note that is freed by a slicelet of this job. They
- *     name no job and no sender: a forged grant is heard;
- *   - a job has one table, which is opened once;
- *   - threads that share a slicelet hold its lock from hs_slicelet_serve until the answer is given or the write is done;
- *   - clocks are timely: no reading of the table's clock is more than the skew ahead of a later one of a task's.
+ * A caller must keep the following. Nothing checks it, and a call that breaks it is undefined:
+ *   - A place was written by hs_place_new at code 0 and was not freed by hs_place_free.
+ *   - A pointer to bytes, numbers or rows is not null, even at length 0, and its length is true.
+ *     Every other pointer is to a value of its type. Each is aligned for its type, and no two
+ *     pointers of a call overlap. What a call only writes need not hold a value.
+ *   - One call at a time is made on a place, on any thread. Two places share nothing that needs a
+ *     lock.
+ *   - malloc, realloc and free belong to one allocator, whose blocks are aligned to each power of
+ *     two up to 16 that divides their size. No call comes from a signal handler, nor from the
+ *     forked child of a program with threads.
+ *
+ * The laws about who may serve a key rest on the following, which nothing checks either:
+ *   - A life is above every life that the task ever started, in earlier processes too. Store it.
+ *   - A grant that is heard was made by the table of this job, and a note that is freed by a
+ *     slicelet of this job. They name no job and no sender: a forged grant is heard.
+ *   - A job has one table, which is opened once.
+ *   - Threads that share a slicelet hold its lock from hs_slicelet_serve until the answer is given
+ *     or the write is done.
+ *   - Clocks are timely: no reading of the table's clock is more than the skew ahead of a later
+ *     reading of a task's clock. All readings of a job are in one unit.
  */
 #ifndef HOURSTABLE_H
 #define HOURSTABLE_H
@@ -43,76 +56,86 @@
 extern "C" {
 #endif
 
-/* What a call returns. A code never changes its meaning. */
+/* What a call returns. A code never changes its meaning; a later version may add codes. */
 enum hs_code {
     HS_DONE = 0,
 
     /* Why a key is not served. */
     HS_DOWN = 1,       /* the task was not started */
     HS_CLOCK_BACK = 2, /* the reading is below the last accepted one */
-    HS_ENDED = 3,      /* a lease that covers the key is held, and has ended */
-    HS_NOT_OWNED = 4,  /* no held lease covers the key; told.generation is the greatest of a live one */
+    HS_ENDED = 3,      /* a held lease covers the key, but has ended */
+    HS_NOT_OWNED = 4,  /* no held lease covers the key, but one is live; told.generation is the
+                          greatest of a live lease */
     HS_NO_LEASE = 5,   /* no held lease covers the key, and none is live */
 
-    /* Why a slicelet refuses a call; it may also be HS_CLOCK_BACK. */
+    /* Why a slicelet refuses a call; also HS_CLOCK_BACK. */
     HS_NOT_STARTED = 6,   /* the task was not started */
     HS_OLD_LIFE = 7,      /* the life is not above the current one */
     HS_OTHER_TASK = 8,    /* the grant is for another task */
     HS_OTHER_LIFE = 9,    /* the grant is for another life */
-    HS_OLD = 10,          /* the number of the grant is not above told.number, the greatest heard of its kind */
+    HS_OLD = 10,          /* the grant's number is not above told.number, the greatest that was
+                             heard of its kind in this life */
     HS_TOO_LATE = 11,     /* the lease of the grant has ended */
     HS_NOTHING_HELD = 12, /* no lease of the kind is held */
-    HS_HISTORY_FULL = 13, /* 65,536 calls were accepted, and none is any more, no release either: open a new slicelet, and
-                             start it at a higher life */
+    HS_HISTORY_FULL = 13, /* the slicelet has accepted 65,536 calls and accepts no more, not even
+                             release: open a new one, and start it at a higher life */
 
     /* What a check of a key handle returns. */
     HS_BROKEN = 14,   /* the handle is not continuous */
     HS_STRANGER = 15, /* the slicelet cannot have given the handle */
 
-    /* Why a table refuses a call; it may also be HS_CLOCK_BACK. */
+    /* Why a table refuses a call; also HS_CLOCK_BACK. */
     HS_READING_RANGE = 16,           /* the reading is 2^62 or more */
     HS_JOB_HELD = 17,                /* the last term of the job lease ends at told.until */
-    HS_NOT_HOLDER = 18,              /* the term is not told.number, the last one given, or has ended */
-    HS_STALE_BASE = 19,              /* the assignment is not of the generation after told.generation */
-    HS_PENDING = 20,                 /* an assignment is proposed already */
+    HS_NOT_HOLDER = 18,              /* the term is not told.number, the last one given (0 for
+                                        none), or has ended */
+    HS_STALE_BASE = 19,              /* the assignment is not of the generation after
+                                        told.generation, the committed one */
+    HS_PENDING = 20,                 /* an assignment is already proposed */
     HS_NOTHING_PENDING = 21,         /* no assignment is proposed */
     HS_TOO_MANY_OWNERS_FOR_JOB = 22, /* a slice has more owners than the policy allows */
-    HS_GRACE = 23,                   /* after a restart: lost leases have ended at told.until */
-    HS_HELD = 24,                    /* told.number of told.task, of told.kind, has not ended and was not freed */
-    HS_NO_ROW = 25,                  /* no row that has not ended is closed by the note */
-    HS_NO_ASSIGNMENT = 26,           /* no assignment is committed, and none is proposed */
-    HS_NUMBERS_SPENT = 27,           /* as many grants were made as there may be */
+    HS_GRACE = 23,                   /* the table restarted, and a lease whose row it lost may not
+                                        have ended; at told.until all of them have */
+    HS_HELD = 24,                    /* grant told.number, of told.kind, to told.task has not ended
+                                        and was not freed */
+    HS_NO_ROW = 25,                  /* the note closes no row that has not ended */
+    HS_NO_ASSIGNMENT = 26,           /* no assignment is committed; for a grant: and none is
+                                        proposed */
+    HS_NUMBERS_SPENT = 27,           /* the table has made as many grants as the policy allows */
 
-    /* Clerks, assigners and plans. */
-    HS_OLD_GENERATION = 28, /* the assignment is not newer than told.generation, the one that is kept */
-    HS_UNKNOWN = 29,        /* no assignment is kept */
-    HS_NOT_ADOPTED = 30,    /* the term is another assigner's, or not above the one that is kept */
-    HS_NO_TASKS = 31,       /* the set has no task */
+    /* Why a clerk, an assigner or a plan refuses a call. */
+    HS_OLD_GENERATION = 28, /* the assignment is not newer than told.generation, the kept one */
+    HS_UNKNOWN = 29,        /* the clerk keeps no assignment */
+    HS_NOT_ADOPTED = 30,    /* the term is another assigner's, or not newer than the kept one */
+    HS_NO_TASKS = 31,       /* there is no task */
     HS_LOADS_LENGTH = 32,   /* there are not as many loads as slices */
     HS_LOAD_RANGE = 33,     /* a load is above 2^40 */
 
     HS_NO_MEMORY = -1, /* out of memory */
-    HS_NO_ROOM = -2,   /* the buffer is too short; ask again with `needed`, of hs_session_answer by hs_session_last */
+    HS_NO_ROOM = -2,   /* the buffer is shorter than `needed`: call again with a longer one; after
+                          hs_session_answer, call hs_session_last */
 
-    /* Why bytes are no message, or a number is none. */
-    HS_NOT_JSON = -3,     /* the bytes are no JSON text */
-    HS_VERSION = -4,      /* the message has another version: told.number, where the function has `told` */
+    /* Why bytes are not a message of the type, or a number that was passed is refused. */
+    HS_NOT_JSON = -3,     /* the bytes are not a JSON text */
+    HS_VERSION = -4,      /* the message has another version: told.number, if the function has
+                             `told` */
     HS_OTHER_TYPE = -5,   /* the message is of another type */
-    HS_WRONG_FORM = -6,   /* a member, or a number that was passed, is not within its limits */
+    HS_WRONG_FORM = -6,   /* the message has other members than its type, or a member or a number
+                             that was passed is outside its limits */
     HS_PAST_END = -7,     /* a range ends, or a slice starts, past the last key */
     HS_UNSORTED = -8,     /* a range starts before the end of the one before it */
     HS_EMPTY = -9,        /* a range does not end above its start */
     HS_NO_SLICES = -10,   /* an assignment has no slice */
-    HS_FIRST_NOT_ZERO = -11,
-    HS_NOT_RISING = -12,
-    HS_NO_OWNER = -13,
-    HS_TOO_MANY_OWNERS = -14,
-    HS_OWNER_TWICE = -15,
-    HS_BAD_TASK = -16,
-    HS_TOO_MANY_SLICES = -17,
+    HS_FIRST_NOT_ZERO = -11,  /* the first slice does not start at 0 */
+    HS_NOT_RISING = -12,      /* a slice does not start above the one before it */
+    HS_NO_OWNER = -13,        /* a slice has no owner */
+    HS_TOO_MANY_OWNERS = -14, /* a slice has more than five owners */
+    HS_OWNER_TWICE = -15,     /* a slice has an owner twice */
+    HS_BAD_TASK = -16,        /* an owner is 0 or above 64 */
+    HS_TOO_MANY_SLICES = -17, /* an assignment has more than 1,024 slices */
 
-    HS_OTHER_PLACE = -18, /* the place has nothing of the kind that the function is for */
-    HS_NO_JOB = -19       /* the line says no job */
+    HS_OTHER_PLACE = -18, /* the place does not hold the kind of object that the function is for */
+    HS_NO_JOB = -19       /* the line is not a job line */
 };
 
 /* Kinds of leases. */
@@ -121,16 +144,16 @@ enum hs_kind { HS_GUARD = 1, HS_BRIDGE = 2 };
 /* What an assigner does next. */
 enum hs_action { HS_TAKE = 1, HS_RENEW = 2, HS_COMMIT = 3, HS_PROPOSE = 4, HS_REST = 5 };
 
-/* The numbers that an answer carries. An answer leaves those that it does not carry. */
+/* Numbers that a code comes with. Fields that a code does not set are unchanged. */
 struct hs_told {
     uint64_t number;     /* of a grant, of a term, or the version of a message */
     uint64_t generation; /* of a lease or an assignment */
-    uint64_t kind;       /* of a lease: hs_kind */
+    uint64_t kind;       /* of a lease, an hs_kind */
     uint64_t task;       /* 1 to 64 */
     uint64_t until;      /* a reading, in ticks */
 };
 
-/* A key handle: a key that a task held when it was taken. */
+/* A key handle: a key that the task held when it took the handle. */
 struct hs_key_handle {
     uint64_t task;
     uint64_t slice_key;
@@ -138,22 +161,22 @@ struct hs_key_handle {
     uint32_t life;
 };
 
-/* Who owns a key: the first `count` of `tasks`, in rising order. The others are 0. */
+/* The owners of a key: the first `count` of `tasks`, in rising order. The others are 0. */
 struct hs_owners {
     uint64_t generation;
     uint64_t count;
     uint64_t tasks[5];
 };
 
-/* What a table is held to. `guard`, `bridge`, `job` and `numbers` are 1 to 2^32. */
+/* The policy of a table. `guard`, `bridge`, `job` and `numbers` are 1 to 2^32. */
 struct hs_policy {
-    uint64_t low;     /* how many tasks own a slice at the least, 1 or more */
-    uint64_t high;    /* and at the most: up to 5 */
-    uint64_t skew;    /* how many ticks clocks may be apart, below both terms of task leases */
-    uint64_t guard;   /* the ticks of a guard lease */
-    uint64_t bridge;  /* of a bridge lease */
-    uint64_t job;     /* and of the job lease */
-    uint64_t numbers; /* how many grants there may be */
+    uint64_t low;     /* the fewest owners that a plan gives a slice, 1 or more */
+    uint64_t high;    /* the most owners of a slice, `low` to 5 */
+    uint64_t skew;    /* how many ticks clocks may be apart, below `guard` and below `bridge` */
+    uint64_t guard;   /* how many ticks a guard lease lasts */
+    uint64_t bridge;  /* how many ticks a bridge lease lasts */
+    uint64_t job;     /* how many ticks the job lease lasts */
+    uint64_t numbers; /* how many grants the table makes, for good */
 };
 
 /* A term of the job lease. */
@@ -163,13 +186,13 @@ struct hs_job_term {
     uint64_t until; /* the first reading at which it has ended */
 };
 
-/* Where a table stands: `proposed` is 0 where no assignment is proposed, and else `committed` + 1. */
+/* The phase of a table: `proposed` is 0 if no assignment is proposed, otherwise `committed` + 1. */
 struct hs_phase {
     uint64_t committed; /* 0 before the first commit */
     uint64_t proposed;
 };
 
-/* What a table keeps of a grant until it ends or is freed. */
+/* What a table keeps of a grant until its lease ends or is freed. */
 struct hs_row {
     uint64_t number;
     uint64_t task;
@@ -179,14 +202,14 @@ struct hs_row {
     uint64_t table_ends; /* the first reading at which it has ended */
 };
 
-/* What a plan is held to. */
+/* The policy of a plan. */
 struct hs_plan_policy {
-    uint64_t low;   /* how many tasks own a slice at the least, 1 or more */
-    uint64_t high;  /* and at the most: up to 5 */
+    uint64_t low;   /* the fewest owners of a slice, 1 or more */
+    uint64_t high;  /* the most owners of a slice, `low` to 5 */
     uint64_t churn; /* how many keys may move, up to 2^63 */
-    uint64_t cold;  /* the load up to which neighbours merge */
-    uint64_t hot;   /* the load above which a slice is halved */
-    uint64_t most;  /* how many slices there may be for that, 1 to 1024 */
+    uint64_t cold;  /* neighbours merge up to this load */
+    uint64_t hot;   /* a slice above this load is halved */
+    uint64_t most;  /* slices are halved while there are fewer than this, 1 to 1,024 */
 };
 
 /* A place, by its address. */
@@ -197,13 +220,13 @@ struct hs_place {
 /* The slice key of a key: the first eight bytes of its SHA-256, most significant first, without the lowest bit. */
 uint64_t hs_slice_key(const uint8_t *key, size_t key_len);
 
-/* Makes a place with nothing in it. HS_NO_MEMORY. */
+/* Creates an empty place. HS_NO_MEMORY. */
 int32_t hs_place_new(struct hs_place *out);
 
-/* Ends what stands in a place, and frees the place. */
+/* Destroys what `place` holds, and frees the place. */
 void hs_place_free(struct hs_place place);
 
-/* Ends what stands in a place: slicelet, clerk, table, assigner or session. Nothing stands there then. */
+/* Each destroys the object of its kind, and leaves `place` empty. */
 int32_t hs_slicelet_close(struct hs_place *place);
 int32_t hs_clerk_close(struct hs_place *place);
 int32_t hs_table_close(struct hs_place *place);
@@ -212,133 +235,149 @@ int32_t hs_session_close(struct hs_place *place);
 
 /* Slicelets. ------------------------------------------------------------------------------------------------------ */
 
-/* Puts the slicelet of a task, 1 to 64, before its first call, in place of what stood there. HS_WRONG_FORM. */
+/* Creates a new slicelet in `place`, destroying what was there; `task` is 1 to 64.
+ * HS_WRONG_FORM. */
 int32_t hs_slicelet_open(struct hs_place *place, uint64_t task);
 
-/* Starts a life of the task: it holds nothing yet. HS_OLD_LIFE, HS_CLOCK_BACK, HS_HISTORY_FULL, HS_NO_MEMORY. */
+/* Starts a life of the task, which holds no lease yet. HS_OLD_LIFE, HS_CLOCK_BACK, HS_HISTORY_FULL,
+ * HS_NO_MEMORY. */
 int32_t hs_slicelet_start(struct hs_place *place, uint32_t life, uint64_t at);
 
-/* Hears a grant: the bytes of its message. Those of a message that is not read, then HS_NOT_STARTED, HS_CLOCK_BACK,
- * HS_OTHER_TASK, HS_OTHER_LIFE, HS_OLD, HS_TOO_LATE, HS_HISTORY_FULL, HS_NO_MEMORY. */
+/* Hears a grant, given as its message: its lease replaces the held one of its kind. Message codes,
+ * then HS_NOT_STARTED, HS_CLOCK_BACK, HS_OTHER_TASK, HS_OTHER_LIFE, HS_OLD, HS_TOO_LATE,
+ * HS_HISTORY_FULL, HS_NO_MEMORY. */
 int32_t hs_slicelet_hear(struct hs_place *place, const uint8_t *grant, size_t grant_len, uint64_t at,
                          struct hs_told *told);
 
-/* Gives up the lease of a kind, which may have ended, and gives the message of its note, for the table. HS_WRONG_FORM,
- * HS_NOT_STARTED, HS_CLOCK_BACK, HS_NOTHING_HELD, HS_HISTORY_FULL, then HS_NO_ROOM or HS_NO_MEMORY: the lease is then
- * still held. */
+/* Gives up the lease of a kind, which may have ended, and writes the message of its note, for the
+ * table. HS_WRONG_FORM, HS_NOT_STARTED, HS_CLOCK_BACK, HS_NOTHING_HELD, HS_HISTORY_FULL, then
+ * HS_NO_ROOM or HS_NO_MEMORY. The lease is still held unless the call is done. */
 int32_t hs_slicelet_release(struct hs_place *place, uint32_t kind, uint64_t at, uint8_t *out, size_t out_len,
                             size_t *needed);
 
-/* Whether the task may serve a key now. HS_DONE tells the kind and the generation of the lease; else HS_DOWN,
- * HS_CLOCK_BACK, HS_ENDED, HS_NOT_OWNED or HS_NO_LEASE. It takes no memory. */
+/* Whether the task may serve a key now: HS_DONE, with told.kind and told.generation of the lease,
+ * or HS_DOWN, HS_CLOCK_BACK, HS_ENDED, HS_NOT_OWNED, HS_NO_LEASE. Takes no memory. */
 int32_t hs_slicelet_serve(struct hs_place *place, const uint8_t *key, size_t key_len, uint64_t at,
                           struct hs_told *told);
 
-/* Takes a handle on a key, where the task may serve it; else as hs_slicelet_serve. It takes no memory. */
+/* Takes a handle on a key if the task may serve it, and leaves `told` unchanged; otherwise returns
+ * the code of hs_slicelet_serve. Takes no memory. */
 int32_t hs_slicelet_hold(struct hs_place *place, const uint8_t *key, size_t key_len, uint64_t at,
                          struct hs_key_handle *out, struct hs_told *told);
 
-/* Whether the task held the key of a handle since it was taken, and may serve it now. HS_WRONG_FORM, HS_STRANGER,
- * HS_BROKEN. It takes no memory. */
+/* Whether the task has held the key of a handle without a break since it took the handle, and may
+ * serve it now. HS_WRONG_FORM, HS_STRANGER, HS_BROKEN. Takes no memory. */
 int32_t hs_slicelet_check(struct hs_place *place, const struct hs_key_handle *handle, uint64_t at);
 
 /* Clerks. --------------------------------------------------------------------------------------------------------- */
 
-/* Puts a clerk that knows nothing, in place of what stood there. */
+/* Creates a new clerk in `place`, destroying what was there. It keeps no assignment. */
 int32_t hs_clerk_open(struct hs_place *place);
 
-/* Keeps an assignment, the bytes of its message. Those of a message that is not read, then HS_OLD_GENERATION,
+/* Keeps an assignment, given as its message. Message codes, then HS_OLD_GENERATION,
  * HS_NO_MEMORY. */
 int32_t hs_clerk_learn(struct hs_place *place, const uint8_t *assignment, size_t assignment_len, struct hs_told *told);
 
-/* Who owns a key in the assignment that is kept. HS_UNKNOWN. It takes no memory. */
+/* Writes the owners of a key in the kept assignment. HS_UNKNOWN. Takes no memory. */
 int32_t hs_clerk_look(struct hs_place *place, const uint8_t *key, size_t key_len, struct hs_owners *out);
 
-/* Keeps no assignment any more. */
+/* Forgets the kept assignment. */
 int32_t hs_clerk_forget(struct hs_place *place);
 
 /* Tables. --------------------------------------------------------------------------------------------------------- */
 
-/* Puts a table of this policy before its first call, in place of what stood there. HS_WRONG_FORM. */
+/* Creates a new table with a policy in `place`, destroying what was there. HS_WRONG_FORM. */
 int32_t hs_table_open(struct hs_place *place, const struct hs_policy *policy);
 
-/* Gives the job lease to an assigner. HS_READING_RANGE, HS_CLOCK_BACK, HS_JOB_HELD. */
+/* Gives the job lease to an assigner, and writes its term. HS_READING_RANGE, HS_CLOCK_BACK,
+ * HS_JOB_HELD. */
 int32_t hs_table_take(struct hs_place *place, uint64_t assigner, uint64_t at, struct hs_job_term *out,
                       struct hs_told *told);
 
-/* Renews the term of this number. HS_READING_RANGE, HS_CLOCK_BACK, HS_NOT_HOLDER. */
+/* Renews the term with this number, and writes it. HS_READING_RANGE, HS_CLOCK_BACK,
+ * HS_NOT_HOLDER. */
 int32_t hs_table_renew(struct hs_place *place, uint64_t number, uint64_t at, struct hs_job_term *out,
                        struct hs_told *told);
 
-/* Proposes an assignment, the bytes of its message, under the term of this number. Those of a message that is not read,
- * then HS_READING_RANGE, HS_CLOCK_BACK, HS_NOT_HOLDER, HS_STALE_BASE, HS_PENDING, HS_TOO_MANY_OWNERS_FOR_JOB,
- * HS_NO_MEMORY. */
+/* Proposes an assignment, given as its message, under the term with this number. Message codes,
+ * then HS_READING_RANGE, HS_CLOCK_BACK, HS_NOT_HOLDER, HS_STALE_BASE, HS_PENDING,
+ * HS_TOO_MANY_OWNERS_FOR_JOB, HS_NO_MEMORY. */
 int32_t hs_table_propose(struct hs_place *place, uint64_t number, const uint8_t *assignment, size_t assignment_len,
                          uint64_t at, struct hs_told *told);
 
-/* Commits the proposed assignment under the term of this number; told.generation is its generation.
- * HS_READING_RANGE, HS_CLOCK_BACK, HS_NOT_HOLDER, HS_NOTHING_PENDING, HS_GRACE, HS_HELD. */
+/* Commits the proposed assignment under the term with this number; told.generation is its
+ * generation. HS_READING_RANGE, HS_CLOCK_BACK, HS_NOT_HOLDER, HS_NOTHING_PENDING, HS_GRACE,
+ * HS_HELD. */
 int32_t hs_table_commit(struct hs_place *place, uint64_t number, uint64_t at, struct hs_told *told);
 
-/* Grants a task a lease for one of its lives, and gives the message of the grant. HS_WRONG_FORM, HS_READING_RANGE,
- * HS_CLOCK_BACK, HS_NO_ASSIGNMENT, HS_NUMBERS_SPENT, then HS_NO_ROOM or HS_NO_MEMORY: no grant was made then. */
+/* Grants a task a lease for one of its lives, and writes the message of the grant. HS_WRONG_FORM,
+ * HS_READING_RANGE, HS_CLOCK_BACK, HS_NO_ASSIGNMENT, HS_NUMBERS_SPENT, then HS_NO_ROOM or
+ * HS_NO_MEMORY. No grant is made unless the call is done. */
 int32_t hs_table_grant(struct hs_place *place, uint64_t task, uint32_t life, uint64_t at, uint8_t *out, size_t out_len,
                        size_t *needed);
 
-/* Frees the rows that a note closes, the bytes of its message; *freed is how many. Those of a message that is not read,
- * then HS_READING_RANGE, HS_CLOCK_BACK, HS_NO_ROW. */
+/* Frees the rows that a note, given as its message, closes; *freed is how many. Message codes, then
+ * HS_READING_RANGE, HS_CLOCK_BACK, HS_NO_ROW. */
 int32_t hs_table_free(struct hs_place *place, const uint8_t *note, size_t note_len, uint64_t at, uint64_t *freed,
                       struct hs_told *told);
 
-/* The table restarts: it loses its rows; *lost is how many. */
+/* Restarts the table, which loses its rows and keeps all else; *lost is how many rows
+ * hs_table_rows would have written. */
 int32_t hs_table_restart(struct hs_place *place, uint64_t *lost);
 
-/* Where the table stands. */
+/* Writes the phase of the table. */
 int32_t hs_table_phase(struct hs_place *place, struct hs_phase *out);
 
-/* The rows that have not ended at the last accepted reading, in grant order; *needed is how many. HS_NO_ROOM or
- * HS_NO_MEMORY. */
+/* Writes the rows that have not ended at the last accepted reading, in grant order; *needed is how
+ * many. HS_NO_ROOM or HS_NO_MEMORY. */
 int32_t hs_table_rows(struct hs_place *place, struct hs_row *out, size_t out_len, size_t *needed);
 
-/* Gives the message of the committed assignment. HS_NO_ASSIGNMENT, then HS_NO_ROOM or HS_NO_MEMORY. */
+/* Writes the message of the committed assignment. HS_NO_ASSIGNMENT, then HS_NO_ROOM or
+ * HS_NO_MEMORY. */
 int32_t hs_table_committed(struct hs_place *place, uint8_t *out, size_t out_len, size_t *needed);
 
 /* Assigners. ------------------------------------------------------------------------------------------------------ */
 
-/* Puts an assigner that keeps no term, in place of what stood there; a job lease lasts `job` ticks. */
+/* Creates a new assigner in `place`, destroying what was there. It keeps no term. A job lease lasts
+ * `job` ticks. */
 int32_t hs_assigner_open(struct hs_place *place, uint64_t id, uint64_t job);
 
-/* Keeps a term that a table gave. HS_NOT_ADOPTED. */
+/* Keeps a term that a table gave. HS_NOT_ADOPTED. A term is newer than another if its number is
+ * greater, or the same with a later `until`. */
 int32_t hs_assigner_adopt(struct hs_place *place, const struct hs_job_term *term);
 
-/* Forgets the term. */
+/* Forgets the kept term. */
 int32_t hs_assigner_restart(struct hs_place *place);
 
-/* What to do next, an hs_action, and the number of the term that is kept, 0 for none. `wanted` is not 0 where another
- * assignment is wanted. HS_WRONG_FORM where `proposed` is neither 0 nor `committed` + 1. */
+/* Writes what to do next, an hs_action, and the number of the kept term, 0 for none. `wanted` is
+ * not 0 if another assignment is wanted. HS_WRONG_FORM if `proposed` is neither 0 nor
+ * `committed` + 1. */
 int32_t hs_assigner_next(struct hs_place *place, uint64_t at, const struct hs_phase *phase, uint32_t wanted,
                          uint32_t *action, uint64_t *number);
 
-/* Plans the assignment of the next generation among tasks, which rise strictly, where each slice of the assignment has
- * a load; gives its message. Those of a message that is not read, HS_WRONG_FORM (also where no generation is next),
- * HS_NO_TASKS, HS_LOADS_LENGTH, HS_LOAD_RANGE, then HS_NO_ROOM or HS_NO_MEMORY. */
+/* Plans the assignment of the next generation for `tasks`, which rise strictly, from a load of each
+ * slice of `assignment`, and writes its message. Message codes, then HS_WRONG_FORM (also if there
+ * is no next generation), HS_NO_TASKS, HS_LOADS_LENGTH, HS_LOAD_RANGE, then HS_NO_ROOM or
+ * HS_NO_MEMORY. */
 int32_t hs_plan(const uint8_t *assignment, size_t assignment_len, const uint64_t *loads, size_t loads_len,
                 const uint64_t *tasks, size_t tasks_len, const struct hs_plan_policy *policy, uint8_t *out,
                 size_t out_len, size_t *needed);
 
 /* Sessions. ------------------------------------------------------------------------------------------------------- */
 
-/* Puts a session of the job that the line says, in place of what stood there; answers are lines of text, or JSON where
- * `json` is not 0. HS_NO_JOB, HS_NO_MEMORY. */
+/* Creates a session of the job on the line in `place`, destroying what was there. Replies are lines
+ * of text, or of JSON if `json` is not 0. HS_NO_JOB, HS_NO_MEMORY. */
 int32_t hs_session_open(struct hs_place *place, const uint8_t *line, size_t line_len, uint32_t json);
 
-/* Answers a line, and gives the line of its reply; a line that says no step is answered `error: ..` and changes nothing.
- * HS_NO_ROOM: the step was played, and hs_session_last gives its line. HS_NO_MEMORY: nothing stands in the place any
- * more. */
+/* Plays the step on a line, and writes the line of its reply. A line that is not a step, such as a
+ * blank one, changes nothing, and its reply says why (`error: ..`). HS_NO_ROOM: the step was
+ * played, and hs_session_last writes its reply. HS_NO_MEMORY: the session was destroyed, and the
+ * place is empty. */
 int32_t hs_session_answer(struct hs_place *place, const uint8_t *line, size_t line_len, uint8_t *out, size_t out_len,
                           size_t *needed);
 
-/* Gives the last line that hs_session_answer gave or found no room for, nothing before the first. HS_NO_ROOM. */
+/* Writes the last reply of hs_session_answer, even one that found no room; nothing before the
+ * first. HS_NO_ROOM. */
 int32_t hs_session_last(struct hs_place *place, uint8_t *out, size_t out_len, size_t *needed);
 
 #ifdef __cplusplus
