@@ -11,12 +11,12 @@
  * the terms, and docs/BINDINGS.md says how to build, link and call.
  *
  * Every function but hs_library_version, hs_slice_key and hs_place_free returns a code of hs_code:
- * 0 if the call is done, a positive one if it is refused, a negative one if an argument cannot be
- * read, a buffer is too short or memory runs out. If several codes apply, the first listed is
- * returned; of codes joined by `or`, either may be returned. A function that is called for another
- * object than the place holds returns HS_OTHER_PLACE, before any other code. `Message codes` are
- * those of bytes that are not a message of the type, in the order of docs/FORMATS.md; a function
- * that lists them may also return HS_NO_MEMORY while it reads the message.
+ * 0 if the call is done, positive if it is refused, negative if an argument cannot be used or
+ * memory runs out. If several codes apply, the first listed is returned; of codes joined by `or`,
+ * either may be returned. A function that is called for another object than the place holds
+ * returns HS_OTHER_PLACE, before any other code. `Message codes` are those of bytes that are not a
+ * message of the type, in the order of docs/FORMATS.md; a function that lists them may also return
+ * HS_NO_MEMORY while it reads the message.
  *
  * A call that is not done changes nothing and writes nothing but `needed` and the fields of
  * hs_told that its code sets, unless its comment says otherwise.

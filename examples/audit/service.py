@@ -1,19 +1,19 @@
-"""A small service of three processes, a lease table and two tasks, that logs every call.
+"""A small service that logs every call: a lease table and two tasks, each a process.
 
     python3 service.py DIRECTORY [--bug BUG]
 
-It shares no code with Hourstable. Each process answers one call at a time, draws the call's ticket from a counter
-that all share, and writes a line of its own log: table.jsonl, task-1.jsonl and task-2.jsonl. The first line of
-table.jsonl is the job. Then
+It shares no code with Hourstable. Each process answers one call at a time, draws the ticket of the call from a counter
+that all share, and writes a line to its own log: table.jsonl, task-1.jsonl or task-2.jsonl. The first line of
+table.jsonl is the job line. Then
 
     hourstable audit table.jsonl task-1.jsonl task-2.jsonl
 
-says whether the three logs are one run. With --bug one process does one thing wrong:
+judges whether the three logs are one run. With --bug one process does one thing wrong:
 
     deadline   a task serves at the deadline of its lease
-    again      a task hears a grant again that it gave back
+    again      a task hears a grant again after it released the lease
     bridges    the table commits without looking at bridge leases
-    free       the table answers a free and forgets it
+    free       the table accepts a note but does not free its rows
 """
 
 import argparse
@@ -33,7 +33,7 @@ def slice_key(key):
 
 
 class Table:
-    """The lease table: who may propose and commit, and which leases are out."""
+    """The lease table: knows who may propose and commit, and which leases are out."""
 
     def __init__(self, bug):
         self.bug = bug
@@ -90,7 +90,7 @@ def closes(note, row):
 
 
 def owned(slices, task):
-    """The keys of a task: pairs of a start and an end, none of which touches the next."""
+    """Returns the keys of a task, as pairs of a start and an end that do not touch."""
     pairs = []
     for place, (start, owners) in enumerate(slices):
         end = slices[place + 1][0] if place + 1 < len(slices) else 1 << 63
@@ -104,13 +104,13 @@ def owned(slices, task):
 
 
 def both(some, others):
-    """The keys that two lists of pairs have in common."""
+    """Returns the keys that are in both lists of pairs."""
     pairs = [[max(a, c), min(b, d)] for a, b in some for c, d in others]
     return sorted(pair for pair in pairs if pair[0] < pair[1])
 
 
 class Task:
-    """A task: which leases it holds, and whether it serves a key."""
+    """A task: knows the leases that it holds, and decides whether it serves a key."""
 
     def __init__(self, number, bug):
         self.number = number
@@ -157,7 +157,7 @@ class Task:
 
 
 def run_actor(actor, number, path, calls, tickets):
-    """Answers calls from a pipe, one at a time, each with a ticket that is drawn inside the call."""
+    """Answers calls from a pipe, one at a time. The ticket of a call is drawn within the call."""
     with open(path, "a", encoding="utf-8") as log:
         while True:
             asked = calls.recv()
@@ -177,7 +177,7 @@ def run_actor(actor, number, path, calls, tickets):
 
 
 def logged(members):
-    """The members of a call as the log has them: a grant may go without its ranges, which the table's log tells."""
+    """Returns the members of a call for the log; a grant goes without its ranges, which follow from the table's log."""
     if "grant" not in members:
         return members
     grant = {name: value for name, value in members["grant"].items() if name != "ranges"}
@@ -185,7 +185,7 @@ def logged(members):
 
 
 class Process:
-    """A process of the service, with a pipe to it."""
+    """A process of the service and the pipe to it."""
 
     def __init__(self, actor, number, path, tickets):
         self.calls, theirs = multiprocessing.Pipe()
@@ -202,14 +202,14 @@ class Process:
 
 
 def give_back(table, task, kind, at):
-    """A task gives up its lease of a kind, and the table frees the rows."""
+    """Makes a task release its lease of a kind, and the table free the rows."""
     note = task("release", kind=kind, at=at)
     if note is not None:
         table("free", note=note, at=at + 1)
 
 
 def change_of_owners(table, one, two):
-    """Two tasks own half of the keys each; the first takes over the other half, and gives it back."""
+    """Plays two changes: of two tasks with half of the keys each, the first takes over all, then gives half back."""
     halves = [[0, [1]], [HALF, [2]]]
     term = table("take", assigner=1, at=0)["number"]
     table("propose", term=term, generation=1, slices=halves, at=1)

@@ -1,6 +1,8 @@
-/* A table and a task in one program: a grant goes to the task, a note comes back, and a change is committed.
+/* A table and a task in one program: the task hears a grant and sends back a note, and a change of
+ * owners is committed.
  *
- * In a service the table stands in one process and the task in another, and the two texts go over the network. */
+ * In a service the table and the task are in two processes, and the grant and the note go over the
+ * network. */
 #include "hourstable.h"
 
 #include <stdio.h>
@@ -11,10 +13,11 @@ static const char first[] =
     "{\"type\":\"assignment\",\"value\":{\"generation\":1,\"slices\":[[0,[1]]]},\"version\":1}";
 static const char second[] =
     "{\"type\":\"assignment\",\"value\":{\"generation\":2,\"slices\":[[0,[2]]]},\"version\":1}";
+/* `numbers` is for good: a job that renews its leases needs more than 1,000 grants, up to 2^32. */
 static const struct hs_policy policy = {
     .low = 1, .high = 1, .skew = 10, .guard = 100, .bridge = 100, .job = 1000, .numbers = 1000};
 
-/* Ends the program where a call is not answered as it should be. */
+/* Prints the code of a call, and ends the program if it is not the expected one. */
 static void wants(const char *what, int32_t code, int32_t wanted) {
     printf("%s: %d\n", what, (int)code);
     if (code != wanted)
@@ -38,7 +41,7 @@ static int32_t commit(struct hs_place *table, uint64_t at) {
     return hs_table_commit(table, 1, at, &told);
 }
 
-/* The table's grant for the task, in a buffer of the length that the first call names. */
+/* Returns the message of a grant for the task. The first call gives the length of the buffer. */
 static uint8_t *grant(struct hs_place *table, uint64_t at, size_t *length) {
     uint8_t none = 0;
     wants("grant, no room", hs_table_grant(table, 1, 1, at, &none, 0, length), HS_NO_ROOM);
@@ -49,7 +52,7 @@ static uint8_t *grant(struct hs_place *table, uint64_t at, size_t *length) {
     return text;
 }
 
-/* The task serves under its lease, and gives it back when the table has another owner for the key. */
+/* The task serves under its lease, and releases it once another owner is proposed for the key. */
 static void hand_over(struct hs_place *table, struct hs_place *task) {
     struct hs_told told = {0};
     size_t length = 0;

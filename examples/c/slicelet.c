@@ -1,7 +1,8 @@
 /* A server task that asks its slicelet before each answer, and stops when its lease ends.
  *
- * The clock counts a tick for each question. The grant, the one that a table would send, is of a guard on all keys
- * below 2^63 until tick 8 of the task's clock. */
+ * The clock is a counter that advances by one tick at each question. The grant is written out here;
+ * in a service the table sends it. It is for a guard lease on all keys, which ends at tick 8 of the
+ * task's clock. */
 #include "hourstable.h"
 
 #include <inttypes.h>
@@ -15,7 +16,7 @@ static const uint8_t *bytes_of(const char *text) {
     return (const uint8_t *)text;
 }
 
-/* Answers questions until one is denied; the code of the denial. */
+/* Answers questions until one is denied, and returns the code of the denial. */
 static int32_t answer_questions(struct hs_place *task, uint64_t now) {
     struct hs_told told = {0};
     for (;; now++) {
@@ -27,7 +28,8 @@ static int32_t answer_questions(struct hs_place *task, uint64_t now) {
     }
 }
 
-/* Gives the guard back: prints its note, which the task would send to the table. */
+/* Releases the guard lease and prints its note, which a service would send to the table. A note has
+ * at most 120 bytes. If the code is not HS_DONE, the lease is still held. */
 static int32_t give_back(struct hs_place *task, uint64_t now) {
     uint8_t note[256];
     size_t needed = 0;

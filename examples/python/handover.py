@@ -1,11 +1,13 @@
-"""A control plane and two tasks, in processes of their own, hand a key over; then their logs are audited.
+"""Hands a key over between two tasks and a control plane, each a process, and audits their logs.
 
     HOURSTABLE_LIBRARY=./libhourstable.so python3 handover.py DIRECTORY [--hourstable PROGRAM]
 
-The control plane has the table and an assigner, each task a slicelet; they talk over loopback sockets, and grants and
-notes go as the messages that the library gives. Each process writes a log of its calls (docs/AUDIT.md) in DIRECTORY.
-All read the monotonic clock of the machine: a call's reading is that clock in milliseconds, and its ticket the same
-reading in nanoseconds, made distinct by the number of the process.
+The control plane has the table and an assigner, and each task a slicelet. They talk over loopback sockets, and send the
+messages of grants and notes as the library writes them. Each process writes a log of its calls (docs/AUDIT.md) to
+DIRECTORY. All read the monotonic clock of the machine: the reading of a call is that clock in milliseconds, and its
+ticket is the same clock in nanoseconds, made distinct by the number of the process.
+
+`numbers` allows 1,000 grants for good, which is enough here. A job that renews its leases needs up to 2^32.
 """
 
 import argparse
@@ -25,20 +27,20 @@ JOB = {"redundancy": 1, "skew": 50, "guard": 10000, "bridge": 10000, "job": 6000
        "assigners": 1, "tasks": 2, "clerks": 1}
 TASKS = (1, 2)
 HALF = 1 << 62
-PLANS = [[[0, [1]], [HALF, [2]]], [[0, [2]]]]  # "hello" is in the lower half of the keys, "abc" in the upper one
+PLANS = [[[0, [1]], [HALF, [2]]], [[0, [2]]]]  # "hello" is in the lower half of the keys, "abc" in the upper half
 KEYS = ["hello", "abc"]
 ASKS = 5
 NANOSECONDS = 1_000_000  # of a tick
 
 
 class Log:
-    """The calls of a process with what was answered, each at its moment."""
+    """The log of a process: each call with its reply."""
 
     def __init__(self, path, process):
         self.file, self.process, self.last = open(path, "a", encoding="utf-8"), process, 0
 
     def read_clock(self):
-        """A reading in ticks. No two readings of a process have the same nanosecond."""
+        """Returns a reading in ticks. No two readings of a process have the same nanosecond."""
         now = time.monotonic_ns()
         while now <= self.last:
             now = time.monotonic_ns()
@@ -46,7 +48,10 @@ class Log:
         return now // NANOSECONDS
 
     def call(self, do, ask, given, tell, **members):
-        """Makes a call at this moment, writes its line, and gives what it answers: None where it is refused."""
+        """Makes a call, writes its line to the log, and returns its result, or None if it is refused.
+
+        The reading is taken just before the call.
+        """
         at, made = self.read_clock(), None
         if do != "phase":
             given, members["at"] = [*given, at], at
@@ -77,7 +82,7 @@ def send(stream, line):
 
 
 class Control:
-    """The control plane: answers the tasks, and does what its assigner says."""
+    """The control plane: answers the tasks, and does what its assigner asks for."""
 
     def __init__(self, log, table, assigner):
         self.log, self.table, self.assigner = log, table, assigner
@@ -85,7 +90,7 @@ class Control:
         self.settled[0].update(TASKS)
 
     def act(self):
-        """What the assigner does next: the next plan is wanted where all tasks have settled in this one."""
+        """Does what the assigner asks for next. The next plan is wanted once all tasks have settled in this one."""
         phase, at = self.table.phase(), self.log.read_clock()
         wanted = phase.committed < len(PLANS) and self.settled[phase.committed].issuperset(TASKS)
         action, term = self.assigner.next(at, phase, wanted)
@@ -122,7 +127,7 @@ class Control:
         return {}
 
     def serve(self, server):
-        """Answers one line at a time, until each task has closed its connection."""
+        """Answers one line at a time until each task has closed its connection."""
         streams = selectors.DefaultSelector()
         for _ in TASKS:
             connection, _ = server.accept()
@@ -141,7 +146,7 @@ class Control:
 
 
 def tell_refusal(do, refusal):
-    """As a script tells it: a key is denied, a handle is broken, and any other call is refused."""
+    """Returns the reply of a script: a key is denied, a handle is broken, and any other call is refused."""
     if refusal.name == "BROKEN":
         return str(refusal)
     return f"{'denied' if do in ('serve', 'hold') else 'refused'} {refusal}"
@@ -161,7 +166,7 @@ def tell_note(message):
 
 
 class Task:
-    """A task: follows the table, and asks its slicelet before each answer."""
+    """A task: follows the phase of the table, and asks its slicelet before each answer."""
 
     def __init__(self, number, log, slicelet, stream):
         self.number, self.log, self.slicelet, self.stream = number, log, slicelet, stream
@@ -175,7 +180,7 @@ class Task:
         return json.loads(self.stream.readline())
 
     def follow(self, phase):
-        """Hears the lease of this phase, once, and gives the lease of the other kind back."""
+        """Hears the lease of this phase once, and then releases the lease of the other kind."""
         kind, generation = ("bridge", phase["proposed"]) if phase["proposed"] else ("guard", phase["committed"])
         if generation == 0 or self.held.get(kind) == generation:
             return
@@ -194,7 +199,7 @@ class Task:
         self.ask_control("free", note=note.decode())
 
     def answer_keys(self):
-        """Asks for each key, as an answer to a client would, and takes a handle on the first that it serves."""
+        """Asks before it serves each key, as for a client, and takes a handle on the first that it may serve."""
         for key in KEYS:
             tell = "served {0.kind} {0.generation}".format
             served = self.call("serve", [key.encode()], tell, key=key)
@@ -234,7 +239,7 @@ def run_task(path, number, address):
 
 
 def run_job(paths):
-    """Runs the three processes to their end, and gives whether each ended well."""
+    """Runs the three processes until they end, and returns whether each ended with status 0."""
     context = multiprocessing.get_context("spawn")
     server = socket.create_server(("127.0.0.1", 0))
     processes = [context.Process(target=run_control, args=(paths[0], server))]
@@ -249,7 +254,7 @@ def run_job(paths):
 
 
 def tell_job(paths):
-    """Prints who served each key, one after another, and what became of the handles."""
+    """Prints the tasks that served each key, in order, and the last check of each handle."""
     lines = []
     for path in paths:
         with open(path, encoding="utf-8") as log:

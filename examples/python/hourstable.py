@@ -1,10 +1,10 @@
 """Hourstable from Python, by the library of include/hourstable.h.
 
-HOURSTABLE_LIBRARY names the shared object; where it is not set, libhourstable.so is looked for as the system does.
+HOURSTABLE_LIBRARY names the shared object. If it is not set, the system looks for libhourstable.so.
 
-A call that is not done raises Refused, with the name of its code and the numbers that it carries, or MemoryError. One
-call at a time is made of an object, on any thread: one that many threads use stands behind a lock of theirs. It is closed
-by close(), or at the end of a `with`.
+A call that is not done raises Refused, with the name of its code and the numbers that it sets, or MemoryError. An
+object takes one call at a time, on any thread: threads that share one hold a lock around each call. close() or the end
+of a `with` destroys it.
 """
 
 import ctypes
@@ -29,18 +29,18 @@ CARRIED = {
 }
 KINDS = {"guard": 1, "bridge": 2}
 KIND_WORDS = {number: word for word, number in KINDS.items()}
-SCRIPT_WORDS = {"OLD_GENERATION": "old"}  # where a script has another word than the header
+SCRIPT_WORDS = {"OLD_GENERATION": "old"}  # if a script has another word than the header
 ACTIONS = {1: "take", 2: "renew", 3: "commit", 4: "propose", 5: "rest"}
 
 
 def name_of(code):
-    """The name of a code in the header, without its HS_; a later version of the library may have codes with none here."""
+    """Returns the name of a code in the header, without its HS_; of a code of a later version, CODE and its number."""
     names, at = (REFUSALS, code) if code >= 0 else (UNREAD, -code)
     return names[at] if at < len(names) else f"CODE {code}"
 
 
 def carried_by(name, told):
-    """The numbers that an answer carries, by their names in the header, with the word of a kind."""
+    """Returns the numbers that a code sets, by their names in the header; a kind is its word."""
     carried = {member: getattr(told, member) for member in CARRIED.get(name, [])}
     if "kind" in carried:
         carried["kind"] = KIND_WORDS[carried["kind"]]
@@ -48,7 +48,7 @@ def carried_by(name, told):
 
 
 class Refused(Exception):
-    """A call that is not done: the name of its code, and the numbers that it carries. Its text is that of a script."""
+    """A call that is not done: the name of its code, and the numbers that it sets. Its text is that of a script."""
 
     def __init__(self, code, carried=None):
         self.code, self.name, self.carried = code, name_of(code), dict(carried or {})
@@ -60,7 +60,7 @@ class Refused(Exception):
 
 
 def fitting(c_type, value):
-    """The value, where the C type takes it; ctypes alone would cut it."""
+    """Returns the value if it fits the C type, and raises ValueError otherwise; ctypes alone would truncate it."""
     limit = 1 << 8 * ctypes.sizeof(c_type)
     if not isinstance(value, int) or not 0 <= value < limit:
         raise ValueError(f"{value!r} is no whole number below {limit}")
@@ -68,18 +68,18 @@ def fitting(c_type, value):
 
 
 def whole(c_type):
-    """A parameter that takes the numbers of a C type and no others."""
+    """Returns a parameter type that accepts only numbers that fit the C type."""
     return type("Whole", (), {"from_param": staticmethod(lambda value: c_type(fitting(c_type, value)))})
 
 
 def array_of(c_type, values):
-    """An array of the numbers of a C type and no others."""
+    """Returns an array of the C type; each value must fit it."""
     values = [fitting(c_type, value) for value in values]
     return (c_type * len(values))(*values)
 
 
 class Numbers(ctypes.Structure):
-    """A struct of numbers, which takes those that its fields have room for and no others."""
+    """A struct of numbers. Each value must fit its field."""
 
     def __setattr__(self, name, value):
         c_type = dict(self._fields_).get(name)
@@ -173,7 +173,7 @@ DECLARED = {
 
 
 def load(path):
-    """The library, with its functions declared as the header has them."""
+    """Loads the library, and declares its functions as in the header."""
     loaded = ctypes.CDLL(path)
     for name, parameters in DECLARED.items():
         function = getattr(loaded, f"hs_{name}")
@@ -187,7 +187,7 @@ library = load(os.environ.get("HOURSTABLE_LIBRARY", "libhourstable.so"))
 
 
 def done(code, told=None):
-    """Raises why a call is not done."""
+    """Raises Refused or MemoryError if the code is not that of a call that is done."""
     if code == -1:
         raise MemoryError("hourstable")
     if code != 0:
@@ -195,7 +195,7 @@ def done(code, told=None):
 
 
 def text_of(call, *given):
-    """The text that a call gives: asked for again with more room where there is not enough."""
+    """Returns the text that a call writes. If it does not fit, calls again with a longer buffer."""
     room, needed = ctypes.create_string_buffer(1024), ctypes.c_size_t()
     code = call(*given, room, len(room), ctypes.byref(needed))
     if code == -2:
@@ -210,14 +210,14 @@ def slice_key(key):
 
 
 def plan(assignment, loads, tasks, policy):
-    """The assignment of the next generation, as a message."""
+    """Returns the message of the assignment of the next generation."""
     loads, tasks = array_of(ctypes.c_uint64, loads), array_of(ctypes.c_uint64, tasks)
     given = (assignment, len(assignment), loads, len(loads), tasks, len(tasks), ctypes.byref(policy))
     return text_of(library.hs_plan, *given)
 
 
 class Standing:
-    """What stands in a place of its own."""
+    """An object in a place of its own."""
 
     def __init__(self, kind, *given):
         self.kind, self.told, self.place = kind, Told(), None
@@ -266,7 +266,10 @@ class Standing:
 
 
 class Slicelet(Standing):
-    """What a server task knows of its leases."""
+    """A slicelet: knows the leases of a server task and decides whether the task may serve a key.
+
+    Readings are in ticks of the task's clock.
+    """
 
     def __init__(self, task):
         super().__init__("slicelet", task)
@@ -294,7 +297,7 @@ class Slicelet(Standing):
 
 
 class Clerk(Standing):
-    """What a client knows of who owns a key."""
+    """A clerk: knows the newest assignment that a client was given."""
 
     def __init__(self):
         super().__init__("clerk")
@@ -312,7 +315,7 @@ class Clerk(Standing):
 
 
 class Table(Standing):
-    """The leases of a job."""
+    """The lease table of a job. Readings are in ticks of the table's clock."""
 
     def __init__(self, policy):
         super().__init__("table", ctypes.byref(policy))
@@ -367,7 +370,7 @@ class Table(Standing):
 
 
 class Assigner(Standing):
-    """What keeps a term of the job lease."""
+    """An assigner: keeps a term of the job lease."""
 
     def __init__(self, number, job):
         super().__init__("assigner", number, job)
@@ -379,21 +382,21 @@ class Assigner(Standing):
         self.do("restart")
 
     def next(self, at, phase, wanted):
-        """What to do next, and the number of the term that is kept, 0 for none."""
+        """Returns what to do next, and the number of the kept term, 0 for none."""
         action, number = ctypes.c_uint32(), ctypes.c_uint64()
         self.do("next", at, ctypes.byref(phase), int(wanted), ctypes.byref(action), ctypes.byref(number))
         return ACTIONS[action.value], number.value
 
 
 class Session(Standing):
-    """A whole job, step by step in the words of scripts."""
+    """A whole job, played step by step in the words of scripts."""
 
     def __init__(self, job):
         line = json.dumps({"job": job}).encode()
         super().__init__("session", line, len(line), 1)
 
     def ask(self, do, **members):
-        """The answer to a step. It is played once, also where its line finds no room at first."""
+        """Plays a step and returns its reply. The step is played once, even if the reply does not fit at first."""
         line = json.dumps({"do": do, **members}).encode()
         room, needed = ctypes.create_string_buffer(1024), ctypes.c_size_t()
         answer = self.function("answer")
