@@ -14,7 +14,7 @@ static int32_t adopt(struct hs_place *place, uint64_t number, uint64_t assigner,
     return hs_assigner_adopt(place, &term);
 }
 
-/* What is proposed is of the generation after the committed one, or there is no such phase. */
+/* A phase whose proposed generation is not the one after the committed generation is refused. */
 static void no_phases(struct hs_place *place) {
     const struct hs_phase phases[] = {{1, 1}, {1, 3}, {2, 1}, {UINT64_MAX, 1}};
     for (size_t at = 0; at < sizeof phases / sizeof *phases; at++) {
@@ -38,7 +38,7 @@ void check_assigners(void) {
     next_is(&place, 10, &steady, 0, HS_REST, 4);
     next_is(&place, 10, &bridging, 1, HS_COMMIT, 4);
     next_is(&place, 10, &bridging, 0, HS_COMMIT, 4);
-    /* Half of 1001, rounded down, is 500: renewed from 500 on. */
+    /* Half of 1001, rounded down, is 500: the term is renewed from 500 on. */
     next_is(&place, 499, &bridging, 0, HS_COMMIT, 4);
     next_is(&place, 500, &bridging, 0, HS_RENEW, 4);
     next_is(&place, 999, &bridging, 0, HS_RENEW, 4);

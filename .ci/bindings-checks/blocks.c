@@ -1,5 +1,5 @@
-/* Blocks that end where no page is: the library is not compiled under the sanitizers, so that an access of its own past
- * the end of a block is found only there. */
+/* Blocks that are followed by a page that cannot be accessed. The library is not compiled under the
+ * sanitizers, so only such a page finds an access of the library past the end of a block. */
 #define _GNU_SOURCE
 #include "checks.h"
 

@@ -1,9 +1,9 @@
-/* Calls and looks that several checks make. */
+/* Calls and comparisons that several checks share. */
 #include "checks.h"
 
 #include <string.h>
 
-/* The code, once the numbers that it does not carry were found as they were. */
+/* Checks that the fields of hs_told that the code does not set are unchanged, and returns the code. */
 static int32_t carried(int32_t code) {
     HOLDS(told.number == UNTOLD || code == HS_OLD || code == HS_VERSION || code == HS_NOT_HOLDER);
     HOLDS(told.generation == UNTOLD || code == HS_OLD_GENERATION || code == HS_STALE_BASE);
@@ -58,7 +58,8 @@ static uint64_t sum_told(uint64_t sum, int32_t code) {
     return sum_bytes(sum_number(sum, code), &told, sizeof told);
 }
 
-/* The verdicts of two keys at each reading, the handles that would be taken, and the notes that there is no room for. */
+/* The verdicts for two keys at each reading, the handles that would be taken, and the lengths of the
+ * notes, asked for with a buffer of length 0. */
 uint64_t slicelet_state(struct hs_place *place) {
     uint64_t sum = 0;
     uint8_t none = '-';
@@ -85,7 +86,8 @@ uint64_t clerk_state(struct hs_place *place) {
     return sum_bytes(sum, &owners, sizeof owners);
 }
 
-/* The last reading and the number of grants, by grants that there is no room for; the term, by stale proposals. */
+/* Shows the last reading and the number of grants by grants with a buffer of length 0, and the term by
+ * stale proposals. */
 static uint64_t sum_refusals(uint64_t sum, struct hs_place *place) {
     uint8_t none = '-';
     for (uint64_t at = 0; at < 120; at++) {

@@ -1,4 +1,4 @@
-/* What hourstable.h says, asked of the library: each code, and that a call that is not done changes nothing. */
+/* Checks the library against hourstable.h: it returns each code, and a call that is not done changes nothing. */
 #include "checks.h"
 
 #include <stdio.h>

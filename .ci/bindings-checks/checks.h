@@ -1,14 +1,14 @@
-/* What the checks of hourstable.h have in common. */
+/* Shared by the checks of hourstable.h. */
 #ifndef CHECKS_H
 #define CHECKS_H
 
 #include "guarded.h"
 
-/* The call returns this code, or the program ends. */
+/* Ends the program unless the call returns this code. */
 #define IS(call, wanted) check_code((call), (wanted), __FILE__, __LINE__)
 #define HOLDS(fact) check_fact((fact) != 0, #fact, __FILE__, __LINE__)
 
-/* The call returns this code, and what can be seen of a place is the same before it and after it. */
+/* Ends the program unless the call returns this code and leaves the visible state of a place unchanged. */
 #define STAYS(state, call, wanted)                                                                                     \
     do {                                                                                                               \
         uint64_t state_before = (state);                                                                               \
@@ -33,20 +33,21 @@
 #define HELLO (const uint8_t *)"hello", 5
 #define ABC (const uint8_t *)"abc", 3
 
-/* A number that no answer of these checks carries. */
+/* A number that no code of these checks sets. */
 #define UNTOLD 777777
 
 void check_code(int32_t code, int32_t wanted, const char *file, int line);
 void check_fact(int is_true, const char *fact, const char *file, int line);
 
-/* The numbers of the last call that tells some; all are UNTOLD before it. */
+/* The hs_told of the last call that has one; every field is UNTOLD before the call. */
 extern struct hs_told told;
 struct hs_told *fresh_told(void);
 int tells(uint64_t number, uint64_t generation, uint64_t kind, uint64_t task, uint64_t until);
 
 struct hs_place new_place(void);
 
-/* A copy of bytes, and a block of dashes, each in pages of its own, so that an access past its end is found. */
+/* Return a copy of bytes, and a block of dashes. Each is in pages of its own, so that an access past
+ * its end is found. */
 void *block_of(const void *bytes, size_t length);
 uint8_t *dashes(size_t length);
 void drop_block(void *block);
@@ -54,16 +55,17 @@ void drop_block(void *block);
 /* Whether all bytes are dashes. */
 int are_dashes(const uint8_t *block, size_t length);
 
-/* Sums of what was seen, so that two looks can be compared. */
+/* Hash bytes or a number into a sum, so that two states can be compared. */
 uint64_t sum_bytes(uint64_t sum, const void *bytes, size_t length);
 uint64_t sum_number(uint64_t sum, int64_t number);
 
-/* Memory: how many allocations were asked for, and which of them, from here on, finds none (0: each finds some). */
+/* How many allocations were asked for. refuse_allocation lets the one with this number fail, counted
+ * from now on; 0 lets none fail. */
 extern size_t allocations;
 void refuse_allocation(size_t number);
 int was_refused(void);
 
-/* Calls with the text of a message, of which they read a copy of its own length. */
+/* Make a call with the text of a message, of which the library reads a copy of exactly its length. */
 int32_t hear(struct hs_place *place, const char *grant, uint64_t at);
 int32_t hear_bytes(struct hs_place *place, const char *grant, size_t length, uint64_t at);
 int32_t learn(struct hs_place *place, const char *assignment);
@@ -72,13 +74,14 @@ int32_t propose(struct hs_place *place, uint64_t term, const char *assignment, u
 int32_t propose_bytes(struct hs_place *place, const char *assignment, size_t length, uint64_t at);
 int32_t free_rows(struct hs_place *place, const char *note, uint64_t at, uint64_t *freed);
 
-/* What can be seen of a place. */
+/* Return a sum of what calls show of a place. */
 uint64_t slicelet_state(struct hs_place *place);
 uint64_t clerk_state(struct hs_place *place);
 uint64_t table_state(struct hs_place *place);
 
-/* Places to begin with: task 2 in life 1 with a guard of all keys, number 7, until 95; a clerk with halves of
- * generation 1; a table at generation 1 with halves, a term of assigner 1 until 1000 and last reading 2. */
+/* Places to start from: task 2 in life 1, with guard lease number 7 on all keys until 95; a clerk with
+ * the halves of generation 1; a table with the halves of generation 1, a term of assigner 1 until 1000
+ * and last reading 2. */
 struct hs_place serving_task(void);
 struct hs_place knowing_clerk(void);
 struct hs_place steady_table(void);

@@ -1,4 +1,4 @@
-/* Clerks: the refusals of slices stand in docs/FORMATS.md in their order. */
+/* Clerks. docs/FORMATS.md has the refusals of slices, in their order. */
 #include "checks.h"
 
 #include <stdio.h>
@@ -20,7 +20,7 @@ static void unread(struct hs_place *place) {
     IS(learn(place, ASSIGNMENT("18446744073709551616", HALVES)), HS_WRONG_FORM);
 }
 
-/* 1025 slices, one more than there may be. */
+/* 1,025 slices, one more than is allowed. */
 static void too_many_slices(struct hs_place *place) {
     size_t length = 1025 * 16 + 100;
     char *text = malloc(length);
@@ -34,7 +34,7 @@ static void too_many_slices(struct hs_place *place) {
     free(text);
 }
 
-/* Each text has one fault, or a later one beside it; the first of the list is told. */
+/* Each text has one fault, or a second one later in the list; the code is that of the first. */
 static void refused_slices(struct hs_place *place) {
     IS(learn(place, ASSIGNMENT("9", "[]")), HS_NO_SLICES);
     IS(learn(place, ASSIGNMENT("9", "[[1,[1]]]")), HS_FIRST_NOT_ZERO);

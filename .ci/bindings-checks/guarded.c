@@ -1,5 +1,6 @@
-/* Each function of hourstable.h, called with copies of what its caller passes, each of which ends where no page is. What it
- * writes is copied back, and what it reads is found as it was. The checks call these by the names of the header. */
+/* Calls each function of hourstable.h with copies of what the caller passes. Each copy ends at the end of
+ * its pages, so that an access past it is found. What the function writes is copied back, and what it
+ * only reads must be unchanged. The checks call these by the names of the header. */
 #define GUARDED_ITSELF
 #include "checks.h"
 
@@ -21,7 +22,7 @@ static void *lend(const void *read, void *written, size_t length) {
     return lent[lent_count++].block;
 }
 
-/* The call has returned: its blocks are dropped. */
+/* Copies back what the call wrote, checks what it read, and drops the blocks. Returns the code. */
 static int32_t returned(int32_t code) {
     while (lent_count) {
         struct lent *one = &lent[--lent_count];

@@ -1,7 +1,7 @@
-/* Memory: calls with each of their allocations refused in turn, and calls that take none.
+/* Memory: each allocation of a call fails in turn, and some calls allocate nothing.
  *
- * The program is linked with --wrap for the functions below, so that all allocations, those of the library too, come
- * here. */
+ * The program is linked with --wrap for the functions below, so that every allocation comes here, those
+ * of the library too. */
 #include "checks.h"
 
 #include <string.h>
@@ -55,7 +55,7 @@ int __wrap_posix_memalign(void **block, size_t alignment, size_t size) {
 static const char job[] = "{\"job\":{\"redundancy\":1,\"skew\":10,\"guard\":100,\"bridge\":100,\"job\":1000,"
                           "\"numbers\":1000,\"assigners\":1,\"tasks\":2,\"clerks\":1}}";
 
-/* A place to begin with, the call that takes memory, and what can be seen of the place. */
+/* A place to start from, a call that takes memory, and the visible state of the place. */
 struct trial {
     const char *name;
     struct hs_place (*begin)(void);
@@ -153,8 +153,8 @@ static uint64_t state_when_done(const struct trial *trial) {
     return state;
 }
 
-/* After a call that did not get all memory that it asked for: it changed nothing, and is done when asked again; or it did
- * with less, and left what it leaves with ample memory. */
+/* Checks a call that had an allocation fail. Either it changed nothing and succeeds when it is made again,
+ * or it did without that memory and leaves the same state as a call that had all of it. */
 static void look_at(const struct trial *trial, struct hs_place *place, int32_t code, uint64_t before) {
     if (code != HS_DONE) {
         IS(code, HS_NO_MEMORY);
@@ -164,7 +164,7 @@ static void look_at(const struct trial *trial, struct hs_place *place, int32_t c
     HOLDS(trial->state(place) == state_when_done(trial));
 }
 
-/* The call with its first allocation refused, then with its second, until it gets all that it asks for. */
+/* Makes the call with its first allocation failing, then with its second, until none fails. */
 static void refuse_each(const struct trial *trial) {
     int fell_short = 1;
     for (size_t number = 1; fell_short; number++) {
@@ -192,7 +192,7 @@ static void refuse_places(void) {
     HOLDS(!place.at);
 }
 
-/* A session whose answer finds no memory is gone, with its place left empty. */
+/* A session that runs out of memory in an answer is destroyed, and its place is empty. */
 static void refuse_answers(void) {
     const char *step = "{\"do\":\"take\",\"assigner\":1,\"at\":0}";
     for (size_t number = 1;; number++) {
@@ -217,7 +217,7 @@ static void refuse_answers(void) {
     }
 }
 
-/* Calls of which the header says that they take no memory. */
+/* The calls that take no memory, as the header says. */
 static void takes_none(void) {
     struct hs_place task = serving_task(), clerk = knowing_clerk();
     struct hs_key_handle handle;

@@ -24,18 +24,18 @@ kinds, actions = ({word.lower(): int(number) for word, number in re.findall(r"HS
 
 
 def class_of(struct):
-    """The class of a struct: KeyHandle of hs_key_handle."""
+    """Returns the class of a struct, such as KeyHandle for hs_key_handle."""
     return getattr(hourstable, "".join(map(str.capitalize, struct.split("_"))), None)
 
 
 def member_of(c_type, length):
-    """The type of a member of a struct in Python."""
+    """Returns the Python type of a member of a struct."""
     member = {"void *": ctypes.c_void_p, "uint64_t ": ctypes.c_uint64, "uint32_t ": ctypes.c_uint32}[c_type]
     return member * int(length) if length else member
 
 
 def parameter_of(c_type):
-    """The type of a parameter in Python."""
+    """Returns the Python type of a parameter."""
     struct = re.fullmatch(r"(?:const )?struct hs_(\w+) (\*?)", c_type)
     if struct:
         return ctypes.POINTER(class_of(struct[1])) if struct[2] else class_of(struct[1])

@@ -1,5 +1,6 @@
-"""What examples/python/hourstable.py adds to the library: numbers that fit or are refused, texts of scripts, and objects
-that are not copied. Expected values are those of include/hourstable.h and of the refusals in docs/FORMATS.md.
+"""Checks what examples/python/hourstable.py adds to the library: numbers that do not fit are refused, refusals have the
+texts of scripts, and objects cannot be copied. Expected values are those of include/hourstable.h and of the refusals in
+docs/FORMATS.md.
 
 Run at the top of the repository, with HOURSTABLE_LIBRARY set.
 """
@@ -32,7 +33,7 @@ def raises(error, what, call, *given):
 
 
 def refused(code, **told):
-    """The exception of a code, as the library's answer would raise it."""
+    """Returns the exception that a code of the library raises."""
     try:
         hourstable.done(code, Told(**told))
     except Refused as refusal:

@@ -1,4 +1,4 @@
-/* Places: what stands in one, and that a call for another kind is refused. */
+/* Places: a call for another kind of object than the place holds is refused. */
 #include "checks.h"
 
 #include <string.h>
@@ -119,7 +119,7 @@ static int32_t close_as(struct hs_place *place, enum standing kind) {
     return kind == ASSIGNER ? hs_assigner_close(place) : hs_session_close(place);
 }
 
-/* An `open` that is refused leaves what stands in the place. */
+/* An `open` that is refused leaves the place unchanged. */
 static void refused_open(void) {
     struct hs_place clerk = knowing_clerk();
     struct hs_policy none = policy;
@@ -141,7 +141,7 @@ void check_places(void) {
         refuse_others(&place, NOTHING);
         hs_place_free(place);
     }
-    /* Each stands in place of each; what stood there is freed, which the address sanitizer looks at. */
+    /* Each kind replaces each kind. The address sanitizer checks that what was there is freed. */
     for (enum standing one = NOTHING; one < KINDS; one++) {
         for (enum standing other = SLICELET; other < KINDS; other++) {
             struct hs_place place = new_place();

@@ -1,4 +1,4 @@
-/* Plans: the plan of examples/scripts/load-moves-a-slice.json, and why there is none. */
+/* Plans: the plan of examples/scripts/load-moves-a-slice.json, and each reason why there is no plan. */
 #include "checks.h"
 
 #include <string.h>
@@ -10,7 +10,7 @@ static const char before[] = ASSIGNMENT("1", "[[0,[1]],[2305843009213693952,[1]]
 static const char after[] = ASSIGNMENT("2", "[[0,[1]],[2305843009213693952,[2]],[4611686018427387904,[2]]]");
 static const struct hs_plan_policy bounds = {.low = 1, .high = 1, .churn = KEYS, .cold = 0, .hot = 100, .most = 1024};
 
-/* What a plan is asked for, and the room that there is for it. */
+/* The arguments of a plan. */
 struct question {
     const char *assignment;
     uint64_t loads[3];

@@ -13,7 +13,7 @@ static int32_t open_session(struct hs_place *place, const char *line, uint32_t j
     return code;
 }
 
-/* The line is answered by this text, in a buffer of its length. */
+/* Checks that the reply to the line is this text, in a buffer of its length. */
 static void answers(struct hs_place *place, const char *line, const char *wanted) {
     uint8_t *copy = block_of(line, strlen(line));
     size_t length = strlen(wanted), needed = 0;
@@ -24,7 +24,7 @@ static void answers(struct hs_place *place, const char *line, const char *wanted
     drop_block(out);
 }
 
-/* The line is answered by words that begin so. */
+/* Checks that the reply to the line begins with these words. */
 static void answers_with(struct hs_place *place, const char *line, const char *beginning) {
     uint8_t out[512];
     size_t needed = 0;
@@ -66,7 +66,7 @@ static void plays(struct hs_place *place) {
     answers(place, "{\"do\":\"hear\",\"task\":1,\"number\":1,\"at\":6}", "refused old 1\n");
 }
 
-/* A line that says no step is answered, and changes nothing. */
+/* A line that is not a step gets a reply, and changes nothing. */
 static void errors(struct hs_place *place) {
     answers_with(place, "not json", "error: not JSON: ");
     answers_with(place, "{\"do\":\"sing\"}", "error: unknown step \"sing\"");
@@ -75,7 +75,7 @@ static void errors(struct hs_place *place) {
     answers(place, "{\"do\":\"phase\"}", "phase steady 1\n");
 }
 
-/* A step whose line finds no room was played; its line is given again. */
+/* A step whose reply does not fit was played; hs_session_last writes its reply. */
 static void no_room(struct hs_place *place) {
     const char *grant = "{\"do\":\"grant\",\"task\":2,\"life\":1,\"at\":7}";
     const char *wanted = "grant 2 guard 1 until 107 97\n";

@@ -1,4 +1,4 @@
-/* Slicelets: the readings and deadlines are those of docs/FORMATS.md's refusals, the numbers by hand. */
+/* Slicelets. Expected codes follow from the refusals in docs/FORMATS.md; the numbers were worked out by hand. */
 #include "checks.h"
 
 #include <string.h>
@@ -21,7 +21,7 @@ static struct hs_place opened(void) {
     return place;
 }
 
-/* Before the first life nothing is heard, released or served. */
+/* Before the first life, nothing is heard, released or served. */
 static void starts(struct hs_place *place) {
     struct hs_key_handle handle = {9, 9, 9, 9};
     uint8_t out[256];
@@ -40,7 +40,7 @@ static void starts(struct hs_place *place) {
     HOLDS(tells(UNTOLD, UNTOLD, UNTOLD, UNTOLD, UNTOLD));
 }
 
-/* Bytes that are no grant. */
+/* Bytes that are not a grant. */
 static void unread(struct hs_place *place) {
     for (size_t length = 0; length < strlen(all_keys); length++)
         IS(hear_bytes(place, all_keys, length, 5), HS_NOT_JSON);
@@ -59,7 +59,7 @@ static void unread(struct hs_place *place) {
     IS(hear(place, GRANT("guard", "1", "7", "[[0,9223372036854775809]]", "2"), 5), HS_PAST_END);
 }
 
-/* Members of a grant that are not within their limits. */
+/* Grants with a member that is missing, unknown or outside its limits. */
 static void wrong_members(struct hs_place *place) {
     IS(hear(place, MESSAGE("grant", ""), 5), HS_WRONG_FORM);
     IS(hear(place, MESSAGE("grant", "\"ends\":95"), 5), HS_WRONG_FORM);
@@ -96,7 +96,7 @@ static void hears(struct hs_place *place) {
     HOLDS(tells(UNTOLD, UNTOLD, UNTOLD, UNTOLD, UNTOLD));
 }
 
-/* A handle after a start and two grants: the call that it was taken after is the third. */
+/* A handle that is taken after three calls: a start and two grants. */
 static void holds(struct hs_place *place, struct hs_key_handle *handle) {
     IS(hs_slicelet_hold(place, HELLO, 95, handle, fresh_told()), HS_ENDED);
     HOLDS(handle->task == 0 && handle->position == 0);
@@ -128,7 +128,7 @@ static void checks_others(struct hs_place *place) {
     IS(check_other(place, 2, key, 9, 0), HS_BROKEN);
 }
 
-/* The note is written whole or not at all; where it is not, the lease is still held. */
+/* The note is written whole or not at all. If it is not written, the lease is still held. */
 static void releases(struct hs_place *place, const struct hs_key_handle *handle) {
     size_t needed = 0, length = strlen(note);
     uint8_t *out = dashes(length);
@@ -160,7 +160,7 @@ static void releases(struct hs_place *place, const struct hs_key_handle *handle)
     IS(hear(place, all_keys, 7), HS_OLD);
 }
 
-/* A new life holds nothing, and hears numbers anew. */
+/* A new life holds no lease, and hears any number again. */
 static void restarts(struct hs_place *place, const struct hs_key_handle *handle) {
     IS(hs_slicelet_start(place, 2, 8), HS_DONE);
     IS(hear(place, all_keys, 8), HS_OTHER_LIFE);
@@ -169,7 +169,7 @@ static void restarts(struct hs_place *place, const struct hs_key_handle *handle)
     IS(hs_slicelet_check(place, handle, 8), HS_BROKEN);
 }
 
-/* A release that has its lease ended is done: a note is for the table, whatever the task's clock. */
+/* A lease that has ended can be released: the table still needs its note. */
 static void late_release(void) {
     struct hs_place place = serving_task();
     uint8_t out[256];
@@ -181,7 +181,7 @@ static void late_release(void) {
     hs_place_free(place);
 }
 
-/* 65,536 calls are accepted, and then none. */
+/* A slicelet accepts 65,536 calls and then no more. */
 static void fills_up(void) {
     struct hs_place place = new_place();
     uint8_t out[256];
@@ -201,7 +201,8 @@ static void fills_up(void) {
     hs_place_free(place);
 }
 
-/* The guard is looked at first, and then the bridge; of two live leases the greater generation is told. */
+/* The guard lease is asked first, and then the bridge lease. HS_NOT_OWNED sets the greater generation of
+ * two live leases. */
 static void two_leases(void) {
     struct hs_place place = serving_task();
     const char *bridge = MESSAGE("grant", "\"ends\":99,\"generation\":4,\"kind\":\"bridge\",\"life\":1,\"number\":9,"

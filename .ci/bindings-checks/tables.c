@@ -1,4 +1,4 @@
-/* Tables: deadlines and refusals by docs/MODEL.md, with the numbers of the examples of docs/FORMATS.md. */
+/* Tables. Deadlines and refusals follow docs/MODEL.md, with the numbers of the examples in docs/FORMATS.md. */
 #include "checks.h"
 
 #include <string.h>
@@ -67,7 +67,7 @@ static void terms(struct hs_place *table) {
     HOLDS(term.number == 2 && term.assigner == UINT64_MAX && term.until == 2005);
 }
 
-/* Before anything is proposed there is nothing to commit, to grant or to give. */
+/* Before the first proposal there is nothing to commit, to grant or to write. */
 static void empties(struct hs_place *table) {
     uint8_t out[256];
     size_t needed = 0;
@@ -128,7 +128,7 @@ static void gives_committed(struct hs_place *table) {
     drop_block(out);
 }
 
-/* A grant is made where its text has room, and only then. */
+/* A grant is made only if its message fits. */
 static void grants(struct hs_place *table) {
     size_t needed = 0, length = strlen(first_grant);
     uint8_t *shorter = dashes(length - 1), *out = dashes(length);
@@ -162,7 +162,8 @@ static void grant_row(struct hs_place *table, uint64_t task, uint32_t life, uint
     IS(hs_table_grant(table, task, life, at, out, sizeof out, &needed), HS_DONE);
 }
 
-/* Rows in grant order, by the names of their fields: those of the third all differ, and so do those of the fourth. */
+/* Rows in grant order, by the names of their fields. The fields of the third row all differ, and so do those
+ * of the fourth, so that no two are mixed up. */
 static void lists_rows(void) {
     const struct hs_row wanted[] = {
         {.number = 1, .task = 1, .life = 1, .kind = HS_GUARD, .generation = 2, .table_ends = 106},
@@ -188,7 +189,7 @@ static void lists_rows(void) {
     hs_place_free(table);
 }
 
-/* Half of the keys go from task 1 to task 2: its guard holds the commit up until its note comes. */
+/* Half of the keys go from task 1 to task 2. The guard lease of task 1 holds the commit until its note comes. */
 static void hands_over(struct hs_place *table) {
     uint8_t out[256];
     size_t needed = 0;
@@ -211,7 +212,7 @@ static void hands_over(struct hs_place *table) {
     IS(free_rows(table, NOTE("guard", "1", "1", "1"), 25, &freed), HS_NO_ROW);
     IS(hs_table_commit(table, 1, 26, fresh_told()), HS_DONE);
     HOLDS(tells(UNTOLD, 2, UNTOLD, UNTOLD, UNTOLD));
-    /* The bridge is of generation 2, which is committed now: it holds up the next change. */
+    /* The bridge lease is of generation 2, which is now committed: it holds the next commit. */
     IS(propose(table, 1, ASSIGNMENT("3", "[[0,[1]]]"), 27), HS_DONE);
     IS(hs_table_commit(table, 1, 223, fresh_told()), HS_HELD);
     HOLDS(tells(2, UNTOLD, HS_BRIDGE, 1, UNTOLD));
@@ -231,7 +232,7 @@ static void reads_notes(struct hs_place *table) {
     HOLDS(freed == UNTOLD);
 }
 
-/* Rows that a restart lost hold commits up until the last of them has ended: 105. */
+/* After a restart no commit is accepted until the last lost row has ended, at 105. */
 static void loses_rows(void) {
     struct hs_place table = steady_table();
     uint8_t out[256];
@@ -250,7 +251,7 @@ static void loses_rows(void) {
     hs_place_free(table);
 }
 
-/* One grant, and then none. */
+/* A table whose policy allows one grant makes one. */
 static void spends_numbers(void) {
     struct hs_place table = new_place();
     struct hs_policy one = policy;

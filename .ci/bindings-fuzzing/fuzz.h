@@ -1,4 +1,4 @@
-/* What the parts of the fuzzer have in common. */
+/* Shared by the parts of the fuzzer. */
 #ifndef FUZZ_H
 #define FUZZ_H
 
@@ -6,7 +6,7 @@
 
 #define LONGEST_INPUT 16384
 
-/* Ends the program, and says which input was at fault. */
+/* Prints the input at fault, and ends the program. */
 void fail(const char *what);
 #define MUST(fact)                                                                                                     \
     do {                                                                                                               \
@@ -14,29 +14,30 @@ void fail(const char *what);
             fail(#fact);                                                                                               \
     } while (0)
 
-/* Numbers of a fixed sequence. */
+/* Pseudorandom numbers: the same seed gives the same sequence. */
 void seed(uint64_t number);
 uint64_t draw(uint64_t below);
 
-/* An input, in pages of its own, so that a read past its end is found. */
+/* An input in pages of its own, so that a read past its end is found. */
 struct input {
     const uint8_t *bytes;
     size_t length;
 };
 
-/* A text of these, changed in a few places, or random bytes. */
+/* Returns one of the texts, changed in a few places, or random bytes. */
 struct input next_input(const char *const *texts, size_t count);
 
-/* Room that ends where no page is; there is one, and one for each of two lists of numbers. */
+/* Return a buffer that ends at the end of its pages. There is one buffer of bytes, and one for each of two
+ * lists of numbers. */
 uint8_t *room_of(size_t length);
 uint64_t *numbers_of(size_t list, size_t count);
 
-/* What a call asked of the allocator. */
+/* Start to count allocations; return the largest one since then, and the sum of all. */
 void count_allocations(void);
 size_t largest_allocation(void);
 size_t whole_allocation(void);
 
-/* A target: a call with an input, whose refusals change nothing. */
+/* A target: a call with an input. A call that is refused must leave the state unchanged. */
 struct target {
     const char *name;
     const char *const *texts;

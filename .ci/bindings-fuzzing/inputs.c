@@ -20,7 +20,7 @@ uint64_t draw(uint64_t below) {
     return (drawn * 2685821657736338717u >> 11) % below;
 }
 
-/* The end of pages that no page follows. */
+/* Maps pages that are followed by one that cannot be accessed, and returns their end. */
 static uint8_t *end_of_pages(size_t length) {
     size_t page = (size_t)sysconf(_SC_PAGESIZE), used = (length + page - 1) / page * page;
     uint8_t *pages = mmap(NULL, used + page, PROT_READ | PROT_WRITE, MAP_PRIVATE | MAP_ANONYMOUS, -1, 0);
@@ -56,7 +56,7 @@ static void replace(size_t at, size_t taken, const char *put, size_t put_length)
     length = length - taken + put_length;
 }
 
-/* Puts another number where one stands. */
+/* Replaces a number by another one. */
 static void change_number(void) {
     static const char *const numbers[] = {
         "0", "1", "2", "3", "7", "64", "65", "4294967295", "4294967296", "4611686018427387904", "9223372036854775807",
@@ -82,7 +82,7 @@ static void change_bytes(void) {
         replace(at, draw(2), &byte, 1);
 }
 
-/* Repeats what stands in one place at another, a few times or many. */
+/* Copies a part of the text to another place, once or many times. */
 static void repeat(void) {
     char part[64];
     size_t from = draw(length), part_length = 1 + draw(sizeof part), times = draw(8) ? 1 : 1 + draw(200);

@@ -1,5 +1,6 @@
-/* Plays inputs to the library: INPUTS [SEED]. A call that is refused changes nothing, an answer carries what its code
- * says, and no allocation of a call is longer than TIMES_INPUT times its input and BESIDE_INPUT. */
+/* Plays inputs to the library: INPUTS [SEED]. A call that is refused must change nothing, a code must set
+ * only its own fields of hs_told, and no allocation of a call may be longer than TIMES_INPUT times its input
+ * and BESIDE_INPUT. */
 #include "fuzz.h"
 
 #include <stdio.h>
@@ -8,10 +9,10 @@
 
 #define LOWEST HS_NO_JOB
 #define HIGHEST HS_LOAD_RANGE
-/* A byte of JSON may be a value of its own, and a list grows by doubling; what stands in a place is copied too. */
+/* A byte of JSON may be a value of its own, and a list grows by doubling. What a place holds is copied too. */
 #define TIMES_INPUT 128
 #define BESIDE_INPUT 65536
-/* After so many inputs, or some that were taken, a place is begun anew. */
+/* After this many inputs, or this many accepted ones, a place is set up anew. */
 #define MOST_INPUTS 64
 #define MOST_TAKEN 4
 
@@ -67,7 +68,7 @@ void fail(const char *what) {
     exit(1);
 }
 
-/* A place of a target, what was seen of it last, and what was counted. */
+/* The place of a target, its last state, and what was counted. */
 struct field {
     struct hs_place place;
     uint64_t state;
@@ -82,7 +83,7 @@ static void begin(const struct target *target, struct field *field) {
     field->inputs = field->taken = 0;
 }
 
-/* What a code leaves of the numbers is as it was. */
+/* Whether the fields of hs_told that the code does not set are unchanged. */
 static int carries_no_more(int32_t code, struct hs_told told) {
     if (code == HS_OLD || code == HS_VERSION || code == HS_NOT_HOLDER)
         told.number = 5;

@@ -1,4 +1,4 @@
-/* The calls that are tried, what they begin with, and what can be seen of them. */
+/* The targets: how each place is set up, the call, and the visible state. */
 #define _GNU_SOURCE
 #include "fuzz.h"
 
@@ -108,7 +108,7 @@ static uint64_t clerk_state(struct hs_place *place) {
     return sum_bytes(sum, &owners, sizeof owners);
 }
 
-/* A table with a committed assignment, and a grant to each of two tasks. */
+/* Sets up a table with a committed assignment and a grant to each of two tasks. */
 static void begin_table(struct hs_place *place) {
     struct hs_told told = {0};
     struct hs_job_term term;
@@ -121,7 +121,7 @@ static void begin_table(struct hs_place *place) {
         MUST(hs_table_grant(place, task, 1, 3, room_of(512), 512, &needed) == HS_DONE);
 }
 
-/* A number of a list: mostly one that may be taken, and sometimes a great one. */
+/* Returns a number for a list: mostly one that is accepted, and sometimes a great one. */
 static uint64_t draw_number(uint64_t below) {
     static const uint64_t great[] = {65, (uint64_t)1 << 40, ((uint64_t)1 << 40) + 1, UINT64_MAX};
     return draw(64) ? draw(below) : great[draw(COUNT(great))];
@@ -136,7 +136,7 @@ static struct hs_plan_policy draw_policy(void) {
     return policy;
 }
 
-/* What is planned is an assignment that a clerk learns. */
+/* Makes a plan. A clerk must learn the assignment that is planned. */
 static int32_t plan(struct hs_place *place, struct input input, struct hs_told *told) {
     size_t loads_len = draw(8), tasks_len = draw(5), needed = 0, room = draw(4) ? LONGEST_INPUT : draw(64);
     uint64_t *loads = numbers_of(0, loads_len), *tasks = numbers_of(1, tasks_len);
@@ -202,8 +202,9 @@ static int begins_with(const uint8_t *text, size_t length, const char *beginning
     return length >= strlen(beginning) && memcmp(text, beginning, strlen(beginning)) == 0;
 }
 
-/* A line of a reply ends with its only line feed. Where it finds no room it is given again. A step that is answered
- * counts as done, and one that is refused, or a line that says none, as HS_NOT_JSON, which no session returns. */
+/* Plays a line. A reply must end with its only line feed; if it does not fit, hs_session_last writes it.
+ * Returns HS_DONE for a step that is accepted, and HS_NOT_JSON, which no session returns, for a step that is
+ * refused or a line that is not a step. */
 static int32_t answer(struct hs_place *place, struct input input, struct hs_told *told) {
     size_t needed = 0, room = draw(4) ? LONGEST_INPUT : draw(64);
     uint8_t *out = room_of(room);
