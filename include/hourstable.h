@@ -99,8 +99,7 @@ enum hs_code {
     HS_HELD = 24,                    /* grant told.number, of told.kind, to told.task has not ended
                                         and was not freed */
     HS_NO_ROW = 25,                  /* the note closes no row that has not ended */
-    HS_NO_ASSIGNMENT = 26,           /* no assignment is committed; for a grant: and none is
-                                        proposed */
+    HS_NO_ASSIGNMENT = 26,           /* no assignment is committed or, for a grant, proposed */
     HS_NUMBERS_SPENT = 27,           /* the table has made as many grants as the policy allows */
 
     /* Why a clerk, an assigner or a plan refuses a call. */
