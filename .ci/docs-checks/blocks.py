@@ -74,11 +74,11 @@ class Copy:
             target = self.top / path
             target.parent.mkdir(parents=True, exist_ok=True)
             shutil.copy2(TOP / path, target, follow_symlinks=False)
-        crates = {*ON_PATH, *(name for fence in page.fences for name in IN_CRATE.findall(fence.text))}
-        for name in sorted(crates):
+        text = "".join(it.text for it in page.fences if is_run(it))
+        for name in sorted({*(it for it in ON_PATH if re.search(rf"\b{it}\b", text)), *IN_CRATE.findall(text)}):
             self.link(programs.find(name), self.top / "crates" / name / "out" / name)
             self.link(programs.find(name), self.bin / name)
-        if any("rt lib" in fence.text for fence in page.fences):
+        if "rt lib" in text:
             self.link(programs.archive(), self.top / "crates/hourstable_c/out" / ARCHIVE)
         stand_in = self.bin / "rt"
         stand_in.write_text(STAND_IN.replace("@RT@", shutil.which("rt") or "rt").replace("@ARCHIVE@", ARCHIVE))
@@ -132,6 +132,10 @@ def wait_for(ran: "subprocess.Popen[bytes]", seconds: float) -> bool:
     return ended is not None
 
 
+def is_run(fence: Fence) -> bool:
+    return fence.language == "sh" and not NOT_RUN.match(fence.comment)
+
+
 def text_after(page: Page, fence: Fence) -> Fence | None:
     """The ```text block that follows directly."""
     for other in page.fences:
@@ -177,11 +181,10 @@ def check_page(page: Page, programs: Programs) -> Iterator[Result]:
     with tempfile.TemporaryDirectory(prefix="docs.") as room:
         copy = Copy(Path(room).resolve(), programs, page)
         for fence in page.fences:
-            if fence.language == "sh":
-                if NOT_RUN.match(fence.comment):
-                    print(f"{page.path}:{fence.line}: {fence.comment}")
-                else:
-                    yield Result(f"{page.path}:{fence.line}", outcome(copy, page, fence, text_after(page, fence)))
+            if is_run(fence):
+                yield Result(f"{page.path}:{fence.line}", outcome(copy, page, fence, text_after(page, fence)))
+            elif fence.language == "sh":
+                print(f"{page.path}:{fence.line}: {fence.comment}")
 
 
 def check(programs: Programs) -> Iterator[Result]:
