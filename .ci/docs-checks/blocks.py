@@ -22,7 +22,8 @@ import signal
 import subprocess
 import tempfile
 import time
-from collections.abc import Iterator
+from collections.abc import Callable, Iterator
+from functools import partial
 from pathlib import Path
 
 from pages import TOP, Fault, Fence, Page, Result, all_pages, repository_files
@@ -40,16 +41,14 @@ ON_PATH = ("hourstable", "slicer_run", "slicer_live")
 
 STAND_IN = """#!/usr/bin/env bash
 name=$(basename "$PWD")
+words=("${@:2}")
+[ "${words[0]:-}" != -- ] || words=("${words[@]:1}")
 case "${1:-} $name" in
-  "try "* | "run "*)
-    shift
-    [ "${1:-}" != -- ] || shift
-    [ ! -x "out/$name" ] || exec "out/$name" "$@"
-    ;;
+  "try "* | "run "*) [ ! -x "out/$name" ] || exec "out/$name" "${words[@]}" ;;
   "lib hourstable_c") [ ! -e "out/@ARCHIVE@" ] || exit 0 ;;
   "doc "* | "version "*) exec "@RT@" "$@" ;;
 esac
-echo "rt: .ci/docs does not run this here: $*" >&2
+echo "rt $*: .ci/docs does not run this in $name" >&2
 exit 2
 """
 
@@ -74,12 +73,13 @@ class Copy:
             target = self.top / path
             target.parent.mkdir(parents=True, exist_ok=True)
             shutil.copy2(TOP / path, target, follow_symlinks=False)
-        crates = {*ON_PATH, *(name for fence in page.fences for name in IN_CRATE.findall(fence.text))}
-        for name in sorted(crates):
-            self.link(programs.find(name), self.top / "crates" / name / "out" / name)
-            self.link(programs.find(name), self.bin / name)
-        if any("rt lib" in fence.text for fence in page.fences):
-            self.link(programs.archive(), self.top / "crates/hourstable_c/out" / ARCHIVE)
+        text = "".join(it.text for it in page.fences if is_run(it))
+        # Why a program that the page runs is not there.
+        self.missing: list[str] = []
+        for name in sorted({*(it for it in ON_PATH if re.search(rf"\b{it}\b", text)), *IN_CRATE.findall(text)}):
+            self.lay(partial(programs.find, name), self.top / f"crates/{name}/out/{name}", self.bin / name)
+        if "rt lib" in text:
+            self.lay(programs.archive, self.top / "crates/hourstable_c/out" / ARCHIVE)
         stand_in = self.bin / "rt"
         stand_in.write_text(STAND_IN.replace("@RT@", shutil.which("rt") or "rt").replace("@ARCHIVE@", ARCHIVE))
         stand_in.chmod(0o755)
@@ -91,10 +91,16 @@ class Copy:
             "PYTHONDONTWRITEBYTECODE": "1",
         }
 
-    @staticmethod
-    def link(program: Path, place: Path) -> None:
-        place.parent.mkdir(parents=True, exist_ok=True)
-        place.symlink_to(program)
+    def lay(self, find: Callable[[], Path], *places: Path) -> None:
+        """Links a program that is found to these places."""
+        try:
+            program = find()
+        except Missing as why:
+            self.missing.append(str(why))
+            return
+        for place in places:
+            place.parent.mkdir(parents=True, exist_ok=True)
+            place.symlink_to(program)
 
     def run(self, text: str, strict: bool) -> tuple[int | None, str]:
         """Runs a block: its status, None if time ran out, and what it printed."""
@@ -130,6 +136,10 @@ def wait_for(ran: "subprocess.Popen[bytes]", seconds: float) -> bool:
     os.killpg(ran.pid, signal.SIGKILL)
     ran.wait()
     return ended is not None
+
+
+def is_run(fence: Fence) -> bool:
+    return fence.language == "sh" and not NOT_RUN.match(fence.comment)
 
 
 def text_after(page: Page, fence: Fence) -> Fence | None:
@@ -176,21 +186,19 @@ def outcome(copy: Copy, page: Page, fence: Fence, text: Fence | None) -> list[Fa
 def check_page(page: Page, programs: Programs) -> Iterator[Result]:
     with tempfile.TemporaryDirectory(prefix="docs.") as room:
         copy = Copy(Path(room).resolve(), programs, page)
+        if copy.missing:
+            first = next(it for it in page.fences if is_run(it))
+            yield Result(page.path, [Fault(page.path, first.line, it) for it in copy.missing])
         for fence in page.fences:
-            if fence.language == "sh":
-                if NOT_RUN.match(fence.comment):
-                    print(f"{page.path}:{fence.line}: {fence.comment}")
-                else:
-                    yield Result(f"{page.path}:{fence.line}", outcome(copy, page, fence, text_after(page, fence)))
+            if is_run(fence):
+                yield Result(f"{page.path}:{fence.line}", outcome(copy, page, fence, text_after(page, fence)))
+            elif fence.language == "sh":
+                print(f"{page.path}:{fence.line}: {fence.comment}")
 
 
 def check(programs: Programs) -> Iterator[Result]:
     """A result for each command block, and for each page whose blocks are as they should be."""
     for page in all_pages():
         yield Result(page.path, list(misplaced(page)))
-        first = next((it for it in page.fences if it.language == "sh"), None)
-        if first:
-            try:
-                yield from check_page(page, programs)
-            except Missing as why:
-                yield Result(page.path, [Fault(page.path, first.line, str(why))])
+        if any(it.language == "sh" for it in page.fences):
+            yield from check_page(page, programs)

@@ -27,7 +27,7 @@ def told(programs: Programs) -> str | None:
         ran = subprocess.run(words, input="", capture_output=True, text=True, timeout=120, check=False)
     except (OSError, subprocess.TimeoutExpired, Missing):
         return None
-    match = re.fullmatch(rf"hourstable {NUMBER}\n", ran.stdout)
+    match = re.match(rf"hourstable {NUMBER}\b", ran.stdout)
     return match[1] if match and ran.returncode == 0 else None
 
 

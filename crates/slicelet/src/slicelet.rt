@@ -42,8 +42,8 @@ pub const CALLS: u64 = 65_536;
 /// since which call a key has been permitted, and a level is a run of keys with the same stamp.
 /// Levels can grow with accepted calls: a held range whose edges move at each generation leaves a
 /// level for each, up to some 16,000 levels. A `hear` or `release` that may change the permitted
-/// keys walks the ranges and all levels; any other walks the ranges only. `serve`, `hold` and
-/// `continuous` search the ranges and the levels. A new life starts without levels.
+/// keys walks the ranges and all levels; any other walks the ranges only. `serve` and `hold`
+/// search the ranges, and `continuous` the levels too. A new life starts without levels.
 #[derive(Drop)]
 pub struct Slicelet {
     alloc: Global,
