@@ -2,7 +2,8 @@
 
 A block fenced as ```sh is run. If a block fenced as ```text follows it, with nothing but blank lines between, that
 is exactly what it prints on standard output and standard error together. If none follows, it must end with status 0.
-A line `<!-- not run: REASON -->` directly above leaves a block out, with the text that follows it.
+A line `<!-- not run: REASON -->` directly above leaves a block out, with the text that follows it. A block fenced as
+```python is not run, but must be Python. An indented block that begins like a command fails.
 
 The blocks of a page are run in order, in a copy of this checkout that is made for the page, as if they were typed
 into one bash at the top of the repository: variables and the current directory last from block to block. Each has
@@ -151,11 +152,16 @@ def text_after(page: Page, fence: Fence) -> Fence | None:
 
 
 def misplaced(page: Page) -> Iterator[Fault]:
-    """Blocks that look like commands or their output, and would not be run."""
+    """Blocks that look like commands or their output and would not be run, and Python that cannot be read."""
     after = {it.line for fence in page.fences if fence.language == "sh" and (it := text_after(page, fence))}
     for fence in page.fences:
         if fence.language in OTHER_NAMES:
             yield Fault(page.path, fence.line, f"fence commands as ```sh, not as ```{fence.language}")
+        if fence.language == "python":
+            try:
+                compile(fence.text, page.path, "exec")
+            except SyntaxError as fault:
+                yield Fault(page.path, fence.line + (fault.lineno or 0), fault.msg)
         if fence.language == "text" and fence.line not in after:
             why = "a ```text block stands directly after a ```sh block; fence other texts as ``` alone"
             yield Fault(page.path, fence.line, why)

@@ -1,6 +1,6 @@
 //! Plays the scripts of `data/`, and compares what each gives with the files beside it: NAME.json
 //! is the script, NAME.stdout the text that is written, NAME.stderr what is said of a fault, and
-//! NAME.status the exit status. `examples/scripts` links to the ten that are to be read first.
+//! NAME.status the exit status. `examples/scripts` has copies of the ten that are to be read first.
 #![tactic(auto)]
 
 use anyhow::Result;
