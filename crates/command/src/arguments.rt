@@ -7,7 +7,7 @@ use clap::{Arg, ArgAction, ArgMatches, Command, Error};
 use session::ReplyForm;
 use std::alloc::{AllocError, Global};
 
-/// The version, and the line of the kit that it was proved with.
+/// The version, and the toolchain with which it was proved.
 const VERSION: &str = "1.0.0 (proved with rattle-kit-13b logic dac8208d650f15bf)";
 
 const STATUSES: &str = "Exit statuses:
@@ -16,7 +16,7 @@ const STATUSES: &str = "Exit statuses:
   2  the arguments or the input are refused, or a file cannot be opened
   3  a read fault, a write fault, or out of memory";
 
-/// Where input comes from.
+/// Where the input comes from.
 #[derive(Clone, Copy, Debug, PartialEq, Eq)]
 pub enum Source<'a> {
     /// The standard input.
@@ -25,41 +25,45 @@ pub enum Source<'a> {
     File(&'a str),
 }
 
-/// What is written of a script.
+/// What is written about a script.
 #[derive(Clone, Copy, Debug, PartialEq, Eq)]
 pub enum ScriptText<'a> {
-    /// A line for each of its steps, and a last line.
+    /// A reply line for each step, and a last line.
     Lines,
-    /// The same, each line of a step after its element's number and its step.
+    /// The same, with each reply line after the number of its element and the name of its step.
     Numbered,
-    /// The same, each line followed by why it is what it is.
+    /// The same, with each line followed by its reason.
     Explained,
-    /// A picture, with the stretches coloured in which each task may serve a key, and with clerks.
+    /// A picture, optionally with the stretches in which each task may serve a key, and with
+    /// clerks.
     Picture { key: Option<&'a str>, clerks: bool },
 }
 
 /// What the command does with its input.
 #[derive(Clone, Copy, Debug, PartialEq, Eq)]
 pub enum Subcommand<'a> {
-    /// Play a script, and write this of it.
+    /// Play a script, and write this about it.
     Play { text: ScriptText<'a> },
     /// Answer each line with a line, in this form.
     Session { form: ReplyForm },
 }
 
-/// Something to do with one input.
+/// One input, and what to do with it.
 #[derive(Clone, Copy, Debug, PartialEq, Eq)]
 pub struct Request<'a> {
+    /// What to do.
     pub subcommand: Subcommand<'a>,
+    /// Where the input comes from.
     pub source: Source<'a>,
 }
 
-/// What the words of a command line ask for.
+/// What a command line asks for.
 #[derive(Debug, Drop)]
 pub enum Asked<'a> {
     /// Answer one input.
     Answer(Request<'a>),
-    /// Audit the logs of these names, of which `-` is the standard input, and count their lines where that is wanted.
+    /// Audit the logs with these names, where `-` is standard input, and report progress if asked
+    /// to.
     Audit { names: Vec<&'a str>, progress: bool },
 }
 
@@ -129,7 +133,7 @@ fn audit_command<'a>(alloc: Global) -> Result<Command<'a>, AllocError> {
         .arg(logs)
 }
 
-// The command with its subcommands.
+// Returns the command with its subcommands.
 fn hourstable_command<'a>(alloc: Global) -> Result<Command<'a>, AllocError> {
     Command::new(alloc, "hourstable")
         .version(VERSION)
@@ -150,7 +154,7 @@ fn source_of<'a>(matches: &ArgMatches<'a>) -> Source<'a> {
     }
 }
 
-// A script is to be played, and this to be written of it.
+// Returns a request to play a script and write `text` about it.
 fn play_request<'a>(matches: &ArgMatches<'a>, text: ScriptText<'a>) -> Asked<'a> {
     Asked::Answer(Request {
         subcommand: Subcommand::Play { text },
@@ -184,7 +188,7 @@ fn session_request<'a>(matches: &ArgMatches<'a>) -> Asked<'a> {
     })
 }
 
-// All logs that were given are to be audited, in their order.
+// Returns a request to audit all logs that were given, in their order.
 fn audited<'a>(alloc: Global, matches: &ArgMatches<'a>) -> Result<Asked<'a>, AllocError>
     ensures { IfOk result (AsksAudit (logs_given matches.now)) }
 {
@@ -194,8 +198,10 @@ fn audited<'a>(alloc: Global, matches: &ArgMatches<'a>) -> Result<Asked<'a>, All
     Ok(Asked::Audit { names, progress })
 }
 
-/// What the words of a command line ask for, the name of the program first; or the text for help, for the
-/// version, or for words that ask for nothing that the command does.
+/// Parses a command line, whose first word is the name of the program.
+///
+/// The error has the text for `--help`, for `--version`, or for words that ask for nothing the
+/// command does.
 pub fn parse_words<'a>(alloc: Global, words: &'a [String]) -> Result<Asked<'a>, Error> {
     let matches = hourstable_command(alloc)?.try_get_matches_from(words)?;
     match matches.subcommand() {

@@ -1,4 +1,4 @@
-//! The sentence that says a reason.
+//! Reasons as sentences.
 
 use crate::reason::{Break, Reason, TaskLease, VerdictReason};
 use assignment::TaskId;
@@ -9,7 +9,7 @@ use std::fmt;
 use wire::kind_word;
 use world::{Reply, Step};
 
-/// Tasks, joined by commas.
+/// Displays tasks, joined by commas.
 #[derive(Clone, Copy)]
 struct Tasks<'a>(&'a [TaskId]);
 
@@ -26,7 +26,7 @@ impl fmt::Display for Tasks<'_> {
     }
 }
 
-/// A lease, and where it was heard.
+/// Displays a lease, and the step in which it was heard.
 #[derive(Clone, Copy)]
 struct Named {
     lease: TaskLease,
@@ -44,7 +44,7 @@ impl fmt::Display for Named {
     }
 }
 
-/// What a verdict was told of.
+/// A verdict: who gave it, when, and why.
 #[derive(Clone, Copy)]
 struct Decided<'a> {
     task: u64,
@@ -53,7 +53,7 @@ struct Decided<'a> {
     reason: &'a VerdictReason,
 }
 
-// The words for the lease that decides a verdict.
+// Returns the words for the lease that decides a verdict.
 fn lease_words(alloc: Global, verdict: Verdict, named: Named) -> Result<String, AllocError> {
     let ends = named.lease.ends;
     match verdict {
@@ -67,7 +67,7 @@ fn lease_words(alloc: Global, verdict: Verdict, named: Named) -> Result<String, 
     }
 }
 
-// The words for a verdict that no lease decides.
+// Returns the words for a verdict that no lease decides.
 fn ground_words(alloc: Global, decided: Decided<'_>) -> Result<String, AllocError> {
     let task = decided.task;
     match decided.verdict {
@@ -79,12 +79,12 @@ fn ground_words(alloc: Global, decided: Decided<'_>) -> Result<String, AllocErro
     }
 }
 
-// The words for a reading that is below the last one of a task.
+// Returns the words for a reading that is below the last one of a task.
 fn reading_words(alloc: Global, at: u64, last: u64, task: u64) -> Result<String, AllocError> {
     format!(in alloc; "{at} is below {last}, the last reading that task {task} accepted")
 }
 
-// The words for a verdict.
+// Returns the words for a verdict.
 fn verdict_words(alloc: Global, decided: Decided<'_>) -> Result<String, AllocError> {
     let reason = decided.reason;
     let why = match reason.lease {
@@ -99,7 +99,7 @@ fn verdict_words(alloc: Global, decided: Decided<'_>) -> Result<String, AllocErr
     format!(in alloc; "{why}; owned in generation {generation} by {owners}")
 }
 
-// The words for a row that holds a commit up.
+// Returns the words for a row that holds up a commit.
 fn row_words(alloc: Global, row: Row) -> Result<String, AllocError> {
     let kind = kind_word(row.kind);
     let held = format!(in alloc;
@@ -112,7 +112,7 @@ fn row_words(alloc: Global, row: Row) -> Result<String, AllocError> {
     )
 }
 
-// The words for a grant that is old.
+// Returns the words for a grant that is old.
 fn old_grant_words(
     alloc: Global,
     step: &Step,
@@ -129,7 +129,7 @@ fn old_grant_words(
     }
 }
 
-// The words for a life or a generation that is old.
+// Returns the words for a life or a generation that is old.
 fn old_words(alloc: Global, step: &Step, kept: u64) -> Result<String, AllocError> {
     match step {
         Step::Start { task, life, .. } => {
@@ -142,7 +142,7 @@ fn old_words(alloc: Global, step: &Step, kept: u64) -> Result<String, AllocError
     }
 }
 
-// The words for what was not sent.
+// Returns the words for something that was not sent.
 fn unsent_words(alloc: Global, step: &Step, made: u64) -> Result<String, AllocError> {
     let (what, number) = match step {
         Step::Hear { number, .. } => ("grant", *number),
@@ -158,7 +158,7 @@ fn unsent_words(alloc: Global, step: &Step, made: u64) -> Result<String, AllocEr
     }
 }
 
-// The task and the reading of a step of a task.
+// Returns the task and the reading of a step of a task.
 fn reading_of(step: &Step) -> (u64, u64) {
     match step {
         Step::Start { task, at, .. }
@@ -177,7 +177,7 @@ fn reading_of(step: &Step) -> (u64, u64) {
     }
 }
 
-// The words for why a handle is broken.
+// Returns the words for why a handle is broken.
 fn break_words(alloc: Global, step: &Step, why: &Break) -> Result<String, AllocError> {
     let (task, at) = reading_of(step);
     match why {
@@ -208,7 +208,7 @@ fn break_words(alloc: Global, step: &Step, why: &Break) -> Result<String, AllocE
     }
 }
 
-// The verdict of a reply.
+// Returns the verdict of a reply.
 fn verdict_in(reply: &Reply) -> Verdict {
     match reply {
         Reply::Verdict(verdict) => *verdict,
@@ -216,7 +216,7 @@ fn verdict_in(reply: &Reply) -> Verdict {
     }
 }
 
-/// The sentence that says why a step has its reply.
+/// Returns the sentence that says why a step has its reply.
 pub fn sentence_of(
     alloc: Global,
     step: &Step,
