@@ -69,9 +69,9 @@ impl Delivered {
 impl fmt::Display for Delivered {
     fn fmt<W: fmt::Write>(&self, f: &mut fmt::Formatter<W>) -> fmt::Result {
         f.write_str(match self {
-            Delivered::Words => "a text",
+            Delivered::Words => "a string",
             Delivered::Grant => {
-                "a grant {\"number\", \"task\", \"life\", \"kind\", \"generation\", \"ends\", \"until\"}, with \"ranges\" or without,"
+                "a grant {\"number\", \"task\", \"life\", \"kind\", \"generation\", \"ends\", \"until\"}, with or without \"ranges\""
             }
             Delivered::Note => "a release note {\"task\", \"life\", \"kind\", \"number\"}",
             Delivered::Handle => "a key handle {\"task\", \"life\", \"slice_key\", \"position\"}",
@@ -115,8 +115,11 @@ fn member_mend(
         if delivered.is_met(alloc, value)? {
             return Ok(None);
         }
+        if value.is_object() {
+            return Ok(Some(format!(in alloc; "\"{name}\" must be {delivered}")?));
+        }
         let found = Found(value);
-        return Ok(Some(format!(in alloc; "\"{name}\" is {found}; {delivered} is wanted")?));
+        return Ok(Some(format!(in alloc; "\"{name}\" is {found}; it must be {delivered}")?));
     }
     let wanted = wanted_of(call, name);
     if wanted.is_met(alloc, value)? {
@@ -154,13 +157,13 @@ fn members_mend(alloc: Global, members: Members, line: &Value) -> Result<String,
 /// Returns how to fix a value that is not a call.
 pub fn call_mend(alloc: Global, line: &Value) -> Result<String, AllocError> {
     if !line.is_object() {
-        return format!(in alloc; "{}; a call is an object", Found(line));
+        return format!(in alloc; "found {}; a call must be an object", Found(line));
     }
     let Some(word) = line.get("do") else {
         return String::from_str(alloc, "\"do\" is missing; it names the call");
     };
     let Some(name) = word.as_str() else {
-        return format!(in alloc; "\"do\" is {}; the name of a call is wanted", Found(word));
+        return format!(in alloc; "\"do\" is {}; it must be the name of a call", Found(word));
     };
     for (kind, names) in CALLS {
         if *kind == name {

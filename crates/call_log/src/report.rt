@@ -164,7 +164,7 @@ fn double_text(
     let ticket = ticket_at(log.entries, first);
     let earlier = Standing { log, index: first };
     let later = Standing { log, index: second };
-    format!(in alloc; "{later}: ticket {ticket} stands at {earlier} too\n")
+    format!(in alloc; "{later}: ticket {ticket} is also at {earlier}\n")
 }
 
 // Returns the line for a call at this position, whose caller got `told` in place of the right

@@ -237,7 +237,7 @@ pub fn say_error<E: Write>(errors: &mut E, names: &[&str], error: &AuditError) {
         AuditError::Refused(LogError::Empty | LogError::Memory) => {
             let _ = writeln!(
                 errors,
-                "hourstable: the logs have no line; the first says a job"
+                "hourstable: the logs are empty; the first line must be the job line"
             );
         }
         AuditError::Write => {

@@ -78,21 +78,21 @@ fn bad_steps_of(alloc: Global, job: Job, elements: &[Value]) -> Result<Vec<Scrip
 fn head_mend(alloc: Global, value: &Value) -> Result<String, AllocError> {
     let Some(elements) = value.as_array() else {
         return format!(in alloc;
-            "{}; a script is an array of a job line and steps",
+            "found {}; a script must be an array of a job line and steps",
             Found(value)
         );
     };
     let [line, steps @ ..] = elements.as_slice() else {
         return String::from_str(
             alloc,
-            "the array is empty; its first element is the job line",
+            "the array is empty; its first element must be the job line",
         );
     };
     match job_member(line) {
         Err(_) => job_line_mend(alloc, line),
         Ok(job) => match service::job_of(job) {
             Err(_) => job_mend(alloc, job),
-            Ok(_job) => format!(in alloc; "{}; a script has at most 4096", steps.len()),
+            Ok(_job) => format!(in alloc; "{} steps; a script may have at most 4096", steps.len()),
         },
     }
 }

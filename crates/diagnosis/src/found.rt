@@ -14,7 +14,7 @@ impl fmt::Display for Found<'_> {
             Value::Bool(true) => f.write_str("true"),
             Value::Bool(false) => f.write_str("false"),
             Value::Number(number) => write!(f, "{number}"),
-            Value::String(_) => f.write_str("a text"),
+            Value::String(_) => f.write_str("a string"),
             Value::Array(_) => f.write_str("an array"),
             Value::Object(_) => f.write_str("an object"),
         }

@@ -28,9 +28,9 @@ const NAMES: &[&str] = &[
 
 /// Returns how to fix a value that is not a job line, which is an object with the one member `job`.
 pub fn job_line_mend(alloc: Global, line: &Value) -> Result<String, AllocError> {
-    let wanted = "the job line is an object with the one member \"job\"";
+    let wanted = "the job line must be an object with one member, \"job\"";
     let Some(object) = line.as_object() else {
-        return format!(in alloc; "{}; {wanted}", Found(line));
+        return format!(in alloc; "found {}; {wanted}", Found(line));
     };
     match unknown_member(object, LINE, "job") {
         Some(unknown) => format!(in alloc; "unknown member {unknown:?}; {wanted}"),
@@ -71,16 +71,18 @@ fn values_mend(alloc: Global, job: &Value) -> Result<String, AllocError> {
     for name in ["guard", "bridge"] {
         let term = number_of(job, name).unwrap_or(0);
         if term <= skew {
-            return format!(in alloc; "\"skew\" {skew} is not below \"{name}\" {term}");
+            return format!(in alloc;
+                "\"skew\" is {skew}; it must be below \"{name}\", which is {term}"
+            );
         }
     }
-    String::from_str(alloc, "a member is not within its limits")
+    String::from_str(alloc, "a member is outside its limits")
 }
 
 /// Returns how to fix a value that is not a job.
 pub fn job_mend(alloc: Global, job: &Value) -> Result<String, AllocError> {
     let Some(object) = job.as_object() else {
-        return format!(in alloc; "{}; a job is an object", Found(job));
+        return format!(in alloc; "found {}; a job must be an object", Found(job));
     };
     let members = Members {
         kind: "job",

@@ -81,13 +81,13 @@ fn members_mend(
 /// Returns how to fix a value that is not a step of this job.
 pub fn step_mend(alloc: Global, job: Job, value: &Value) -> Result<String, AllocError> {
     if !value.is_object() {
-        return format!(in alloc; "{}; a step is an object", Found(value));
+        return format!(in alloc; "found {}; a step must be an object", Found(value));
     }
     let Some(word) = value.get("do") else {
         return String::from_str(alloc, "\"do\" is missing; it names the step");
     };
     let Some(name) = word.as_str() else {
-        return format!(in alloc; "\"do\" is {}; the name of a step is wanted", Found(word));
+        return format!(in alloc; "\"do\" is {}; it must be the name of a step", Found(word));
     };
     match members_of(name) {
         Some(members) => members_mend(alloc, job, members, value),

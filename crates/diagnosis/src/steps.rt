@@ -25,15 +25,10 @@ impl Members {
 
 impl fmt::Display for Members {
     fn fmt<W: fmt::Write>(&self, f: &mut fmt::Formatter<W>) -> fmt::Result {
-        let article = match self.kind {
-            "assign" | "owners" => "an",
-            _ => "a",
-        };
-        write!(f, "{article} {} has ", self.kind)?;
         let [first, others @ ..] = self.names else {
-            return f.write_str("no other member");
+            return f.write_str("the only member is \"do\"");
         };
-        f.write_str(first)?;
+        write!(f, "the members are {first}")?;
         for member in others {
             write!(f, ", {member}")?;
         }

@@ -167,17 +167,17 @@ impl fmt::Display for Wanted {
             Wanted::Between(0, 4_294_967_295) => f.write_str("a whole number below 4294967296"),
             Wanted::Between(low, high) => write!(f, "a whole number from {low} to {high}"),
             Wanted::Actor(_, most) => write!(f, "a whole number from 1 to {most}"),
-            Wanted::Key => write!(f, "a text of at most {MOST_KEY_BYTES} bytes"),
+            Wanted::Key => write!(f, "a string of at most {MOST_KEY_BYTES} bytes"),
             Wanted::Flag => f.write_str("true or false"),
             Wanted::Kind => f.write_str("\"guard\" or \"bridge\""),
             Wanted::Slices => f.write_str("an array of slices [start, [owner, ..]]"),
             Wanted::Leases => f.write_str(
-                "an array of leases {\"kind\", \"generation\", \"ranges\", \"ends\"}, at most one of each kind,",
+                "an array of leases {\"kind\", \"generation\", \"ranges\", \"ends\"}, at most one of each kind",
             ),
             Wanted::Tasks => f.write_str("an array of rising numbers from 1 to 64"),
             Wanted::Loads => f.write_str("an array of whole numbers"),
             Wanted::Redundancy => {
-                f.write_str("a number from 1 to 5 or a pair [low, high] of them")
+                f.write_str("a whole number from 1 to 5 or a pair [low, high] of them")
             }
         }
     }
@@ -203,13 +203,13 @@ impl fmt::Display for WrongMember<'_> {
         } = *self;
         match (wanted, value.as_u64()) {
             (Wanted::Actor(actors, most), Some(number)) => {
-                write!(f, "{name} {number}: the job has {actors} 1 to {most}")
+                write!(
+                    f,
+                    "\"{name}\" is {number}; the job has {actors} 1 to {most}"
+                )
             }
-            (Wanted::Key, _) if value.is_string() => {
-                write!(f, "\"{name}\" is a longer text; {wanted} is wanted")
-            }
-            (Wanted::Kind, _) if value.is_string() => {
-                write!(f, "\"{name}\" is another text; {wanted} is wanted")
+            (Wanted::Key | Wanted::Kind, _) if value.is_string() => {
+                write!(f, "\"{name}\" must be {wanted}")
             }
             (
                 Wanted::Slices
@@ -218,10 +218,8 @@ impl fmt::Display for WrongMember<'_> {
                 | Wanted::Loads
                 | Wanted::Redundancy,
                 _,
-            ) if value.is_array() => {
-                write!(f, "\"{name}\" is another array; {wanted} is wanted")
-            }
-            _ => write!(f, "\"{name}\" is {}; {wanted} is wanted", Found(value)),
+            ) if value.is_array() => { write!(f, "\"{name}\" must be {wanted}") }
+            _ => write!(f, "\"{name}\" is {}; it must be {wanted}", Found(value)),
         }
     }
 }

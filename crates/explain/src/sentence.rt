@@ -16,7 +16,7 @@ struct Tasks<'a>(&'a [TaskId]);
 impl fmt::Display for Tasks<'_> {
     fn fmt<W: fmt::Write>(&self, f: &mut fmt::Formatter<W>) -> fmt::Result {
         let [first, others @ ..] = self.0 else {
-            return f.write_str("nobody");
+            return f.write_str("none");
         };
         write!(f, "{first}")?;
         for task in others {
@@ -96,18 +96,18 @@ fn verdict_words(alloc: Global, decided: Decided<'_>) -> Result<String, AllocErr
     };
     let generation = reason.generation;
     let owners = Tasks(reason.owners.as_slice());
-    format!(in alloc; "{why}; owned in generation {generation} by {owners}")
+    format!(in alloc; "{why}; owners in generation {generation}: {owners}")
 }
 
 // Returns the words for a row that holds up a commit.
 fn row_words(alloc: Global, row: Row) -> Result<String, AllocError> {
     let kind = kind_word(row.kind);
     let held = format!(in alloc;
-        "the {kind} lease of grant {} is task {}'s",
-        row.number, row.task
+        "task {} may hold the {kind} lease of grant {}",
+        row.task, row.number
     )?;
     format!(in alloc;
-        "{held}, of life {} and generation {}, and ends at {} at the latest",
+        "{held}, of life {} and generation {}, until {}",
         row.life, row.generation, row.table_ends
     )
 }
@@ -133,7 +133,9 @@ fn old_grant_words(
 fn old_words(alloc: Global, step: &Step, kept: u64) -> Result<String, AllocError> {
     match step {
         Step::Start { task, life, .. } => {
-            format!(in alloc; "life {life} is not above life {kept}, which task {task} is in")
+            format!(in alloc;
+                "life {life} is not above life {kept}, the current life of task {task}"
+            )
         }
         Step::Learn { clerk, generation } => format!(in alloc;
             "generation {generation} is not above generation {kept}, which clerk {clerk} keeps"
@@ -152,9 +154,9 @@ fn unsent_words(alloc: Global, step: &Step, made: u64) -> Result<String, AllocEr
         _ => ("message", 0),
     };
     if made == 0 {
-        format!(in alloc; "there is no {what} {number}: there is none so far")
+        format!(in alloc; "there is no {what} {number}; there is none yet")
     } else {
-        format!(in alloc; "there is no {what} {number}: the last one is {made}")
+        format!(in alloc; "there is no {what} {number}; the last one is {made}")
     }
 }
 
@@ -182,7 +184,7 @@ fn break_words(alloc: Global, step: &Step, why: &Break) -> Result<String, AllocE
     let (task, at) = reading_of(step);
     match why {
         Break::OtherLife(life) => {
-            format!(in alloc; "task {task} is in life {life}, and the handle is of another one")
+            format!(in alloc; "task {task} is in life {life}, and the handle is from another life")
         }
         Break::Denied { denial, reason } => {
             let verdict = Verdict::Deny(*denial);
@@ -199,11 +201,9 @@ fn break_words(alloc: Global, step: &Step, why: &Break) -> Result<String, AllocE
         Break::Between {
             step: Some(place),
             ..
-        } => format!(in alloc;
-            "step {place} found the key denied, just before it or just after it"
-        ),
+        } => format!(in alloc; "the key was denied just before or just after step {place}"),
         Break::Between { step: None, .. } => {
-            String::from_str(alloc, "the key was not held all the time")
+            String::from_str(alloc, "the task did not hold the key all the time")
         }
     }
 }

@@ -74,14 +74,14 @@ fn all_lines(alloc: Global, steps: &[Step], told: &[Explanation]) -> Result<Stri
 // Returns the sentence for two steps that are not timely.
 fn untimely_words(alloc: Global, two: Untimely, skew: u64) -> Result<String, AllocError> {
     let early = format!(in alloc;
-        "step {} reads {} at the table",
+        "step {} read {} on the table's clock",
         two.table_step, two.table_reading
     )?;
     let late = format!(in alloc;
-        "step {} reads {} at a task",
+        "step {} read {} on a task's clock",
         two.task_step, two.task_reading
     )?;
-    format!(in alloc; "{early}, and {late}: more than the skew {skew} below")
+    format!(in alloc; "{early}; later {late}, more than the skew {skew} below")
 }
 
 // Returns the last line, with the two steps that are not timely if there are such steps.
