@@ -1,4 +1,4 @@
-//! What a call answers.
+//! The results of calls.
 
 ghost use Rattle.std.specs.Prelude.{◌≡◌};
 ghost use Rattle.c_numbers.specs.Numbers.{answer_number};
@@ -13,47 +13,47 @@ use slicelet::SliceletError;
 use weighted_move::PlanError;
 use wire::Refusal;
 
-/// What a call of the library answers.
+/// The result of a call of the C library.
 #[derive(Clone, Copy, Debug, PartialEq, Eq)]
 pub enum Answer {
-    /// The call is done.
+    /// The call succeeded.
     Done,
-    /// A key may be served under this lease, or is denied.
+    /// The key may be served under a lease, or is denied.
     Judged(Verdict),
-    /// A slicelet refuses the call.
+    /// The slicelet refused the call.
     Slicelet(SliceletError),
-    /// A key handle is not continuous.
+    /// The key handle is not continuous.
     Broken,
-    /// The slicelet cannot have given the key handle.
+    /// The slicelet cannot have made the key handle.
     Stranger,
-    /// This generation is committed.
+    /// The assignment of this generation was committed.
     Committed(u64),
-    /// A table refuses the call.
+    /// The table refused the call.
     Table(TableError),
-    /// The assignment is not newer than the one of this generation, which the clerk keeps.
+    /// The assignment is not newer than the one that the clerk keeps, which has this generation.
     OldGeneration(u64),
     /// The clerk keeps no assignment.
     Unknown,
-    /// The term is another assigner's, or not above the one that is kept.
+    /// The term is another assigner's, or is not above the kept term.
     NotAdopted,
-    /// There is no plan.
+    /// The planner refused the call.
     Plan(PlanError),
-    /// There is no memory.
+    /// Out of memory.
     NoMemory,
-    /// There is no room for the text.
+    /// The buffer is too short.
     NoRoom,
-    /// The bytes are no message of the type.
+    /// The bytes are not a message of the expected type.
     Unread(Refusal),
-    /// A number that was passed is not within its limits.
+    /// A number that was passed is outside its limits.
     WrongForm,
-    /// Nothing of the kind stands in the place.
+    /// The place holds nothing of the kind that the call is for.
     OtherPlace,
-    /// The line says no job.
+    /// The line is not a job.
     NoJob,
 }
 
 impl Answer {
-    /// The number that C gets.
+    /// Returns the code of the answer, as C gets it.
     pub fn number(&self) -> i32
         ensures { result ≡ answer_number self.now }
     {
@@ -83,7 +83,9 @@ impl Answer {
         }
     }
 
-    /// Writes the numbers that the answer carries, and gives its own.
+    /// Writes the details of the answer to `told`, and returns its code.
+    ///
+    /// Fields that the answer does not set are unchanged.
     pub fn tell(&self, told: &mut Told) -> i32
         ensures number { result ≡ answer_number self.now }
         ensures told { told.new ≡ answer_told self.now told.old }

@@ -1,7 +1,7 @@
-//! What calls return to C: numbers, and the text of a buffer.
+//! What calls return to C: codes, and texts in buffers.
 //!
-//! An answer is a value of the product's own types. It has one number, of `include/hourstable.h`, and it tells the
-//! numbers that it carries.
+//! An [`Answer`] is an enum over the library's own types. Each answer has one code, listed in
+//! `include/hourstable.h`, and sets some fields of [`Told`].
 #![tactic(auto)]
 
 mod answer;

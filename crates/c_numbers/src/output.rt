@@ -1,12 +1,12 @@
-//! A list in the caller's buffer.
+//! Lists in the caller's buffer.
 
 ghost use Rattle.c_numbers.specs.Outputs.{IsListGiven};
 
 use crate::answer::Answer;
 
-/// Copies a list to the front of a buffer, where there is room for all of it, and says how long it is.
+/// Writes the length of a list to `needed`, and copies the list to the front of `out` if it fits.
 ///
-/// `NoRoom` where there is none; the buffer is then what it was.
+/// Returns `NoRoom` if it does not fit; `out` is then unchanged.
 pub fn give<T: Copy>(list: &[T], out: &mut [T], needed: &mut usize) -> Answer
     ensures { IsListGiven list.now out.old out.new needed.new result }
 {

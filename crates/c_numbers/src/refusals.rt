@@ -1,4 +1,4 @@
-//! The numbers of the machines' refusals.
+//! Codes for refusals.
 
 ghost use Rattle.std.specs.Prelude.{◌≡◌};
 ghost use Rattle.c_numbers.specs.Numbers.{ground_number, plan_number, slicelet_number, table_number};
@@ -8,7 +8,7 @@ use policy_rules::Ground;
 use slicelet::SliceletError;
 use weighted_move::PlanError;
 
-/// The number of a ground on which a key is denied.
+/// Returns the code for the ground on which a key is denied.
 pub fn ground_number(ground: Ground) -> i32
     ensures { result ≡ ground_number ground }
 {
@@ -21,7 +21,7 @@ pub fn ground_number(ground: Ground) -> i32
     }
 }
 
-/// The number of a refusal of a slicelet.
+/// Returns the code for a slicelet's refusal.
 pub fn slicelet_number(error: SliceletError) -> i32
     ensures { result ≡ slicelet_number error }
 {
@@ -38,7 +38,7 @@ pub fn slicelet_number(error: SliceletError) -> i32
     }
 }
 
-/// The number of a refusal of a table.
+/// Returns the code for a table's refusal.
 pub fn table_number(error: TableError) -> i32
     ensures { result ≡ table_number error }
 {
@@ -63,7 +63,7 @@ pub fn table_number(error: TableError) -> i32
     }
 }
 
-/// The number of why there is no plan.
+/// Returns the code for the planner's refusal.
 pub fn plan_number(error: PlanError) -> i32
     ensures { result ≡ plan_number error }
 {

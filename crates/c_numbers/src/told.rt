@@ -1,19 +1,21 @@
-//! The numbers that an answer carries.
+//! The details of an answer.
 
 ghost use Rattle.std.specs.Prelude.{◌≡◌};
 ghost use Rattle.c_numbers.specs.Told.{kind_number};
 
 use policy_rules::Kind;
 
-/// The numbers that an answer carries. An answer leaves those that it does not carry.
+/// The details of an answer.
+///
+/// Fields that an answer does not set are unchanged.
 #[repr(C)]
 #[derive(Clone, Copy, Debug, PartialEq, Eq)]
 pub struct Told {
-    /// The number of a grant or of a term, or the version of a message.
+    /// The number of a grant or a term, or the version of a message.
     pub number: u64,
-    /// The generation of a lease or of an assignment.
+    /// The generation of a lease or an assignment.
     pub generation: u64,
-    /// The kind of a lease: 1 for a guard, 2 for a bridge.
+    /// The kind of a lease: 1 for guard, 2 for bridge.
     pub kind: u64,
     /// The task, 1 to 64.
     pub task: u64,
@@ -21,7 +23,7 @@ pub struct Told {
     pub until: u64,
 }
 
-/// The number of a kind of lease.
+/// Returns the number that C uses for a kind of lease: 1 for guard, 2 for bridge.
 pub fn kind_number(kind: Kind) -> u64
     ensures { result ≡ kind_number kind }
 {

@@ -1,4 +1,4 @@
-//! The numbers of why bytes are no message.
+//! Codes for bytes that are not a message.
 
 ghost use Rattle.std.specs.Prelude.{◌≡◌};
 ghost use Rattle.c_numbers.specs.Numbers.{ranges_number, slices_number, unread_number};
@@ -9,7 +9,7 @@ use assignment::AssignmentError;
 use slice_ranges::RangesError;
 use wire::{DecodeError, Refusal};
 
-/// The number of why bytes are no message of a type.
+/// Returns the code for why bytes are not a message of the expected type.
 pub fn unread_number(refusal: Refusal) -> i32
     ensures { result ≡ unread_number refusal }
 {
@@ -49,7 +49,7 @@ fn slices_number(error: AssignmentError) -> i32
     }
 }
 
-/// The answer where bytes are not decoded.
+/// Returns the answer for bytes that were not decoded.
 pub fn unread_answer(error: DecodeError) -> Answer
     ensures { result ≡ unread_answer error }
 {

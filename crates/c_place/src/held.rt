@@ -1,4 +1,4 @@
-//! What stands in a place.
+//! What a place holds.
 
 ghost use Rattle.std.specs.Prelude.{◌≡◌};
 
@@ -8,7 +8,7 @@ use clerk::Clerk;
 use lease_table::LeaseTable;
 use slicelet::Slicelet;
 
-/// What stands in a place.
+/// What a place holds.
 #[derive(Drop)]
 pub enum Held {
     /// Nothing.
@@ -26,7 +26,7 @@ pub enum Held {
 }
 
 impl Held {
-    /// Ends what stands there, and puts another value in its place.
+    /// Destroys what is held, and holds `value` instead.
     pub fn put(&mut self, value: Held)
         ensures { self.new ≡ value }
     {

@@ -1,6 +1,7 @@
 //! Values that a caller in C keeps by their addresses.
 //!
-//! A place is an address, with the right to the value there. It lends the value, and it gives it up as a box.
+//! A [`Place`] is the address of a value, with the right to use it. It lends the value, and gives
+//! it back as a box.
 #![tactic(auto)]
 
 mod held;

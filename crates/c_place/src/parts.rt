@@ -1,4 +1,4 @@
-//! A box with its fields in sight of the places.
+//! A box whose fields the places can see.
 
 ghost use Rattle.std.specs.Prelude.{◌≡◌};
 ghost use Rattle.std.specs.Box.Ownership.{box_owns};
@@ -6,7 +6,7 @@ ghost use Rattle.std.specs.Box.Ownership.{box_owns};
 use std::alloc::Allocator;
 use std::marker::Model;
 
-/// The address of a value in a block of its own, and what frees the block.
+/// The address of a value in its own block, and the allocator that frees the block.
 pub struct Parts<T, A: Allocator> {
     pub(crate) ptr: *mut T,
     pub(crate) alloc: A,
@@ -18,7 +18,7 @@ impl<T, A: Allocator> Model for Parts<T, A> {
 }
 
 impl<T, A: Allocator> Parts<T, A> {
-    /// The parts of a box.
+    /// Takes a box apart.
     pub fn of(b: Box<T, A>) -> Parts<T, A>
     where
         T: Drop,
@@ -28,7 +28,7 @@ impl<T, A: Allocator> Parts<T, A> {
         Parts { ptr, alloc }
     }
 
-    /// The box of the value.
+    /// Puts the box together again.
     pub fn into_box(self) -> Box<T, A>
         ensures { result.value ≡ self.value }
     {

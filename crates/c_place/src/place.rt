@@ -1,4 +1,4 @@
-//! A value in a block of its own.
+//! A value in its own block.
 
 ghost use Rattle.std.specs.Prelude.{◌≡◌};
 ghost use Rattle.std.specs.Borrow.{sem};
@@ -22,20 +22,21 @@ impl Model for Place {
     ghost also_owns = { λ h. stands_at h.alloc h.at h.value };
 }
 
-// What stands in a place has no part on another thread, and the allocator frees on any.
+// SAFETY: what a place holds shares nothing with other threads, and its block can be freed on any
+// thread.
 unsafe impl Send for Place {}
 
 impl Place {
     ghost use Rattle.c_place.specs.Lending.{LendsValue};
 
-    /// The place of the value in a box.
+    /// Creates the place of a boxed value.
     pub fn of_box(value: Box<Held>) -> Place
         ensures { result.value ≡ value.value }
     {
         Place::of_parts(Parts::of(value))
     }
 
-    /// The value, which its borrower may change.
+    /// Lends the value, which the borrower may change.
     pub fn lend(&mut self) -> &mut Held
         ensures* writes_back { sem 𝓛 (LendsValue self.entry result) }
         ensures value { result.now ≡ self.old.value }
@@ -43,7 +44,7 @@ impl Place {
         unsafe { &mut *(self.at as *mut Held) }
     }
 
-    /// The value in its box. The address is not to be used any more.
+    /// Returns the value in its box. The address must not be used afterwards.
     pub fn into_box(self) -> Box<Held>
         ensures { result.value ≡ self.value }
     {

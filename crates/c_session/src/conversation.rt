@@ -1,4 +1,4 @@
-//! A session, and the last line that it gave.
+//! A session with its last reply.
 
 ghost use Rattle.std.specs.Prelude.{IfOk, IfErr, string_bytes};
 ghost use Rattle.c_session.specs.Conversations.{IsBegun, IsNotBegun, IsContinued};
@@ -9,7 +9,7 @@ use diagnosis::AnswerError;
 use session::{ReplyForm, Session};
 use std::alloc::Global;
 
-/// A session, and the last line that it gave, which is given again where it did not fit.
+/// A session that keeps its last reply, to give it again if it did not fit.
 #[derive(Drop)]
 pub struct Conversation {
     session: Session,
@@ -17,7 +17,11 @@ pub struct Conversation {
 }
 
 impl Conversation {
-    /// Begins a session of the job that the line says. Refused by `NoJob`; out of memory comes last.
+    /// Opens a session for the job on the line.
+    ///
+    /// # Errors
+    ///
+    /// In this order: `NoJob` if the line is not a job, `NoMemory`.
     pub fn begin(alloc: Global, form: ReplyForm, line: &[u8]) -> Result<Conversation, Answer>
         ensures begun { IfOk result (IsBegun form line.now) }
         ensures refused { IfErr result (IsNotBegun line.now) }
@@ -32,8 +36,10 @@ impl Conversation {
         }
     }
 
-    /// Answers a line, and gives the line of its reply. At `NoRoom` the line was answered all the same, and
-    /// [`last`](Self::last) gives its reply. At `NoMemory` it is not known whether its step was played.
+    /// Answers a line, and writes the line of its reply to `out`.
+    ///
+    /// If `NoRoom` is returned, the line was answered all the same, and [`last`](Self::last) gives
+    /// its reply. If `NoMemory` is returned, it is not known whether the step was played.
     pub fn answer(&mut self, line: &[u8], out: &mut [u8], needed: &mut usize) -> Answer
         ensures { IsContinued line.now self.old self.new (output out.old needed.old) (output out.new needed.new) result }
     {
@@ -44,7 +50,7 @@ impl Conversation {
         self.last(out, needed)
     }
 
-    /// Gives the line of the last reply, nothing before the first.
+    /// Writes the line of the last reply to `out`, nothing before the first.
     pub fn last(&self, out: &mut [u8], needed: &mut usize) -> Answer
         ensures { IsGivenWhole (string_bytes self.now.line) (output out.old needed.old) (output out.new needed.new) result }
     {

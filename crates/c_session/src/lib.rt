@@ -1,4 +1,4 @@
-//! A session for callers that give a buffer for each line.
+//! A session for callers that pass a buffer for each line.
 #![tactic(auto)]
 
 mod conversation;

@@ -1,4 +1,4 @@
-//! The calls of an assigner.
+//! Calls of an assigner.
 
 ghost use Rattle.std.specs.Prelude.{◌≡◌};
 ghost use Rattle.assigner.specs.Terms.{adopted_term};
@@ -21,7 +21,7 @@ fn action_number(action: Action) -> u32
     }
 }
 
-/// Keeps a term that a table gave, where it is the assigner's own and above the one that is kept.
+/// Keeps a term that a table gave, if it is the assigner's own and above the kept term.
 pub fn adopt(assigner: &mut Assigner, term: &TermNumbers) -> Answer
     ensures answer { result ≡ adopt_answer assigner.old (term_of term.now) }
     ensures kept { assigner.new ≡ record assigner.old
@@ -34,7 +34,7 @@ pub fn adopt(assigner: &mut Assigner, term: &TermNumbers) -> Answer
     }
 }
 
-/// Writes what to do next, and the number of the term that is kept, 0 for none.
+/// Writes what to do next to `action`, and the number of the kept term to `number`, 0 for none.
 pub fn next(
     assigner: &Assigner,
     at: u64,

@@ -1,7 +1,7 @@
-//! The calls of a table, of an assigner and of the planner, by numbers and bytes, as C makes them.
+//! The calls of a table, an assigner and the planner as C makes them: with numbers and bytes.
 //!
-//! A call answers what it did. What it gives beside that it writes through references, and where it is not done it
-//! writes no more than the length of a list for which there is no room.
+//! Each call returns an answer, and writes what else it gives through references. A call that fails
+//! writes nothing, except the length of a list that does not fit.
 #![tactic(auto)]
 
 mod assigner_calls;

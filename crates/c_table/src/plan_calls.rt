@@ -1,4 +1,4 @@
-//! The call of the planner.
+//! The planner's call.
 
 ghost use Rattle.std.specs.Prelude.{◌≡◌, IfOk, IfErr, None, OnOk, codes, true};
 ghost use Rattle.std.specs.List.{list_all};
@@ -21,7 +21,7 @@ use std::alloc::Global;
 use weighted_move::{PlanError, PlanPolicy, TaskSet, plan_law};
 use wire::{decode, encode};
 
-// Whether numbers are tasks that rise strictly.
+// Whether numbers are tasks in strictly rising order.
 fn are_tasks(numbers: &[u64]) -> bool
     ensures { result ≡ are_tasks numbers.now }
 {
@@ -40,7 +40,7 @@ fn is_task(number: u64) -> bool
     1 <= number && number <= TASKS
 }
 
-// Whether numbers of tasks rise strictly, from one on.
+// Whether task numbers rise strictly, from `low` on.
 fn rise_from(low: u64, numbers: &[u64]) -> bool
     requires { list_all is_task numbers.now ≡ true }
     ensures { result ≡ rise_from low numbers.now }
@@ -51,7 +51,7 @@ fn rise_from(low: u64, numbers: &[u64]) -> bool
     }
 }
 
-// The set of numbers that are tasks and rise strictly.
+// Returns the set of numbers that are tasks in strictly rising order.
 fn set_of(numbers: &[u64]) -> TaskSet
     requires { are_tasks numbers.now ≡ true }
     ensures { result ≡ numbers.now }
@@ -63,7 +63,7 @@ fn set_of(numbers: &[u64]) -> TaskSet
     TaskSet::rising(tasks.as_slice()).unwrap()
 }
 
-// The assignment of a generation that a plan makes of one.
+// Plans the assignment of a generation, from an assignment.
 fn next_assignment(
     alloc: Global,
     assignment: &Assignment,
@@ -86,7 +86,7 @@ fn next_assignment(
     }
 }
 
-// The message of the next assignment, or why there is none.
+// Returns the message of the next assignment, or why there is none.
 fn next_text(
     alloc: Global,
     assignment: &Assignment,
@@ -115,8 +115,10 @@ fn next_text(
     }
 }
 
-/// Plans the assignment of the next generation among tasks, where each slice of the assignment that the bytes are a
-/// message of has a load, and gives its message.
+/// Plans the assignment of the next generation, and writes its message to `out`.
+///
+/// `assignment` is the message of the assignment to start from, `loads` has a load for each of its
+/// slices, and `tasks` has the tasks in strictly rising order.
 pub fn plan(
     alloc: Global,
     assignment: &[u8],

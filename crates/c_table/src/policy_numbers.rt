@@ -1,4 +1,4 @@
-//! What tables and plans are held to, as numbers.
+//! The policies of tables and plans, as numbers.
 
 ghost use Rattle.std.specs.Prelude.{◌≡◌, IfSome, is_some};
 ghost use Rattle.lease_table.specs.Policies.{is_policy};
@@ -8,28 +8,28 @@ ghost use Rattle.c_table.specs.PolicyNumbers.{terms_of, limits_of};
 use lease_table::Policy;
 use weighted_move::PlanPolicy;
 
-/// What a table is held to.
+/// The policy of a table.
 #[repr(C)]
 #[derive(Clone, Copy, Debug, PartialEq, Eq)]
 pub struct PolicyNumbers {
-    /// How many tasks own a slice at the least.
+    /// The least number of tasks that own a slice.
     pub low: u64,
-    /// And at the most.
+    /// The greatest number of tasks that own a slice.
     pub high: u64,
-    /// How many ticks clocks may be apart.
+    /// How far clocks may be apart, in ticks.
     pub skew: u64,
-    /// The ticks of a guard lease.
+    /// How long a guard lease lasts, in ticks.
     pub guard: u64,
-    /// Of a bridge lease.
+    /// How long a bridge lease lasts, in ticks.
     pub bridge: u64,
-    /// And of the job lease.
+    /// How long the job lease lasts, in ticks.
     pub job: u64,
-    /// How many grants there may be.
+    /// How many grants the table may make.
     pub numbers: u64,
 }
 
 impl PolicyNumbers {
-    /// The policy, or `None` where a number is outside its limits.
+    /// Returns the policy, or `None` if a number is outside its limits.
     pub fn policy(&self) -> Option<Policy>
         ensures valid { is_some result ≡ is_policy (terms_of self.now) }
         ensures value { IfSome result (λ p. p ≡ terms_of self.now) }
@@ -46,26 +46,26 @@ impl PolicyNumbers {
     }
 }
 
-/// What a plan is held to.
+/// The policy of a plan.
 #[repr(C)]
 #[derive(Clone, Copy, Debug, PartialEq, Eq)]
 pub struct PlanPolicyNumbers {
-    /// How many tasks own a slice at the least.
+    /// The least number of tasks that own a slice.
     pub low: u64,
-    /// And at the most.
+    /// The greatest number of tasks that own a slice.
     pub high: u64,
     /// How many keys may move.
     pub churn: u64,
-    /// The load up to which neighbours merge.
+    /// The load up to which neighbouring slices merge.
     pub cold: u64,
     /// The load above which a slice is halved.
     pub hot: u64,
-    /// How many slices there may be for that.
+    /// How many slices there may be after slices are halved.
     pub most: u64,
 }
 
 impl PlanPolicyNumbers {
-    /// The policy, or `None` where a number is outside its limits.
+    /// Returns the policy, or `None` if a number is outside its limits.
     pub fn policy(&self) -> Option<PlanPolicy>
         ensures valid { is_some result ≡ planning.is_policy (limits_of self.now) }
         ensures value { IfSome result (λ p. p ≡ limits_of self.now) }

@@ -1,4 +1,4 @@
-//! Rows of grants as numbers.
+//! Rows of the lease table, as numbers.
 
 ghost use Rattle.std.specs.Prelude.{◌≡◌, IfOk, map};
 ghost use Rattle.c_table.specs.Rows.{row_numbers};
@@ -7,15 +7,15 @@ use c_numbers::kind_number;
 use lease_table::Row;
 use std::alloc::{AllocError, Global};
 
-/// What a table keeps of a grant until it ends or is freed.
+/// A row: what a table keeps of a grant until the grant ends or is freed.
 #[repr(C)]
 #[derive(Clone, Copy, Debug, PartialEq, Eq)]
 pub struct RowNumbers {
     /// The number of the grant.
     pub number: u64,
-    /// The task that it is for.
+    /// The task that the grant is for.
     pub task: u64,
-    /// The task's life that it is for.
+    /// The task's life that the grant is for.
     pub life: u64,
     /// The kind of its lease: 1 for a guard, 2 for a bridge.
     pub kind: u64,
@@ -26,7 +26,7 @@ pub struct RowNumbers {
 }
 
 impl RowNumbers {
-    /// The numbers of a row.
+    /// Returns the numbers of a row.
     pub fn of(row: &Row) -> Self
         ensures { result ≡ row_numbers row.now }
     {
@@ -41,7 +41,7 @@ impl RowNumbers {
     }
 }
 
-/// The numbers of each row, in order.
+/// Returns the numbers of each row, in order.
 pub fn numbers_of(alloc: Global, rows: &[Row]) -> Result<Vec<RowNumbers>, AllocError>
     ensures { IfOk result (λ numbers. numbers.items ≡ map row_numbers rows.now) }
 {

@@ -1,4 +1,4 @@
-//! The calls of a table that give numbers.
+//! Calls of a table that give numbers.
 
 ghost use Rattle.std.specs.Prelude.{◌≡◌, List, Some, codes, length};
 ghost use Rattle.lease_table.specs.Policies.{Terms};
@@ -24,14 +24,14 @@ use machines::Trouble;
 use std::alloc::Global;
 use wire::decode;
 
-/// The table of a policy before its first call, or `None` where a number is outside its limits.
+/// Creates a table with a policy, or returns `None` if a number is outside its limits.
 pub fn open_table(alloc: Global, policy: &PolicyNumbers) -> Option<LeaseTable>
     ensures { result ≡ table_of policy.now }
 {
     Some(LeaseTable::new(alloc, policy.policy()?))
 }
 
-/// Gives the job lease to an assigner, and writes the term.
+/// Gives the job lease to an assigner, and writes the term to `out`.
 pub fn take(table: &mut LeaseTable, assigner: u64, at: u64, out: &mut TermNumbers) -> Answer
     ensures step { IsTableStep (take_step table.old assigner at) table.old table.new result }
     ensures term { out.new ≡ term_given (take_step table.old assigner at) out.old }
@@ -45,7 +45,7 @@ pub fn take(table: &mut LeaseTable, assigner: u64, at: u64, out: &mut TermNumber
     }
 }
 
-/// Renews the term of a number, and writes it.
+/// Renews the term with this number, and writes it to `out`.
 pub fn renew(table: &mut LeaseTable, number: u64, at: u64, out: &mut TermNumbers) -> Answer
     ensures step { IsTableStep (renew_step table.old number at) table.old table.new result }
     ensures term { out.new ≡ term_given (renew_step table.old number at) out.old }
@@ -59,7 +59,7 @@ pub fn renew(table: &mut LeaseTable, number: u64, at: u64, out: &mut TermNumbers
     }
 }
 
-/// Proposes the assignment that the bytes are a message of, under the term of a number.
+/// Decodes an assignment from its message and proposes it under the term with this number.
 pub fn propose(
     alloc: Global,
     table: &mut LeaseTable,
@@ -80,7 +80,7 @@ pub fn propose(
     }
 }
 
-/// Commits the proposed assignment under the term of a number, and answers its generation.
+/// Commits the proposed assignment under the term with this number, and returns its generation.
 pub fn commit(table: &mut LeaseTable, number: u64, at: u64) -> Answer
     ensures { IsCommitStep (commit_step table.old number at) table.old table.new result }
 {
@@ -90,7 +90,7 @@ pub fn commit(table: &mut LeaseTable, number: u64, at: u64) -> Answer
     }
 }
 
-/// Frees the rows that a note closes, where the bytes are a message of one, and writes how many they are.
+/// Decodes a note from its message, frees the rows that it closes, and writes how many to `freed`.
 pub fn free(alloc: Global, table: &mut LeaseTable, note: &[u8], at: u64, freed: &mut u64) -> Answer
     ensures { IsReadFrom (codes "note") (λ d. or_wrong (note_of d)) note.now
         (IsFreed at table.old table.new freed.old freed.new result) }
@@ -107,7 +107,7 @@ pub fn free(alloc: Global, table: &mut LeaseTable, note: &[u8], at: u64, freed: 
     }
 }
 
-/// The table restarts and loses its rows; writes how many they were.
+/// Restarts the table, which loses its rows, and writes how many to `lost`.
 pub fn restart(table: &mut LeaseTable, lost: &mut u64) -> Answer
     ensures answer { result ≡ Answer.Done }
     ensures count { lost.new ≡ length table.old.rows }
@@ -117,7 +117,9 @@ pub fn restart(table: &mut LeaseTable, lost: &mut u64) -> Answer
     Answer::Done
 }
 
-/// Writes where the table stands. After every list of calls that is a phase for an assigner.
+/// Writes the phase of the table to `out`.
+///
+/// After every list of calls, an assigner can read what is written as a phase.
 pub fn phase(table: &LeaseTable, out: &mut PhaseNumbers) -> Answer
     ensures answer { result ≡ Answer.Done }
     ensures phase { out.new ≡ phase_numbers (phase_of table.now) }

@@ -1,4 +1,4 @@
-//! The calls of a table that give lists: messages and rows.
+//! Calls of a table that give lists: messages and rows.
 
 ghost use Rattle.std.specs.Prelude.{◌≡◌, IfOk, IfErr, None, OnOk, map};
 ghost use Rattle.machines.specs.Answers.{trouble_of};
@@ -22,7 +22,7 @@ fn task_of(number: u64) -> Option<TaskId>
     TaskId::new(number)
 }
 
-// The message of the grant that would be made next. The table stays as it is.
+// Returns the message of the grant that would be made next. The table is unchanged.
 fn next_text(
     alloc: Global,
     table: &mut LeaseTable,
@@ -39,7 +39,7 @@ fn next_text(
     Ok(encode(alloc, &grant)?)
 }
 
-// The answer where no grant is made.
+// Returns the answer if no grant is made.
 fn refused(trouble: Trouble<TableError>) -> Answer
     ensures { result ≡ trouble_answer trouble }
 {
@@ -49,8 +49,9 @@ fn refused(trouble: Trouble<TableError>) -> Answer
     }
 }
 
-/// Grants a task a lease for one of its lives, and gives the message of the grant. No grant is made for which there is
-/// no room.
+/// Grants a task a lease for one of its lives, and writes the message of the grant to `out`.
+///
+/// If the message does not fit, no grant is made.
 pub fn grant(
     alloc: Global,
     table: &mut LeaseTable,
@@ -79,7 +80,7 @@ pub fn grant(
     }
 }
 
-/// The rows that have not ended at the last accepted reading, in grant order.
+/// Writes the rows that have not ended at the last accepted reading to `out`, in grant order.
 pub fn rows(alloc: Global, table: &LeaseTable, out: &mut [RowNumbers], needed: &mut usize) -> Answer
     ensures { IsGivenUnlessMemory (map row_numbers table.now.rows)
         (output out.old needed.old) (output out.new needed.new) result }
@@ -96,7 +97,7 @@ fn written_rows(alloc: Global, table: &LeaseTable) -> Result<Vec<RowNumbers>, Al
     numbers_of(alloc, &table.rows()?)
 }
 
-/// Gives the message of the committed assignment.
+/// Writes the message of the committed assignment to `out`.
 pub fn committed(alloc: Global, table: &LeaseTable, out: &mut [u8], needed: &mut usize) -> Answer
     ensures { IsCommittedGiven table.now.committed
         (output out.old needed.old) (output out.new needed.new) result }

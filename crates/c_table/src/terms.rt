@@ -1,4 +1,4 @@
-//! Terms of the job lease, and where a table stands, as numbers.
+//! Terms of the job lease and phases of a table, as numbers.
 
 ghost use Rattle.std.specs.Prelude.{◌≡◌};
 ghost use Rattle.c_table.specs.Terms.{phase_numbers, phase_of, term_numbers, term_of};
@@ -13,12 +13,12 @@ pub struct TermNumbers {
     pub number: u64,
     /// The assigner that holds it.
     pub assigner: u64,
-    /// The first reading, in ticks, at which it has ended.
+    /// The first reading, in ticks, at which the term has ended.
     pub until: u64,
 }
 
 impl TermNumbers {
-    /// The numbers of a term.
+    /// Returns the numbers of a term.
     pub fn of(term: JobTerm) -> Self
         ensures { result ≡ term_numbers term }
     {
@@ -29,7 +29,7 @@ impl TermNumbers {
         }
     }
 
-    /// The term.
+    /// Returns the term with these numbers.
     pub fn term(&self) -> JobTerm
         ensures { result ≡ term_of self.now }
     {
@@ -41,18 +41,18 @@ impl TermNumbers {
     }
 }
 
-/// Where a table stands.
+/// The phase of a table: its committed and its proposed generation.
 #[repr(C)]
 #[derive(Clone, Copy, Debug, PartialEq, Eq)]
 pub struct PhaseNumbers {
     /// The committed generation, 0 before the first commit.
     pub committed: u64,
-    /// The proposed generation, 0 where none is proposed, and else the one after the committed one.
+    /// The proposed generation: 0 if none is proposed, otherwise `committed` + 1.
     pub proposed: u64,
 }
 
 impl PhaseNumbers {
-    /// The numbers of a phase.
+    /// Returns the numbers of a phase.
     pub fn of(phase: Phase) -> Self
         ensures { result ≡ phase_numbers phase }
     {
@@ -68,7 +68,7 @@ impl PhaseNumbers {
         }
     }
 
-    /// The phase, or `None` where what is proposed is not of the generation after the committed one.
+    /// Returns the phase, or `None` if `proposed` is neither 0 nor `committed` + 1.
     pub fn phase(&self) -> Option<Phase>
         ensures { result ≡ phase_of self.now }
     {

@@ -1,4 +1,4 @@
-//! Answers of what machines give.
+//! Answers for the results of slicelets and clerks.
 
 ghost use Rattle.std.specs.Prelude.{◌≡◌};
 ghost use Rattle.c_task.specs.Answers.{answer_to};
@@ -9,7 +9,7 @@ use clerk::ClerkError;
 use machines::Trouble;
 use slicelet::SliceletError;
 
-/// The answer where a slicelet gave this.
+/// Returns the answer for the result of a slicelet's call.
 pub fn slicelet_answer(given: Result<(), Trouble<SliceletError>>) -> Answer
     ensures { result ≡ answer_to (λ _. Answer.Done) Answer.Slicelet given }
 {
@@ -20,7 +20,7 @@ pub fn slicelet_answer(given: Result<(), Trouble<SliceletError>>) -> Answer
     }
 }
 
-/// The answer where a clerk gave this.
+/// Returns the answer for the result of a clerk's call.
 pub fn clerk_answer(given: Result<(), Trouble<ClerkError>>) -> Answer
     ensures { result ≡ answer_to (λ _. Answer.Done) old_answer given }
 {

@@ -1,4 +1,4 @@
-//! The calls of a clerk.
+//! Calls of a clerk.
 
 ghost use Rattle.slice_ranges.specs.Hash.{slice_key};
 ghost use Rattle.clerk.specs.Steps.{look_at};
@@ -13,7 +13,7 @@ use slice_ranges::slice_key;
 use std::alloc::Global;
 use wire::decode;
 
-/// Keeps the assignment that the bytes are a message of.
+/// Decodes an assignment from its message and keeps it.
 #[tactic(auto, using(crate::proofs::Steps::taken))]
 pub fn learn(alloc: Global, clerk: &mut Clerk, assignment: &[u8]) -> Answer
     ensures { IsAssignmentLearnt assignment.now clerk.old clerk.new result }
@@ -24,7 +24,7 @@ pub fn learn(alloc: Global, clerk: &mut Clerk, assignment: &[u8]) -> Answer
     }
 }
 
-/// Who owns a key in the assignment that is kept.
+/// Writes the owners of a key in the kept assignment to `out`.
 pub fn look(clerk: &Clerk, key: &[u8], out: &mut OwnersNumbers) -> Answer
     ensures { IsLookedUp (look_at clerk.now (slice_key key.now)) out.old out.new result }
 {

@@ -6,24 +6,24 @@ use assignment::TaskId;
 use slice_ranges::SliceKey;
 use slicelet::KeyHandle;
 
-/// The numbers of a key handle.
+/// A key handle, as numbers.
 #[repr(C)]
 #[derive(Clone, Copy, Debug, PartialEq, Eq)]
 pub struct HandleNumbers {
-    /// The task that took it.
+    /// The task that took the handle.
     pub task: u64,
     /// The slice key.
     pub slice_key: u64,
-    /// How many calls the task's slicelet had accepted by then.
+    /// How many calls the task's slicelet had accepted when the handle was taken.
     pub position: u64,
-    /// The task's life in which it was taken.
+    /// The task's life when the handle was taken.
     pub life: u32,
 }
 
 impl HandleNumbers {
     ghost use Rattle.c_task.specs.KeyHandles.{handle_of, numbers_of};
 
-    /// The numbers of a handle.
+    /// Returns the numbers of a handle.
     pub fn of(handle: &KeyHandle) -> Self
         ensures numbers { result ≡ numbers_of handle.now }
         ensures reads { handle_of result ≡ Some handle.now }
@@ -36,7 +36,7 @@ impl HandleNumbers {
         }
     }
 
-    /// The handle of the numbers, where the task and the slice key are within their limits.
+    /// Returns the handle, or `None` if the task or the slice key is outside its limits.
     pub fn handle(&self) -> Option<KeyHandle>
         ensures { result ≡ handle_of self.now }
     {

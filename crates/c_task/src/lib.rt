@@ -1,7 +1,8 @@
-//! The calls of a slicelet and of a clerk as C makes them: with bytes and numbers.
+//! The calls of a slicelet and a clerk as C makes them: with bytes and numbers.
 //!
-//! A call answers by an [`Answer`](c_numbers::Answer). Grants, notes and assignments are messages. A call that is refused,
-//! whose message is not read, or for which there is no memory or no room, leaves the slicelet or the clerk as it was.
+//! Each call returns an [`Answer`](c_numbers::Answer). Grants, notes and assignments are messages.
+//! A call leaves the slicelet or the clerk unchanged if it is refused, if its message cannot be
+//! decoded, if memory runs out, or if a buffer is too short.
 #![tactic(auto)]
 
 mod answers;

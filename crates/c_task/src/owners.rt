@@ -5,22 +5,22 @@ ghost use Rattle.std.specs.Prelude.{◌≡◌, slice_index};
 use assignment::{MOST_OWNERS, Owners};
 use clerk::Found;
 
-/// Who owns a key: the first `count` of `tasks`, in rising order. The others are 0.
+/// The owners of a key: the first `count` of `tasks`, in rising order. The rest are 0.
 #[repr(C)]
 #[derive(Clone, Copy, Debug, PartialEq, Eq)]
 pub struct OwnersNumbers {
-    /// The generation of the assignment that says so.
+    /// The generation of the assignment in which they own the key.
     pub generation: u64,
     /// How many tasks own the key.
     pub count: u64,
-    /// The tasks.
+    /// The owners, then zeros.
     pub tasks: [u64; MOST_OWNERS],
 }
 
 impl OwnersNumbers {
     ghost use Rattle.c_task.specs.Owners.{IsOf};
 
-    /// The numbers of the owners that were found.
+    /// Returns the numbers of the owners that a lookup found.
     pub fn of(found: &Found) -> Self
         ensures { IsOf found.now result }
     {
@@ -39,7 +39,7 @@ impl OwnersNumbers {
     }
 }
 
-// The number of the owner at a place, 0 where there is none.
+// Returns the number of the owner at `place`, 0 if there is none.
 fn number_at(owners: &Owners, place: usize) -> u64
     ensures { result ≡ slice_index owners.now.items place }
 {

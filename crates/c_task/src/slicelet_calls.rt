@@ -1,4 +1,4 @@
-//! The calls of a slicelet.
+//! Calls of a slicelet.
 
 ghost use Rattle.std.specs.Prelude.{◌≡◌, Some, List};
 ghost use Rattle.slice_ranges.specs.Hash.{slice_key};
@@ -21,7 +21,7 @@ use slicelet::{Slicelet, Stranger};
 use std::alloc::Global;
 use wire::decode;
 
-/// The slicelet of a task before its first call; `None` where the number is not that of a task.
+/// Creates the slicelet of a task, or returns `None` if the number is not a task's.
 pub fn open_slicelet(alloc: Global, task: u64) -> Option<Slicelet>
     ensures { result ≡ opened task }
 {
@@ -37,7 +37,7 @@ pub fn start(slicelet: &mut Slicelet, life: u32, at: u64) -> Answer
     slicelet_answer(slicelet.start(life, at))
 }
 
-/// Hears the grant that the bytes are a message of.
+/// Decodes a grant from its message and hears it.
 #[tactic(auto, using(crate::proofs::Steps::taken))]
 pub fn hear(alloc: Global, slicelet: &mut Slicelet, grant: &[u8], at: u64) -> Answer
     ensures { IsGrantHeard grant.now at slicelet.old slicelet.new result }
@@ -48,7 +48,7 @@ pub fn hear(alloc: Global, slicelet: &mut Slicelet, grant: &[u8], at: u64) -> An
     }
 }
 
-/// Whether the task may serve a key.
+/// Returns whether the task may serve a key.
 pub fn serve(slicelet: &Slicelet, key: &[u8], at: u64) -> Answer
     ensures state { result ≡ Answer.Judged (rule_for key.now slicelet.now at) }
     ensures calls { (calls : List SliceletCall) → StandsAfter calls slicelet.now
@@ -57,7 +57,7 @@ pub fn serve(slicelet: &Slicelet, key: &[u8], at: u64) -> Answer
     Answer::Judged(slicelet.serve(slice_key(key), at))
 }
 
-/// Takes a handle on a key, where the task may serve it; else the reason why it may not.
+/// Takes a handle on a key if the task may serve it, and otherwise returns why not.
 pub fn hold(slicelet: &Slicelet, key: &[u8], at: u64, out: &mut HandleNumbers) -> Answer
     ensures state { result ≡ held_answer (taken_by (rule_for key.now slicelet.now at) key.now slicelet.now) }
     ensures handle { out.new ≡ held_numbers (taken_by (rule_for key.now slicelet.now at) key.now slicelet.now) out.old }
@@ -74,7 +74,7 @@ pub fn hold(slicelet: &Slicelet, key: &[u8], at: u64, out: &mut HandleNumbers) -
     }
 }
 
-/// Whether the task held the key of a handle since it was taken, and may serve it now.
+/// Returns whether the task held the handle's key since the handle was taken, and may serve it now.
 pub fn check(slicelet: &Slicelet, handle: &HandleNumbers, at: u64) -> Answer
     ensures state { result ≡ check_answer (handle_of handle.now) slicelet.now at }
     ensures calls { (calls : List SliceletCall) (taken : KeyHandle) → StandsAfter calls slicelet.now

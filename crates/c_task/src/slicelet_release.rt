@@ -1,4 +1,4 @@
-//! The release of a lease: its note is given whole, or nothing is changed.
+//! Releasing a lease: its note is written whole, or nothing changes.
 
 ghost use Rattle.std.specs.Prelude.{◌≡◌, Ok, IfOk, IfErr};
 ghost use Rattle.slicelet.specs.Steps.{release_step};
@@ -13,7 +13,7 @@ use slicelet::{Slicelet, SliceletError};
 use std::alloc::Global;
 use wire::encode;
 
-// A slicelet as a release leaves it, the note, and the message of the note.
+// The slicelet after a release, the note, and the note's message.
 #[derive(Drop)]
 struct Prepared {
     slicelet: Slicelet,
@@ -21,9 +21,10 @@ struct Prepared {
     message: Vec<u8>,
 }
 
-/// Releases the lease of the kind of a number, and gives the message of its note.
+/// Releases the lease of a kind, and writes the message of its note to `out`.
 ///
-/// The message is written before the lease is given up, so that nothing is lost where there is no room for it.
+/// The message is encoded before the lease is released, so a buffer that is too short loses
+/// nothing.
 pub fn release(
     alloc: Global,
     slicelet: &mut Slicelet,
@@ -54,7 +55,7 @@ fn kind_of(number: u32) -> Option<Kind>
     }
 }
 
-// What the release would leave and give.
+// Computes what a release would leave and return, without changing the slicelet.
 fn prepare(
     alloc: Global,
     slicelet: &Slicelet,
@@ -79,7 +80,7 @@ fn prepare(
     })
 }
 
-// Puts what a release leaves in the place of the slicelet, where there is room for its note.
+// Replaces the slicelet with the prepared one, if the note fits in `out`.
 fn put_prepared(
     slicelet: &mut Slicelet,
     prepared: Prepared,

@@ -61,7 +61,7 @@ ticket_of None = 0
 abbrev pub double_text : List (List ℕ) → List Entry → ℕ → ℕ → List ℕ
 double_text names entries first second =
     standing_at names entries second ++ (codes ": ticket " ++ (decimal (ticket_of (slice_get entries first))
-    ++ (codes " stands at " ++ (standing_at names entries first ++ codes " too\n"))))
+    ++ (codes " is also at " ++ (standing_at names entries first ++ codes "\n"))))
 
 -- words in quotes, as `{:?}` writes them; of words past ASCII this says nothing
 abbrev pub AreQuoted : List ℕ → List ℕ → Type 0

@@ -1,4 +1,4 @@
-//! The audit of logs: the bytes of files in, the lines of a report out.
+//! Audits of logs: the bytes of files in, the lines of a report out.
 
 ghost use Rattle.std.specs.Prelude.{◌≡◌, IfErr, IfOk, map, string_bytes};
 ghost use Rattle.call_log.specs.Audited.{is_one};
@@ -13,12 +13,12 @@ use crate::progress::Progress;
 use crate::report::{NamedEntries, report_of};
 use std::alloc::Global;
 
-/// What is said of logs.
+/// The result of an audit.
 #[derive(Debug, Drop)]
 pub struct LogReport {
     /// Whether the calls are one run.
     pub is_one: bool,
-    /// The lines that are written.
+    /// The lines of the report.
     pub text: String,
 }
 
@@ -28,9 +28,10 @@ fn is_one(finding: &Finding) -> bool
     matches!(finding, Finding::One { .. })
 }
 
-/// Reads the log that files say, and judges its calls in the order of their tickets. `names` are those of the files.
+/// Reads the log in the files, and judges its calls in the order of their tickets.
 ///
-/// The first line that is not what it has to be is named. Out of memory, nothing is said.
+/// `names` are the names of the files. An error names the first line that is not valid, or says
+/// that memory ran out.
 pub fn audit_logs<P: Progress>(
     alloc: Global,
     names: &[&str],

@@ -1,4 +1,4 @@
-//! Lines of calls of clerks.
+//! Log lines of a clerk's calls.
 
 ghost use Rattle.std.specs.Prelude.{◌≡◌};
 ghost use Rattle.serde_json.specs.View.{view};
@@ -53,7 +53,7 @@ fn forget_line(line: &Value) -> Result<LoggedCall, Refusal>
     }))
 }
 
-/// The call of this name among those of a clerk.
+/// Parses the clerk's call with this name.
 pub fn clerk_call_named(alloc: Global, name: &str, line: &Value) -> Result<LoggedCall, DecodeError>
     ensures { Gives result (read_named clerk_kinds name.now (view line.now)) }
 {

@@ -1,17 +1,21 @@
-//! The lines of a log, by the places where they stand.
+//! Lines of a log with their positions.
 
 use crate::line::LoggedLine;
 
-/// Where a line stands: the file, counted from 0, and the line in it, counted from 1.
+/// The position of a line: the file, counted from 0, and the line in it, counted from 1.
 #[derive(Clone, Copy, Debug, PartialEq, Eq, PartialOrd, Ord)]
 pub struct Place {
+    /// The index of the file, from 0.
     pub file: usize,
+    /// The number of the line in the file, from 1.
     pub line: usize,
 }
 
-/// A line of a log with its place.
+/// A line of a log with its position.
 #[derive(Debug, Drop)]
 pub struct Entry {
+    /// The position of the line.
     pub place: Place,
+    /// The line.
     pub line: LoggedLine,
 }

@@ -1,4 +1,4 @@
-//! What is found of the calls of a log.
+//! What an audit finds.
 
 use crate::late::Late;
 use slicelet::HeldLease;
@@ -7,32 +7,35 @@ use world::Reply;
 /// The leases that a task holds, each of which may have ended.
 #[derive(Clone, Copy, Debug, PartialEq, Eq)]
 pub struct HeldLeases {
+    /// The guard lease.
     pub guard: Option<HeldLease>,
+    /// The bridge lease.
     pub bridge: Option<HeldLease>,
 }
 
 /// Whether the calls of a log are one run of a job's machines, in the order of their tickets.
 #[derive(Debug, Drop)]
 pub enum Finding {
-    /// They are.
+    /// They are one run.
     One {
-        /// How many calls there are.
+        /// The number of calls.
         steps: u64,
-        /// The first reading that is not timely; `None` where clocks were timely in the run.
+        /// The first reading that is not timely; `None` if the clocks were timely in the run.
         late: Option<Late>,
     },
-    /// The entries at these places of the order, one after the other, have one ticket.
+    /// Two entries have the same ticket: those at these two indices, one after the other.
     Double {
         first: usize,
         second: usize,
     },
-    /// The calls before that of the entry at this place are a run, and the caller of this one was told otherwise.
+    /// The calls before the entry at `index` are one run, but the caller of this one got a wrong
+    /// reply.
     Other {
         index: usize,
-        /// What the caller should have been told.
+        /// The reply that the caller should have got.
         wanted: Reply,
-        /// The leases of the task that the call asks for a key; `None` for other calls, and where the job has
-        /// no such task.
+        /// The leases of the task that the call asks for a key; `None` for other calls, or if the
+        /// job has no such task.
         held: Option<HeldLeases>,
     },
 }

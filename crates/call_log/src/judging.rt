@@ -13,7 +13,7 @@ use crate::progress::Progress;
 use cluster::{Cluster, Job};
 use std::alloc::{AllocError, Global};
 
-// By ticket; entries of one ticket stay in their order.
+// Sorts entries by ticket. Entries with the same ticket keep their order.
 fn sort(entries: &mut Vec<Entry>) -> Result<(), AllocError>
     ensures same { IsPermutation entries.old.items entries.new.items }
     ensures order { OnOk result (IsNonDecreasingBy (λ e. e.line.ticket) entries.new.items) }
@@ -21,7 +21,7 @@ fn sort(entries: &mut Vec<Entry>) -> Result<(), AllocError>
     entries.sort_by_key(|entry| entry.line.ticket)
 }
 
-// The place of the first entry whose ticket the next one has too, of sorted entries.
+// Returns the index of the first entry whose ticket the next one has too. Entries are sorted.
 fn double(entries: &[Entry]) -> Option<usize>
     requires { IsNonDecreasingBy (λ e. e.line.ticket) entries.now }
     ensures { MatchOption result (TicketsRise entries.now)
@@ -37,7 +37,7 @@ fn double(entries: &[Entry]) -> Option<usize>
     None
 }
 
-// Plays entries in order, up to the first whose caller was told otherwise.
+// Plays entries in order, up to the first whose caller got a wrong reply.
 fn replay<P: Progress>(
     alloc: Global,
     job: Job,
@@ -68,11 +68,14 @@ fn replay<P: Progress>(
     })
 }
 
-/// Sorts the calls of a log by their tickets, and finds whether they are one run of the job's machines in this
-/// order: each caller was told, in these words, what the machines answer after the calls before.
+/// Sorts the calls of a log by their tickets, and finds whether they are one run of the job's
+/// machines.
 ///
-/// [`Finding::Double`] comes first: two entries have one ticket. Else [`Finding::Other`] names the first call
-/// whose caller was told otherwise. Out of memory, nothing is found.
+/// They are one run if each caller got, in the same words, the reply that the machines give after
+/// the calls before.
+///
+/// [`Finding::Double`] comes first: two entries have the same ticket. Otherwise [`Finding::Other`]
+/// names the first call whose caller got another reply. If memory runs out, nothing is found.
 pub fn audit_calls<P: Progress>(
     alloc: Global,
     job: Job,

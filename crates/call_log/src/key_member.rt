@@ -8,10 +8,10 @@ use program_io::{WrongForm, text_at};
 use serde_json::Value;
 use slice_ranges::{SliceKey, slice_key};
 
-/// How many bytes a key has at the most.
+/// The greatest number of bytes in a key.
 const MOST_KEY_BYTES: usize = 4096;
 
-/// The slice key of the member `key`, a text of at most 4096 bytes.
+/// Returns the slice key of the member `key`, a text of at most 4096 bytes.
 pub fn slice_key_in(line: &Value) -> Result<SliceKey, WrongForm>
     ensures { result ≡ slice_key_in (view line.now) }
 {

@@ -7,23 +7,27 @@ ghost use Rattle.call_log.specs.internals.Watching.{greater, greatest_after, lat
 use crate::entry::Entry;
 use cluster::Reading;
 
-/// A reading of a task's clock, and the greatest earlier one of the table's clock, which is by more than the skew ahead of it.
+/// A reading of a task's clock that is not timely.
+///
+/// The greatest earlier reading of the table's clock is more than the skew ahead of it.
 #[derive(Clone, Copy, Debug, PartialEq, Eq)]
 pub struct Late {
-    /// The place of the task's call in the order of the tickets.
+    /// The index of the task's call, in the order of the tickets.
     pub index: usize,
-    /// What it read, in ticks.
+    /// The task's reading, in ticks.
     pub at: u64,
-    /// The place of the table's call.
+    /// The index of the table's call, in the order of the tickets.
     pub table_index: usize,
-    /// What that one read.
+    /// The table's reading, in ticks.
     pub table_at: u64,
 }
 
-/// The greatest reading of the table's clock so far, and the place of its call.
+/// The greatest reading of the table's clock so far, and the index of its call.
 #[derive(Clone, Copy)]
 pub struct Greatest {
+    /// The reading, in ticks.
     pub at: u64,
+    /// The index of the call.
     pub index: usize,
 }
 
@@ -72,8 +76,10 @@ fn late_after(skew: u64, greatest: Option<Greatest>, reading: Reading, index: us
     }
 }
 
-/// The first reading of a task's clock that is not timely, with the greatest one of the table's clock before it.
-/// Readings and skew are in ticks.
+/// Returns the first reading of a task's clock that is not timely, if there is one.
+///
+/// It comes with the greatest reading of the table's clock before it. Readings and `skew` are in
+/// ticks.
 pub fn late_reading(skew: u64, entries: &[Entry]) -> Option<Late>
     ensures { AreWatched skew entries.now result }
 {

@@ -1,4 +1,4 @@
-//! What a line of a log says.
+//! Lines of a log, parsed.
 
 ghost use Rattle.std.specs.Prelude.{◌≡◌, IfOk};
 
@@ -8,7 +8,7 @@ use policy_rules::Kind;
 use std::alloc::{AllocError, Global};
 use std::marker::Model;
 
-/// The words that a caller was told. Contracts see their bytes.
+/// The words of the reply that a caller got. Contracts see their bytes.
 #[derive(Debug, Drop)]
 pub struct Words {
     text: String,
@@ -23,7 +23,7 @@ impl Model for Words {
 }
 
 impl Words {
-    /// The words of a text.
+    /// Copies a text.
     pub fn new(alloc: Global, text: &str) -> Result<Self, AllocError>
         ensures { IfOk result (λ words. words ≡ text.now) }
     {
@@ -32,7 +32,7 @@ impl Words {
         })
     }
 
-    /// Their text.
+    /// Returns the text.
     pub fn as_str(&self) -> &str
         ensures { result.now ≡ self.now }
     {
@@ -43,13 +43,13 @@ impl Words {
 /// A grant without the ranges of its lease.
 #[derive(Clone, Copy, Debug, PartialEq, Eq)]
 pub struct BareGrant {
-    /// The number of the grant among all of the table.
+    /// The number of the grant, among all grants of the table.
     pub number: u64,
-    /// The task that it is for.
+    /// The task that the grant is for.
     pub task: TaskId,
-    /// The task's life that it is for.
+    /// The task's life that the grant is for.
     pub life: u32,
-    /// What its lease is for.
+    /// The kind of its lease.
     pub kind: Kind,
     /// The generation that its lease was granted for.
     pub generation: u64,
@@ -59,12 +59,12 @@ pub struct BareGrant {
     pub table_ends: u64,
 }
 
-/// A call as a log tells it.
+/// A call as a log records it.
 #[derive(Debug, Drop)]
 pub enum LoggedCall {
-    /// A call with all that it delivers.
+    /// A call with everything that it delivers.
     Whole(ClusterCall),
-    /// A task hears a grant whose ranges are left out, at a reading of its clock in ticks.
+    /// A task hears a grant without its ranges, at a reading of its clock in ticks.
     HearBare {
         task: u64,
         grant: BareGrant,
@@ -72,13 +72,13 @@ pub enum LoggedCall {
     },
 }
 
-/// A line of a log: a call, and what its caller was told.
+/// A line of a log: a call, and the reply that its caller got.
 #[derive(Debug, Drop)]
 pub struct LoggedLine {
-    /// The place of the call among all calls that drew a ticket.
+    /// The call's ticket: its place among all calls that drew one.
     pub ticket: u64,
     /// The call.
     pub call: LoggedCall,
-    /// What the caller was told.
+    /// The reply that the caller got.
     pub reply: Words,
 }

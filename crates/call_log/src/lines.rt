@@ -1,4 +1,4 @@
-//! The lines of files.
+//! Files as lines.
 
 ghost use Rattle.std.specs.Prelude.{◌≡◌, ◌++◌, map, IfOk};
 ghost use Rattle.call_log.specs.Files.{lines_from, lines_in, numbered};
@@ -8,14 +8,16 @@ use crate::entry::Place;
 use memchr::memchr;
 use std::alloc::{AllocError, Global};
 
-/// The bytes of a line, without its end, and where it stands.
+/// The bytes of a line, without its line end, and its position.
 #[derive(Clone, Copy)]
 pub struct LineBytes<'a> {
+    /// The position of the line.
     pub place: Place,
+    /// Its bytes.
     pub bytes: &'a [u8],
 }
 
-// The first line of bytes, and the bytes after it.
+// Splits bytes into the first line and the rest.
 fn next_line(bytes: &[u8]) -> Option<(&[u8], &[u8])>
     ensures { IsNextLine bytes.now result }
 {
@@ -28,7 +30,7 @@ fn next_line(bytes: &[u8]) -> Option<(&[u8], &[u8])>
     }
 }
 
-// Adds the lines of a file.
+// Appends the lines of a file.
 fn add_lines<'a>(
     lines: &mut Vec<LineBytes<'a>>,
     file: usize,
@@ -48,7 +50,7 @@ fn add_lines<'a>(
     Ok(())
 }
 
-/// The lines of files, file by file.
+/// Returns the lines of the files, in order.
 pub fn lines_of<'a>(alloc: Global, files: &[&'a [u8]]) -> Result<Vec<LineBytes<'a>>, AllocError>
     ensures { IfOk result (λ lines. map shown lines.items ≡ lines_from 0 (map (λ f. f.now) files.now)) }
 {

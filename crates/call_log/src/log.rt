@@ -1,4 +1,4 @@
-//! What a log says, and why it says none.
+//! Logs, and why a log cannot be read.
 
 ghost use Rattle.std.specs.Prelude.{◌≡◌};
 ghost use Rattle.call_log.specs.declared.log.LogError.TheVariants as unread;
@@ -12,25 +12,27 @@ use wire::Refusal;
 /// A log: its job, and its calls in the order of the lines.
 #[derive(Debug, Drop)]
 pub struct Log {
+    /// The job.
     pub job: Job,
+    /// The calls.
     pub entries: Vec<Entry>,
 }
 
-/// Why a log is not read: the first line that is not what it has to be.
+/// Why a log cannot be read: its first line that is not valid.
 #[derive(Debug, Drop)]
 pub enum LogError {
-    /// There is no line.
+    /// There are no lines.
     Empty,
-    /// The first line says no job, for this fault.
+    /// The first line is not a job.
     NoJob {
         place: Place,
         faults: Vec<ScriptFault>,
     },
-    /// A further line says no call.
+    /// A later line is not a call.
     BadLine {
         place: Place,
         why: Refusal,
-        /// What to mend, in words.
+        /// How to fix the line, in words.
         mend: String,
     },
     /// Memory ran out.

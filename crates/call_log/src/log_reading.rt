@@ -1,4 +1,4 @@
-//! A log, from the bytes of its files.
+//! Reading a log from the bytes of its files.
 
 ghost use Rattle.std.specs.Prelude.{map, IfErr, IfOk};
 ghost use Rattle.session.specs.Lines.{SaysJob};
@@ -16,7 +16,7 @@ use diagnosis::AnswerError;
 use session::job_said;
 use std::alloc::Global;
 
-// The job that a line says.
+// Parses the first line, which is the job.
 fn head_of(alloc: Global, line: &LineBytes) -> Result<Job, LogError>
     ensures ok { IfOk result (SaysJob line.now.bytes.now) }
     ensures err { IfErr result (IsNoJobFor (shown line.now)) }
@@ -31,7 +31,7 @@ fn head_of(alloc: Global, line: &LineBytes) -> Result<Job, LogError>
     }
 }
 
-// What each of some lines says, or the first that says no call.
+// Parses each line, up to the first that is not a call.
 fn entries_of<P: Progress>(
     alloc: Global,
     lines: &[LineBytes],
@@ -55,9 +55,9 @@ fn entries_of<P: Progress>(
     Ok(entries)
 }
 
-/// The log that files say: a job on the first line of all, and a call on each further line.
+/// Reads a log: the first line of all is a job, and each later line a call.
 ///
-/// The first line that is not what it has to be is named. Out of memory, nothing is said.
+/// An error names the first line that is not valid, or says that memory ran out.
 pub fn read_log<P: Progress>(
     alloc: Global,
     files: &[&[u8]],

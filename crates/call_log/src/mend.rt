@@ -1,4 +1,4 @@
-//! What to mend in a line that says no call.
+//! How to fix a line that is not a call.
 
 use crate::task_lines::bare_grant_of;
 use diagnosis::{Found, Members, Wanted, WrongMember, missing_member, unknown_member};
@@ -7,7 +7,7 @@ use std::alloc::{AllocError, Global};
 use std::fmt;
 use wire::{DecodeError, grant_of, handle_of, note_of};
 
-/// The members of each call, in the order in which they are looked at.
+/// The members of each call, in the order in which they are checked.
 const CALLS: &[(&str, &[&str])] = &[
     ("take", &["ticket", "reply", "assigner", "at"]),
     ("renew", &["ticket", "reply", "term", "at"]),
@@ -35,7 +35,7 @@ const CALLS: &[(&str, &[&str])] = &[
     ("forget", &["ticket", "reply", "clerk"]),
 ];
 
-/// What a member has to be that steps of scripts do not have.
+/// What a member must be, for members that steps of scripts do not have.
 #[derive(Clone, Copy)]
 enum Delivered {
     Words,
@@ -45,7 +45,7 @@ enum Delivered {
 }
 
 impl Delivered {
-    // What the member of this name has to be, if steps do not have it.
+    // Returns what the member with this name must be, if steps do not have it.
     fn of(name: &str) -> Option<Delivered> {
         match name {
             "reply" => Some(Delivered::Words),
@@ -69,9 +69,9 @@ impl Delivered {
 impl fmt::Display for Delivered {
     fn fmt<W: fmt::Write>(&self, f: &mut fmt::Formatter<W>) -> fmt::Result {
         f.write_str(match self {
-            Delivered::Words => "a text",
+            Delivered::Words => "a string",
             Delivered::Grant => {
-                "a grant {\"number\", \"task\", \"life\", \"kind\", \"generation\", \"ends\", \"until\"}, with \"ranges\" or without,"
+                "a grant {\"number\", \"task\", \"life\", \"kind\", \"generation\", \"ends\", \"until\"}, with or without \"ranges\""
             }
             Delivered::Note => "a release note {\"task\", \"life\", \"kind\", \"number\"}",
             Delivered::Handle => "a key handle {\"task\", \"life\", \"slice_key\", \"position\"}",
@@ -79,7 +79,7 @@ impl fmt::Display for Delivered {
     }
 }
 
-// Whether a value is a grant, with ranges or without.
+// Whether a value is a grant, with or without ranges.
 fn is_grant(alloc: Global, value: &Value) -> Result<bool, AllocError> {
     if value.get("ranges").is_none() {
         return Ok(bare_grant_of(value).is_ok());
@@ -91,8 +91,8 @@ fn is_grant(alloc: Global, value: &Value) -> Result<bool, AllocError> {
     }
 }
 
-// What the member of this name of a call has to be, where steps have it too. A task, an assigner and a clerk may be
-// any number here: one that the job does not have is answered, and not refused.
+// Returns what a call's member with this name must be, if steps have it too. A task, an assigner
+// and a clerk may be any number here: one that the job does not have is answered, and not refused.
 fn wanted_of(call: &str, name: &str) -> Wanted {
     match name {
         "task" if call == "grant" => Wanted::Between(1, 64),
@@ -104,7 +104,7 @@ fn wanted_of(call: &str, name: &str) -> Wanted {
     }
 }
 
-// What is said of a member that is not what is wanted of it; nothing where it is.
+// Describes a member whose value is wrong; `None` if it is right.
 fn member_mend(
     alloc: Global,
     call: &str,
@@ -115,8 +115,11 @@ fn member_mend(
         if delivered.is_met(alloc, value)? {
             return Ok(None);
         }
+        if value.is_object() {
+            return Ok(Some(format!(in alloc; "\"{name}\" must be {delivered}")?));
+        }
         let found = Found(value);
-        return Ok(Some(format!(in alloc; "\"{name}\" is {found}; {delivered} is wanted")?));
+        return Ok(Some(format!(in alloc; "\"{name}\" is {found}; it must be {delivered}")?));
     }
     let wanted = wanted_of(call, name);
     if wanted.is_met(alloc, value)? {
@@ -130,7 +133,7 @@ fn member_mend(
     Ok(Some(format!(in alloc; "{wrong}")?))
 }
 
-// What to mend in the members of a call.
+// Returns how to fix the members of a call.
 fn members_mend(alloc: Global, members: Members, line: &Value) -> Result<String, AllocError> {
     let call = members.kind;
     if let Some(object) = line.as_object() {
@@ -151,16 +154,16 @@ fn members_mend(alloc: Global, members: Members, line: &Value) -> Result<String,
     format!(in alloc; "{call}: {members}")
 }
 
-/// What to mend in a value that says no call.
+/// Returns how to fix a value that is not a call.
 pub fn call_mend(alloc: Global, line: &Value) -> Result<String, AllocError> {
     if !line.is_object() {
-        return format!(in alloc; "{}; a call is an object", Found(line));
+        return format!(in alloc; "found {}; a call must be an object", Found(line));
     }
     let Some(word) = line.get("do") else {
         return String::from_str(alloc, "\"do\" is missing; it names the call");
     };
     let Some(name) = word.as_str() else {
-        return format!(in alloc; "\"do\" is {}; the name of a call is wanted", Found(word));
+        return format!(in alloc; "\"do\" is {}; it must be the name of a call", Found(word));
     };
     for (kind, names) in CALLS {
         if *kind == name {

@@ -1,4 +1,4 @@
-//! Calls of a log, played on the machines of a job.
+//! Playing the calls of a log on the machines of a job.
 
 ghost use Rattle.std.specs.Prelude.{◌≡◌, ◌∷◌, IfOk};
 ghost use Rattle.cluster.specs.Jobs.{Job};
@@ -19,7 +19,7 @@ use std::alloc::{AllocError, Global};
 use world::Reply;
 
 impl LoggedCall {
-    /// Whose clock the call reads, and when.
+    /// Returns whose clock the call reads, and the reading.
     pub fn reading(&self) -> Reading
         ensures { result ≡ reading_in self.now }
     {
@@ -30,7 +30,7 @@ impl LoggedCall {
     }
 }
 
-// The grant with the ranges that the table sent with its number.
+// Returns the grant with the ranges that the table sent with its number.
 fn whole_grant(alloc: Global, cluster: &Cluster, grant: &BareGrant) -> Result<Grant, AllocError>
     ensures { (job : Job) (past : Past) → LeadsTo job past cluster.now
         → IfOk result (λ whole. whole ≡ whole_grant past grant.now) }
@@ -53,7 +53,7 @@ fn whole_grant(alloc: Global, cluster: &Cluster, grant: &BareGrant) -> Result<Gr
     })
 }
 
-// The machines' reply to a logged call.
+// Plays a logged call, and returns the machines' reply.
 fn play(alloc: Global, cluster: &mut Cluster, call: &LoggedCall) -> Result<ClusterReply, AllocError>
     ensures { (job : Job) (past : Past) → LeadsTo job past cluster.old
         → IfOk result (λ answer. LeadsTo job (event (call_after past call.now) answer ∷ past) cluster.new) }
@@ -67,7 +67,7 @@ fn play(alloc: Global, cluster: &mut Cluster, call: &LoggedCall) -> Result<Clust
     }
 }
 
-// The task that a call asks for a key.
+// Returns the task that a call asks for a key.
 fn asked_task(call: &LoggedCall) -> Option<u64>
     ensures { result ≡ asked_task call.now }
 {
@@ -79,7 +79,7 @@ fn asked_task(call: &LoggedCall) -> Option<u64>
     }
 }
 
-/// The leases of the task that a call asks for a key, if the job has the task.
+/// Returns the leases of the task that a call asks for a key, if the job has the task.
 pub fn held_by_asked(cluster: &Cluster, call: &LoggedCall) -> Option<HeldLeases>
     ensures { (job : Job) (past : Past) → LeadsTo job past cluster.now
         → result ≡ held_by_asked job past call.now }
@@ -92,7 +92,7 @@ pub fn held_by_asked(cluster: &Cluster, call: &LoggedCall) -> Option<HeldLeases>
     })
 }
 
-/// Plays the call of a line, and says what its caller should have been told where that was something else.
+/// Plays the call of a line, and returns the right reply if its caller got another one.
 pub fn answer(
     alloc: Global,
     cluster: &mut Cluster,

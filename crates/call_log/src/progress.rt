@@ -1,10 +1,10 @@
-//! How far an audit is.
+//! The progress of an audit.
 
-/// What is told while an audit runs.
+/// Receives the progress of an audit.
 pub trait Progress {
-    /// So many lines were read.
+    /// Called after a line is read: `lines` were read so far.
     fn lines_read(&mut self, lines: u64);
 
-    /// So many calls were judged.
+    /// Called after a call is judged: `calls` were judged so far.
     fn calls_judged(&mut self, calls: u64);
 }

@@ -1,4 +1,4 @@
-//! Lines of a log, from their bytes.
+//! Parsing the lines of a log.
 
 ghost use Rattle.std.specs.Prelude.{◌≡◌, IfErr, IfOk};
 ghost use Rattle.serde_json.specs.View.{view};
@@ -15,13 +15,13 @@ use serde_json::{Category, Value};
 use std::alloc::{AllocError, Global};
 use wire::{DecodeError, Refusal};
 
-/// Why a line gives no call.
+/// Why a line is not read.
 #[derive(Debug, Drop)]
 pub enum NoLine {
-    /// It says none.
+    /// The line is not a call.
     Refused {
         why: Refusal,
-        /// What to mend, in words.
+        /// How to fix the line, in words.
         mend: String,
     },
     /// Memory ran out.
@@ -36,7 +36,7 @@ impl From<AllocError> for NoLine {
     }
 }
 
-// The call that a line says, by its member `do`.
+// Parses the call on a line, by its member `do`.
 #[tactic(auto, unfolding(crate::specs::Lines::call_in))]
 fn call_in(alloc: Global, line: &Value) -> Result<LoggedCall, DecodeError>
     ensures { Gives result (call_in (view line.now)) }
@@ -44,7 +44,7 @@ fn call_in(alloc: Global, line: &Value) -> Result<LoggedCall, DecodeError>
     table_call_named(alloc, text_at("do", line)?, line)
 }
 
-/// What a JSON value says as a line of a log, or why it says none.
+/// Parses a JSON value as a line of a log.
 #[tactic(auto, unfolding(crate::specs::Lines::line_of))]
 pub fn line_of(alloc: Global, line: &Value) -> Result<LoggedLine, DecodeError>
     ensures { Gives result (line_of (view line.now)) }
@@ -59,7 +59,7 @@ pub fn line_of(alloc: Global, line: &Value) -> Result<LoggedLine, DecodeError>
     })
 }
 
-/// What the bytes of a line say. Out of memory, nothing is said of them.
+/// Parses the bytes of a line.
 pub fn line_said(alloc: Global, bytes: &[u8]) -> Result<LoggedLine, NoLine>
     ensures ok { IfOk result (SaysLine bytes.now) }
     ensures err { IfErr result (IsNoLine bytes.now) }

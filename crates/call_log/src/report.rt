@@ -1,4 +1,4 @@
-//! What is written of a log.
+//! The report of an audit.
 
 ghost use Rattle.std.specs.Prelude.{◌≡◌, IfOk, Some, map, slice_get, string_bytes};
 ghost use Rattle.call_log.specs.Reports.{AreQuoted, IsOtherOf, IsReport, clocks_text, double_text, ended_text, name_text, reason_text, standing_at, ticket_of, told_text};
@@ -17,11 +17,13 @@ use world::Reply;
 /// The entries of a log in the order of their tickets, and the names of its files.
 #[derive(Clone, Copy)]
 pub struct NamedEntries<'a> {
+    /// The names of the files.
     pub names: &'a [&'a str],
+    /// The entries.
     pub entries: &'a [Entry],
 }
 
-// The name of a file; nothing where it has none.
+// Returns the name of a file, or nothing if it has none.
 fn name_of<'a>(names: &'a [&'a str], file: usize) -> &'a str
     ensures { result.now ≡ name_text (slice_get (map (λ n. n.now) names.now) file) }
 {
@@ -31,7 +33,7 @@ fn name_of<'a>(names: &'a [&'a str], file: usize) -> &'a str
     }
 }
 
-/// Where an entry stands: the name of its file, a colon and the number of its line.
+/// Displays the position of an entry: the name of its file, a colon and the number of its line.
 #[derive(Clone, Copy)]
 struct Standing<'a> {
     log: NamedEntries<'a>,
@@ -50,7 +52,7 @@ impl fmt::Display for Standing<'_> {
     }
 }
 
-/// A lease that has ended at a reading.
+/// Displays a lease that has ended at a reading.
 #[derive(Clone, Copy)]
 struct EndedText {
     word: &'static str,
@@ -76,7 +78,7 @@ impl fmt::Display for EndedText {
     }
 }
 
-/// Why a key should have been denied, where leases have ended.
+/// Displays why a key should have been denied, if its leases have ended.
 #[derive(Clone, Copy)]
 struct Reason<'a> {
     wanted: &'a Reply,
@@ -111,7 +113,7 @@ impl fmt::Display for Reason<'_> {
     }
 }
 
-// The last line of calls that are one run.
+// Returns the last line of the report on calls that are one run.
 fn clocks_text(
     alloc: Global,
     skew: u64,
@@ -139,7 +141,7 @@ fn clocks_text(
     )
 }
 
-// The ticket of an entry; 0 where there is none.
+// Returns the ticket of an entry, 0 if there is none.
 fn ticket_at(entries: &[Entry], index: usize) -> u64
     ensures { result ≡ ticket_of (slice_get entries.now index) }
 {
@@ -149,7 +151,7 @@ fn ticket_at(entries: &[Entry], index: usize) -> u64
     }
 }
 
-// The line for two entries that have one ticket: the later of them is named first.
+// Returns the line for two entries with the same ticket. It names the later one first.
 fn double_text(
     alloc: Global,
     log: NamedEntries,
@@ -162,10 +164,11 @@ fn double_text(
     let ticket = ticket_at(log.entries, first);
     let earlier = Standing { log, index: first };
     let later = Standing { log, index: second };
-    format!(in alloc; "{later}: ticket {ticket} stands at {earlier} too\n")
+    format!(in alloc; "{later}: ticket {ticket} is also at {earlier}\n")
 }
 
-// The line for a call that stands here, and whose caller was told these words in place of those that are wanted.
+// Returns the line for a call at this position, whose caller got `told` in place of the right
+// reply.
 fn told_text(
     alloc: Global,
     standing: Standing,
@@ -180,14 +183,14 @@ fn told_text(
     format!(in alloc; "{standing}: told {told}; should be \"{words}\"{reason}\n")
 }
 
-// Words in quotes.
+// Quotes words.
 fn quoted(alloc: Global, words: &str) -> Result<String, AllocError>
     ensures { IfOk result (λ text. AreQuoted words.now (string_bytes text)) }
 {
     format!(in alloc; "{words:?}")
 }
 
-// The line for a call whose caller was told otherwise.
+// Returns the line for a call whose caller got a wrong reply.
 fn other_text(
     alloc: Global,
     log: NamedEntries,
@@ -211,7 +214,7 @@ fn other_text(
     told_text(alloc, Standing { log, index }, told.as_str(), reason)
 }
 
-/// The lines that are written for what was found of the entries of a log. `skew` is in ticks.
+/// Returns the report on what an audit found. `skew` is in ticks.
 pub fn report_of(
     alloc: Global,
     skew: u64,

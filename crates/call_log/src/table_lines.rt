@@ -1,4 +1,4 @@
-//! Lines of calls of the table.
+//! Log lines of the table's calls.
 
 ghost use Rattle.std.specs.Prelude.{◌≡◌, ◌++◌};
 ghost use Rattle.serde_json.specs.View.{view};
@@ -123,7 +123,7 @@ fn rows_line(line: &Value) -> Result<LoggedCall, Refusal>
     Ok(LoggedCall::Whole(ClusterCall::Rows))
 }
 
-/// The call of this name among those of the table, or else of a task and of a clerk.
+/// Parses the call with this name, of the table, a task or a clerk.
 pub fn table_call_named(alloc: Global, name: &str, line: &Value) -> Result<LoggedCall, DecodeError>
     ensures { Gives result (read_named (table_kinds ++ task_kinds ++ clerk_kinds) name.now (view line.now)) }
 {

@@ -1,4 +1,4 @@
-//! Lines of calls of tasks.
+//! Log lines of a task's calls.
 
 ghost use Rattle.std.specs.Prelude.{◌≡◌, ◌++◌};
 ghost use Rattle.serde_json.specs.View.{view};
@@ -17,7 +17,7 @@ use slicelet::SliceletCall;
 use std::alloc::Global;
 use wire::{DecodeError, Refusal, grant_of, handle_of, kind_at, life_at, task_at};
 
-/// A grant without the ranges of its lease.
+/// Parses a grant without the ranges of its lease.
 #[tactic(auto, unfolding(crate::specs::TaskLines::bare_grant_of))]
 pub fn bare_grant_of(grant: &Value) -> Result<BareGrant, WrongForm>
     ensures { result ≡ bare_grant_of (view grant.now) }
@@ -45,7 +45,7 @@ pub fn bare_grant_of(grant: &Value) -> Result<BareGrant, WrongForm>
     })
 }
 
-// A task hears a grant, of which the ranges may be left out.
+// Parses a task's hearing of a grant, whose ranges may be left out.
 #[tactic(auto, unfolding(crate::specs::TaskLines::heard_of))]
 fn heard_of(alloc: Global, task: u64, at: u64, grant: &Value) -> Result<LoggedCall, DecodeError>
     ensures { Gives result (heard_of task at (view grant.now)) }
@@ -134,7 +134,7 @@ fn check_line(line: &Value) -> Result<LoggedCall, Refusal>
     }))
 }
 
-/// The call of this name among those of a task, or else of a clerk.
+/// Parses the call with this name, of a task or a clerk.
 pub fn task_call_named(alloc: Global, name: &str, line: &Value) -> Result<LoggedCall, DecodeError>
     ensures { Gives result (read_named (task_kinds ++ clerk_kinds) name.now (view line.now)) }
 {

@@ -1,4 +1,4 @@
-//! Replies of the machines to logged calls, as their callers are told them.
+//! The replies that callers of logged calls get.
 
 ghost use Rattle.std.specs.Prelude.{◌≡◌, IfOk, Some};
 ghost use Rattle.call_log.specs.Told.{clerk_reply, is_worded, life_in, number_in, plain_text, table_reply, task_reply, term_reply, told_as};
@@ -13,7 +13,7 @@ use std::alloc::{AllocError, Global};
 use std::fmt;
 use world::{Reply, grant_reply, refusal_by};
 
-// The life that a call names.
+// Returns the life that a call names, or 0.
 fn life_in(call: &LoggedCall) -> u32
     ensures { result ≡ life_in call.now }
 {
@@ -28,7 +28,7 @@ fn life_in(call: &LoggedCall) -> u32
     }
 }
 
-// The number that a call names, of a grant or of a generation.
+// Returns the number of the grant or the generation that a call names, or 0.
 fn number_in(call: &LoggedCall) -> u64
     ensures { result ≡ number_in call.now }
 {
@@ -94,8 +94,9 @@ fn clerk_reply(call: &LoggedCall, reply: ClerkReply) -> Reply
     }
 }
 
-/// A reply of the machines to a logged call, as a script is told it. `note` and `handle` are the numbers that
-/// the next note and the next handle get.
+/// Converts the machines' reply to a logged call to the reply that a script gets.
+///
+/// `note` and `handle` are the numbers of the next note and the next handle.
 pub fn told_as(call: &LoggedCall, note: u64, handle: u64, reply: ClusterReply) -> Reply
     ensures { result ≡ told_as call.now note handle reply }
 {
@@ -117,7 +118,7 @@ pub fn told_as(call: &LoggedCall, note: u64, handle: u64, reply: ClusterReply) -
     }
 }
 
-/// The line of a reply, without the numbers of notes and handles.
+/// Displays the line of a reply, without the numbers of notes and handles.
 #[derive(Clone, Copy)]
 pub struct PlainLine<'a>(pub &'a Reply);
 
@@ -141,7 +142,7 @@ impl fmt::Display for PlainLine<'_> {
     }
 }
 
-/// Whether words are those of a reply, with the numbers of notes and handles or without.
+/// Whether words are the line of a reply, with or without the numbers of notes and handles.
 pub fn is_worded(alloc: Global, words: &str, told: &Reply) -> Result<bool, AllocError>
     ensures { IfOk result (λ same. same ≡ is_worded words.now told.now) }
 {

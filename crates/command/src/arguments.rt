@@ -7,16 +7,35 @@ use clap::{Arg, ArgAction, ArgMatches, Command, Error};
 use session::ReplyForm;
 use std::alloc::{AllocError, Global};
 
-/// The version, and the line of the kit that it was proved with.
+/// The version, and the toolchain with which it was proved.
 const VERSION: &str = "1.0.0 (proved with rattle-kit-13b logic dac8208d650f15bf)";
 
 const STATUSES: &str = "Exit statuses:
   0  done
-  1  an audit found a fault
+  1  audit: the calls are not one run
   2  the arguments or the input are refused, or a file cannot be opened
-  3  a read fault, a write fault, or out of memory";
+  3  reading or writing failed, or memory ran out";
 
-/// Where input comes from.
+const SCRIPT_STATUSES: &str = "Exit statuses:
+  0  done
+  2  the arguments or the script are refused, or the file cannot be opened
+  3  reading or writing failed, or memory ran out";
+
+const SESSION_STATUSES: &str = "Exit statuses:
+  0  done
+  2  the arguments or the job line are refused, or the file cannot be opened
+  3  reading or writing failed, or memory ran out";
+
+const AUDIT_STATUSES: &str = "Exit statuses:
+  0  the calls are one run
+  1  the calls are not one run; the report says where
+  2  the arguments or a log are refused, or a log cannot be opened
+  3  reading or writing failed, or memory ran out";
+
+const SCRIPT: &str =
+    "The script, a JSON array of a job line and steps; standard input if it is - or missing";
+
+/// Where the input comes from.
 #[derive(Clone, Copy, Debug, PartialEq, Eq)]
 pub enum Source<'a> {
     /// The standard input.
@@ -25,41 +44,45 @@ pub enum Source<'a> {
     File(&'a str),
 }
 
-/// What is written of a script.
+/// What is written about a script.
 #[derive(Clone, Copy, Debug, PartialEq, Eq)]
 pub enum ScriptText<'a> {
-    /// A line for each of its steps, and a last line.
+    /// A reply line for each step, and a last line.
     Lines,
-    /// The same, each line of a step after its element's number and its step.
+    /// The same, with each reply line after the number of its element and the name of its step.
     Numbered,
-    /// The same, each line followed by why it is what it is.
+    /// The same, with each line followed by its reason.
     Explained,
-    /// A picture, with the stretches coloured in which each task may serve a key, and with clerks.
+    /// A picture, optionally with the stretches in which each task may serve a key, and with
+    /// clerks.
     Picture { key: Option<&'a str>, clerks: bool },
 }
 
 /// What the command does with its input.
 #[derive(Clone, Copy, Debug, PartialEq, Eq)]
 pub enum Subcommand<'a> {
-    /// Play a script, and write this of it.
+    /// Play a script, and write this about it.
     Play { text: ScriptText<'a> },
     /// Answer each line with a line, in this form.
     Session { form: ReplyForm },
 }
 
-/// Something to do with one input.
+/// One input, and what to do with it.
 #[derive(Clone, Copy, Debug, PartialEq, Eq)]
 pub struct Request<'a> {
+    /// What to do.
     pub subcommand: Subcommand<'a>,
+    /// Where the input comes from.
     pub source: Source<'a>,
 }
 
-/// What the words of a command line ask for.
+/// What a command line asks for.
 #[derive(Debug, Drop)]
 pub enum Asked<'a> {
     /// Answer one input.
     Answer(Request<'a>),
-    /// Audit the logs of these names, of which `-` is the standard input, and count their lines where that is wanted.
+    /// Audit the logs with these names, where `-` is standard input, and report progress if asked
+    /// to.
     Audit { names: Vec<&'a str>, progress: bool },
 }
 
@@ -75,65 +98,64 @@ fn file_argument<'a>(alloc: Global, help: &'a str) -> Arg<'a> {
 }
 
 fn run_command<'a>(alloc: Global) -> Result<Command<'a>, AllocError> {
-    let number = "Write each line after its element's number and its step";
-    let file = "The script; standard input where it is - or left out";
+    let number = "Begin each reply line with the number of its element and the name of its step";
     Command::new(alloc, "run")
-        .about("Play a script, and write a line for each of its steps and a last line")
-        .after_help(STATUSES)
+        .about("Play a script, and write the reply to each step and whether clocks were timely")
+        .after_help(SCRIPT_STATUSES)
         .arg(flag(alloc, "number", number))?
-        .arg(file_argument(alloc, file))
+        .arg(file_argument(alloc, SCRIPT))
 }
 
 fn explain_command<'a>(alloc: Global) -> Result<Command<'a>, AllocError> {
-    let file = "The script; standard input where it is - or left out";
     Command::new(alloc, "explain")
-        .about("Play a script, and write each line of run with why it is what it is")
-        .after_help(STATUSES)
-        .arg(file_argument(alloc, file))
+        .about("Play a script as run does, and write a reason after each line that needs one")
+        .after_help(SCRIPT_STATUSES)
+        .arg(file_argument(alloc, SCRIPT))
 }
 
 fn timeline_command<'a>(alloc: Global) -> Result<Command<'a>, AllocError> {
-    let file = "The script; standard input where it is - or left out";
     let key = Arg::new(alloc, "key")
         .long("key")
         .value_name("KEY")
-        .help("Colour where each task may serve this key")
+        .help("Colour the readings at which each task may serve this key")
         .action(ArgAction::Set);
     Command::new(alloc, "timeline")
-        .about("Play a script, and write a picture of it as SVG")
-        .after_help(STATUSES)
+        .about("Play a script, and draw it as an SVG picture")
+        .after_help(SCRIPT_STATUSES)
         .arg(key)?
         .arg(flag(alloc, "clerks", "Draw the clerks too"))?
-        .arg(file_argument(alloc, file))
+        .arg(file_argument(alloc, SCRIPT))
 }
 
 fn session_command<'a>(alloc: Global) -> Result<Command<'a>, AllocError> {
-    let file = "The lines; standard input where it is - or left out";
+    let file =
+        "The lines, a job line and then one step a line; standard input if it is - or missing";
     Command::new(alloc, "session")
-        .about("Read a job line and then a step a line, and answer each step with a line at once")
-        .after_help(STATUSES)
-        .arg(flag(alloc, "json", "Answer with JSON objects"))?
+        .about("Read steps line by line, and write the reply to each step at once")
+        .after_help(SESSION_STATUSES)
+        .arg(flag(alloc, "json", "Write replies as JSON objects"))?
         .arg(file_argument(alloc, file))
 }
 
 fn audit_command<'a>(alloc: Global) -> Result<Command<'a>, AllocError> {
     let logs = Arg::new(alloc, "LOG")
-        .help("The logs; - is standard input. The first line of the first one is the job")
+        .help("The logs; - is standard input. The first line of the first log is the job line")
         .required(true)
         .num_args(1..)
         .action(ArgAction::Append);
+    let progress = "Report every 100,000 lines read and calls judged on standard error";
     Command::new(alloc, "audit")
-        .about("Judge logs of what a service did, and write whether it is one run of the machines")
-        .after_help(STATUSES)
-        .arg(flag(alloc, "progress", "Count lines on the standard error"))?
+        .about("Read logs of a service's calls, and report whether they are one run of the job")
+        .after_help(AUDIT_STATUSES)
+        .arg(flag(alloc, "progress", progress))?
         .arg(logs)
 }
 
-// The command with its subcommands.
+// Returns the command with its subcommands.
 fn hourstable_command<'a>(alloc: Global) -> Result<Command<'a>, AllocError> {
     Command::new(alloc, "hourstable")
         .version(VERSION)
-        .about("Decides which server task may answer for a key")
+        .about("Run scripts and sessions of a key ownership service, and audit its logs")
         .after_help(STATUSES)
         .subcommand_required(true)
         .subcommand(run_command(alloc)?)?
@@ -150,7 +172,7 @@ fn source_of<'a>(matches: &ArgMatches<'a>) -> Source<'a> {
     }
 }
 
-// A script is to be played, and this to be written of it.
+// Returns a request to play a script and write `text` about it.
 fn play_request<'a>(matches: &ArgMatches<'a>, text: ScriptText<'a>) -> Asked<'a> {
     Asked::Answer(Request {
         subcommand: Subcommand::Play { text },
@@ -184,7 +206,7 @@ fn session_request<'a>(matches: &ArgMatches<'a>) -> Asked<'a> {
     })
 }
 
-// All logs that were given are to be audited, in their order.
+// Returns a request to audit all logs that were given, in their order.
 fn audited<'a>(alloc: Global, matches: &ArgMatches<'a>) -> Result<Asked<'a>, AllocError>
     ensures { IfOk result (AsksAudit (logs_given matches.now)) }
 {
@@ -194,8 +216,10 @@ fn audited<'a>(alloc: Global, matches: &ArgMatches<'a>) -> Result<Asked<'a>, All
     Ok(Asked::Audit { names, progress })
 }
 
-/// What the words of a command line ask for, the name of the program first; or the text for help, for the
-/// version, or for words that ask for nothing that the command does.
+/// Parses a command line, whose first word is the name of the program.
+///
+/// The error has the text for `--help`, for `--version`, or for words that ask for nothing the
+/// command does.
 pub fn parse_words<'a>(alloc: Global, words: &'a [String]) -> Result<Asked<'a>, Error> {
     let matches = hourstable_command(alloc)?.try_get_matches_from(words)?;
     match matches.subcommand() {

@@ -1,4 +1,4 @@
-//! The command `hourstable`: its arguments, and what it reads and writes.
+//! The command `hourstable`: its arguments, its input and its output.
 #![tactic(auto)]
 
 mod arguments;

@@ -1,4 +1,4 @@
-//! `hourstable audit`: the bytes of logs in, a report out.
+//! `hourstable audit`: reads logs, and writes a report.
 
 ghost use Rattle.std.specs.Prelude.{◌≡◌, IfErr, IfOk, map, string_bytes};
 ghost use Rattle.call_log.specs.Audits.{IsAudited};
@@ -13,14 +13,14 @@ use std::fs::File;
 use std::io::{Error, Read, Write};
 use std::rt::Files;
 
-/// Why logs are not judged.
+/// Why logs are not audited.
 #[derive(Debug, Drop)]
 pub enum AuditError<'a> {
-    /// The log of this name cannot be opened.
+    /// The log with this name cannot be opened.
     Unopened { name: &'a str, error: Error },
-    /// The log of this name cannot be read to its end.
+    /// The log with this name cannot be read to its end.
     Read { name: &'a str },
-    /// The logs say no calls.
+    /// The logs are not a job and its calls.
     Refused(LogError),
     /// The report cannot be written.
     Write,
@@ -29,7 +29,7 @@ pub enum AuditError<'a> {
 }
 
 impl AuditError<'_> {
-    /// The status that the command exits with: 2 where a log cannot be opened or says no calls, and else 3.
+    /// Returns the exit status: 2 if a log cannot be opened or is refused, otherwise 3.
     pub fn status(&self) -> u8
         ensures { result ≡ status_of self.now }
     {
@@ -64,14 +64,14 @@ impl From<WriteError> for AuditError<'_> {
     }
 }
 
-/// Tells how far an audit is, where that is wanted.
+/// Reports the progress of an audit, if that is wanted.
 #[derive(Drop)]
 struct Counting<'a, E: Write> {
     errors: &'a mut E,
     is_wanted: bool,
 }
 
-/// How many lines lie between two counts.
+/// How many lines there are between two reports of progress.
 const EACH: u64 = 100_000;
 
 impl<E: Write> Counting<'_, E> {
@@ -92,16 +92,16 @@ impl<E: Write> Progress for Counting<'_, E> {
     }
 }
 
-/// What is to be audited.
+/// An audit to do.
 #[derive(Clone, Copy, Debug)]
 pub struct Audit<'n, 'a> {
-    /// The names of the logs, of which `-` is the standard input.
+    /// The names of the logs, where `-` is standard input.
     pub names: &'n [&'a str],
-    /// Whether lines are counted on the standard error.
+    /// Whether to report progress on standard error.
     pub progress: bool,
 }
 
-// Reads a log of this name to its end.
+// Reads the log with this name to its end.
 fn read_named<'a, R: Read>(
     alloc: Global,
     name: &'a str,
@@ -118,7 +118,7 @@ fn read_named<'a, R: Read>(
     }
 }
 
-// The bytes of the log of this name; `-` is the standard input.
+// Returns the bytes of the log with this name; `-` is standard input.
 fn log_bytes<'a, R: Read>(
     rt: &(impl Files + AllocGlobal),
     name: &'a str,
@@ -137,7 +137,7 @@ fn log_bytes<'a, R: Read>(
     }
 }
 
-// The bytes of the logs of these names, in their order.
+// Returns the bytes of the logs with these names, in their order.
 fn contents_of<'a, R: Read>(
     rt: &(impl Files + AllocGlobal),
     names: &[&'a str],
@@ -154,7 +154,7 @@ fn contents_of<'a, R: Read>(
     Ok(contents)
 }
 
-// The same bytes, lent.
+// Borrows the bytes of each log.
 fn slices_of(alloc: Global, contents: &[Vec<u8>]) -> Result<Vec<&[u8]>, AllocError>
     ensures { IfOk result (λ files. map (λ f. f.now) files.items ≡ map (λ v. v.items) contents.now) }
 {
@@ -165,7 +165,7 @@ fn slices_of(alloc: Global, contents: &[Vec<u8>]) -> Result<Vec<&[u8]>, AllocErr
     Ok(files)
 }
 
-// What is said of logs of these bytes.
+// Returns the report on logs with these bytes.
 fn report_on<'a, E: Write>(
     alloc: Global,
     audit: Audit<'_, 'a>,
@@ -187,10 +187,10 @@ fn report_on<'a, E: Write>(
     }
 }
 
-/// Reads the logs of these names to their ends, in their order, and writes what is found of the calls of all of
-/// them. Gives whether they are one run. Each `-` stands for what the input still has.
+/// Audits the logs with these names, writes a report, and returns whether their calls are one run.
 ///
-/// Nothing is written to `output` before all logs were read and judged.
+/// The logs are read to their ends, in their order, and judged as one log. Each `-` is what is left
+/// of the input. Nothing is written to `output` before all logs were read and judged.
 pub fn audit_named<'a, R: Read, W: Write, E: Write>(
     rt: &(impl Files + AllocGlobal),
     audit: Audit<'_, 'a>,
@@ -210,13 +210,13 @@ pub fn audit_named<'a, R: Read, W: Write, E: Write>(
     Ok(report.is_one)
 }
 
-// Says what is wrong with the line at a place.
+// Reports what is wrong with the line at a position.
 fn say_line<E: Write>(errors: &mut E, names: &[&str], place: Place, words: &str) {
     let name = names.get(place.file).copied().unwrap_or("-");
     let _ = writeln!(errors, "hourstable: {name}:{}: {words}", place.line);
 }
 
-/// Says why logs are not judged.
+/// Reports why logs are not audited.
 pub fn say_error<E: Write>(errors: &mut E, names: &[&str], error: &AuditError) {
     match error {
         AuditError::Unopened { name, error } => {
@@ -237,7 +237,7 @@ pub fn say_error<E: Write>(errors: &mut E, names: &[&str], error: &AuditError) {
         AuditError::Refused(LogError::Empty | LogError::Memory) => {
             let _ = writeln!(
                 errors,
-                "hourstable: the logs have no line; the first says a job"
+                "hourstable: the logs are empty; the first line must be the job line"
             );
         }
         AuditError::Write => {

@@ -21,19 +21,19 @@ use std::io::{BufRead, BufReader, Read, Write};
 use std::process::ExitCode;
 use std::rt::Files;
 
-/// The status where what was asked for is done.
+/// The exit status when the request is done.
 const DONE: u8 = 0;
 
-/// The status where the calls of logs are not one run.
+/// The exit status when the calls of logs are not one run.
 const FAULT: u8 = 1;
 
-/// The status where the arguments or the input are refused.
+/// The exit status when the arguments or the input are refused.
 const REFUSED: u8 = 2;
 
-/// The status where a stream fails, or memory runs out.
+/// The exit status when a stream fails or memory runs out.
 const FAILED: u8 = 3;
 
-// Says why the input of this name is not answered.
+// Reports why the input with this name cannot be answered.
 fn say<E: Write>(errors: &mut E, name: &str, error: &AnswerError) {
     match error {
         AnswerError::Refused(faults) => {
@@ -53,7 +53,7 @@ fn say<E: Write>(errors: &mut E, name: &str, error: &AnswerError) {
     }
 }
 
-// The status for how the input of this name was answered; what there is to say is said.
+// Reports a failure and returns the exit status.
 fn ended<E: Write>(errors: &mut E, name: &str, answer: &Result<(), AnswerError>) -> u8
     ensures { result ≡ status_after answer.now }
 {
@@ -66,7 +66,7 @@ fn ended<E: Write>(errors: &mut E, name: &str, answer: &Result<(), AnswerError>)
     }
 }
 
-// Does what is asked for with what a reader gives.
+// Does what the subcommand asks for with the bytes of a reader.
 fn answer_reader<R: BufRead, W: Write>(
     alloc: Global,
     subcommand: Subcommand<'_>,
@@ -82,7 +82,7 @@ fn answer_reader<R: BufRead, W: Write>(
     }
 }
 
-// Does what is asked for with a file.
+// Does what the subcommand asks for with a file.
 fn answer_file<F: Read + Drop, W: Write>(
     alloc: Global,
     subcommand: Subcommand<'_>,
@@ -98,7 +98,7 @@ fn answer_file<F: Read + Drop, W: Write>(
     }
 }
 
-// Does what is asked for, with the input or with a file.
+// Does what is asked for with the input or a file, and returns the exit status.
 fn run<R: BufRead, W: Write, E: Write>(
     rt: &(impl Files + AllocGlobal),
     request: Request<'_>,
@@ -127,7 +127,7 @@ fn run<R: BufRead, W: Write, E: Write>(
     }
 }
 
-// Audits the logs of these names, all of them, and says why they are not judged where they are not.
+// Audits logs, reports why they cannot be audited, and returns the exit status.
 fn judge_logs<R: Read, W: Write, E: Write>(
     rt: &(impl Files + AllocGlobal),
     audit: Audit<'_, '_>,
@@ -148,7 +148,7 @@ fn judge_logs<R: Read, W: Write, E: Write>(
     }
 }
 
-// Does what is asked for.
+// Does what is asked for and returns the exit status.
 fn do_asked<R: BufRead, W: Write, E: Write>(
     rt: &(impl Files + AllocGlobal),
     asked: Asked<'_>,
@@ -169,7 +169,7 @@ fn do_asked<R: BufRead, W: Write, E: Write>(
     }
 }
 
-// Writes help or the version, or says what is wrong with the words.
+// Writes the help or the version, or reports what is wrong with the words.
 fn tell<W: Write, E: Write>(alloc: Global, error: &Error, output: &mut W, errors: &mut E) -> u8
     ensures { IsWithoutInput (W.contents output.old) (W.contents output.new) result }
 {
@@ -194,11 +194,12 @@ fn tell<W: Write, E: Write>(alloc: Global, error: &Error, output: &mut W, errors
     }
 }
 
-/// Does what the words of a command line ask for, the name of the program first, and gives the exit status.
+/// Does what a command line asks for, and returns the exit status.
 ///
-/// Nothing but results goes to `output`; why there are none goes to `errors`, each line after the name of the
-/// program. The status is 0 where it is done, 2 where the words or the input are refused or a file cannot be
-/// opened, and 3 where a stream fails or memory runs out.
+/// The first word is the name of the program. Only results are written to `output`; failures are
+/// written to `errors`, each line after the name of the program. The status is 0 if the request is
+/// done, 1 if an audit finds that the calls are not one run, 2 if the words or the input are
+/// refused or a file cannot be opened, and 3 if a stream fails or memory runs out.
 pub fn do_words<R: BufRead, W: Write, E: Write>(
     rt: &(impl Files + AllocGlobal),
     words: &[String],
@@ -215,7 +216,7 @@ pub fn do_words<R: BufRead, W: Write, E: Write>(
     }
 }
 
-/// The program: does what its arguments ask for.
+/// Runs the command with the arguments of the process, and returns the exit status.
 pub fn hourstable<R: Read + Drop, W: Write, E: Write>(
     rt: &(impl Env + Files + AllocGlobal),
     input: R,

@@ -1,4 +1,4 @@
-//! `hourstable run`, `explain` and `timeline`: a script's bytes in, a text of it out.
+//! `hourstable run`, `explain` and `timeline`: each reads a script, and writes a text about it.
 
 ghost use Rattle.std.specs.Prelude.{◌≡◌, IfErr, IfOk, OnOk, string_bytes, true};
 ghost use Rattle.std.specs.List.{list_all};
@@ -19,7 +19,7 @@ use std::io::{Read, Write};
 use timeline::timeline_svg;
 use world::{Reply, Step};
 
-// The script that the bytes say.
+// Parses the script in the bytes.
 fn script_in(alloc: Global, bytes: &[u8]) -> Result<Script, AnswerError>
     ensures ok { IfOk result (SaysScript bytes.now) }
     ensures err { IfErr result (IsUnread bytes.now) }
@@ -39,7 +39,7 @@ fn script_in(alloc: Global, bytes: &[u8]) -> Result<Script, AnswerError>
     }
 }
 
-// The lines of the replies, each after the number of its element and the name of its step.
+// Returns the reply lines, each after the number of its element and the name of its step.
 fn lines_of(alloc: Global, steps: &[Step], replies: &[Reply]) -> Result<String, AllocError>
     ensures lines { IfOk result (λ text. string_bytes text ≡ numbered_lines 1 steps.now replies.now) }
     ensures answers { IfOk result (λ text. list_all is_answer replies.now ≡ true) }
@@ -57,7 +57,7 @@ fn lines_of(alloc: Global, steps: &[Step], replies: &[Reply]) -> Result<String, 
     Ok(text)
 }
 
-// The numbered lines of the replies, and the last line.
+// Returns the numbered reply lines and the last line.
 fn numbered_text(
     alloc: Global,
     steps: &[Step],
@@ -76,7 +76,7 @@ fn numbered_text(
     Ok(text)
 }
 
-// Plays the steps of a script, and gives the text of their replies with numbers.
+// Plays the steps of a script, and returns the text of their replies with numbers.
 fn numbered_output(alloc: Global, script: &Script) -> Result<String, AllocError>
     ensures { IfOk result (λ text. IsShownNumbered script.now (string_bytes text)) }
 {
@@ -87,7 +87,7 @@ fn numbered_output(alloc: Global, script: &Script) -> Result<String, AllocError>
     Ok(text)
 }
 
-// What is to be written of a script.
+// Returns the text to write about a script.
 fn shown(alloc: Global, text: ScriptText, script: &Script) -> Result<String, AllocError>
     ensures { IfOk result (λ shown. IsShown text.entry script.now (string_bytes shown)) }
 {
@@ -99,10 +99,11 @@ fn shown(alloc: Global, text: ScriptText, script: &Script) -> Result<String, All
     }
 }
 
-/// Reads a script to its end, and then writes what is wanted of it.
+/// Reads a script to its end, plays it, and writes the text that is wanted.
 ///
-/// Nothing is written before the whole script was read, checked and played: after a refused script, a read
-/// fault or a memory fault nothing was written, after a write fault a first part.
+/// Nothing is written before the whole script was read, checked and played. If the script is
+/// refused, reading fails or memory runs out, nothing was written; if writing fails, a first part
+/// was.
 pub fn run_lines<R: Read, W: Write>(
     alloc: Global,
     text: ScriptText,

@@ -5,7 +5,7 @@ ghost use Rattle.command.specs.Runs.{step_word};
 
 use world::Step;
 
-/// The word by which a script names the step, its member `do`.
+/// Returns the name of the step, which is its member `do` in a script.
 pub fn step_word(step: &Step) -> &'static str
     ensures { result.now ≡ step_word step.now }
 {

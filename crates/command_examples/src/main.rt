@@ -1,6 +1,9 @@
-//! Gives the command the words and the input of `data/`, and compares what it writes with the files beside them:
-//! NAME.words has a word a line, NAME.stdin the standard input, NAME.stdout what is written, NAME.stderr what
-//! is said, and NAME.status the exit status. Then compares sessions with the scripts of their lines.
+//! Runs the command on the words and the input in `data/`, and compares what it writes with stored
+//! files.
+//!
+//! NAME.words has a word a line and NAME.stdin the standard input. The command must write
+//! NAME.stdout to standard output and NAME.stderr to standard error, and exit with the status in
+//! NAME.status. Some sessions are also compared with the scripts of their lines.
 #![tactic(auto)]
 
 use anyhow::Result;
@@ -84,7 +87,7 @@ const NAMES: [&str; 72] = [
     "timeline-bad-step",
 ];
 
-/// Sessions that are compared with the scripts of their lines.
+/// Sessions to compare with the scripts of their lines.
 const ALIKE: [&str; 11] = [
     "session-json-hash",
     "session-json-draft",
@@ -99,7 +102,7 @@ const ALIKE: [&str; 11] = [
     "session-json-next",
 ];
 
-/// What the command gave, or what it is to give.
+/// What a run of the command writes and returns.
 #[derive(Debug, Drop)]
 struct Outcome {
     written: String,
@@ -120,7 +123,7 @@ fn text_of(rt: &(impl Files + AllocGlobal), name: &str, ending: &str) -> Result<
     Ok(fs::read_to_string(rt, file.as_str())?)
 }
 
-// The words of these lines, after the name of the program.
+// Returns the words on these lines, after the name of the program.
 fn words_of(alloc: Global, lines: &str) -> Result<Vec<String>> {
     let mut words = Vec::new(alloc);
     words.push(String::from_str(alloc, "hourstable")?)?;
@@ -130,7 +133,7 @@ fn words_of(alloc: Global, lines: &str) -> Result<Vec<String>> {
     Ok(words)
 }
 
-// What the files beside the words say.
+// Returns the outcome in the files of this name.
 fn expected(rt: &(impl Files + AllocGlobal), name: &str) -> Result<Outcome> {
     Ok(Outcome {
         written: text_of(rt, name, "stdout")?,
@@ -139,7 +142,7 @@ fn expected(rt: &(impl Files + AllocGlobal), name: &str) -> Result<Outcome> {
     })
 }
 
-// What the command gives for words, a word a line, and input.
+// Runs the command on words, a word a line, and on input.
 fn given(rt: &(impl Files + AllocGlobal), words: &str, input: &str) -> Result<Outcome> {
     let words = words_of(rt.alloc(), words)?;
     let mut written = Vec::new(rt.alloc());
@@ -153,14 +156,14 @@ fn given(rt: &(impl Files + AllocGlobal), words: &str, input: &str) -> Result<Ou
     })
 }
 
-// What the command gives for the words and the input of this name.
+// Runs the command on the words and the input with this name.
 fn given_for(rt: &(impl Files + AllocGlobal), name: &str) -> Result<Outcome> {
     let words = text_of(rt, name, "words")?;
     let input = text_of(rt, name, "stdin")?;
     given(rt, words.as_str(), input.as_str())
 }
 
-// The script whose elements are these lines.
+// Returns the script whose elements are these lines.
 fn script_of(alloc: Global, lines: &str) -> Result<String> {
     let mut script = String::from_str(alloc, "[")?;
     for (i, line) in lines.lines().enumerate() {

@@ -1,4 +1,4 @@
-//! Why a command does not answer its input.
+//! Why a command cannot answer its input.
 
 ghost use Rattle.std.specs.Prelude.{◌≡◌};
 ghost use Rattle.diagnosis.specs.declared.error.AnswerError.TheVariants as answer;
@@ -8,21 +8,21 @@ use crate::faults::ScriptFault;
 use program_io::{ReadError, WriteError};
 use std::alloc::{AllocError, AllocFailed};
 
-/// Why a command does not answer its input.
+/// Why a command cannot answer its input.
 #[derive(Debug, Drop)]
 pub enum AnswerError {
-    /// The input is refused for these faults, the lowest element first.
+    /// The input is refused for these faults, lowest element first.
     Refused(Vec<ScriptFault>),
-    /// The reader failed, or did not come to its end.
+    /// The reader failed, or did not reach its end.
     Read,
-    /// The writer failed, or took no more.
+    /// The writer failed, or took no more bytes.
     Write,
     /// Memory ran out.
     Memory,
 }
 
 impl AnswerError {
-    /// The status that a command exits with at this error: 2 where the input is refused, and else 3.
+    /// Returns the exit status for the error: 2 if the input is refused, otherwise 3.
     pub fn status(&self) -> u8
         ensures { result ≡ status_of self.now }
     {

@@ -16,13 +16,15 @@ use std::alloc::{AllocError, Global};
 use std::fmt;
 use world::Job;
 
-/// How many faults of one script are told at the most.
+/// How many faults of one script are reported at most.
 pub const MOST_FAULTS: usize = 20;
 
-/// A fault of a script: what it is refused for, and what to mend.
+/// A fault of a script, and how to fix it.
 #[derive(Debug, Drop)]
 pub struct ScriptFault {
+    /// Why the script is refused.
     pub refusal: ScriptError,
+    /// How to fix it, in words.
     pub mend: String,
 }
 
@@ -40,7 +42,7 @@ impl fmt::Display for ScriptFault {
     }
 }
 
-// What to mend in an element, if it is no step of the job.
+// Returns how to fix an element, or `None` if it is a step of the job.
 fn mend_of(alloc: Global, job: Job, element: &Value) -> Result<Option<String>, AllocError>
     ensures { IfOk result (λ mend. MatchOption mend (IsOk (step_of job (view element.now)))
         (λ _. step_of job (view element.now) ≡ Err wrong)) }
@@ -52,7 +54,7 @@ fn mend_of(alloc: Global, job: Job, element: &Value) -> Result<Option<String>, A
     }
 }
 
-// The first elements after the job line that are no steps, each with what to mend.
+// Returns the first elements after the job line that are not steps, each with its fix.
 fn bad_steps_of(alloc: Global, job: Job, elements: &[Value]) -> Result<Vec<ScriptFault>, AllocError>
     ensures { IfOk result (λ faults. map (λ f. f.refusal) faults.items ≡ bad_steps_in job (map view elements.now)) }
 {
@@ -72,31 +74,33 @@ fn bad_steps_of(alloc: Global, job: Job, elements: &[Value]) -> Result<Vec<Scrip
     Ok(faults)
 }
 
-// What to mend in a value whose job line or whose number of steps is refused.
+// Returns how to fix a value whose job line or number of steps is refused.
 fn head_mend(alloc: Global, value: &Value) -> Result<String, AllocError> {
     let Some(elements) = value.as_array() else {
         return format!(in alloc;
-            "{}; a script is an array of a job line and steps",
+            "found {}; a script must be an array of a job line and steps",
             Found(value)
         );
     };
     let [line, steps @ ..] = elements.as_slice() else {
         return String::from_str(
             alloc,
-            "the array is empty; its first element is the job line",
+            "the array is empty; its first element must be the job line",
         );
     };
     match job_member(line) {
         Err(_) => job_line_mend(alloc, line),
         Ok(job) => match service::job_of(job) {
             Err(_) => job_mend(alloc, job),
-            Ok(_job) => format!(in alloc; "{}; a script has at most 4096", steps.len()),
+            Ok(_job) => format!(in alloc; "{} steps; a script may have at most 4096", steps.len()),
         },
     }
 }
 
-/// The faults of the script that a value says, the lowest element first: one where the job line or the number
-/// of steps is refused, else the first [`MOST_FAULTS`] elements that are no steps. A script has none.
+/// Returns the faults of a script, lowest element first, and none for a valid script.
+///
+/// If the job line or the number of steps is refused, that is the only fault. Otherwise the faults
+/// are the first [`MOST_FAULTS`] elements that are not steps.
 #[tactic(auto, unfolding(crate::specs::Faults::refusals_of))]
 pub fn faults_of(alloc: Global, value: &Value) -> Result<Vec<ScriptFault>, AllocError>
     ensures { IfOk result (λ faults. map (λ f. f.refusal) faults.items ≡ refusals_of (view value.now)) }

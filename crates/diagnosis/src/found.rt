@@ -1,9 +1,9 @@
-//! What a JSON value is, in words.
+//! JSON values in words.
 
 use serde_json::Value;
 use std::fmt;
 
-/// A JSON value, named by what it is: a number or a flag as it is written, any other by its kind.
+/// Displays what a JSON value is: a number or a flag as written, anything else by its kind.
 #[derive(Clone, Copy)]
 pub struct Found<'v>(pub &'v Value);
 
@@ -14,7 +14,7 @@ impl fmt::Display for Found<'_> {
             Value::Bool(true) => f.write_str("true"),
             Value::Bool(false) => f.write_str("false"),
             Value::Number(number) => write!(f, "{number}"),
-            Value::String(_) => f.write_str("a text"),
+            Value::String(_) => f.write_str("a string"),
             Value::Array(_) => f.write_str("an array"),
             Value::Object(_) => f.write_str("an object"),
         }

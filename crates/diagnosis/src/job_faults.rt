@@ -1,4 +1,4 @@
-//! What to mend in a job line.
+//! How to fix a job line.
 
 use crate::found::Found;
 use crate::step_faults::{missing_member, unknown_member};
@@ -7,7 +7,7 @@ use crate::wanted::{Wanted, WrongMember};
 use serde_json::Value;
 use std::alloc::{AllocError, Global};
 
-/// The one member of a job line.
+/// The only member of a job line.
 const LINE: Members = Members {
     kind: "job line",
     names: &["job"],
@@ -26,11 +26,11 @@ const NAMES: &[&str] = &[
     "clerks",
 ];
 
-/// What to mend in a value that is no job line: an object with the one member `job`.
+/// Returns how to fix a value that is not a job line, which is an object with the one member `job`.
 pub fn job_line_mend(alloc: Global, line: &Value) -> Result<String, AllocError> {
-    let wanted = "the job line is an object with the one member \"job\"";
+    let wanted = "the job line must be an object with one member, \"job\"";
     let Some(object) = line.as_object() else {
-        return format!(in alloc; "{}; {wanted}", Found(line));
+        return format!(in alloc; "found {}; {wanted}", Found(line));
     };
     match unknown_member(object, LINE, "job") {
         Some(unknown) => format!(in alloc; "unknown member {unknown:?}; {wanted}"),
@@ -38,12 +38,12 @@ pub fn job_line_mend(alloc: Global, line: &Value) -> Result<String, AllocError> 
     }
 }
 
-// The number of this member, where it is one.
+// Returns the number in this member, if it is one.
 fn number_of(job: &Value, member: &str) -> Option<u64> {
     job.get(member).and_then(Value::as_u64)
 }
 
-// What is said of the first of the job's members that is not what is wanted of it.
+// Describes the first member of the job whose value is wrong.
 fn wrong_member(alloc: Global, job: &Value) -> Result<Option<String>, AllocError> {
     for name in NAMES {
         let Some(value) = job.get(*name) else {
@@ -62,7 +62,7 @@ fn wrong_member(alloc: Global, job: &Value) -> Result<Option<String>, AllocError
     Ok(None)
 }
 
-// What to mend where each member is there and no other: the first that is not as it has to be.
+// Returns how to fix a job that has exactly its members: describes the first with a wrong value.
 fn values_mend(alloc: Global, job: &Value) -> Result<String, AllocError> {
     if let Some(wrong) = wrong_member(alloc, job)? {
         return Ok(wrong);
@@ -71,16 +71,18 @@ fn values_mend(alloc: Global, job: &Value) -> Result<String, AllocError> {
     for name in ["guard", "bridge"] {
         let term = number_of(job, name).unwrap_or(0);
         if term <= skew {
-            return format!(in alloc; "\"skew\" {skew} is not below \"{name}\" {term}");
+            return format!(in alloc;
+                "\"skew\" is {skew}; it must be below \"{name}\", which is {term}"
+            );
         }
     }
-    String::from_str(alloc, "a member is not within its limits")
+    String::from_str(alloc, "a member is outside its limits")
 }
 
-/// What to mend in a value that is no job.
+/// Returns how to fix a value that is not a job.
 pub fn job_mend(alloc: Global, job: &Value) -> Result<String, AllocError> {
     let Some(object) = job.as_object() else {
-        return format!(in alloc; "{}; a job is an object", Found(job));
+        return format!(in alloc; "found {}; a job must be an object", Found(job));
     };
     let members = Members {
         kind: "job",

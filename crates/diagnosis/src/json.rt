@@ -1,4 +1,4 @@
-//! Where bytes stop to be JSON.
+//! Where bytes stop being JSON.
 
 ghost use Rattle.std.specs.Prelude.{◌≡◌, [], ◌∷◌, IfOk, map};
 
@@ -7,7 +7,7 @@ use serde_json::Error;
 use service::ScriptError;
 use std::alloc::{AllocError, Global};
 
-// The reader's own words, without the place at which it stopped.
+// Returns the JSON reader's message, without the position at which it stopped.
 fn words_of(alloc: Global, error: &Error) -> Result<String, AllocError> {
     let text = format!(in alloc; "{error}")?;
     let ending = format!(in alloc; " at line {} column {}", error.line(), error.column())?;
@@ -18,14 +18,15 @@ fn words_of(alloc: Global, error: &Error) -> Result<String, AllocError> {
     String::from_str(alloc, words)
 }
 
-// The line and the column at which the reader stopped, and its words.
+// Returns the line and the column at which the reader stopped, and its message.
 fn json_mend(alloc: Global, error: &Error) -> Result<String, AllocError> {
     let words = words_of(alloc, error)?;
     format!(in alloc; "line {} column {}: {words}", error.line(), error.column())
 }
 
-/// What to mend in a line that is no JSON text: the column at which the reader stopped, and why. It stops at
-/// the end where more was to come.
+/// Returns how to fix a line that is not JSON: the column at which the reader stopped, and why.
+///
+/// The reader stops at the end of the line if the text is cut off.
 pub fn line_mend(alloc: Global, error: &Error) -> Result<String, AllocError> {
     let words = words_of(alloc, error)?;
     if error.line() > 1 {
@@ -34,7 +35,7 @@ pub fn line_mend(alloc: Global, error: &Error) -> Result<String, AllocError> {
     format!(in alloc; "column {}: {words}", error.column())
 }
 
-/// The one fault of bytes that are no JSON text: where the reader stopped, and why.
+/// Returns the one fault of bytes that are not JSON: where the reader stopped, and why.
 pub fn json_faults(alloc: Global, error: &Error) -> Result<Vec<ScriptFault>, AllocError>
     ensures { IfOk result (λ faults. map (λ f. f.refusal) faults.items ≡ ScriptError.NotJson ∷ []) }
 {

@@ -1,4 +1,4 @@
-//! What holds of the faults of every script.
+//! A law on the faults of scripts.
 
 ghost use Rattle.std.specs.Prelude.{◌≡◌, List, [], ◌∷◌, Ok, Err};
 ghost use Rattle.serde_json.specs.Data.{Data};
@@ -7,7 +7,8 @@ ghost use Rattle.service.specs.declared.script.Script.{Script};
 ghost use Rattle.service.specs.Scripts.{script_of};
 ghost use Rattle.diagnosis.specs.Faults.{refusals_of};
 
-/// The first fault that is told of a value is the one that its script is refused for; a script has none.
+/// Law: the first fault that is reported is the one the script is refused for; a valid script has
+/// none.
 pub fn first_fault_law()
     ensures refused { (value : Data) (why : ScriptError) → script_of value ≡ Err why
         → (others : List ScriptError) × (refusals_of value ≡ why ∷ others) }

@@ -1,4 +1,4 @@
-//! The faults of a script or of a line, each with what to mend.
+//! The faults of a script or a line, each with how to fix it.
 #![tactic(auto)]
 
 mod error;

@@ -1,4 +1,4 @@
-//! What to mend in an element that is no step.
+//! How to fix an element that is not a step.
 
 use crate::found::Found;
 use crate::steps::{Members, members_of};
@@ -7,7 +7,7 @@ use serde_json::{Map, Value};
 use std::alloc::{AllocError, Global};
 use world::Job;
 
-/// The first member of an object that is neither of these nor of the other name.
+/// Returns the first member of an object that is neither in `members` nor named `other`.
 pub fn unknown_member<'v>(
     object: &'v Map<String, Value>,
     members: Members,
@@ -22,7 +22,7 @@ pub fn unknown_member<'v>(
     None
 }
 
-/// The first of these members that an object does not have.
+/// Returns the first of these members that an object lacks.
 pub fn missing_member(value: &Value, members: Members) -> Option<&'static str> {
     for name in members.names {
         if value.get(*name).is_none() {
@@ -32,7 +32,7 @@ pub fn missing_member(value: &Value, members: Members) -> Option<&'static str> {
     None
 }
 
-// What is said of the first of these members that is not what is wanted of it.
+// Describes the first of these members whose value is wrong.
 fn wrong_member(
     alloc: Global,
     job: Job,
@@ -56,7 +56,7 @@ fn wrong_member(
     Ok(None)
 }
 
-// What to mend in the members of a step.
+// Returns how to fix the members of a step.
 fn members_mend(
     alloc: Global,
     job: Job,
@@ -78,16 +78,16 @@ fn members_mend(
     }
 }
 
-/// What to mend in a value that is no step of this job.
+/// Returns how to fix a value that is not a step of this job.
 pub fn step_mend(alloc: Global, job: Job, value: &Value) -> Result<String, AllocError> {
     if !value.is_object() {
-        return format!(in alloc; "{}; a step is an object", Found(value));
+        return format!(in alloc; "found {}; a step must be an object", Found(value));
     }
     let Some(word) = value.get("do") else {
         return String::from_str(alloc, "\"do\" is missing; it names the step");
     };
     let Some(name) = word.as_str() else {
-        return format!(in alloc; "\"do\" is {}; the name of a step is wanted", Found(word));
+        return format!(in alloc; "\"do\" is {}; it must be the name of a step", Found(word));
     };
     match members_of(name) {
         Some(members) => members_mend(alloc, job, members, value),

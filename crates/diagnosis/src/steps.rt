@@ -1,18 +1,18 @@
-//! The members of each step, in the order in which they are looked at.
+//! The members of each step, in the order in which they are checked.
 
 use std::fmt;
 
-/// The members that an object of a kind has, in the order in which they are looked at.
+/// The members that a kind of object has, in the order in which they are checked.
 #[derive(Clone, Copy)]
 pub struct Members {
     /// What the object is.
     pub kind: &'static str,
-    /// The names of its members, but for the `do` of a step.
+    /// The names of its members, without the `do` of a step.
     pub names: &'static [&'static str],
 }
 
 impl Members {
-    /// Whether there is a member of this name.
+    /// Whether there is a member with this name.
     pub fn has(self, name: &str) -> bool {
         for member in self.names {
             if *member == name {
@@ -25,15 +25,10 @@ impl Members {
 
 impl fmt::Display for Members {
     fn fmt<W: fmt::Write>(&self, f: &mut fmt::Formatter<W>) -> fmt::Result {
-        let article = match self.kind {
-            "assign" | "owners" => "an",
-            _ => "a",
-        };
-        write!(f, "{article} {} has ", self.kind)?;
         let [first, others @ ..] = self.names else {
-            return f.write_str("no other member");
+            return f.write_str("the only member is \"do\"");
         };
-        f.write_str(first)?;
+        write!(f, "the members are {first}")?;
         for member in others {
             write!(f, ", {member}")?;
         }
@@ -41,7 +36,7 @@ impl fmt::Display for Members {
     }
 }
 
-/// The steps by their names.
+/// The members of each step, by its name.
 const STEPS: &[(&str, &[&str])] = &[
     ("hash", &["key"]),
     ("assign", &["generation", "slices"]),
@@ -72,7 +67,7 @@ const STEPS: &[(&str, &[&str])] = &[
     ("next", &["assigner", "at", "wanted"]),
 ];
 
-/// The members of the step of this name, if there is such a step.
+/// Returns the members of the step with this name, if there is such a step.
 pub fn members_of(step: &str) -> Option<Members> {
     for (kind, names) in STEPS {
         if *kind == step {

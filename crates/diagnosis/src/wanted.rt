@@ -1,4 +1,4 @@
-//! What is wanted of a member of a step.
+//! What a member of a step must be.
 
 use crate::found::Found;
 use program_io::{Number, Unread, list_of};
@@ -9,15 +9,15 @@ use std::fmt;
 use wire::SliceForm;
 use world::Job;
 
-/// How many bytes a key has at the most.
+/// The greatest number of bytes in a key.
 const MOST_KEY_BYTES: usize = 4096;
 
-/// What a member has to be. A member of one name is the same in each step.
+/// What a member must be. The same name means the same in every step.
 #[derive(Clone, Copy, Debug, PartialEq, Eq)]
 pub enum Wanted {
     /// A whole number from the first to the second.
     Between(u64, u64),
-    /// The number of an actor of the job, of which there are so many.
+    /// The number of an actor of the job, which has this many.
     Actor(&'static str, u64),
     /// A key.
     Key,
@@ -27,18 +27,20 @@ pub enum Wanted {
     Kind,
     /// Slices with their owners.
     Slices,
-    /// Leases, as a `judge` has them.
+    /// Leases, as in `judge`.
     Leases,
     /// Tasks in rising order.
     Tasks,
     /// Loads.
     Loads,
-    /// How many owners a slice has at the least and at the most.
+    /// The least and the greatest number of owners of a slice.
     Redundancy,
 }
 
 impl Wanted {
-    /// What the member of a job of this name has to be. How far clocks may be apart is a number of any size here.
+    /// Returns what the job's member with this name must be.
+    ///
+    /// The skew may be any number here.
     pub fn of_job(member: &str) -> Wanted {
         match member {
             "redundancy" => Wanted::Redundancy,
@@ -50,7 +52,7 @@ impl Wanted {
         }
     }
 
-    /// What the member of a step of this name has to be, in a script of this job.
+    /// Returns what a step's member with this name must be, in a script of this job.
     pub fn of(job: Job, member: &str) -> Wanted {
         match member {
             "assigner" => Wanted::Actor("assigners", job.assigners()),
@@ -70,7 +72,7 @@ impl Wanted {
         }
     }
 
-    /// Whether a value is what is wanted.
+    /// Whether a value is what it must be.
     pub fn is_met(self, alloc: Global, value: &Value) -> Result<bool, AllocError> {
         match self {
             Wanted::Between(low, high) => Ok(is_between(value, low, high)),
@@ -126,7 +128,7 @@ fn has_one_of_each_kind(leases: &Value) -> bool {
     true
 }
 
-// Whether a value is an array of numbers of tasks that rise strictly.
+// Whether a value is an array of task numbers in strictly rising order.
 fn is_rising(value: &Value) -> bool {
     let Some(tasks) = value.as_array() else {
         return false;
@@ -141,7 +143,7 @@ fn is_rising(value: &Value) -> bool {
     true
 }
 
-// Whether a value says how many owners a slice has: a number, or a pair of them, from 1 to 5.
+// Whether a value is a redundancy: a number or a pair of numbers, from 1 to 5.
 fn is_redundancy(value: &Value) -> bool {
     let (low, high) = match value.as_array() {
         None => (value.as_u64(), value.as_u64()),
@@ -165,27 +167,30 @@ impl fmt::Display for Wanted {
             Wanted::Between(0, 4_294_967_295) => f.write_str("a whole number below 4294967296"),
             Wanted::Between(low, high) => write!(f, "a whole number from {low} to {high}"),
             Wanted::Actor(_, most) => write!(f, "a whole number from 1 to {most}"),
-            Wanted::Key => write!(f, "a text of at most {MOST_KEY_BYTES} bytes"),
+            Wanted::Key => write!(f, "a string of at most {MOST_KEY_BYTES} bytes"),
             Wanted::Flag => f.write_str("true or false"),
             Wanted::Kind => f.write_str("\"guard\" or \"bridge\""),
             Wanted::Slices => f.write_str("an array of slices [start, [owner, ..]]"),
             Wanted::Leases => f.write_str(
-                "an array of leases {\"kind\", \"generation\", \"ranges\", \"ends\"}, at most one of each kind,",
+                "an array of leases {\"kind\", \"generation\", \"ranges\", \"ends\"}, at most one of each kind",
             ),
             Wanted::Tasks => f.write_str("an array of rising numbers from 1 to 64"),
             Wanted::Loads => f.write_str("an array of whole numbers"),
             Wanted::Redundancy => {
-                f.write_str("a number from 1 to 5 or a pair [low, high] of them")
+                f.write_str("a whole number from 1 to 5 or a pair [low, high] of them")
             }
         }
     }
 }
 
-/// A member with a value that is not wanted, and what is wanted of it.
+/// Displays a member with a wrong value, and what it must be.
 #[derive(Clone, Copy)]
 pub struct WrongMember<'v> {
+    /// The name of the member.
     pub name: &'static str,
+    /// Its value.
     pub value: &'v Value,
+    /// What it must be.
     pub wanted: Wanted,
 }
 
@@ -198,13 +203,13 @@ impl fmt::Display for WrongMember<'_> {
         } = *self;
         match (wanted, value.as_u64()) {
             (Wanted::Actor(actors, most), Some(number)) => {
-                write!(f, "{name} {number}: the job has {actors} 1 to {most}")
+                write!(
+                    f,
+                    "\"{name}\" is {number}; the job has {actors} 1 to {most}"
+                )
             }
-            (Wanted::Key, _) if value.is_string() => {
-                write!(f, "\"{name}\" is a longer text; {wanted} is wanted")
-            }
-            (Wanted::Kind, _) if value.is_string() => {
-                write!(f, "\"{name}\" is another text; {wanted} is wanted")
+            (Wanted::Key | Wanted::Kind, _) if value.is_string() => {
+                write!(f, "\"{name}\" must be {wanted}")
             }
             (
                 Wanted::Slices
@@ -213,10 +218,8 @@ impl fmt::Display for WrongMember<'_> {
                 | Wanted::Loads
                 | Wanted::Redundancy,
                 _,
-            ) if value.is_array() => {
-                write!(f, "\"{name}\" is another array; {wanted} is wanted")
-            }
-            _ => write!(f, "\"{name}\" is {}; {wanted} is wanted", Found(value)),
+            ) if value.is_array() => { write!(f, "\"{name}\" must be {wanted}") }
+            _ => write!(f, "\"{name}\" is {}; it must be {wanted}", Found(value)),
         }
     }
 }

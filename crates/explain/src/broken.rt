@@ -21,8 +21,10 @@ use policy_rules::Verdict;
 use slicelet::{KeyHandle, Slicelet};
 use world::Step;
 
-// The last call since a handle was taken that found its key denied just before it or just after it, by its number
-// among those that the task accepted; none where no call did so.
+// Returns the task's last call since the handle was taken at which its key was denied, just before
+// the call or just after it.
+//
+// The call is given by its number among those that the task accepted; `None` if there is none.
 fn breaking_call(slicelet: &Slicelet, handle: &KeyHandle, at: u64) -> Option<u64>
     ensures { MatchOption result (HasNoBreakingCall slicelet.now handle.now at)
         (IsBreakingCall slicelet.now handle.now at) }
@@ -43,7 +45,7 @@ fn breaking_call(slicelet: &Slicelet, handle: &KeyHandle, at: u64) -> Option<u64
     None
 }
 
-// The break by a call, or none where no call broke the handle.
+// Returns the break by a call; `None` if no call broke the handle.
 fn break_by_call(
     before: Told<'_>,
     slicelet: &Slicelet,
@@ -60,7 +62,7 @@ fn break_by_call(
     Some(Break::Between { call, step })
 }
 
-// Why a task finds a handle broken at a reading; none where it has no cause.
+// Returns why a task finds a handle broken at a reading; `None` if there is no cause.
 fn break_of(
     cluster: &Cluster,
     before: Told<'_>,
@@ -86,7 +88,7 @@ fn break_of(
     }
 }
 
-/// Why a `check` is answered that its handle is broken.
+/// Returns why the reply to a `check` is that its handle is broken.
 pub fn broken_reason(cluster: &Cluster, before: Told<'_>, step: &Step) -> Option<Reason>
     requires { length before.told.now ≡ length before.steps.now }
     ensures none { is_check step.now ≡ false → result ≡ None }

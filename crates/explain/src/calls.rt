@@ -1,4 +1,4 @@
-//! Which step is a task's call of a number.
+//! Finding the step that is a task's call with a given number.
 
 ghost use Rattle.std.specs.Prelude.{◌≡◌, ◌&&◌, ◌==◌, ◌+◌, ◌<◌, ◌^◌, Some, length, if◌then◌else◌};
 ghost use Rattle.world.specs.Pasts.{is_accepted};
@@ -8,7 +8,7 @@ ghost use Rattle.explain.specs.Hearing.{past_of};
 use crate::heard::{Told, is_accepted};
 use world::{Reply, Step};
 
-// Whether a step is one that a task counts, where it accepts it.
+// Whether a step counts as a call of the task, if it is accepted.
 fn is_call(step: &Step, task: u64) -> bool
     ensures { result ≡ is_call task step.now }
 {
@@ -20,14 +20,14 @@ fn is_call(step: &Step, task: u64) -> bool
     }
 }
 
-// Whether a task counts a step.
+// Whether a step counts as a call of the task.
 fn counts(step: &Step, reply: &Reply, task: u64) -> bool
     ensures { result ≡ (is_call task step.now && is_accepted reply.now) }
 {
     is_call(step, task) && is_accepted(reply)
 }
 
-// How many calls there are after a step, which counts or not.
+// Returns how many calls there are after a step.
 fn count_after(counts: bool, count: u64) -> u64
     requires { count + 1 < 2 ^ 64 }
     ensures { result ≡ (if counts then count + 1 else count) }
@@ -35,7 +35,7 @@ fn count_after(counts: bool, count: u64) -> u64
     if counts { count + 1 } else { count }
 }
 
-// Where the call of a number is after a step at a place, which counts or not.
+// Returns where the call with this number is, after a step at `place`.
 fn place_after(
     counts: bool,
     count: u64,
@@ -54,7 +54,7 @@ fn place_after(
     }
 }
 
-/// The place of the step that is a task's accepted call of this number; the first step has the place 1.
+/// Returns the place of the step that is a task's accepted call with this number, from 1.
 pub fn call_place(before: Told<'_>, task: u64, call: u64) -> Option<usize>
     requires { length before.told.now ≡ length before.steps.now }
     ensures { result ≡ call_place task call (past_of before.entry.steps.now before.entry.told.now) }

@@ -1,4 +1,4 @@
-//! The replies to the steps of a job, each with why it is what it is.
+//! The replies to the steps of a job, each with its reason.
 
 ghost use Rattle.std.specs.Prelude.{◌≡◌, ◌<◌, false, None, IfOk, length, take};
 ghost use Rattle.cluster.specs.Pasts.{Past as Calls};
@@ -22,14 +22,16 @@ use policy_rules::Verdict;
 use std::alloc::{AllocError, Global};
 use world::{Job, Reply, Step, World};
 
-/// A reply, and why it is what it is, where there is more to say of it.
+/// A reply and its reason, if there is more to say than its line says.
 #[derive(Debug, Drop)]
 pub struct Explanation {
+    /// The reply.
     pub reply: Reply,
+    /// Why it is what it is.
     pub reason: Option<Reason>,
 }
 
-// Why a step is told this verdict, where it asks a task.
+// Returns the reason for a verdict, if the step asks a task.
 fn asked_reason(
     cluster: &Cluster,
     before: Told<'_>,
@@ -53,7 +55,7 @@ fn asked_reason(
     Some(Reason::Verdict(reason))
 }
 
-// Why a step has this reply, where there is more to say of it. The cluster is the one after the step.
+// Returns the reason for a reply, if there is one. The cluster is the one after the step.
 fn reason_of(
     cluster: &Cluster,
     before: Told<'_>,
@@ -75,7 +77,7 @@ fn reason_of(
     }
 }
 
-// Plays the first step that was not told, and explains its reply.
+// Plays the next step, and explains its reply.
 fn explain_next(
     world: &mut World,
     steps: &[Step],
@@ -99,7 +101,7 @@ fn explain_next(
     Ok(Explanation { reply, reason })
 }
 
-/// The replies to steps, which are the first of their job, each with why it is what it is.
+/// Plays the first steps of a job, and returns their replies, each with its reason.
 pub fn explanations_of(
     alloc: Global,
     job: Job,

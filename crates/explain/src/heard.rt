@@ -1,4 +1,4 @@
-//! In which step a grant was heard.
+//! Finding the step in which a grant was heard.
 
 ghost use Rattle.std.specs.Prelude.{◌≡◌, ◌&&◌, length};
 ghost use Rattle.world.specs.Pasts.{is_accepted};
@@ -7,14 +7,16 @@ ghost use Rattle.explain.specs.Hearing.{is_hear, heard_in, past_of};
 use crate::explanation::Explanation;
 use world::{Reply, Step};
 
-/// Steps in order, and what was told of each.
+/// Steps in order, with what was told of each.
 #[derive(Clone, Copy)]
 pub struct Told<'a> {
+    /// The steps.
     pub steps: &'a [Step],
+    /// The replies to the steps, each with its reason.
     pub told: &'a [Explanation],
 }
 
-// Whether a step is a `hear` of the grant of this number by a task.
+// Whether a step is a task's `hear` of the grant with this number.
 fn is_hear(step: &Step, task: u64, number: u64) -> bool
     ensures { result ≡ is_hear task number step.now }
 {
@@ -35,14 +37,14 @@ pub fn is_accepted(reply: &Reply) -> bool
     !matches!(reply, Reply::Refused(_) | Reply::NoMemory)
 }
 
-// Whether a task heard the grant of this number in a step.
+// Whether a task heard the grant with this number in a step.
 fn hears(step: &Step, reply: &Reply, task: u64, number: u64) -> bool
     ensures { result ≡ (is_hear task number step.now && is_accepted reply.now) }
 {
     is_hear(step, task, number) && is_accepted(reply)
 }
 
-/// The last step in which a task heard the grant of this number, by its place: the first step has the place 1.
+/// Returns the place of the last step in which a task heard the grant with this number, from 1.
 pub fn heard_in(before: Told<'_>, task: u64, number: u64) -> Option<usize>
     requires { length before.told.now ≡ length before.steps.now }
     ensures { result ≡ heard_in task number (past_of before.entry.steps.now before.entry.told.now) }

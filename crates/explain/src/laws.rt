@@ -1,4 +1,4 @@
-//! What holds of the reasons.
+//! A law on reasons.
 
 ghost use Rattle.std.specs.Prelude.{◌≡◌, ◌<◌, ℕ, List, false};
 ghost use Rattle.slice_ranges.specs.declared.key.TheConstants.{KEYS};
@@ -10,8 +10,10 @@ ghost use Rattle.slicelet.specs.Rules.{covers_key};
 ghost use Rattle.slicelet.specs.States.{SliceletState};
 ghost use Rattle.explain.specs.Breaking.{HasNoCause};
 
-/// A handle that a slicelet can have given is continuous where none of what breaks a handle is so: each broken
+/// Law: a handle is continuous if none of the causes that break handles applies; so each broken
 /// handle has a cause.
+///
+/// It is about handles that the slicelet can have given.
 pub fn unbroken_law()
     ensures { (calls : List SliceletCall) (s : SliceletState) (handle : KeyHandle) (at : ℕ) → handle.key < KEYS → StandsAfter calls s
         → is_strange s handle ≡ false → HasNoCause s handle at → IsContinuous (covers_key handle.key) calls handle at }

@@ -1,4 +1,4 @@
-//! The leases that a task holds.
+//! Leases that a task holds.
 
 ghost use Rattle.std.specs.Prelude.{◌≡◌, ℕ, Some, option_map};
 ghost use Rattle.policy_rules.specs.declared.lease.Kind.{Kind as LeaseKind};
@@ -16,7 +16,7 @@ use policy_rules::Kind;
 use slice_ranges::SliceKey;
 use slicelet::Slicelet;
 
-/// The lease of a kind that a task holds, which may have ended.
+/// Returns the lease of a kind that a task holds, which may have ended.
 pub fn task_lease(slicelet: &Slicelet, kind: Kind) -> Option<TaskLease>
     ensures { result ≡ option_map (lease_of kind) (held_in slicelet.now kind) }
 {
@@ -31,7 +31,7 @@ pub fn task_lease(slicelet: &Slicelet, kind: Kind) -> Option<TaskLease>
     }
 }
 
-/// Whether the lease of the grant of a number covers a key, where a task holds it.
+/// Whether the lease of the grant with this number covers a key, if a task holds the lease.
 pub fn covers(cluster: &Cluster, number: u64, key: SliceKey) -> bool
     ensures { (job : Job) (calls : Calls) (task : ℕ) (kind : LeaseKind) (grant : Grant) → LeadsTo job calls cluster.now
         → held_in (history task calls) kind ≡ Some grant → number ≡ grant.number → result ≡ covers_key key grant }

@@ -1,4 +1,4 @@
-//! Why each reply of a script is what it is.
+//! The reasons for the replies of a script.
 #![tactic(auto)]
 
 mod broken;

@@ -25,7 +25,7 @@ use slicelet::SliceletError;
 use std::alloc::AllocError;
 use world::{Refusal, Reply, Step};
 
-// The first of these rows that is of a generation up to this one and has not ended at a reading.
+// Returns the first row of this generation or an older one that has not ended at a reading.
 fn first_up_to(rows: &[Row], generation: u64, at: u64) -> Option<Row>
     ensures { result ≡ first_up_to generation at rows.now }
 {
@@ -34,7 +34,7 @@ fn first_up_to(rows: &[Row], generation: u64, at: u64) -> Option<Row>
         .find(|row| row.generation <= generation && at < row.table_ends)
 }
 
-// The first open row of the committed generation or an older one that has not ended at a reading.
+// Returns the first open row of the committed generation or an older one that has not ended.
 fn holding_row(cluster: &Cluster, at: u64) -> Result<Option<Row>, AllocError>
     ensures { (job : Job) (calls : Calls) → LeadsTo job calls cluster.now → let t = standing job.policy calls in
         IfOk result (λ row. row ≡ first_up_to (generation_of t.committed) at t.rows) }
@@ -44,7 +44,7 @@ fn holding_row(cluster: &Cluster, at: u64) -> Result<Option<Row>, AllocError>
     Ok(first_up_to(rows.as_slice(), generation, at))
 }
 
-// The number of the last grant after a reply, by the one before it.
+// Returns the number of the last grant after a reply; `before` is the number before it.
 fn granted_by(reply: &Reply, before: u64) -> u64
     ensures { result ≡ granted_by reply.now before }
 {
@@ -54,7 +54,7 @@ fn granted_by(reply: &Reply, before: u64) -> u64
     }
 }
 
-// The number of the last grant that was told, 0 before the first.
+// Returns the number of the last grant that was told, 0 before the first.
 fn last_granted(told: &[Explanation]) -> u64
     ensures { (steps : List Step) → length told.now ≡ length steps → result ≡ last_granted (past_of steps told.now) }
 {
@@ -65,7 +65,7 @@ fn last_granted(told: &[Explanation]) -> u64
     last
 }
 
-// The greatest number of what a step delivers that was made so far.
+// Returns the greatest number made so far of what a step delivers.
 fn made_so_far(cluster: &Cluster, before: Told<'_>, step: &Step) -> Option<u64>
     requires { length before.told.now ≡ length before.steps.now }
     ensures { (job : Job) (calls : Calls) → LeadsTo job calls cluster.now
@@ -80,7 +80,7 @@ fn made_so_far(cluster: &Cluster, before: Told<'_>, step: &Step) -> Option<u64>
     }
 }
 
-// Why the table refuses a step.
+// Returns why the table refuses a step.
 fn table_reason(
     cluster: &Cluster,
     step: &Step,
@@ -102,7 +102,7 @@ fn table_reason(
     }
 }
 
-/// The task that takes a step.
+/// Returns the task that takes a step.
 pub fn task_of(step: &Step) -> Option<u64>
     ensures { result ≡ task_of step.now }
 {
@@ -117,7 +117,7 @@ pub fn task_of(step: &Step) -> Option<u64>
     }
 }
 
-// Why a task refuses a step.
+// Returns why a task refuses a step.
 fn task_reason(cluster: &Cluster, step: &Step, error: SliceletError) -> Option<Reason>
     ensures { (job : Job) (calls : Calls) (past : Past) → LeadsTo job calls cluster.now
         → IsTaskRefusal job calls step.now error
@@ -139,7 +139,7 @@ fn task_reason(cluster: &Cluster, step: &Step, error: SliceletError) -> Option<R
     }
 }
 
-/// Why a step is refused, where its line does not say all.
+/// Returns why a step is refused, if its line does not say everything.
 pub fn refusal_reason(
     cluster: &Cluster,
     before: Told<'_>,

@@ -1,4 +1,4 @@
-//! The sentence that says a reason.
+//! Reasons as sentences.
 
 use crate::reason::{Break, Reason, TaskLease, VerdictReason};
 use assignment::TaskId;
@@ -9,14 +9,14 @@ use std::fmt;
 use wire::kind_word;
 use world::{Reply, Step};
 
-/// Tasks, joined by commas.
+/// Displays tasks, joined by commas.
 #[derive(Clone, Copy)]
 struct Tasks<'a>(&'a [TaskId]);
 
 impl fmt::Display for Tasks<'_> {
     fn fmt<W: fmt::Write>(&self, f: &mut fmt::Formatter<W>) -> fmt::Result {
         let [first, others @ ..] = self.0 else {
-            return f.write_str("nobody");
+            return f.write_str("none");
         };
         write!(f, "{first}")?;
         for task in others {
@@ -26,7 +26,7 @@ impl fmt::Display for Tasks<'_> {
     }
 }
 
-/// A lease, and where it was heard.
+/// Displays a lease, and the step in which it was heard.
 #[derive(Clone, Copy)]
 struct Named {
     lease: TaskLease,
@@ -44,7 +44,7 @@ impl fmt::Display for Named {
     }
 }
 
-/// What a verdict was told of.
+/// A verdict: who gave it, when, and why.
 #[derive(Clone, Copy)]
 struct Decided<'a> {
     task: u64,
@@ -53,7 +53,7 @@ struct Decided<'a> {
     reason: &'a VerdictReason,
 }
 
-// The words for the lease that decides a verdict.
+// Returns the words for the lease that decides a verdict.
 fn lease_words(alloc: Global, verdict: Verdict, named: Named) -> Result<String, AllocError> {
     let ends = named.lease.ends;
     match verdict {
@@ -67,7 +67,7 @@ fn lease_words(alloc: Global, verdict: Verdict, named: Named) -> Result<String, 
     }
 }
 
-// The words for a verdict that no lease decides.
+// Returns the words for a verdict that no lease decides.
 fn ground_words(alloc: Global, decided: Decided<'_>) -> Result<String, AllocError> {
     let task = decided.task;
     match decided.verdict {
@@ -79,12 +79,12 @@ fn ground_words(alloc: Global, decided: Decided<'_>) -> Result<String, AllocErro
     }
 }
 
-// The words for a reading that is below the last one of a task.
+// Returns the words for a reading that is below the last one of a task.
 fn reading_words(alloc: Global, at: u64, last: u64, task: u64) -> Result<String, AllocError> {
     format!(in alloc; "{at} is below {last}, the last reading that task {task} accepted")
 }
 
-// The words for a verdict.
+// Returns the words for a verdict.
 fn verdict_words(alloc: Global, decided: Decided<'_>) -> Result<String, AllocError> {
     let reason = decided.reason;
     let why = match reason.lease {
@@ -96,23 +96,23 @@ fn verdict_words(alloc: Global, decided: Decided<'_>) -> Result<String, AllocErr
     };
     let generation = reason.generation;
     let owners = Tasks(reason.owners.as_slice());
-    format!(in alloc; "{why}; owned in generation {generation} by {owners}")
+    format!(in alloc; "{why}; owners in generation {generation}: {owners}")
 }
 
-// The words for a row that holds a commit up.
+// Returns the words for a row that holds up a commit.
 fn row_words(alloc: Global, row: Row) -> Result<String, AllocError> {
     let kind = kind_word(row.kind);
     let held = format!(in alloc;
-        "the {kind} lease of grant {} is task {}'s",
-        row.number, row.task
+        "task {} may hold the {kind} lease of grant {}",
+        row.task, row.number
     )?;
     format!(in alloc;
-        "{held}, of life {} and generation {}, and ends at {} at the latest",
+        "{held}, of life {} and generation {}, until {}",
         row.life, row.generation, row.table_ends
     )
 }
 
-// The words for a grant that is old.
+// Returns the words for a grant that is old.
 fn old_grant_words(
     alloc: Global,
     step: &Step,
@@ -129,11 +129,13 @@ fn old_grant_words(
     }
 }
 
-// The words for a life or a generation that is old.
+// Returns the words for a life or a generation that is old.
 fn old_words(alloc: Global, step: &Step, kept: u64) -> Result<String, AllocError> {
     match step {
         Step::Start { task, life, .. } => {
-            format!(in alloc; "life {life} is not above life {kept}, which task {task} is in")
+            format!(in alloc;
+                "life {life} is not above life {kept}, the current life of task {task}"
+            )
         }
         Step::Learn { clerk, generation } => format!(in alloc;
             "generation {generation} is not above generation {kept}, which clerk {clerk} keeps"
@@ -142,7 +144,7 @@ fn old_words(alloc: Global, step: &Step, kept: u64) -> Result<String, AllocError
     }
 }
 
-// The words for what was not sent.
+// Returns the words for something that was not sent.
 fn unsent_words(alloc: Global, step: &Step, made: u64) -> Result<String, AllocError> {
     let (what, number) = match step {
         Step::Hear { number, .. } => ("grant", *number),
@@ -152,13 +154,13 @@ fn unsent_words(alloc: Global, step: &Step, made: u64) -> Result<String, AllocEr
         _ => ("message", 0),
     };
     if made == 0 {
-        format!(in alloc; "there is no {what} {number}: there is none so far")
+        format!(in alloc; "there is no {what} {number}; there is none yet")
     } else {
-        format!(in alloc; "there is no {what} {number}: the last one is {made}")
+        format!(in alloc; "there is no {what} {number}; the last one is {made}")
     }
 }
 
-// The task and the reading of a step of a task.
+// Returns the task and the reading of a step of a task.
 fn reading_of(step: &Step) -> (u64, u64) {
     match step {
         Step::Start { task, at, .. }
@@ -177,12 +179,12 @@ fn reading_of(step: &Step) -> (u64, u64) {
     }
 }
 
-// The words for why a handle is broken.
+// Returns the words for why a handle is broken.
 fn break_words(alloc: Global, step: &Step, why: &Break) -> Result<String, AllocError> {
     let (task, at) = reading_of(step);
     match why {
         Break::OtherLife(life) => {
-            format!(in alloc; "task {task} is in life {life}, and the handle is of another one")
+            format!(in alloc; "task {task} is in life {life}, and the handle is from another life")
         }
         Break::Denied { denial, reason } => {
             let verdict = Verdict::Deny(*denial);
@@ -199,16 +201,14 @@ fn break_words(alloc: Global, step: &Step, why: &Break) -> Result<String, AllocE
         Break::Between {
             step: Some(place),
             ..
-        } => format!(in alloc;
-            "step {place} found the key denied, just before it or just after it"
-        ),
+        } => format!(in alloc; "the key was denied just before or just after step {place}"),
         Break::Between { step: None, .. } => {
-            String::from_str(alloc, "the key was not held all the time")
+            String::from_str(alloc, "the task did not hold the key all the time")
         }
     }
 }
 
-// The verdict of a reply.
+// Returns the verdict of a reply.
 fn verdict_in(reply: &Reply) -> Verdict {
     match reply {
         Reply::Verdict(verdict) => *verdict,
@@ -216,7 +216,7 @@ fn verdict_in(reply: &Reply) -> Verdict {
     }
 }
 
-/// The sentence that says why a step has its reply.
+/// Returns the sentence that says why a step has its reply.
 pub fn sentence_of(
     alloc: Global,
     step: &Step,

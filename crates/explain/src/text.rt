@@ -15,21 +15,21 @@ use service::{Line, Script, is_timely};
 use std::alloc::{AllocError, Global};
 use world::{Reply, Step};
 
-// The line of a reply.
+// Returns the line of a reply.
 fn line_of(alloc: Global, reply: &Reply) -> Result<String, AllocError>
     ensures { IfOk result (λ text. string_bytes text ≡ line_of reply.now) }
 {
     format!(in alloc; "{}\n", Line(reply))
 }
 
-// A line of words after four spaces.
+// Returns a line of words, indented by four spaces.
 fn indented(alloc: Global, words: &str) -> Result<String, AllocError>
     ensures { IfOk result (λ text. string_bytes text ≡ indented words.now) }
 {
     format!(in alloc; "    {words}\n")
 }
 
-// The line of a reply, and after it, where there is more to say of it, why it is what it is.
+// Returns the line of a reply, with its reason if it has one.
 fn lines_of(alloc: Global, step: &Step, told: &Explanation) -> Result<String, AllocError>
     ensures { IfOk result (λ text. (words : List ℕ) × (string_bytes text ≡ explained_lines told.now words)) }
 {
@@ -44,7 +44,7 @@ fn lines_of(alloc: Global, step: &Step, told: &Explanation) -> Result<String, Al
     }
 }
 
-// The same, unless the reply is that memory ran out.
+// Returns the same, or an error if the reply is out of memory.
 fn answer_lines(alloc: Global, step: &Step, told: &Explanation) -> Result<String, AllocError>
     ensures lines { IfOk result (λ text. (words : List ℕ) × (string_bytes text ≡ explained_lines told.now words)) }
     ensures answers { IfOk result (λ text. is_answer told.now.reply ≡ true) }
@@ -55,7 +55,7 @@ fn answer_lines(alloc: Global, step: &Step, told: &Explanation) -> Result<String
     lines_of(alloc, step, told)
 }
 
-// The lines of all replies, none of which is that memory ran out.
+// Returns the lines of all replies, none of which is out of memory.
 fn all_lines(alloc: Global, steps: &[Step], told: &[Explanation]) -> Result<String, AllocError>
     ensures lines { IfOk result (λ text. AreLines told.now (string_bytes text)) }
     ensures answers { IfOk result (λ text. list_all is_answer (replies_of told.now) ≡ true) }
@@ -71,20 +71,20 @@ fn all_lines(alloc: Global, steps: &[Step], told: &[Explanation]) -> Result<Stri
     Ok(text)
 }
 
-// The sentence for two steps that are not timely.
+// Returns the sentence for two steps that are not timely.
 fn untimely_words(alloc: Global, two: Untimely, skew: u64) -> Result<String, AllocError> {
     let early = format!(in alloc;
-        "step {} reads {} at the table",
+        "step {} read {} on the table's clock",
         two.table_step, two.table_reading
     )?;
     let late = format!(in alloc;
-        "step {} reads {} at a task",
+        "step {} read {} on a task's clock",
         two.task_step, two.task_reading
     )?;
-    format!(in alloc; "{early}, and {late}: more than the skew {skew} below")
+    format!(in alloc; "{early}; later {late}, more than the skew {skew} below")
 }
 
-// The last line, and after it, where the steps are not timely, the two steps that are not.
+// Returns the last line, with the two steps that are not timely if there are such steps.
 fn last_lines(
     alloc: Global,
     timely: bool,
@@ -106,8 +106,9 @@ fn last_lines(
     }
 }
 
-/// Plays the steps of a script, and gives the text of their replies with its last line, where each line is
-/// followed by why it is what it is, if there is more to say of it.
+/// Plays the steps of a script, and returns the text of their replies with its last line.
+///
+/// Each line is followed by its reason, if there is more to say.
 pub fn explained_text(alloc: Global, script: &Script) -> Result<String, AllocError>
     ensures { IfOk result (λ text. IsExplainedText script.now (string_bytes text)) }
 {

@@ -1,4 +1,4 @@
-//! Which readings make steps untimely.
+//! The readings that make steps untimely.
 
 ghost use Rattle.std.specs.Prelude.{◌≡◌, ◌≤◌, ◌<◌, length, MatchOption};
 ghost use Rattle.explain.specs.Untimely.{AreNear, AreAllNear, IsFirstUntimely};
@@ -7,7 +7,7 @@ ghost use Rattle.explain.specs.internals.Ahead.{ahead_of, IsFirstAhead, IsNearAt
 use cluster::Reading;
 use world::Step;
 
-/// Two steps that are not timely, by their places, the first step at 1, with their readings in ticks.
+/// Two steps that are not timely: their places, from 1, and their readings in ticks.
 #[derive(Clone, Copy, Debug)]
 pub struct Untimely {
     /// The step that reads the table's clock.
@@ -20,7 +20,7 @@ pub struct Untimely {
     pub task_reading: u64,
 }
 
-// A reading of the table's clock that is by more than the skew above a reading of a task's clock.
+// Returns the reading of the table's clock, if it is more than the skew above `late`.
 fn ahead_of(reading: Reading, skew: u64, late: u64) -> Option<u64>
     ensures { result ≡ ahead_of skew late reading }
 {
@@ -30,8 +30,8 @@ fn ahead_of(reading: Reading, skew: u64, late: u64) -> Option<u64>
     }
 }
 
-// The first of the first steps whose reading of the table's clock is by more than the skew above a reading of
-// a task's clock, with its reading.
+// Returns the place and the reading of the first step, among the first ones, whose reading of the
+// table's clock is more than the skew above `late`, a reading of a task's clock.
 fn first_ahead(steps: &[Step], first: usize, skew: u64, late: u64) -> Option<(usize, u64)>
     requires { first ≤ length steps.now }
     ensures { MatchOption result (AreNear skew late steps.now first)
@@ -45,8 +45,8 @@ fn first_ahead(steps: &[Step], first: usize, skew: u64, late: u64) -> Option<(us
     None
 }
 
-// The step at a place, if its reading of a task's clock is not near to those before it, and the first one that
-// it is not near to.
+// Returns the step at `place` with the first step before it whose reading of the table's clock is
+// more than the skew ahead, if there is such a step.
 fn untimely_at(steps: &[Step], place: usize, skew: u64) -> Option<Untimely>
     requires { place < length steps.now }
     ensures { MatchOption result (IsNearAt skew steps.now place) (IsUntimelyAt skew steps.now place) }
@@ -65,8 +65,11 @@ fn untimely_at(steps: &[Step], place: usize, skew: u64) -> Option<Untimely>
     }
 }
 
-/// The first step whose reading of a task's clock is not timely, and the first one before it that it is
-/// not near to; none where steps are timely. The skew is in ticks.
+/// Returns the first step whose reading of a task's clock is not timely; `None` if steps are
+/// timely.
+///
+/// It comes with the first step before it whose reading of the table's clock is more than the skew
+/// ahead. The skew is in ticks.
 pub fn first_untimely(steps: &[Step], skew: u64) -> Option<Untimely>
     ensures { MatchOption result (AreAllNear skew steps.now (length steps.now)) (IsFirstUntimely skew steps.now) }
 {

@@ -1,4 +1,4 @@
-//! Why a key is served, or is not.
+//! Why a key is served or is not.
 
 ghost use Rattle.std.specs.Prelude.{◌≡◌, ℕ, length};
 ghost use Rattle.policy_rules.specs.declared.answer.Verdict.TheVariants.{Deny};
@@ -25,16 +25,19 @@ use slice_ranges::{SliceKey, slice_key};
 use slicelet::Slicelet;
 use world::{OwnerList, Step};
 
-/// What a task is asked: whether it may serve a key at a reading of its clock, in ticks.
+/// A question to a task: may it serve a key at a reading of its clock?
 #[derive(Clone, Copy, Debug)]
 pub struct Asked {
+    /// The number of the task.
     pub task: u64,
+    /// The slice key.
     pub key: SliceKey,
+    /// The reading, in ticks.
     pub at: u64,
 }
 
 impl Asked {
-    /// What a `serve` or a `hold` asks; no other step asks it.
+    /// Returns what a `serve` or a `hold` asks; `None` for any other step.
     pub fn by(step: &Step) -> Option<Asked>
         ensures { result ≡ asked_by step.now }
     {
@@ -49,7 +52,7 @@ impl Asked {
     }
 }
 
-// The lease of a kind that a task holds, where it covers the key.
+// Returns the lease of a kind that a task holds, if it covers the key.
 fn covering_lease(
     cluster: &Cluster,
     slicelet: &Slicelet,
@@ -65,7 +68,7 @@ fn covering_lease(
     }
 }
 
-// The lease that covers the key: the guard lease, or else the bridge lease.
+// Returns the lease that covers the key: the guard lease, or else the bridge lease.
 fn ended_lease(cluster: &Cluster, slicelet: &Slicelet, key: SliceKey) -> Option<TaskLease>
     ensures { (job : Job) (calls : Calls) (task : ℕ) → LeadsTo job calls cluster.now → slicelet.now ≡ history task calls
         → IsCoveringAny slicelet.now (covers_key key) result }
@@ -76,7 +79,7 @@ fn ended_lease(cluster: &Cluster, slicelet: &Slicelet, key: SliceKey) -> Option<
     }
 }
 
-// The lease of a kind that a task holds, where it is of this generation and live at the reading.
+// Returns the lease of a kind that a task holds, if it is of this generation and live at a reading.
 fn live_lease_of(slicelet: &Slicelet, kind: Kind, generation: u64, at: u64) -> Option<TaskLease>
     ensures { IsLive slicelet.now kind generation at result }
 {
@@ -86,7 +89,7 @@ fn live_lease_of(slicelet: &Slicelet, kind: Kind, generation: u64, at: u64) -> O
     }
 }
 
-// The live lease of this generation: the guard lease, or else the bridge lease.
+// Returns the live lease of this generation: the guard lease, or else the bridge lease.
 fn live_lease(slicelet: &Slicelet, generation: u64, at: u64) -> Option<TaskLease>
     ensures { IsLiveAny slicelet.now generation at result }
 {
@@ -96,7 +99,7 @@ fn live_lease(slicelet: &Slicelet, generation: u64, at: u64) -> Option<TaskLease
     }
 }
 
-// The lease that decides a denial, where one does.
+// Returns the lease that decides a denial, if one does.
 fn denied_lease(
     cluster: &Cluster,
     slicelet: &Slicelet,
@@ -114,7 +117,7 @@ fn denied_lease(
     }
 }
 
-// The lease that decides a verdict, where one does.
+// Returns the lease that decides a verdict, if one does.
 fn deciding_lease(
     cluster: &Cluster,
     slicelet: &Slicelet,
@@ -131,7 +134,7 @@ fn deciding_lease(
     }
 }
 
-// The tasks that own a key in the committed assignment.
+// Returns the tasks that own a key in the committed assignment.
 fn owners_of(cluster: &Cluster, key: SliceKey) -> OwnerList
     ensures { (job : Job) (calls : Calls) → LeadsTo job calls cluster.now
         → result ≡ owners_of (slices_of (committed_in (table_calls calls))) key }
@@ -142,7 +145,7 @@ fn owners_of(cluster: &Cluster, key: SliceKey) -> OwnerList
     }
 }
 
-/// The committed generation, 0 before the first.
+/// Returns the committed generation, 0 before the first.
 pub fn committed_generation(cluster: &Cluster) -> u64
     ensures { (job : Job) (calls : Calls) → LeadsTo job calls cluster.now
         → result ≡ generation_of (committed_in (table_calls calls)) }
@@ -153,7 +156,7 @@ pub fn committed_generation(cluster: &Cluster) -> u64
     }
 }
 
-// The step in which a task heard the grant of a lease.
+// Returns the step in which a task heard the grant of a lease.
 fn lease_heard_in(before: Told<'_>, task: u64, lease: Option<TaskLease>) -> Option<usize>
     requires { length before.told.now ≡ length before.steps.now }
     ensures { result ≡ lease_heard_in task (past_of before.entry.steps.now before.entry.told.now) lease }
@@ -167,7 +170,7 @@ fn lease_heard_in(before: Told<'_>, task: u64, lease: Option<TaskLease>) -> Opti
     }
 }
 
-/// Why a task of the job is told this verdict.
+/// Returns why a task of the job gives this verdict.
 pub fn verdict_reason(
     cluster: &Cluster,
     before: Told<'_>,

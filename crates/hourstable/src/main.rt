@@ -1,4 +1,4 @@
-//! The command of this repository: plays scripts, and answers in sessions.
+//! The command `hourstable`: plays scripts, answers sessions and audits logs.
 #![tactic(auto)]
 
 use command::hourstable;

@@ -1,4 +1,4 @@
-//! Assigners and plans.
+//! Exports for assigners and plans.
 
 ghost use Rattle.std.specs.Prelude.{◌≡◌, codes, None, ⊤};
 ghost use Rattle.wire.specs.Assignments.{assignment_of};
@@ -24,7 +24,7 @@ use c_place::{Held, Place};
 use c_table::{PhaseNumbers, PlanPolicyNumbers, TermNumbers, adopt, next, plan};
 use std::alloc::Global;
 
-/// Puts an assigner that keeps no term, in place of what stood there.
+/// Creates a new assigner in `place`, destroying what was there. It keeps no term.
 #[unsafe(no_mangle)]
 pub extern "C" fn hs_assigner_open(place: &mut Place, id: u64, job: u64) -> i32
     ensures number { result ≡ answer_number Done }
@@ -47,7 +47,7 @@ pub extern "C" fn hs_assigner_adopt(place: &mut Place, term: &TermNumbers) -> i3
     }
 }
 
-/// Forgets the term.
+/// Forgets the kept term.
 #[unsafe(no_mangle)]
 pub extern "C" fn hs_assigner_restart(place: &mut Place) -> i32
     ensures { OnAssigner place.old.value place.new.value ⊤ result
@@ -62,7 +62,7 @@ pub extern "C" fn hs_assigner_restart(place: &mut Place) -> i32
     }
 }
 
-/// What to do next, and the number of the term that is kept.
+/// Writes what to do next to `action`, and the number of the kept term to `number`.
 #[unsafe(no_mangle)]
 #[tactic(auto, using(crate::proofs::Returning::returns))]
 pub extern "C" fn hs_assigner_next(
@@ -83,7 +83,7 @@ pub extern "C" fn hs_assigner_next(
     }
 }
 
-/// Ends the assigner. Nothing stands in the place then.
+/// Destroys the assigner and leaves `place` empty.
 #[unsafe(no_mangle)]
 pub extern "C" fn hs_assigner_close(place: &mut Place) -> i32
     ensures { IsClosed (is_assigner place.old.value) place.old.value place.new.value result }
@@ -93,7 +93,7 @@ pub extern "C" fn hs_assigner_close(place: &mut Place) -> i32
     close_where(is_assigner, held)
 }
 
-/// Plans the assignment of the next generation, and gives its message.
+/// Plans the assignment of the next generation, and writes its message to `out`.
 #[unsafe(no_mangle)]
 #[tactic(auto, using(crate::proofs::Returning::returns))]
 pub extern "C" fn hs_plan(

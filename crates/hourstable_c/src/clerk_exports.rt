@@ -1,4 +1,4 @@
-//! Clerks.
+//! Exports for clerks.
 
 ghost use Rattle.std.specs.Prelude.{◌≡◌, None, ⊤};
 ghost use Rattle.slice_ranges.specs.Hash.{slice_key};
@@ -19,7 +19,7 @@ use c_task::{OwnersNumbers, learn, look};
 use clerk::Clerk;
 use std::alloc::Global;
 
-/// Puts a clerk that has learnt nothing, in place of what stood there.
+/// Creates a new clerk in `place`, destroying what was there. It keeps no assignment.
 #[unsafe(no_mangle)]
 pub extern "C" fn hs_clerk_open(place: &mut Place) -> i32
     ensures number { result ≡ answer_number Done }
@@ -29,7 +29,7 @@ pub extern "C" fn hs_clerk_open(place: &mut Place) -> i32
     Answer::Done.number()
 }
 
-/// Keeps the assignment that the bytes are a message of.
+/// Decodes an assignment from its message and keeps it.
 #[unsafe(no_mangle)]
 #[tactic(auto, using(crate::proofs::Returning::tells))]
 pub extern "C" fn hs_clerk_learn(
@@ -47,7 +47,7 @@ pub extern "C" fn hs_clerk_learn(
     }
 }
 
-/// Who owns a key in the assignment that is kept.
+/// Writes the owners of a key in the kept assignment to `out`.
 #[unsafe(no_mangle)]
 #[tactic(auto, using(crate::proofs::Returning::returns))]
 pub extern "C" fn hs_clerk_look(place: &mut Place, key: &[u8], out: &mut OwnersNumbers) -> i32
@@ -60,7 +60,7 @@ pub extern "C" fn hs_clerk_look(place: &mut Place, key: &[u8], out: &mut OwnersN
     }
 }
 
-/// Keeps no assignment any more.
+/// Forgets the kept assignment.
 #[unsafe(no_mangle)]
 pub extern "C" fn hs_clerk_forget(place: &mut Place) -> i32
     ensures { OnClerk place.old.value place.new.value ⊤ result (λ old new. (result ≡ answer_number Done) × (new ≡ None)) }
@@ -74,7 +74,7 @@ pub extern "C" fn hs_clerk_forget(place: &mut Place) -> i32
     }
 }
 
-/// Ends the clerk. Nothing stands in the place then.
+/// Destroys the clerk and leaves `place` empty.
 #[unsafe(no_mangle)]
 pub extern "C" fn hs_clerk_close(place: &mut Place) -> i32
     ensures { IsClosed (is_clerk place.old.value) place.old.value place.new.value result }

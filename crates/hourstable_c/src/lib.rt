@@ -1,7 +1,7 @@
-//! Hourstable for callers in C: `include/hourstable.h` says what each function does.
+//! Hourstable for callers in C: `include/hourstable.h` documents each function.
 //!
-//! Each function lends what stands in a place, makes the call of a crate below on it, and returns the number of the
-//! answer. A place with something else in it is left as it is.
+//! Each function borrows what a place holds, makes a call of a crate below on it, and returns the
+//! code of the answer. A place that holds something else is unchanged.
 #![tactic(auto)]
 
 mod assigner_exports;

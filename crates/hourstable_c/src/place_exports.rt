@@ -1,4 +1,4 @@
-//! Keys, places, and what is taken out of them.
+//! Exports for keys and places.
 
 ghost use Rattle.std.specs.Prelude.{◌≡◌, IfOk};
 ghost use Rattle.slice_ranges.specs.Hash.{slice_key};
@@ -9,7 +9,7 @@ use c_place::{Held, Place};
 use slice_ranges::slice_key;
 use std::alloc::{AllocError, Global};
 
-/// The slice key of a key.
+/// Returns the slice key of a key.
 #[unsafe(no_mangle)]
 pub extern "C" fn hs_slice_key(key: &[u8]) -> u64
     ensures { result ≡ slice_key key.now }
@@ -17,7 +17,7 @@ pub extern "C" fn hs_slice_key(key: &[u8]) -> u64
     slice_key(key).value()
 }
 
-/// Makes a place with nothing in it, and writes its address.
+/// Creates an empty place, and writes its address to `out`.
 #[unsafe(no_mangle)]
 #[tactic(auto, using(crate::proofs::Making::is_made))]
 pub extern "C" fn hs_place_new(alloc: Global, out: &mut *mut u8) -> i32
@@ -26,7 +26,7 @@ pub extern "C" fn hs_place_new(alloc: Global, out: &mut *mut u8) -> i32
     hand_out(empty_place(alloc), out)
 }
 
-// The address of a place with nothing in it.
+// Allocates an empty place, and returns its address.
 fn empty_place(alloc: Global) -> Result<*mut u8, AllocError> {
     Ok(Box::into_raw(boxed_nothing(alloc)?) as *mut u8)
 }
@@ -37,7 +37,7 @@ fn boxed_nothing(alloc: Global) -> Result<Box<Held>, AllocError>
     Ok(Box::new(alloc, Held::Nothing)?)
 }
 
-// Writes the address of a place, where there is one.
+// Writes the address of a place to `out`, if there is one.
 fn hand_out(made: Result<*mut u8, AllocError>, out: &mut *mut u8) -> i32
     ensures { IsHandedOut made out.old out.new result }
 {
@@ -50,13 +50,13 @@ fn hand_out(made: Result<*mut u8, AllocError>, out: &mut *mut u8) -> i32
     }
 }
 
-/// Ends what stands in a place, and frees the place.
+/// Destroys what `place` holds, and frees the place.
 #[unsafe(no_mangle)]
 pub extern "C" fn hs_place_free(place: Place) {
     drop(place.into_box());
 }
 
-/// Ends what stands there where it is of the kind that a function closes.
+/// Destroys what a place holds, if it is of the kind that the caller closes.
 pub fn close_where(is_of_kind: bool, held: &mut Held) -> i32
     ensures { IsClosed is_of_kind held.old held.new result }
 {

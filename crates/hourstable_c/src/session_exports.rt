@@ -1,4 +1,4 @@
-//! Sessions.
+//! Exports for sessions.
 
 ghost use Rattle.std.specs.Prelude.{◌≡◌, string_bytes};
 ghost use Rattle.c_numbers.specs.Outputs.{IsGivenWhole, output};
@@ -15,7 +15,7 @@ use c_session::Conversation;
 use session::ReplyForm;
 use std::alloc::Global;
 
-// How answers are written for a number.
+// Returns the form of replies for a number: text for 0, otherwise JSON.
 fn form_of(json: u32) -> ReplyForm
     ensures { result ≡ form_of json }
 {
@@ -26,7 +26,7 @@ fn form_of(json: u32) -> ReplyForm
     }
 }
 
-/// Puts a session of the job that the line says, in place of what stood there.
+/// Creates a session in `place` for the job on the line, destroying what was there.
 #[unsafe(no_mangle)]
 #[tactic(auto, using(crate::proofs::Conversing::puts))]
 pub extern "C" fn hs_session_open(alloc: Global, place: &mut Place, line: &[u8], json: u32) -> i32
@@ -42,7 +42,7 @@ pub extern "C" fn hs_session_open(alloc: Global, place: &mut Place, line: &[u8],
 }
 
 #[tactic(auto, using(crate::proofs::Conversing::gives_up))]
-// Answers a line of what stands there; a session that memory ran out in is given up.
+// Answers a line. If memory runs out, the session is destroyed.
 fn answer_held(held: &mut Held, line: &[u8], out: &mut [u8], needed: &mut usize) -> Answer
     ensures { IsSessionAnswered line.now held.old held.new (output out.old needed.old) (output out.new needed.new) result }
 {
@@ -56,7 +56,7 @@ fn answer_held(held: &mut Held, line: &[u8], out: &mut [u8], needed: &mut usize)
     answer
 }
 
-/// Answers a line, and gives the line of its reply.
+/// Answers a line, and writes the line of its reply to `out`.
 #[unsafe(no_mangle)]
 #[tactic(auto, using(crate::proofs::Returning::returns))]
 pub extern "C" fn hs_session_answer(
@@ -70,7 +70,7 @@ pub extern "C" fn hs_session_answer(
     answer_held(place.lend(), line, out, needed).number()
 }
 
-/// Gives the last line that was given, or found no room.
+/// Writes the last reply line to `out`, also if it did not fit before.
 #[unsafe(no_mangle)]
 #[tactic(auto, using(crate::proofs::Returning::returns))]
 pub extern "C" fn hs_session_last(place: &mut Place, out: &mut [u8], needed: &mut usize) -> i32
@@ -83,7 +83,7 @@ pub extern "C" fn hs_session_last(place: &mut Place, out: &mut [u8], needed: &mu
     }
 }
 
-/// Ends the session. Nothing stands in the place then.
+/// Destroys the session and leaves `place` empty.
 #[unsafe(no_mangle)]
 pub extern "C" fn hs_session_close(place: &mut Place) -> i32
     ensures { IsClosed (is_session place.old.value) place.old.value place.new.value result }

@@ -1,4 +1,4 @@
-//! Slicelets.
+//! Exports for slicelets.
 
 ghost use Rattle.std.specs.Prelude.{◌≡◌, ⊤};
 ghost use Rattle.c_numbers.specs.Outputs.{output};
@@ -18,7 +18,7 @@ use c_place::{Held, Place};
 use c_task::{HandleNumbers, check, hear, hold, open_slicelet, release, serve, start};
 use std::alloc::Global;
 
-/// Puts the slicelet of a task, before its first call, in place of what stood there.
+/// Creates a new slicelet in `place`, destroying what was there.
 #[unsafe(no_mangle)]
 pub extern "C" fn hs_slicelet_open(alloc: Global, place: &mut Place, task: u64) -> i32
     ensures { IsOpened held.Slicelet (opened task) place.old.value place.new.value result }
@@ -45,7 +45,7 @@ pub extern "C" fn hs_slicelet_start(place: &mut Place, life: u32, at: u64) -> i3
     }
 }
 
-/// Hears the grant that the bytes are a message of.
+/// Decodes a grant from its message and hears it.
 #[unsafe(no_mangle)]
 #[tactic(auto, using(crate::proofs::Returning::tells))]
 pub extern "C" fn hs_slicelet_hear(
@@ -64,7 +64,7 @@ pub extern "C" fn hs_slicelet_hear(
     }
 }
 
-/// Releases the lease of the kind of a number, and gives the message of its note.
+/// Releases the lease of a kind, and writes the message of its note to `out`.
 #[unsafe(no_mangle)]
 #[tactic(auto, using(crate::proofs::Returning::returns))]
 pub extern "C" fn hs_slicelet_release(
@@ -84,7 +84,7 @@ pub extern "C" fn hs_slicelet_release(
     }
 }
 
-/// Whether the task may serve a key.
+/// Returns whether the task may serve a key.
 #[unsafe(no_mangle)]
 #[tactic(auto, using(crate::proofs::Returning::tells))]
 pub extern "C" fn hs_slicelet_serve(place: &mut Place, key: &[u8], at: u64, told: &mut Told) -> i32
@@ -98,7 +98,7 @@ pub extern "C" fn hs_slicelet_serve(place: &mut Place, key: &[u8], at: u64, told
     }
 }
 
-/// Takes a handle on a key, where the task may serve it.
+/// Takes a handle on a key, if the task may serve it.
 #[unsafe(no_mangle)]
 #[tactic(auto, using(crate::proofs::Returning::tells))]
 pub extern "C" fn hs_slicelet_hold(
@@ -119,7 +119,7 @@ pub extern "C" fn hs_slicelet_hold(
     }
 }
 
-/// Whether the task held the key of a handle since it was taken, and may serve it now.
+/// Returns whether the task held the handle's key since the handle was taken, and may serve it now.
 #[unsafe(no_mangle)]
 #[tactic(auto, using(crate::proofs::Returning::returns))]
 pub extern "C" fn hs_slicelet_check(place: &mut Place, handle: &HandleNumbers, at: u64) -> i32
@@ -132,7 +132,7 @@ pub extern "C" fn hs_slicelet_check(place: &mut Place, handle: &HandleNumbers, a
     }
 }
 
-/// Ends the slicelet. Nothing stands in the place then.
+/// Destroys the slicelet and leaves `place` empty.
 #[unsafe(no_mangle)]
 pub extern "C" fn hs_slicelet_close(place: &mut Place) -> i32
     ensures { IsClosed (is_slicelet place.old.value) place.old.value place.new.value result }

@@ -1,4 +1,4 @@
-//! Tables.
+//! Exports for tables.
 
 ghost use Rattle.std.specs.Prelude.{◌≡◌, codes, length, map};
 ghost use Rattle.wire.specs.Assignments.{assignment_of};
@@ -30,7 +30,7 @@ use c_table::{
 };
 use std::alloc::Global;
 
-/// Puts a table of a policy, before its first call, in place of what stood there.
+/// Creates a new table in `place`, destroying what was there.
 #[unsafe(no_mangle)]
 pub extern "C" fn hs_table_open(alloc: Global, place: &mut Place, policy: &PolicyNumbers) -> i32
     ensures { IsOpened held.Table (table_of policy.now) place.old.value place.new.value result }
@@ -44,7 +44,7 @@ pub extern "C" fn hs_table_open(alloc: Global, place: &mut Place, policy: &Polic
     }
 }
 
-/// Gives the job lease to an assigner.
+/// Gives the job lease to an assigner, and writes the term to `out`.
 #[unsafe(no_mangle)]
 #[tactic(auto, using(crate::proofs::Returning::tells))]
 pub extern "C" fn hs_table_take(
@@ -64,7 +64,7 @@ pub extern "C" fn hs_table_take(
     }
 }
 
-/// Renews the term of a number.
+/// Renews the term with this number, and writes it to `out`.
 #[unsafe(no_mangle)]
 #[tactic(auto, using(crate::proofs::Returning::tells))]
 pub extern "C" fn hs_table_renew(
@@ -84,7 +84,7 @@ pub extern "C" fn hs_table_renew(
     }
 }
 
-/// Proposes the assignment that the bytes are a message of, under the term of a number.
+/// Decodes an assignment from its message and proposes it under the term with this number.
 #[unsafe(no_mangle)]
 #[tactic(auto, using(crate::proofs::Returning::tells))]
 pub extern "C" fn hs_table_propose(
@@ -105,7 +105,7 @@ pub extern "C" fn hs_table_propose(
     }
 }
 
-/// Commits the proposed assignment under the term of a number.
+/// Commits the proposed assignment under the term with this number.
 #[unsafe(no_mangle)]
 #[tactic(auto, using(crate::proofs::Returning::tells))]
 pub extern "C" fn hs_table_commit(place: &mut Place, number: u64, at: u64, told: &mut Told) -> i32
@@ -118,7 +118,7 @@ pub extern "C" fn hs_table_commit(place: &mut Place, number: u64, at: u64, told:
     }
 }
 
-/// Grants a task a lease for one of its lives, and gives the message of the grant.
+/// Grants a task a lease for one of its lives, and writes the message of the grant to `out`.
 #[unsafe(no_mangle)]
 #[tactic(auto, using(crate::proofs::Returning::returns))]
 pub extern "C" fn hs_table_grant(
@@ -139,7 +139,7 @@ pub extern "C" fn hs_table_grant(
     }
 }
 
-/// Frees the rows that a note closes, where the bytes are a message of one.
+/// Decodes a note from its message and frees the rows that it closes.
 #[unsafe(no_mangle)]
 #[tactic(auto, using(crate::proofs::Returning::tells))]
 pub extern "C" fn hs_table_free(
@@ -160,7 +160,7 @@ pub extern "C" fn hs_table_free(
     }
 }
 
-/// The table restarts and loses its rows.
+/// Restarts the table, which loses its rows, and writes how many to `lost`.
 #[unsafe(no_mangle)]
 pub extern "C" fn hs_table_restart(place: &mut Place, lost: &mut u64) -> i32
     ensures { OnTable place.old.value place.new.value (lost.new ≡ lost.old) result
@@ -172,7 +172,7 @@ pub extern "C" fn hs_table_restart(place: &mut Place, lost: &mut u64) -> i32
     }
 }
 
-/// Where the table stands.
+/// Writes the phase of the table to `out`.
 #[unsafe(no_mangle)]
 pub extern "C" fn hs_table_phase(place: &mut Place, out: &mut PhaseNumbers) -> i32
     ensures { OnTable place.old.value place.new.value (out.new ≡ out.old) result
@@ -184,7 +184,7 @@ pub extern "C" fn hs_table_phase(place: &mut Place, out: &mut PhaseNumbers) -> i
     }
 }
 
-/// The rows that have not ended at the last accepted reading, in grant order.
+/// Writes the rows that have not ended at the last accepted reading to `out`, in grant order.
 #[unsafe(no_mangle)]
 #[tactic(auto, using(crate::proofs::Returning::returns))]
 pub extern "C" fn hs_table_rows(
@@ -202,7 +202,7 @@ pub extern "C" fn hs_table_rows(
     }
 }
 
-/// Gives the message of the committed assignment.
+/// Writes the message of the committed assignment to `out`.
 #[unsafe(no_mangle)]
 #[tactic(auto, using(crate::proofs::Returning::returns))]
 pub extern "C" fn hs_table_committed(
@@ -220,7 +220,7 @@ pub extern "C" fn hs_table_committed(
     }
 }
 
-/// Ends the table. Nothing stands in the place then.
+/// Destroys the table and leaves `place` empty.
 #[unsafe(no_mangle)]
 pub extern "C" fn hs_table_close(place: &mut Place) -> i32
     ensures { IsClosed (is_table place.old.value) place.old.value place.new.value result }

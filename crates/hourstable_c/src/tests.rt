@@ -1,4 +1,4 @@
-//! A task from open to close, by the functions that C calls.
+//! A task from open to close, through the functions that C calls.
 
 use crate::place_exports::hs_place_free;
 use crate::slicelet_exports::{
@@ -9,12 +9,12 @@ use c_place::{Held, Place};
 use std::alloc::Global;
 use std::test::Fail;
 
-// A guard on all keys until 8 of the task's clock.
+// A guard lease on all keys, until 8 on the task's clock.
 const GRANT: &[u8] =
     br#"{"type":"grant","value":{"ends":8,"generation":3,"kind":"guard","life":1,"number":7,
     "ranges":[[0,9223372036854775808]],"task":2,"until":10},"version":1}"#;
 
-// What the functions return, one after the other.
+// Returns the codes of the calls, in order.
 fn codes_of(alloc: Global, place: &mut Place, told: &mut Told) -> [i32; 6] {
     let opened = hs_slicelet_open(alloc, place, 2);
     let started = hs_slicelet_start(place, 1, 3);

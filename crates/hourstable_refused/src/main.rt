@@ -1,4 +1,4 @@
-//! The command with a script that is refused.
+//! The command `hourstable`, run on a script that it refuses.
 #![tactic(auto)]
 
 use command::hourstable;

@@ -1,4 +1,4 @@
-//! How a line is answered.
+//! Replies and errors as lines.
 
 ghost use Rattle.std.specs.Prelude.{◌≡◌, ◌++◌, codes, false, IfOk, string_bytes};
 ghost use Rattle.serde_json.specs.View.{view};
@@ -11,16 +11,16 @@ use service::Line;
 use std::alloc::{AllocError, Global};
 use world::Reply;
 
-/// How answers are written.
+/// How replies are written.
 #[derive(Clone, Copy, Debug, PartialEq, Eq)]
 pub enum ReplyForm {
-    /// As the lines of a script's replies.
+    /// As text, like the reply lines of a script.
     Text,
     /// As JSON objects, one a line.
     Json,
 }
 
-// The line for a JSON value.
+// Returns the line for a JSON value.
 fn json_line(alloc: Global, value: &Value) -> Result<String, AllocError>
     ensures { IfOk result (λ text. has_float (view value.now) ≡ false
         → string_bytes text ≡ compact_text (view value.now) ++ codes "\n") }
@@ -30,14 +30,14 @@ fn json_line(alloc: Global, value: &Value) -> Result<String, AllocError>
     Ok(text)
 }
 
-// Words on a line that is no step, as JSON.
+// Returns the JSON error for a line that is not a step.
 fn error_json(alloc: Global, words: &str) -> Result<Value, AllocError>
     ensures { IfOk result (λ v. view v ≡ error_data words.now) }
 {
     json!(in alloc; {"error": words})
 }
 
-/// The line for a reply.
+/// Returns the line for a reply.
 #[tactic(auto, using(crate::proofs::Whole::reply_whole))]
 pub fn answer_text(alloc: Global, form: ReplyForm, reply: &Reply) -> Result<String, AllocError>
     ensures { IfOk result (λ text. string_bytes text ≡ answer_text form reply.now) }
@@ -51,7 +51,7 @@ pub fn answer_text(alloc: Global, form: ReplyForm, reply: &Reply) -> Result<Stri
     }
 }
 
-/// The line for these words on a line that is no step.
+/// Returns the line for an error message, about a line that is not a step.
 pub fn error_text(alloc: Global, form: ReplyForm, words: &str) -> Result<String, AllocError>
     ensures { IfOk result (λ text. string_bytes text ≡ error_text form words.now) }
 {

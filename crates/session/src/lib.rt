@@ -1,4 +1,5 @@
-//! A job that stays open: a line says its job, and each line after it a step, which is answered at once.
+//! A job that stays open: the first line gives the job, and each later line a step, which is
+//! answered at once.
 #![tactic(auto)]
 
 mod answer;

@@ -1,4 +1,4 @@
-//! What a line says.
+//! Parsing lines.
 
 ghost use Rattle.std.specs.Prelude.{◌≡◌, [], ◌∷◌, map, IfOk, IfErr};
 ghost use Rattle.session.specs.Lines.{SaysJob, SaysStep, IsNoJob, IsNoStep};
@@ -12,10 +12,10 @@ use service::{ScriptError, job_member, job_of, lone_step};
 use std::alloc::{AllocError, Global};
 use world::{Job, Step};
 
-/// Why a line gives no step.
+/// Why a line is not played.
 #[derive(Debug, Drop)]
 pub enum NoStep {
-    /// It says none, for this.
+    /// The line is not a step; the text says why.
     Line(String),
     /// Memory ran out.
     Memory,
@@ -27,7 +27,7 @@ impl From<AllocError> for NoStep {
     }
 }
 
-// The one fault of a first line that is refused for this.
+// Returns the one fault of a first line that is refused.
 fn one_fault(
     alloc: Global,
     refusal: ScriptError,
@@ -40,7 +40,7 @@ fn one_fault(
     Ok(faults)
 }
 
-/// The job that a line says, as the first line of a session.
+/// Parses the first line of a session, which is its job.
 pub fn job_said(alloc: Global, line: &[u8]) -> Result<Job, AnswerError>
     ensures ok { IfOk result (SaysJob line.now) }
     ensures err { IfErr result (IsNoJob line.now) }
@@ -65,7 +65,7 @@ pub fn job_said(alloc: Global, line: &[u8]) -> Result<Job, AnswerError>
     }
 }
 
-/// The step of a job that a line says.
+/// Parses a line as a step of the job.
 pub fn step_said(alloc: Global, job: Job, line: &[u8]) -> Result<Step, NoStep>
     ensures ok { IfOk result (SaysStep job line.now) }
     ensures err { IfErr result (IsNoStep job line.now) }

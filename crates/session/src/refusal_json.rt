@@ -14,7 +14,7 @@ use std::alloc::{AllocError, Global};
 use wire::kind_word;
 use world::Refusal;
 
-// A refusal that has nothing beside its words.
+// Converts a refusal that has nothing but its words.
 fn word_json(alloc: Global, refusal: Refusal) -> Result<Value, AllocError>
     ensures { IfOk result (λ v. view v ≡ word_data (refusal_words refusal)) }
 {
@@ -79,7 +79,7 @@ fn clerk_json(alloc: Global, error: ClerkError) -> Result<Value, AllocError>
     }
 }
 
-/// The refusal as JSON: its first word, and what it names.
+/// Converts a refusal to JSON: its first word, and what it names.
 pub fn refusal_json(alloc: Global, refusal: Refusal) -> Result<Value, AllocError>
     ensures { IfOk result (λ v. view v ≡ refusal_data refusal) }
 {

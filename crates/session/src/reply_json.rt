@@ -20,7 +20,7 @@ use weighted_move::{Move, Plan};
 use wire::kind_word;
 use world::{OwnerList, Reply};
 
-// A reply of this name, with nothing more.
+// Returns a reply with this name and nothing more.
 fn plain_json(alloc: Global, name: &str) -> Result<Value, AllocError>
     ensures { IfOk result (λ v. view v ≡ plain_data name.now) }
 {
@@ -259,7 +259,7 @@ fn next_json(alloc: Global, action: Action) -> Result<Value, AllocError>
     json!(in alloc; {"next": action_word(action), "reply": "next"})
 }
 
-// A grant: the deadline of the table, and that of the task.
+// Converts a grant, with the deadlines of the table and the task.
 fn granted_json(
     alloc: Global,
     number: u64,
@@ -280,7 +280,9 @@ fn granted_json(
     })
 }
 
-/// The reply as JSON: the first word of its line, and what the line names. No line is written out of memory.
+/// Converts a reply to JSON: the first word of its line, and what the line names.
+///
+/// An out-of-memory reply is never written as a line.
 pub fn reply_json(alloc: Global, reply: &Reply) -> Result<Value, AllocError>
     ensures { IfOk result (λ v. view v ≡ reply_data reply.now) }
 {

@@ -1,4 +1,4 @@
-//! A session: a job with its world, which lines of steps move.
+//! A session: a job and its world, which the steps on lines change.
 
 ghost use Rattle.std.specs.Prelude.{◌≡◌, [], IfOk, IfErr, string_bytes};
 ghost use Rattle.world.specs.Pasts.{Past};
@@ -21,7 +21,7 @@ pub struct Session {
 }
 
 impl Session {
-    /// Opens a session of the job that the line says.
+    /// Opens a session for the job on the line.
     pub fn open(alloc: Global, form: ReplyForm, line: &[u8]) -> Result<Session, AnswerError>
         ensures at { IfOk result (λ s. IsAt [] s) }
         ensures job { IfOk result (λ s. SaysJob line.now s.job) }
@@ -38,10 +38,10 @@ impl Session {
         })
     }
 
-    /// Plays the step that the line says, after all before it, and gives the line of its reply.
+    /// Plays the step on the line after all earlier ones, and returns the line of its reply.
     ///
-    /// A line that says no step changes nothing, and is answered with what to mend. Where memory ran out, it is
-    /// not known whether the step was played: the caller gives the session up.
+    /// A line that is not a step changes nothing, and its reply says how to fix it. If memory runs
+    /// out, it is not known whether the step was played, and the caller must discard the session.
     pub fn answer(&mut self, line: &[u8]) -> Result<String, AllocError>
         ensures job { self.new.job ≡ self.old.job }
         ensures form { self.new.form ≡ self.old.form }
@@ -54,7 +54,7 @@ impl Session {
         }
     }
 
-    // Plays a step, and gives the line of its reply. A reply that memory ran out has none.
+    // Plays a step and returns the line of its reply. An out-of-memory reply is an error.
     fn play(&mut self, step: Step) -> Result<String, AllocError>
         ensures job { self.new.job ≡ self.old.job }
         ensures form { self.new.form ≡ self.old.form }

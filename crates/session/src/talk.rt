@@ -1,4 +1,4 @@
-//! A talk: lines in, and a line out for each but the first.
+//! A whole session: lines in, and a reply line out for each line but the first.
 
 ghost use Rattle.std.specs.Prelude.{◌≡◌, ℕ, List, IfOk, IfErr, OnOk, OnErr};
 ghost use Rattle.std.specs.Io.KnownBytes.{Consumes};
@@ -12,14 +12,14 @@ use program_io::{ReadError, write_all};
 use std::alloc::Global;
 use std::io::{BufRead, ErrorKind, Write};
 
-// Whether there is nothing but spaces.
+// Whether a line is blank: spaces, tabs and line ends alone.
 fn is_blank(line: &[u8]) -> bool
     ensures { result ≡ is_blank line.now }
 {
     line.iter().all(|byte| *byte == b' ' || *byte == b'\t' || *byte == b'\r' || *byte == b'\n')
 }
 
-// The next line that has more than spaces, with its end; an empty one at the end of the reader.
+// Reads the next line that is not blank, with its line end. It is empty at the end of the input.
 fn next_line<R: BufRead>(alloc: Global, reader: &mut R) -> Result<Vec<u8>, ReadError>
     ensures ok { IfOk result (λ line. IsNext (R.remaining reader.old) (R.remaining reader.new) line.items) }
     ensures err { OnErr result ((bytes : List ℕ)
@@ -42,11 +42,14 @@ fn next_line<R: BufRead>(alloc: Global, reader: &mut R) -> Result<Vec<u8>, ReadE
     Err(ReadError::Failed)
 }
 
-/// Opens a session of the job that the first line says, and answers each line after it with one line, before the
-/// next is read. A line ends after byte 10, or with the reader's bytes. Lines with nothing but spaces are skipped.
+/// Opens a session for the job on the first line, and answers each later line before reading the
+/// next.
 ///
-/// After a fault nothing is written but the replies to lines that were read, from the first one on: whole replies
-/// where the reader failed or memory ran out, and up to a place where the writer failed.
+/// A line ends after byte 10 or at the end of the input. Blank lines are skipped.
+///
+/// After an error, only replies to lines that were read have been written, from the first one on:
+/// whole replies if the reader failed or memory ran out, and up to some byte of them if the writer
+/// failed.
 pub fn run_session<R: BufRead, W: Write>(
     alloc: Global,
     form: ReplyForm,

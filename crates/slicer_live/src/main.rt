@@ -1,4 +1,4 @@
-//! Runs the job of the standard input in threads, and writes what they did.
+//! Runs the job on standard input in threads, and writes what they did.
 #![tactic(auto)]
 
 use live_text::slicer_live;

@@ -1,4 +1,4 @@
-//! The program of live runs, given a job with a member more.
+//! The program `slicer_live`, run on a job with an unknown member, which it refuses.
 #![tactic(auto)]
 
 use live_text::slicer_live;

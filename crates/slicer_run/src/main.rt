@@ -1,4 +1,4 @@
-//! Plays the script of the standard input, and writes a line for each of its steps.
+//! Plays the script on standard input, and writes a line for each of its steps.
 #![tactic(auto)]
 
 use service::slicer_run;

@@ -1,4 +1,4 @@
-//! The same program as `slicer_run`, run with an empty argument, which it refuses.
+//! The program `slicer_run`, run with an empty argument, which it refuses.
 #![tactic(auto)]
 
 use service::slicer_run;

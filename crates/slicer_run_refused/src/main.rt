@@ -1,4 +1,4 @@
-//! The same program as `slicer_run`, run on a script that it refuses.
+//! The program `slicer_run`, run on a script that it refuses.
 #![tactic(auto)]
 
 use service::slicer_run;

@@ -1,4 +1,4 @@
-//! Where a reading stands in a picture.
+//! The positions of readings in a picture.
 
 use crate::lane::FOREVER;
 use crate::shown::Shown;
@@ -7,11 +7,13 @@ use std::alloc::{AllocError, Global};
 /// Where readings begin, in pixels from the left.
 pub const LEFT: u64 = 92;
 
-/// How many pixels wide the readings are.
+/// How wide the readings are, in pixels.
 pub const WIDTH: u64 = 888;
 
-/// Readings in order, and how far each stands from the first. Gaps are drawn by the number of their binary digits,
-/// so that a long one does not push the others together.
+/// Readings in order, and the distance of each from the first.
+///
+/// The width of a gap grows with the number of its binary digits, so that a long gap does not push
+/// the others together.
 #[derive(Drop)]
 pub struct Axis {
     readings: Vec<u64>,
@@ -19,13 +21,13 @@ pub struct Axis {
     length: u64,
 }
 
-// How wide a gap of so many ticks is drawn, in parts of the whole.
+// Returns how wide a gap of this many ticks is drawn, in parts of the whole.
 fn gap_width(ticks: u64) -> u64 {
     let digits = 64_u64.saturating_sub(u64::from(ticks.leading_zeros()));
     digits.saturating_add(2)
 }
 
-// Adds the readings of a span; the end of what does not end is none.
+// Adds the readings of a span. A span that does not end has no second reading.
 fn add_span(readings: &mut Vec<u64>, from: u64, to: u64) -> Result<(), AllocError> {
     readings.push(from)?;
     if to != FOREVER {
@@ -34,7 +36,7 @@ fn add_span(readings: &mut Vec<u64>, from: u64, to: u64) -> Result<(), AllocErro
     Ok(())
 }
 
-// The readings of a picture, each as often as it is in one.
+// Returns all readings of a picture, each as often as it occurs.
 fn readings_of(alloc: Global, shown: &Shown) -> Result<Vec<u64>, AllocError> {
     let mut readings = Vec::new(alloc);
     for stretches in &shown.stretches {
@@ -55,7 +57,7 @@ fn readings_of(alloc: Global, shown: &Shown) -> Result<Vec<u64>, AllocError> {
 }
 
 impl Axis {
-    /// The axis of the readings of a picture.
+    /// Returns the axis of the readings of a picture.
     pub fn of_shown(alloc: Global, shown: &Shown) -> Result<Self, AllocError> {
         let mut all = readings_of(alloc, shown)?;
         all.sort_unstable();
@@ -84,12 +86,12 @@ impl Axis {
         Ok(())
     }
 
-    /// The readings in order.
+    /// Returns the readings in order.
     pub fn readings(&self) -> &[u64] {
         self.readings.as_slice()
     }
 
-    /// Where a reading stands, in pixels from the left.
+    /// Returns the position of a reading, in pixels from the left.
     pub fn x(&self, reading: u64) -> u64 {
         let after = self
             .readings

@@ -1,4 +1,4 @@
-//! The lane of a clerk. Its steps have no reading: each stands at the last one before it.
+//! The lane of a clerk. Its steps have no reading: each is drawn at the last reading before it.
 
 use crate::lane::{Item, Lane, Look};
 use crate::words::key_label;
@@ -7,7 +7,7 @@ use service::{Line, RefusalWords};
 use std::alloc::{AllocError, Global};
 use world::Reply;
 
-/// What became of a clerk.
+/// What happened to a clerk.
 #[derive(Drop)]
 pub struct ClerkRecord {
     alloc: Global,
@@ -16,7 +16,7 @@ pub struct ClerkRecord {
 }
 
 impl ClerkRecord {
-    /// A clerk before its first step.
+    /// Creates the record of a clerk before its first step.
     pub fn new(alloc: Global, number: u64) -> Self {
         ClerkRecord {
             alloc,
@@ -25,7 +25,7 @@ impl ClerkRecord {
         }
     }
 
-    /// Takes in a reply to a `learn` or a `forget`, after a step at this reading.
+    /// Records the reply to a `learn` or a `forget`, after a step at the reading `now`.
     pub fn take_in(&mut self, now: u64, reply: &Reply) -> Result<(), AllocError> {
         let (look, label) = match reply {
             Reply::Learnt(generation) => {
@@ -44,7 +44,7 @@ impl ClerkRecord {
         Ok(())
     }
 
-    /// Takes in a reply to a `look` for a key.
+    /// Records the reply to a `look` for a key.
     pub fn take_in_look(&mut self, now: u64, key: &[u8], reply: &Reply) -> Result<(), AllocError> {
         let name = key_label(self.alloc, key)?;
         let (look, label) = match reply {
@@ -60,7 +60,7 @@ impl ClerkRecord {
         Ok(())
     }
 
-    /// The lane of the clerk, if it took a step.
+    /// Returns the lane of the clerk, if it took a step.
     pub fn lane(self) -> Result<Option<Lane>, AllocError> {
         let ClerkRecord {
             alloc,

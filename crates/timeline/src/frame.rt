@@ -1,4 +1,4 @@
-//! What stands round the lanes of a picture: its axis, and what its colours and signs mean.
+//! The frame of a picture: its axis and its legend.
 
 use crate::axis::{Axis, LEFT, WIDTH};
 use crate::lane::Look;
@@ -6,13 +6,13 @@ use crate::lane_picture::{LEVEL, draw_look, is_mark};
 use crate::svg::text_width;
 use std::alloc::{AllocError, Global};
 
-/// How many pixels wide a picture is.
+/// How wide a picture is, in pixels.
 const PAGE: u64 = 1000;
 
 /// Where the legend begins, in pixels from the left.
 const MARGIN: u64 = 14;
 
-/// Draws the readings in two lines of numbers below a height, as many as find room.
+/// Draws the readings below a height, in two lines of numbers, as many as fit.
 pub fn draw_readings(
     alloc: Global,
     svg: &mut String,
@@ -42,7 +42,7 @@ pub fn draw_readings(
     Ok(())
 }
 
-// Draws an entry of the legend at a place.
+// Draws an entry of the legend at a position.
 fn draw_entry(svg: &mut String, look: Look, words: &str, x: u64, y: u64) -> Result<(), AllocError> {
     let from = if is_mark(look) {
         x.saturating_add(16)
@@ -58,7 +58,7 @@ fn draw_entry(svg: &mut String, look: Look, words: &str, x: u64, y: u64) -> Resu
     Ok(())
 }
 
-// What the signs mean.
+// The signs and what they mean.
 const SIGNS: [(Look, &str); 10] = [
     (Look::Guard, "guard lease held"),
     (Look::Bridge, "bridge lease held"),
@@ -72,7 +72,7 @@ const SIGNS: [(Look, &str); 10] = [
     (Look::Released, "lease released"),
 ];
 
-/// Draws what the colours and signs mean below a height, and gives the height below it.
+/// Draws the legend below a height, and returns the height below it.
 pub fn draw_legend(svg: &mut String, with_key: bool, y: u64) -> Result<u64, AllocError> {
     let mut x = MARGIN;
     let mut line = y;

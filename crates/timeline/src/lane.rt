@@ -1,8 +1,8 @@
-//! What a picture shows, before it is drawn.
+//! The contents of a picture, before it is drawn.
 
 use std::alloc::{AllocError, Global};
 
-/// The end of what does not end.
+/// The end of a span that does not end.
 pub const FOREVER: u64 = u64::MAX;
 
 /// How a part of an item is drawn.
@@ -24,7 +24,7 @@ pub enum Look {
     Out,
     /// A bar: a lease that has ended for its task, and not yet for the table.
     Skew,
-    /// A mark: a lease is given up.
+    /// A mark: a lease is released.
     Released,
     /// A mark: a request was served, or a check found a handle continuous.
     Served,
@@ -36,29 +36,36 @@ pub enum Look {
     Done,
     /// A bracket: a handle, up to where it breaks.
     Handle,
-    /// A ground: a task may serve the key of the picture.
+    /// A background: a task may serve the key of the picture.
     May,
 }
 
-/// A part of an item, between two readings; of a mark they are the same.
+/// A part of an item, between two readings, which are the same for a mark.
 #[derive(Clone, Copy, Debug, PartialEq, Eq)]
 pub struct Part {
+    /// How the part is drawn.
     pub look: Look,
+    /// The reading at which it begins.
     pub from: u64,
+    /// The reading at which it ends.
     pub to: u64,
 }
 
-/// One thing in a row: its parts, a label, a shorter one for where that has no room, and words on it.
+/// One thing in a row: its parts, its labels and a description.
 #[derive(Drop)]
 pub struct Item {
+    /// The parts.
     pub parts: Vec<Part>,
+    /// The label.
     pub label: String,
+    /// A shorter label, for a part that has no room for the other.
     pub short: Option<String>,
+    /// The description.
     pub words: String,
 }
 
 impl Item {
-    /// An item of one part.
+    /// Returns an item with one part.
     pub fn of_part(
         alloc: Global,
         part: Part,
@@ -75,7 +82,7 @@ impl Item {
         })
     }
 
-    /// A mark at a reading.
+    /// Returns a mark at a reading.
     pub fn mark(
         alloc: Global,
         look: Look,
@@ -95,19 +102,23 @@ impl Item {
 /// A row of a lane, with its name.
 #[derive(Drop)]
 pub struct Row {
+    /// The name of the row.
     pub name: &'static str,
+    /// Its items.
     pub items: Vec<Item>,
 }
 
-/// The lane of an actor: its rows.
+/// The lane of an actor.
 #[derive(Drop)]
 pub struct Lane {
+    /// The name of the actor.
     pub name: String,
+    /// Its rows.
     pub rows: Vec<Row>,
 }
 
 impl Lane {
-    /// A lane with no rows.
+    /// Returns a lane without rows.
     pub fn new(alloc: Global, name: String) -> Self {
         Lane {
             name,

@@ -6,16 +6,17 @@ use crate::stretch::Stretch;
 use crate::svg::{push_text, text_width};
 use std::alloc::{AllocError, Global};
 
-/// How many pixels high a level of a row is.
+/// How high a level of a row is, in pixels.
 pub const LEVEL: u64 = 20;
 
-/// Up to how many levels a row has: items that find none stand over others on the last.
+/// How many levels a row has at most. Items without a free level are drawn over others on the last.
 const MOST_LEVELS: usize = 12;
 
-/// How many pixels there are above and below the rows of a lane, and between two lanes.
+/// How far the rows of a lane are from its edges, and two lanes from each other, in pixels.
 const MARGIN: u64 = 5;
 
-// The part of an item that its label stands at: the first that says more than that a lease is out.
+// Returns the part of an item where its label goes: the first that says more than that a lease is
+// out.
 fn labelled_part(item: &Item) -> Part {
     for part in &item.parts {
         if !matches!(part.look, Look::Out | Look::Skew) {
@@ -32,12 +33,13 @@ fn labelled_part(item: &Item) -> Part {
     }
 }
 
-// How far a label stands from the beginning of its part: behind a mark, and else in it.
+// Returns how far a label is from the start of its part: after a mark, otherwise inside the part.
 fn label_gap(look: Look) -> u64 {
     if is_mark(look) { 9 } else { 5 }
 }
 
-// The label of an item: the shorter one, if it has one, where its part has no room for the other.
+// Returns the label of an item: the shorter one, if it has one and the part has no room for the
+// other.
 fn label_of<'a>(axis: &Axis, item: &'a Item) -> &'a str {
     let part = labelled_part(item);
     let room = axis.x(part.to).saturating_sub(axis.x(part.from));
@@ -47,7 +49,7 @@ fn label_of<'a>(axis: &Axis, item: &'a Item) -> &'a str {
     }
 }
 
-// Where the label of an item stands: before a mark, or farther to the left, where there is no room.
+// Returns the position of an item's label: before a mark or farther left, if there is no room.
 fn label_x(axis: &Axis, item: &Item) -> u64 {
     let part = labelled_part(item);
     let width = text_width(label_of(axis, item));
@@ -60,7 +62,7 @@ fn label_x(axis: &Axis, item: &Item) -> u64 {
     wanted.min(most)
 }
 
-/// Whether a look is that of a mark.
+/// Whether a look is a mark.
 pub fn is_mark(look: Look) -> bool {
     matches!(
         look,
@@ -68,7 +70,7 @@ pub fn is_mark(look: Look) -> bool {
     )
 }
 
-// From where to where an item takes place, in pixels.
+// Returns the start and the end of the space that an item takes, in pixels.
 fn extent(axis: &Axis, item: &Item) -> (u64, u64) {
     let label = label_x(axis, item);
     let mut from = label;
@@ -82,8 +84,8 @@ fn extent(axis: &Axis, item: &Item) -> (u64, u64) {
     (from, to)
 }
 
-// The level of an item that takes place from here to there: the first that is free, where `taken` says up to where
-// each is not.
+// Returns the level of an item that takes the space between `from` and `to`: the first free one.
+// `taken` has the end of the space that is taken on each level.
 fn level_of(taken: &mut Vec<u64>, from: u64, to: u64) -> Result<usize, AllocError> {
     for (level, end) in taken.iter_mut().enumerate() {
         if *end <= from {
@@ -97,7 +99,7 @@ fn level_of(taken: &mut Vec<u64>, from: u64, to: u64) -> Result<usize, AllocErro
     Ok(taken.len().saturating_sub(1))
 }
 
-// The class of a look.
+// Returns the class of a look.
 fn class_of(look: Look) -> &'static str {
     match look {
         Look::Steady => "steady",
@@ -118,7 +120,7 @@ fn class_of(look: Look) -> &'static str {
     }
 }
 
-/// Draws a part, between two places, below a height.
+/// Draws a part between two positions, below a height.
 pub fn draw_look(
     svg: &mut String,
     look: Look,
@@ -169,12 +171,12 @@ pub fn draw_look(
     Ok(())
 }
 
-// The class of a label: one that stands on a line keeps clear of it.
+// Returns the class of a label. A label on a line keeps clear of it.
 fn label_class(look: Look) -> &'static str {
     if look == Look::Out { "over" } else { "label" }
 }
 
-// Draws an item with its words, below a height.
+// Draws an item with its description, below a height.
 fn draw_item(svg: &mut String, axis: &Axis, item: &Item, y: u64) -> Result<(), AllocError> {
     svg.push_str("<g><title>")?;
     push_text(svg, item.words.as_str())?;
@@ -191,7 +193,7 @@ fn draw_item(svg: &mut String, axis: &Axis, item: &Item, y: u64) -> Result<(), A
     Ok(())
 }
 
-// Draws a row below a height, and gives the height below it.
+// Draws a row below a height, and returns the height below it.
 fn draw_row(
     alloc: Global,
     svg: &mut String,
@@ -216,7 +218,7 @@ fn draw_row(
     Ok(y.saturating_add(LEVEL.saturating_mul(levels)))
 }
 
-// Draws the stretches of a lane over a height.
+// Draws the stretches of a lane.
 fn draw_stretches(
     svg: &mut String,
     axis: &Axis,
@@ -237,7 +239,7 @@ fn draw_stretches(
     Ok(())
 }
 
-// Draws a line for each reading from a height to another one.
+// Draws a line for each reading, from one height to another.
 fn draw_grid(svg: &mut String, axis: &Axis, y: u64, below: u64) -> Result<(), AllocError> {
     svg.push_str("<path class=\"grid\" d=\"")?;
     for reading in axis.readings() {
@@ -248,7 +250,7 @@ fn draw_grid(svg: &mut String, axis: &Axis, y: u64, below: u64) -> Result<(), Al
     Ok(())
 }
 
-/// Draws a lane with its stretches below a height, and gives the height below it.
+/// Draws a lane with its stretches below a height, and returns the height below it.
 pub fn draw_lane(
     alloc: Global,
     svg: &mut String,

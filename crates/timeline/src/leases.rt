@@ -1,41 +1,44 @@
-//! Leases as a picture shows them, with both deadlines.
+//! Leases in a picture, with both deadlines.
 
 use crate::lane::{Item, Look, Part};
 use crate::words::kind_word;
 use policy_rules::Kind;
 use std::alloc::{AllocError, Global};
 
-/// What became of a grant.
+/// What happened to a grant.
 #[derive(Clone, Copy, Debug, PartialEq, Eq)]
 pub struct LeaseRecord {
+    /// The number of the grant.
     pub number: u64,
+    /// The kind of its lease.
     pub kind: Kind,
+    /// The generation of its lease.
     pub generation: u64,
-    /// The table's reading at which it was granted.
+    /// The table's reading when it was granted.
     pub granted: u64,
     /// The task's deadline.
     pub ends: u64,
     /// The table's deadline.
     pub table_ends: u64,
-    /// The task's reading at which it was heard.
+    /// The task's reading when it was heard.
     pub heard: Option<u64>,
-    /// The task's reading at which it was given up, or another took its place.
+    /// The task's reading when it was released or replaced.
     pub stopped: Option<u64>,
-    /// Whether it was given up.
+    /// Whether it was released.
     pub is_released: bool,
-    /// The table's reading at which its row was freed.
+    /// The table's reading when its row was freed.
     pub freed: Option<u64>,
 }
 
 impl LeaseRecord {
-    /// The lease is not held any more, from this reading of the task on.
+    /// Records that the task holds the lease no longer, from this reading on.
     pub fn stop(&mut self, at: u64) {
         if self.heard.is_some() && self.stopped.is_none() {
             self.stopped = Some(at);
         }
     }
 
-    /// The lease is given up.
+    /// Records that the lease is released.
     pub fn release(&mut self, at: u64) {
         if self.heard.is_some() && self.stopped.is_none() {
             self.stopped = Some(at);
@@ -43,12 +46,12 @@ impl LeaseRecord {
         }
     }
 
-    // The reading from which on its task does not hold it.
+    // Returns the reading from which on the task does not hold the lease.
     fn held_to(&self) -> u64 {
         self.stopped.unwrap_or(self.ends).min(self.ends)
     }
 
-    // The reading from which on the table does not count it.
+    // Returns the reading from which on the table does not count the lease.
     fn out_to(&self) -> u64 {
         self.freed.unwrap_or(self.table_ends).min(self.table_ends)
     }
@@ -115,7 +118,7 @@ impl LeaseRecord {
         Ok(parts)
     }
 
-    /// The lease as an item.
+    /// Returns the lease as an item.
     pub fn item(&self, alloc: Global) -> Result<Item, AllocError> {
         Ok(Item {
             parts: self.parts(alloc)?,
@@ -126,7 +129,7 @@ impl LeaseRecord {
     }
 }
 
-// Adds a part that has readings.
+// Adds a part, unless it has no readings.
 fn add_part(parts: &mut Vec<Part>, look: Look, from: u64, to: u64) -> Result<(), AllocError> {
     if from < to {
         parts.push(Part { look, from, to })?;

@@ -1,4 +1,4 @@
-//! Pictures of scripts: readings from left to right, a lane for each actor, as SVG.
+//! Pictures of scripts as SVG: readings from left to right, and a lane for each actor.
 #![tactic(auto)]
 
 mod axis;

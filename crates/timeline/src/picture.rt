@@ -1,4 +1,4 @@
-//! A script as a picture.
+//! Scripts as pictures.
 
 use crate::axis::Axis;
 use crate::frame::{draw_legend, draw_readings};
@@ -11,13 +11,13 @@ use service::Script;
 use slice_ranges::slice_key;
 use std::alloc::{AllocError, Global};
 
-/// How many pixels there are above the numbers of the readings.
+/// How far the numbers of the readings are from the top, in pixels.
 const TOP: u64 = 34;
 
-/// How many pixels there are above the lanes.
+/// How far the lanes are from the top, in pixels.
 const ABOVE_LANES: u64 = 68;
 
-// The heading of a picture.
+// Returns the heading of a picture.
 fn heading(alloc: Global, script: &Script, key: Option<&str>) -> Result<String, AllocError> {
     let mut text = format!(in alloc; "Timeline of {} steps", script.steps.as_slice().len())?;
     if let Some(key) = key {
@@ -26,7 +26,7 @@ fn heading(alloc: Global, script: &Script, key: Option<&str>) -> Result<String, 
     Ok(text)
 }
 
-// The lanes with their numbers and their legend, and the height below them.
+// Draws the lanes with the readings and the legend, and returns the height below them.
 fn body(
     alloc: Global,
     axis: &Axis,
@@ -45,7 +45,7 @@ fn body(
     Ok(below.saturating_add(8))
 }
 
-// The head of a picture of a height.
+// Draws the head of a picture with this height.
 fn head(svg: &mut String, shown: &Shown, heading: &str, height: u64) -> Result<(), AllocError> {
     svg.push_str(
         "<svg xmlns=\"http://www.w3.org/2000/svg\" role=\"img\" aria-labelledby=\"title desc\"",
@@ -72,9 +72,11 @@ fn head(svg: &mut String, shown: &Shown, heading: &str, height: u64) -> Result<(
     Ok(())
 }
 
-/// A script as an SVG picture 1,000 pixels wide, with a lane for the table, one for each task to which something
-/// happened, and, if they are wanted, one for each clerk that took a step. With a key, the stretches are coloured
-/// that [`serving_stretches`] gives. Out of memory, there is no picture.
+/// Draws a script as an SVG picture, 1,000 pixels wide.
+///
+/// It has a lane for the table, one for each task to which something happened and, with
+/// `with_clerks`, one for each clerk that took a step. With a key, it colours the stretches that
+/// [`serving_stretches`] returns. If memory runs out, there is no picture.
 pub fn timeline_svg(
     alloc: Global,
     script: &Script,

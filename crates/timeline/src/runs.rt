@@ -1,4 +1,4 @@
-//! Where each task of a job may serve a key, by the steps of a script.
+//! The stretches in which each task of a job may serve a key, from the steps of a script.
 
 ghost use Rattle.std.specs.Prelude.{ℕ, List, ◌∷◌, IfOk, OnOk};
 ghost use Rattle.world.specs.Jobs.{Job};
@@ -14,7 +14,7 @@ use std::alloc::{AllocError, Global};
 use std::slice;
 use world::{Job, Reply, Step, World};
 
-// Plays a step, and takes in what each task knows then.
+// Plays a step, and records what each task knows after it.
 fn play(world: &mut World, tasks: &mut Vec<KeyStretches>, step: &Step) -> Result<(), AllocError>
     ensures { (job : Job) (steps : List Step) (key : ℕ) → ArePlayed job steps key world.old tasks.old.items
         → OnOk result (ArePlayed job (step.now ∷ steps) key world.new tasks.new.items) }
@@ -26,9 +26,11 @@ fn play(world: &mut World, tasks: &mut Vec<KeyStretches>, step: &Step) -> Result
     }
 }
 
-/// For each task of a job that plays these steps from its first on, the stretches of readings of its clock, in
-/// ticks, in which it may serve a key: those at which the written rule allows it, on the calls that the task
-/// accepted up to there. Out of memory, there are none.
+/// Returns for each task of a job the stretches of readings in which it may serve a key.
+///
+/// The job plays these steps from its first on. The readings are those of the task's clock, in
+/// ticks, at which the written rule allows the key, given the calls that the task had accepted by
+/// then. If memory runs out, there are no stretches.
 pub fn serving_stretches(
     alloc: Global,
     job: Job,

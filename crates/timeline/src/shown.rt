@@ -1,4 +1,4 @@
-//! What a picture shows.
+//! The contents of a picture.
 
 ghost use Rattle.std.specs.Prelude.{◌≡◌, ℕ, ◌+◌, List, [], Some, IfOk, MatchOption, slice_get};
 ghost use Rattle.timeline.specs.declared.stretch.Stretch.{Stretch};
@@ -13,15 +13,16 @@ use service::Script;
 use slice_ranges::SliceKey;
 use std::alloc::{AllocError, Global};
 
-/// What a picture shows: the lane of the table, those of the tasks in order and then those of clerks; and the
-/// stretches in which each task may serve the key, where there is one.
+/// The contents of a picture: its lanes, and the stretches in which each task may serve the key.
 #[derive(Drop)]
 pub struct Shown {
+    /// The lane of the table, those of the tasks in order, and those of clerks.
     pub lanes: Vec<Lane>,
+    /// The stretches of each task, if there is a key.
     pub stretches: Vec<Listed<Stretch>>,
 }
 
-// The stretches of each task, where there is a key.
+// Returns the stretches of each task, if there is a key.
 fn stretches_of_key(
     alloc: Global,
     script: &Script,
@@ -37,8 +38,10 @@ fn stretches_of_key(
 }
 
 impl Shown {
-    /// What a picture of a script shows, with the stretches for a key, and with the lanes of clerks if they are wanted.
-    /// Out of memory, there is nothing.
+    /// Returns the contents of a script's picture, with the stretches for a key and the lanes of
+    /// clerks if wanted.
+    ///
+    /// If memory runs out, there are none.
     pub fn of_script(
         alloc: Global,
         script: &Script,
@@ -53,7 +56,7 @@ impl Shown {
         Ok(Shown { lanes, stretches })
     }
 
-    /// The stretches of the lane at a place: those of the task of this number.
+    /// Returns the stretches of the lane at `place`, which are those of the task with this number.
     pub fn stretches_at(&self, place: usize) -> &[Stretch]
         ensures { (i : ℕ) (one : List Stretch) → place ≡ i + 1 → slice_get self.now.stretches.items i ≡ Some one → result.now ≡ one }
     {

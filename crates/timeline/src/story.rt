@@ -1,4 +1,4 @@
-//! What became of each actor, by the steps of a script.
+//! What happened to each actor, from the steps of a script.
 
 use crate::clerk_lane::ClerkRecord;
 use crate::lane::Lane;
@@ -12,7 +12,7 @@ use std::alloc::{AllocError, Global};
 use std::slice;
 use world::{Reply, Step, World};
 
-/// What became of the actors of a job.
+/// What happened to the actors of a job.
 #[derive(Drop)]
 pub struct Story {
     alloc: Global,
@@ -25,7 +25,7 @@ pub struct Story {
     now: u64,
 }
 
-// The place of the actor of a number.
+// Returns the index of the actor with this number.
 fn place_of(number: u64) -> usize {
     usize::try_from(number.saturating_sub(1)).unwrap_or(usize::MAX)
 }
@@ -50,7 +50,7 @@ impl Story {
         })
     }
 
-    // Takes in a step that was played, with its reply.
+    // Records a step that was played, with its reply.
     fn take_in(&mut self, cluster: &Cluster, step: &Step, reply: &Reply) -> Result<(), AllocError> {
         if let Some(at) = reading_of(step) {
             self.now = at;
@@ -200,7 +200,7 @@ fn add_clerk_lanes(lanes: &mut Vec<Lane>, clerks: Vec<ClerkRecord>) -> Result<()
     Ok(())
 }
 
-// What a task was asked for: the key of a request, or the step with its number.
+// Returns what a task was asked for: the key of a request, or the step with its number.
 fn request_label(alloc: Global, step: &Step, reply: &Reply) -> Result<String, AllocError> {
     match step {
         Step::Serve { key, .. } => key_label(alloc, key.as_slice()),
@@ -220,7 +220,7 @@ fn request_label(alloc: Global, step: &Step, reply: &Reply) -> Result<String, Al
     }
 }
 
-// Plays a step, and takes it in with its reply.
+// Plays a step, and records it with its reply.
 fn play(world: &mut World, story: &mut Story, step: &Step) -> Result<(), AllocError> {
     let replies = world.run(slice::from_ref(step))?;
     match replies.first() {
@@ -229,7 +229,7 @@ fn play(world: &mut World, story: &mut Story, step: &Step) -> Result<(), AllocEr
     }
 }
 
-// The lanes of the actors.
+// Returns the lanes of the actors.
 fn lanes_in(story: Story, with_clerks: bool) -> Result<Vec<Lane>, AllocError> {
     let Story {
         alloc,
@@ -248,8 +248,10 @@ fn lanes_in(story: Story, with_clerks: bool) -> Result<Vec<Lane>, AllocError> {
     Ok(lanes)
 }
 
-/// The lanes of what became of a job that plays the steps of a script: that of the table, those of the tasks of the
-/// job in order, and, if they are wanted, those of the clerks that took a step.
+/// Returns the lanes of a job that plays the steps of a script.
+///
+/// They are the lane of the table, those of the job's tasks in order and, with `with_clerks`, those
+/// of the clerks that took a step.
 pub fn lanes_of(
     alloc: Global,
     script: &Script,

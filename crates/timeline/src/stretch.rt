@@ -1,4 +1,4 @@
-//! The stretches of readings in which a task may serve a key.
+//! Stretches of readings in which a task may serve a key.
 
 ghost use Rattle.std.specs.Prelude.{◌≡◌, ℕ, ◌≤◌, ◌&&◌, ◌||◌, List, [], IfOk, OnOk, nat_lt};
 ghost use Rattle.std.specs.List.{list_any};
@@ -15,26 +15,27 @@ use slice_ranges::SliceKey;
 use slicelet::Slicelet;
 use std::alloc::{AllocError, Global};
 
-/// Readings of a task's clock, in ticks: from the first on, and below the end.
+/// A stretch of readings of a task's clock, in ticks.
 #[derive(Clone, Copy, Debug, PartialEq, Eq)]
 pub struct Stretch {
     /// The first reading.
     pub from: u64,
-    /// The first reading after it.
+    /// The first reading after the stretch.
     pub to: u64,
 }
 
-/// The stretches in which a task may serve a key, as far as its calls are known.
+/// The stretches in which a task may serve a key, from the calls that are known so far.
 #[derive(Drop)]
 pub struct KeyStretches {
     pub(crate) key: SliceKey,
-    // Those below the reading of the last call.
+    // The stretches below the reading of the last call.
     pub(crate) closed: Vec<Stretch>,
-    // From the reading of the last call on, where no other call comes. It may have no reading.
+    // The stretch from the reading of the last call on, if no other call comes. It may be empty.
     pub(crate) last: Stretch,
 }
 
-// The end of the lease that lets the task serve the key at a reading; the reading itself where none does.
+// Returns the end of the lease under which the task may serve the key; `at` itself if there is
+// none.
 fn lease_end(slicelet: &Slicelet, key: SliceKey, at: u64) -> u64
     ensures { result ≡ allowed_to (holding_in (covers_key key) slicelet.now) at }
 {
@@ -47,7 +48,8 @@ fn lease_end(slicelet: &Slicelet, key: SliceKey, at: u64) -> u64
     }
 }
 
-/// The first reading from this one on at which the task may not serve the key, where no other call comes.
+/// Returns the first reading from `from` on at which the task may not serve the key, if no other
+/// call comes.
 pub fn serving_end(slicelet: &Slicelet, key: SliceKey, from: u64) -> u64
     ensures { slicelet.now.last ≤ from → (at : ℕ) → from ≤ at
         → nat_lt at result ≡ permits slicelet.now key at }
@@ -57,7 +59,7 @@ pub fn serving_end(slicelet: &Slicelet, key: SliceKey, from: u64) -> u64
 }
 
 impl KeyStretches {
-    /// The stretches of a task before its first call: there are none.
+    /// Returns the stretches of a task before its first call: there are none.
     pub fn new(alloc: Global, key: SliceKey) -> Self
         ensures key { result.key ≡ key }
         ensures kept { IsKept [] result }
@@ -69,7 +71,7 @@ impl KeyStretches {
         }
     }
 
-    /// Takes in what the task's slicelet knows now, after at most one call more.
+    /// Records what the task's slicelet knows now, after at most one more call.
     pub fn observe(&mut self, slicelet: &Slicelet) -> Result<(), AllocError>
         ensures key { OnOk result (self.new.key ≡ self.old.key) }
         ensures kept { (before after : List SliceletCall) → IsKept before self.old → StandsAfter after slicelet.now
@@ -84,7 +86,7 @@ impl KeyStretches {
         Ok(())
     }
 
-    // Keeps what the last stretch has below a reading.
+    // Keeps the part of the last stretch that is below a reading.
     fn close(&mut self, now: u64) -> Result<(), AllocError>
         ensures key { OnOk result (self.new.key ≡ self.old.key) }
         ensures last { OnOk result (self.new.last ≡ self.old.last) }
@@ -101,7 +103,7 @@ impl KeyStretches {
         Ok(())
     }
 
-    /// The stretches, where no other call comes.
+    /// Returns the stretches, if no other call comes.
     pub fn stretches(&self) -> Result<Vec<Stretch>, AllocError>
         ensures { (calls : List SliceletCall) → IsKept calls self.now
             → IfOk result (λ stretches. AreStretches self.now.key calls stretches.items) }

@@ -1,6 +1,6 @@
-//! How the parts of a picture look, in light and in dark.
+//! The look of a picture, in light and in dark.
 
-/// The style of a picture.
+/// The style sheet of a picture.
 pub const STYLE: &str = "<style>
 .paper { fill: #ffffff; }
 text { font: 12px system-ui, -apple-system, 'Segoe UI', Roboto, sans-serif; fill: #1f2328; }

@@ -1,11 +1,11 @@
-//! A picture in words, for those who do not see it.
+//! A picture in words, for readers who do not see it.
 
 use crate::shown::Shown;
 use crate::stretch::Stretch;
 use crate::svg::push_text;
 use std::alloc::AllocError;
 
-// Stretches in words; neighbours are one.
+// Adds stretches in words. Stretches that touch are one.
 fn push_stretches(svg: &mut String, stretches: &[Stretch]) -> Result<(), AllocError> {
     let mut last = None;
     for stretch in stretches {
@@ -22,7 +22,7 @@ fn push_stretches(svg: &mut String, stretches: &[Stretch]) -> Result<(), AllocEr
     Ok(())
 }
 
-/// Adds what a picture shows, a line for each thing.
+/// Adds the contents of a picture, one line for each thing.
 pub fn push_summary(svg: &mut String, shown: &Shown) -> Result<(), AllocError> {
     for (place, lane) in shown.lanes.iter().enumerate() {
         if lane.rows.is_empty() {

@@ -2,8 +2,7 @@
 
 use std::alloc::AllocError;
 
-/// Adds text as it is written between tags: without characters that stand for markup, and without those that XML
-/// has not.
+/// Adds text between tags: escapes markup, and leaves out characters that XML does not have.
 pub fn push_text(svg: &mut String, text: &str) -> Result<(), AllocError> {
     for character in text.chars() {
         match character {
@@ -19,7 +18,7 @@ pub fn push_text(svg: &mut String, text: &str) -> Result<(), AllocError> {
     Ok(())
 }
 
-/// About how many pixels wide a text is.
+/// Returns about how many pixels wide a text is.
 pub fn text_width(text: &str) -> u64 {
     let characters = u64::try_from(text.chars().count()).unwrap_or(u64::MAX);
     characters.saturating_mul(7)

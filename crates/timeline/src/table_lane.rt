@@ -7,26 +7,26 @@ use service::{Line, RefusalWords};
 use std::alloc::{AllocError, Global};
 use world::{Reply, Step};
 
-/// A term of the job lease, from the reading at which it was taken.
+/// A term of the job lease, and the reading when it was taken.
 #[derive(Clone, Copy, Debug, PartialEq, Eq)]
 struct TermRecord {
     from: u64,
     term: JobTerm,
 }
 
-/// What became of the table.
+/// What happened to the table.
 #[derive(Drop)]
 pub struct TableRecord {
     alloc: Global,
     phase: Phase,
-    // The reading from which on it is in this phase.
+    // The reading since which it is in this phase.
     since: u64,
     phases: Vec<Item>,
     terms: Vec<TermRecord>,
     events: Vec<Item>,
 }
 
-// A phase between two readings.
+// Returns the item for a phase between two readings.
 fn phase_item(alloc: Global, phase: Phase, from: u64, to: u64) -> Result<Item, AllocError> {
     let ending = Ending(to);
     let (look, label, words) = match phase {
@@ -46,7 +46,7 @@ fn phase_item(alloc: Global, phase: Phase, from: u64, to: u64) -> Result<Item, A
     Item::of_part(alloc, Part { look, from, to }, label, words)
 }
 
-// A term up to a reading.
+// Returns the item for a term up to a reading.
 fn term_item(alloc: Global, taken: TermRecord, to: u64) -> Result<Item, AllocError> {
     let TermRecord { from, term } = taken;
     let part = Part {
@@ -61,7 +61,7 @@ fn term_item(alloc: Global, taken: TermRecord, to: u64) -> Result<Item, AllocErr
 }
 
 impl TableRecord {
-    /// A table before its first step.
+    /// Creates the record of a table before its first step.
     pub fn new(alloc: Global) -> Self {
         TableRecord {
             alloc,
@@ -73,7 +73,7 @@ impl TableRecord {
         }
     }
 
-    /// Takes in a step of the table at a reading with its reply.
+    /// Records a step of the table at a reading, with its reply.
     pub fn take_in(&mut self, step: &Step, at: u64, reply: &Reply) -> Result<(), AllocError> {
         match reply {
             Reply::Term(term) => self.terms.push(TermRecord {
@@ -94,7 +94,7 @@ impl TableRecord {
         Ok(())
     }
 
-    /// Takes in the phase after a step at a reading.
+    /// Records the phase after a step at a reading.
     pub fn see_phase(&mut self, phase: Phase, at: u64) -> Result<(), AllocError> {
         if phase != self.phase {
             if self.since < at {
@@ -121,7 +121,7 @@ impl TableRecord {
         Ok(())
     }
 
-    /// The lane of the table.
+    /// Returns the lane of the table.
     pub fn lane(self) -> Result<Lane, AllocError> {
         let TableRecord {
             alloc,
@@ -140,7 +140,7 @@ impl TableRecord {
     }
 }
 
-// The terms, each up to its end or to the next one.
+// Returns the items for the terms, each up to its end or to the next one.
 fn term_items(alloc: Global, terms: &[TermRecord]) -> Result<Vec<Item>, AllocError> {
     let mut items = Vec::new(alloc);
     for (i, taken) in terms.iter().enumerate() {

@@ -10,26 +10,26 @@ use slicelet::{KeyHandle, Slicelet};
 use std::alloc::{AllocError, Global};
 use world::Reply;
 
-/// A life of a task, from the reading at which it was started.
+/// A life of a task, and the reading when it was started.
 #[derive(Clone, Copy, Debug, PartialEq, Eq)]
 struct LifeRecord {
     number: u32,
     from: u64,
 }
 
-/// What became of a handle.
+/// What happened to a handle.
 #[derive(Drop)]
 struct HandleRecord {
     number: u64,
     handle: KeyHandle,
     label: String,
     from: u64,
-    // The first reading at which it is broken, where no other call comes.
+    // The first reading at which it is broken, if no other call comes.
     to: u64,
     is_broken: bool,
 }
 
-/// What became of a task.
+/// What happened to a task.
 #[derive(Drop)]
 pub struct TaskRecord {
     alloc: Global,
@@ -40,7 +40,7 @@ pub struct TaskRecord {
     handles: Vec<HandleRecord>,
 }
 
-// The lives, each up to the next.
+// Returns the items for the lives, each up to the next.
 fn life_items(alloc: Global, lives: &[LifeRecord]) -> Result<Vec<Item>, AllocError> {
     let mut items = Vec::new(alloc);
     for (i, life) in lives.iter().enumerate() {
@@ -61,7 +61,7 @@ fn life_items(alloc: Global, lives: &[LifeRecord]) -> Result<Vec<Item>, AllocErr
     Ok(items)
 }
 
-// The leases of a kind.
+// Returns the items for the leases of a kind.
 fn lease_items(alloc: Global, kind: Kind, leases: &[LeaseRecord]) -> Result<Vec<Item>, AllocError> {
     let mut items = Vec::new(alloc);
     for lease in leases {
@@ -91,7 +91,7 @@ fn handle_items(alloc: Global, handles: &[HandleRecord]) -> Result<Vec<Item>, Al
     Ok(items)
 }
 
-// How the reply to a request is drawn.
+// Returns how the reply to a request is drawn.
 fn request_look(reply: &Reply) -> Look {
     match reply {
         Reply::Verdict(Verdict::Allow { .. }) | Reply::Continuous => Look::Served,
@@ -102,7 +102,7 @@ fn request_look(reply: &Reply) -> Look {
 }
 
 impl TaskRecord {
-    /// A task before its first step.
+    /// Creates the record of a task before its first step.
     pub fn new(alloc: Global, number: u64) -> Self {
         TaskRecord {
             alloc,
@@ -114,13 +114,13 @@ impl TaskRecord {
         }
     }
 
-    /// A lease was granted to the task.
+    /// Records that a lease was granted to the task.
     pub fn add_lease(&mut self, lease: LeaseRecord) -> Result<(), AllocError> {
         self.leases.push(lease)?;
         Ok(())
     }
 
-    /// The row of a lease was freed, at a reading of the table.
+    /// Records that the row of a lease was freed, at a reading of the table.
     pub fn free(&mut self, number: u64, at: u64) {
         for lease in self.leases.iter_mut() {
             if lease.number == number {
@@ -129,7 +129,7 @@ impl TaskRecord {
         }
     }
 
-    /// A life was started.
+    /// Records that a life was started.
     pub fn start(&mut self, number: u32, at: u64) -> Result<(), AllocError> {
         for lease in self.leases.iter_mut() {
             lease.stop(at);
@@ -138,7 +138,7 @@ impl TaskRecord {
         Ok(())
     }
 
-    /// A grant was heard: its lease takes the place of the one of its kind.
+    /// Records that a grant was heard. Its lease replaces the one of its kind.
     pub fn hear(&mut self, number: u64, at: u64) {
         let Some(kind) = self.kind_of(number) else {
             return;
@@ -161,7 +161,7 @@ impl TaskRecord {
         None
     }
 
-    /// The lease of this grant was given up.
+    /// Records that the lease of this grant was released.
     pub fn release(&mut self, number: u64, at: u64) {
         for lease in self.leases.iter_mut() {
             if lease.number == number {
@@ -170,7 +170,7 @@ impl TaskRecord {
         }
     }
 
-    /// A handle was taken on a key.
+    /// Records that a handle was taken on a key.
     pub fn hold(
         &mut self,
         number: u64,
@@ -191,8 +191,10 @@ impl TaskRecord {
         Ok(())
     }
 
-    /// A call was accepted: a handle that it left continuous breaks where the key may not be served any more, and
-    /// any other is broken by then.
+    /// Updates the handles after a call was accepted.
+    ///
+    /// A handle that is still continuous breaks when the key may no longer be served; any other is
+    /// broken by now.
     pub fn see_handles(&mut self, slicelet: &Slicelet) {
         let last = slicelet.last_reading();
         for kept in self.handles.iter_mut() {
@@ -210,7 +212,7 @@ impl TaskRecord {
         }
     }
 
-    /// A request was answered.
+    /// Records a request and its reply.
     pub fn request(&mut self, at: u64, label: String, reply: &Reply) -> Result<(), AllocError> {
         let words = format!(in self.alloc; "{} at {at}: {}", label.as_str(), Line(reply))?;
         let item = Item::mark(self.alloc, request_look(reply), at, label, words)?;
@@ -218,7 +220,7 @@ impl TaskRecord {
         Ok(())
     }
 
-    /// The lane of the task; it has no rows where nothing became of it.
+    /// Returns the lane of the task, which has no rows if nothing happened to the task.
     pub fn lane(self) -> Result<Lane, AllocError> {
         let TaskRecord {
             alloc,

@@ -13,7 +13,7 @@ use cluster::{Cluster, Job, told_law};
 use slice_ranges::SliceKey;
 use std::alloc::{AllocError, Global};
 
-/// What is kept of each task of a job before its first call, the first of task 1.
+/// Returns the stretches of each task of a job before its first call, task 1 first.
 pub fn new_stretches(
     alloc: Global,
     job: Job,
@@ -28,7 +28,7 @@ pub fn new_stretches(
     Ok(tasks)
 }
 
-// Takes in what a task of the job knows, after at most one more call of the job's machines.
+// Records what a task of the job knows, after at most one more call of the job's machines.
 fn observe_task(kept: &mut KeyStretches, cluster: &Cluster, task: u64) -> Result<(), AllocError>
     ensures { (job : Job) (before after : Past) (key : ℕ) → LeadsTo job after cluster.now → IsNextPast before after
         → is_within task job.tasks ≡ true → IsKeptOf before key task kept.old
@@ -42,7 +42,7 @@ fn observe_task(kept: &mut KeyStretches, cluster: &Cluster, task: u64) -> Result
     }
 }
 
-/// Takes in what each task of the job knows, after at most one more call of the job's machines.
+/// Records what each task of the job knows, after at most one more call of the job's machines.
 pub fn observe_tasks(tasks: &mut Vec<KeyStretches>, cluster: &Cluster) -> Result<(), AllocError>
     ensures { (job : Job) (before after : Past) (key : ℕ) → LeadsTo job after cluster.now → IsNextPast before after
         → Each (IsKeptOf before key) job.tasks tasks.old.items
@@ -54,7 +54,7 @@ pub fn observe_tasks(tasks: &mut Vec<KeyStretches>, cluster: &Cluster) -> Result
     Ok(())
 }
 
-/// The stretches of each task, where no other call comes.
+/// Returns the stretches of each task, if no other call comes.
 pub fn stretches_of(
     alloc: Global,
     tasks: &[KeyStretches],

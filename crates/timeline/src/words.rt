@@ -1,4 +1,4 @@
-//! Words on what a picture shows.
+//! Words in pictures.
 
 use crate::lane::FOREVER;
 use policy_rules::Kind;
@@ -9,7 +9,7 @@ use world::Step;
 /// How many characters of a key a label shows.
 const LABEL_CHARACTERS: usize = 16;
 
-/// The end of a span in words: `to 95`, or `on` where it does not end.
+/// Displays the end of a span: `to 95`, or `on` if it does not end.
 #[derive(Clone, Copy)]
 pub struct Ending(pub u64);
 
@@ -24,7 +24,7 @@ impl fmt::Display for Ending {
     }
 }
 
-/// A key as a label shows it: its first characters.
+/// Returns a key as a label shows it: its first characters.
 pub fn key_label(alloc: Global, key: &[u8]) -> Result<String, AllocError> {
     let text = String::from_utf8_lossy(alloc, key)?;
     let mut label = String::new(alloc);
@@ -38,7 +38,7 @@ pub fn key_label(alloc: Global, key: &[u8]) -> Result<String, AllocError> {
     Ok(label)
 }
 
-/// The word for a kind of lease.
+/// Returns the word for a kind of lease.
 pub fn kind_word(kind: Kind) -> &'static str {
     match kind {
         Kind::Guard => "guard",
@@ -46,7 +46,7 @@ pub fn kind_word(kind: Kind) -> &'static str {
     }
 }
 
-/// The word by which a script names a step of the table.
+/// Returns the word by which a script names a step of the table.
 pub fn table_word(step: &Step) -> &'static str {
     match step {
         Step::Take { .. } => "take",
@@ -59,7 +59,7 @@ pub fn table_word(step: &Step) -> &'static str {
     }
 }
 
-/// The reading of a step, in ticks of its actor's clock.
+/// Returns the reading of a step, in ticks of its actor's clock.
 pub fn reading_of(step: &Step) -> Option<u64> {
     match step {
         Step::Take { at, .. }

@@ -1,6 +1,7 @@
-//! Plays the scripts of `data/`, and compares what each gives with the files beside it: NAME.json
-//! is the script, NAME.stdout the text that is written, NAME.stderr what is said of a fault, and
-//! NAME.status the exit status. `examples/scripts` has copies of the ten that are to be read first.
+//! Plays the scripts in `data/`, and compares the results with stored files.
+//!
+//! NAME.json is a script, NAME.stdout the text that it must write, NAME.stderr the fault that it
+//! must report, and NAME.status the exit status. `examples/scripts` has copies of ten of them.
 #![tactic(auto)]
 
 use anyhow::Result;
@@ -87,7 +88,7 @@ const NAMES: [&str; 75] = [
     "four-owners-for-a-job-of-up-to-three",
 ];
 
-/// What a script gave, or what it is to give.
+/// The result of a script.
 #[derive(Debug, Drop)]
 struct Outcome {
     written: String,
@@ -103,7 +104,7 @@ impl Outcome {
     }
 }
 
-// What the files beside a script say.
+// Returns the result in the files beside a script.
 fn expected(rt: &(impl Files + AllocGlobal), name: &str) -> Result<Outcome> {
     let file = |ending: &str| format!(in rt.alloc(); "{name}.{ending}");
     Ok(Outcome {
@@ -113,7 +114,7 @@ fn expected(rt: &(impl Files + AllocGlobal), name: &str) -> Result<Outcome> {
     })
 }
 
-// What the script gives.
+// Plays a script.
 fn played(alloc: Global, script: &[u8]) -> Result<Outcome> {
     let mut reader = script;
     let mut written = Vec::new(alloc);
