@@ -52,6 +52,12 @@
 #include <stddef.h>
 #include <stdint.h>
 
+/* The version of this header. hs_library_version writes the version of the linked library. */
+#define HS_LIBRARY_MAJOR 1
+#define HS_LIBRARY_MINOR 0
+#define HS_LIBRARY_PATCH 0
+#define HS_LIBRARY_VERSION "1.0.0"
+
 #ifdef __cplusplus
 extern "C" {
 #endif
@@ -211,10 +217,20 @@ struct hs_plan_policy {
     uint64_t most;  /* slices are halved while there are fewer than this, 1 to 1,024 */
 };
 
+/* A version of the library: major.minor.patch. */
+struct hs_library_version {
+    uint32_t major;
+    uint32_t minor;
+    uint32_t patch;
+};
+
 /* A place, by its address. */
 struct hs_place {
     void *at;
 };
+
+/* Writes the version of the linked library to `out`. */
+void hs_library_version(struct hs_library_version *out);
 
 /* The slice key of a key: the first eight bytes of its SHA-256, most significant first, without the lowest bit. */
 uint64_t hs_slice_key(const uint8_t *key, size_t key_len);
