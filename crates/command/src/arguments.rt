@@ -4,11 +4,12 @@ ghost use Rattle.std.specs.Prelude.{IfOk};
 ghost use Rattle.command.specs.Audits.{AsksAudit, logs_given};
 
 use clap::{Arg, ArgAction, ArgMatches, Command, Error};
+use program_io::LIBRARY_VERSION;
 use session::ReplyForm;
 use std::alloc::{AllocError, Global};
 
-/// The version, and the toolchain with which it was proved.
-const VERSION: &str = "1.0.0 (proved with rattle-kit-13b logic dac8208d650f15bf)";
+/// The toolchain with which the version was proved.
+const TOOLCHAIN: &str = "rattle-kit-13b logic dac8208d650f15bf";
 
 const STATUSES: &str = "Exit statuses:
   0  done
@@ -151,10 +152,15 @@ fn audit_command<'a>(alloc: Global) -> Result<Command<'a>, AllocError> {
         .arg(logs)
 }
 
+/// Returns the version with the toolchain that proved it, as `--version` writes it.
+pub fn version_text(alloc: Global) -> Result<String, AllocError> {
+    format!(in alloc; "{LIBRARY_VERSION} (proved with {TOOLCHAIN})")
+}
+
 // Returns the command with its subcommands.
-fn hourstable_command<'a>(alloc: Global) -> Result<Command<'a>, AllocError> {
+fn hourstable_command<'a>(alloc: Global, version: &'a str) -> Result<Command<'a>, AllocError> {
     Command::new(alloc, "hourstable")
-        .version(VERSION)
+        .version(version)
         .about("Run scripts and sessions of a key ownership service, and audit its logs")
         .after_help(STATUSES)
         .subcommand_required(true)
@@ -216,12 +222,16 @@ fn audited<'a>(alloc: Global, matches: &ArgMatches<'a>) -> Result<Asked<'a>, All
     Ok(Asked::Audit { names, progress })
 }
 
-/// Parses a command line, whose first word is the name of the program.
+/// Parses a command line, whose first word is the name of the program; `version` is for `--version`.
 ///
 /// The error has the text for `--help`, for `--version`, or for words that ask for nothing the
 /// command does.
-pub fn parse_words<'a>(alloc: Global, words: &'a [String]) -> Result<Asked<'a>, Error> {
-    let matches = hourstable_command(alloc)?.try_get_matches_from(words)?;
+pub fn parse_words<'a>(
+    alloc: Global,
+    version: &'a str,
+    words: &'a [String],
+) -> Result<Asked<'a>, Error> {
+    let matches = hourstable_command(alloc, version)?.try_get_matches_from(words)?;
     match matches.subcommand() {
         Some(("audit", matches)) => Ok(audited(alloc, matches)?),
         Some(("session", matches)) => Ok(session_request(matches)),

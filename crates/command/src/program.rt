@@ -6,7 +6,7 @@ ghost use Rattle.diagnosis.specs.Errors.{status_after};
 ghost use Rattle.command.specs.Audits.{IsAuditEnd};
 ghost use Rattle.command.specs.Endings.{Ends, EndsBy, EndsFor, IsOutcome, IsWithoutInput};
 
-use crate::arguments::{Asked, Request, Source, Subcommand, parse_words};
+use crate::arguments::{Asked, Request, Source, Subcommand, parse_words, version_text};
 use crate::log_audit::{Audit, audit_named, say_error};
 use crate::script_run::run_lines;
 use clap::Error;
@@ -210,7 +210,11 @@ pub fn do_words<R: BufRead, W: Write, E: Write>(
     ensures { Ends (R.remaining input.old) (R.remaining input.new)
         (W.contents output.old) (W.contents output.new) result }
 {
-    match parse_words(rt.alloc(), words) {
+    let Ok(version) = version_text(rt.alloc()) else {
+        let _ = writeln!(errors, "hourstable: out of memory");
+        return FAILED;
+    };
+    match parse_words(rt.alloc(), version.as_str(), words) {
         Ok(asked) => do_asked(rt, asked, input, output, errors),
         Err(error) => tell(rt.alloc(), &error, output, errors),
     }

@@ -12,3 +12,4 @@ mod slicelet_exports;
 mod table_exports;
 #[cfg(test)]
 mod tests;
+mod version_exports;

@@ -3,3 +3,4 @@ pub mod Members
 pub mod Json
 pub mod Streams
 pub mod Status
+pub mod Versions

@@ -6,6 +6,7 @@ mod fault;
 mod json;
 mod members;
 mod streams;
+mod version;
 
 pub use arguments::has_arguments;
 pub use fault::{Fault, ReadError, Unread, WriteError, WrongForm};
@@ -15,3 +16,4 @@ pub use members::{
     number_in, number_of, pair_of, text_at, two_numbers_of,
 };
 pub use streams::{read_all, write_all};
+pub use version::{LIBRARY_VERSION, LibraryVersion};
