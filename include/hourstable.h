@@ -5,12 +5,12 @@
  * of scripts. Each stands in a place, which the caller keeps. Readings are those of the caller's own clock, in ticks.
  * Grants, notes and assignments are messages: bytes of JSON, as they go over the network (docs/FORMATS.md).
  *
- * Every function but hs_slice_key and hs_place_free returns a code of hs_code: 0 where the call is done, a positive one
- * where it is refused, a negative one where an argument cannot be read or there is no memory. The first of the codes
- * that stand beside a function is returned; where two are joined by `or`, either may come. A call that is not done
- * changes nothing, and writes nothing but what hs_told carries and `needed`, unless its line says otherwise. Any function
- * of a place but those that open may return HS_OTHER_PLACE, and before every other code. Where a function reads a message,
- * HS_NO_MEMORY may also come while it is read.
+ * Every function but hs_library_version, hs_slice_key and hs_place_free returns a code of hs_code: 0 where the call is
+ * done, a positive one where it is refused, a negative one where an argument cannot be read or there is no memory. The
+ * first of the codes that stand beside a function is returned; where two are joined by `or`, either may come. A call
+ * that is not done changes nothing, and writes nothing but what hs_told carries and `needed`, unless its line says
+ * otherwise. Any function of a place but those that open may return HS_OTHER_PLACE, and before every other code. Where
+ * a function reads a message, HS_NO_MEMORY may also come while it is read.
  *
  * A text that a function gives is written to `out` whole or not at all; `needed` is its length. Where it is longer than
  * `out_len`, HS_NO_ROOM is returned and nothing is lost: ask again with a longer buffer, of hs_session_answer by
@@ -38,6 +38,12 @@
 
 #include <stddef.h>
 #include <stdint.h>
+
+/* The version of this header. hs_library_version writes the version of the linked library. */
+#define HS_LIBRARY_MAJOR 1
+#define HS_LIBRARY_MINOR 0
+#define HS_LIBRARY_PATCH 0
+#define HS_LIBRARY_VERSION "1.0.0"
 
 #ifdef __cplusplus
 extern "C" {
@@ -189,10 +195,20 @@ struct hs_plan_policy {
     uint64_t most;  /* how many slices there may be for that, 1 to 1024 */
 };
 
+/* A version of the library: major.minor.patch. */
+struct hs_library_version {
+    uint32_t major;
+    uint32_t minor;
+    uint32_t patch;
+};
+
 /* A place, by its address. */
 struct hs_place {
     void *at;
 };
+
+/* Writes the version of the linked library to `out`. */
+void hs_library_version(struct hs_library_version *out);
 
 /* The slice key of a key: the first eight bytes of its SHA-256, most significant first, without the lowest bit. */
 uint64_t hs_slice_key(const uint8_t *key, size_t key_len);

@@ -63,6 +63,7 @@ static void check(const char *what, void (*checks)(void)) {
 }
 
 int main(void) {
+    check("version", check_version);
     check("keys", check_keys);
     check("places", check_places);
     check("slicelets", check_slicelets);

@@ -84,6 +84,7 @@ struct hs_place knowing_clerk(void);
 struct hs_place steady_table(void);
 extern const struct hs_policy policy;
 
+void check_version(void);
 void check_keys(void);
 void check_places(void);
 void check_slicelets(void);

@@ -43,6 +43,11 @@ static int32_t returned(int32_t code) {
 #define TOLD WRITTEN(told)
 #define OUT WRITTEN_ALL(out, out_len), WRITTEN(needed)
 
+void guarded_library_version(struct hs_library_version *out) {
+    hs_library_version(WRITTEN(out));
+    returned(HS_DONE);
+}
+
 uint64_t guarded_slice_key(const uint8_t *key, size_t key_len) {
     uint64_t found = hs_slice_key(KEY);
     returned(HS_DONE);

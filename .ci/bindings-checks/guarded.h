@@ -4,6 +4,7 @@
 
 #include "hourstable.h"
 
+void guarded_library_version(struct hs_library_version *out);
 uint64_t guarded_slice_key(const uint8_t *key, size_t key_len);
 int32_t guarded_place_new(struct hs_place *out);
 int32_t guarded_slicelet_close(struct hs_place *place);
@@ -57,6 +58,8 @@ int32_t guarded_session_answer(struct hs_place *place, const uint8_t *line, size
 int32_t guarded_session_last(struct hs_place *place, uint8_t *out, size_t out_len, size_t *needed);
 
 #ifndef GUARDED_ITSELF
+/* Takes its parameter, since a struct has the same name. */
+#define hs_library_version(out) guarded_library_version(out)
 #define hs_slice_key guarded_slice_key
 #define hs_place_new guarded_place_new
 #define hs_slicelet_close guarded_slicelet_close

@@ -1,5 +1,5 @@
 """The codes, the functions with their parameters, the structs and the words of the header are those of
-examples/python/hourstable.py, and the codes those of docs/BINDINGS.md.
+examples/python/hourstable.py, and the codes those of docs/BINDINGS.md. The version of the header is that of the library.
 
 Run at the top of the repository, with HOURSTABLE_LIBRARY set.
 """
@@ -19,6 +19,8 @@ in_header = {name: int(number) for name, number in re.findall(r"HS_(\w+) = (-?\d
 in_python = {name: number for number, name in enumerate(hourstable.REFUSALS)}
 in_python.update({name: -number for number, name in enumerate(hourstable.UNREAD)})
 in_page = {name: int(number) for number, name in re.findall(r"^\| (-?\d+) \| `HS_(\w+)`", page, re.M)}
+version = tuple(int(number) for number in re.findall(r"^#define HS_LIBRARY_(?:MAJOR|MINOR|PATCH) (\d+)$", header, re.M))
+version_text = re.findall(r'^#define HS_LIBRARY_VERSION "(.*)"$', header, re.M)
 kinds, actions = ({word.lower(): int(number) for word, number in re.findall(r"HS_(\w+) = (\d+)", words)}
                   for words in re.findall(r"enum hs_(?:kind|action) \{(.*?)\}", header, re.S))
 
@@ -52,7 +54,8 @@ for answer, name, parameters in re.findall(r"^(int32_t|uint64_t|void) hs_(\w+)\(
     c_types = [re.fullmatch(r"(.*?)\w+", parameter.strip(), re.S)[1] for parameter in parameters.split(",")]
     functions[name] = (answers[answer], [parameter_of(c_type) for c_type in c_types])
 declared = {name: (function.restype, list(function.argtypes)) for name, function in (
-    (name, getattr(hourstable.library, f"hs_{name}")) for name in [*hourstable.DECLARED, "slice_key", "place_free"])}
+    (name, getattr(hourstable.library, f"hs_{name}"))
+    for name in [*hourstable.DECLARED, "library_version", "slice_key", "place_free"])}
 structs = {}
 for name, members in re.findall(r"^struct hs_(\w+) \{(.*?)^\};", header, re.M | re.S):
     found = re.findall(r"^    (uint\d+_t |void \*)(\w+)(?:\[(\d+)\])?;", members, re.M)
@@ -61,6 +64,8 @@ faults = [what for what, same in [
     ("codes in Python", in_python == in_header),
     ("codes in docs/BINDINGS.md", in_page == in_header),
     ("functions in Python", set(declared) == set(functions)),
+    ("version of the library", hourstable.library_version() == version),
+    ("text of the version", version_text == [".".join(map(str, version))]),
     ("kinds in Python", hourstable.KINDS == kinds),
     ("actions in Python", hourstable.ACTIONS == {number: word for word, number in actions.items()}),
     *[(f"parameters of {name} in Python", declared.get(name) == function) for name, function in functions.items()],

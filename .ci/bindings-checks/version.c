@@ -1,0 +1,16 @@
+/* The version: that of the library is that of the header, as numbers and as text. */
+#include "checks.h"
+
+#include <stdio.h>
+#include <string.h>
+
+void check_version(void) {
+    struct hs_library_version version = {UNTOLD, UNTOLD, UNTOLD};
+    hs_library_version(&version);
+    HOLDS(version.major == HS_LIBRARY_MAJOR);
+    HOLDS(version.minor == HS_LIBRARY_MINOR);
+    HOLDS(version.patch == HS_LIBRARY_PATCH);
+    char text[40];
+    snprintf(text, sizeof text, "%u.%u.%u", (unsigned)version.major, (unsigned)version.minor, (unsigned)version.patch);
+    HOLDS(strcmp(text, HS_LIBRARY_VERSION) == 0);
+}
