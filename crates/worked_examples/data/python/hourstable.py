@@ -92,6 +92,10 @@ def fields(names, c_type=ctypes.c_uint64):
     return [(name, c_type) for name in names.split()]
 
 
+class LibraryVersion(Numbers):
+    _fields_ = fields("major minor patch", ctypes.c_uint32)
+
+
 class Place(ctypes.Structure):
     _fields_ = [("at", ctypes.c_void_p)]
 
@@ -128,6 +132,7 @@ class PlanPolicy(Numbers):
     _fields_ = fields("low high churn cold hot most")
 
 
+Version = namedtuple("Version", "major minor patch")
 Found = namedtuple("Found", "generation tasks")
 Served = namedtuple("Served", "kind generation")
 
@@ -178,6 +183,7 @@ def load(path):
     for name, parameters in DECLARED.items():
         function = getattr(loaded, f"hs_{name}")
         function.argtypes, function.restype = parameters, ctypes.c_int32
+    loaded.hs_library_version.argtypes, loaded.hs_library_version.restype = [P(LibraryVersion)], None
     loaded.hs_slice_key.argtypes, loaded.hs_slice_key.restype = BYTES, ctypes.c_uint64
     loaded.hs_place_free.argtypes, loaded.hs_place_free.restype = [Place], None
     return loaded
@@ -203,6 +209,13 @@ def text_of(call, *given):
         code = call(*given, room, len(room), ctypes.byref(needed))
     done(code)
     return room.raw[: needed.value]
+
+
+def library_version():
+    """The version of the loaded library: major, minor and patch."""
+    version = LibraryVersion()
+    library.hs_library_version(ctypes.byref(version))
+    return Version(version.major, version.minor, version.patch)
 
 
 def slice_key(key):
