@@ -1,0 +1,6 @@
+pub mod DivUp
+pub mod Stretching
+pub mod Bounding
+pub mod Keeping
+pub mod Freshness
+pub mod Living

@@ -1,0 +1,8 @@
+pub mod Rounding
+pub mod Drifts
+pub mod TaskClocks
+pub mod Pasts
+pub mod Timely
+pub mod Worked
+pub mod TableClocks
+pub mod Lives

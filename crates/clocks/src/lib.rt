@@ -1,0 +1,22 @@
+//! Clocks that are timely with nothing synchronised: a task's clock from answers of the table, and the table's own.
+//!
+//! A task reads its own local clock before it asks the table, and the answer carries a reading of the table's
+//! clock. So at a later local reading the table's clock has gained at most what the drift allows for the
+//! local time since the request was sent. A `TaskClock` answers that bound: never below an earlier reading of the table.
+#![tactic(auto)]
+
+mod drift;
+mod laws;
+mod refusal;
+mod rounding;
+mod table_clock;
+mod task_clock;
+
+pub use drift::{Drift, TICK_GRAIN};
+pub use laws::{close_law, keeping_law, lives_law, restart_law, timely_law, worked_law};
+pub use refusal::ClockRefusal;
+pub use table_clock::TableClock;
+pub use task_clock::{Sample, TaskClock};
+
+#[cfg(test)]
+mod tests;
