@@ -172,6 +172,24 @@ same_drift drift oldest (Sampled at sample ∷ past) =
     sample_drift (clock_after drift oldest past) at sample (sample_answer (clock_after drift oldest past) sample.sent at) ∙ same_drift drift oldest past
 same_drift drift oldest (TaskRead at ∷ past) = read_drift (clock_after drift oldest past) at (read_answer (clock_after drift oldest past) at) ∙ same_drift drift oldest past
 
+sample_oldest : (clock : TaskClock) (now : ℕ) (sample : Sample) (answer : Result (Unit {0}) ClockRefusal) → (after_sample clock now sample answer).oldest ≡ clock.oldest
+sample_oldest clock now sample (Ok done) = refl
+sample_oldest clock now sample (Err why) = refl
+
+read_oldest : (clock : TaskClock) (now : ℕ) (answer : Result ℕ ClockRefusal) → (after_read clock now answer).oldest ≡ clock.oldest
+read_oldest clock now (Ok value) = refl
+read_oldest clock now (Err why) = refl
+
+pub same_oldest : (drift : Drift) (oldest : ℕ) (past : Past) → (clock_after drift oldest past).oldest ≡ oldest
+same_oldest drift oldest [] = refl
+same_oldest drift oldest (EarlyRead reading ∷ past) = same_oldest drift oldest past
+same_oldest drift oldest (TableRead moment ∷ past) = same_oldest drift oldest past
+same_oldest drift oldest (Other ∷ past) = same_oldest drift oldest past
+same_oldest drift oldest (Sampled at sample ∷ past) =
+    sample_oldest (clock_after drift oldest past) at sample (sample_answer (clock_after drift oldest past) sample.sent at) ∙ same_oldest drift oldest past
+same_oldest drift oldest (TaskRead at ∷ past) =
+    read_oldest (clock_after drift oldest past) at (read_answer (clock_after drift oldest past) at) ∙ same_oldest drift oldest past
+
 pub timely : (drift : Drift) (oldest : ℕ) (past : Past) → KeepsDrift drift past → SamplesAreAnswers past → IsTimely drift oldest past
 timely drift oldest [] paced honest = tt
 timely drift oldest (EarlyRead reading ∷ past) paced honest = timely drift oldest past paced.1 honest

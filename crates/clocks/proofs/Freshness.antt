@@ -1,17 +1,17 @@
 -- What a task's clock answers is close to the table's.
-use Rattle.std.proofs.Common.{ℕ, ◌+◌, ◌-◌, ◌^◌, ◌≤◌, max, [], ◌∷◌, List, inl, inr, Option, Some, None, Result, Ok, Err, IfOk, nat_lt, arith, subst, sym}
-use Rattle.std.proofs.lemmas.Bool.{cond_both, ltb-false}
+use Rattle.std.proofs.Common.{◌≡◌, ℕ, ◌⊎◌, refl, true, false, nat_le, ◌+◌, ◌-◌, ◌^◌, ◌≤◌, max, [], ◌∷◌, List, inl, inr, Option, Some, None, Result, Ok, Err, IfOk, nat_lt, arith, subst, sym}
+use Rattle.std.proofs.lemmas.Bool.{cond_both, ltb-false, leb-true, leb-false}
 use Rattle.std.specs.List.{AllByRecursion}
 use Rattle.clocks.specs.declared.drift.Drift.{Drift}
 use Rattle.clocks.specs.declared.refusal.ClockRefusal.{ClockRefusal}
 use Rattle.clocks.specs.declared.task_clock.Sample.{Sample}
 use Rattle.clocks.specs.declared.task_clock.TaskClock.{TaskClock}
 use Rattle.clocks.specs.Drifts.{most_gain}
-use Rattle.clocks.specs.TaskClocks.{reach, sample_answer, answer_by, read_answer, after_read}
-use Rattle.clocks.specs.Pasts.{Event, EarlyRead, TableRead, Sampled, TaskRead, Other, Past, WasAnswered, SamplesAreAnswers}
-use Rattle.clocks.specs.Timely.{clock_after, with_sample, samples_of, SaysLess, newest, HasFresh, IsFresh, IsClose}
+use Rattle.clocks.specs.TaskClocks.{reach, sample_answer, after_sample, answer_by, read_answer, after_read}
+use Rattle.clocks.specs.Pasts.{Event, EarlyRead, TableRead, Sampled, TaskRead, Other, Past, newest, WasAnswered, SamplesAreAnswers}
+use Rattle.clocks.specs.Timely.{clock_after, with_sample, samples_of, SaysLess, HasFresh, IsFresh, IsClose}
 use Rattle.clocks.proofs.Stretching as stretched
-use Rattle.clocks.proofs.Bounding.{same_drift}
+use Rattle.clocks.proofs.Bounding.{same_drift, same_oldest}
 use Rattle.clocks.proofs.Keeping.{IsKept, keeps, sample_given}
 
 -- the greatest reading only grows
@@ -144,3 +144,90 @@ held drift oldest age (TaskRead at ∷ past) honest fresh =
 
 pub close : (drift : Drift) (oldest : ℕ) (age : ℕ) (past : Past) → SamplesAreAnswers past → IsFresh drift oldest age past → IsClose drift oldest age past
 close drift oldest age past honest fresh = (held drift oldest age past honest fresh).close
+
+-- A CLOCK THAT ANSWERS HAS A FRESH SAMPLE
+
+-- one of these samples was sent then
+abbrev HasSent : ℕ → List Sample → Type 0
+HasSent sent [] = ⊥
+HasSent sent (sample ∷ samples) = (sample.sent ≡ sent) ⊎ HasSent sent samples
+
+-- the newest `sent` is that of a sample, if there is one
+abbrev IsNewest : ℕ → Option Sample → List Sample → Type 0
+IsNewest newest None samples = newest ≡ 0
+IsNewest newest (Some best) samples = HasSent newest samples
+
+greater : (one two : ℕ) → (max one two ≡ one) ⊎ (max one two ≡ two)
+greater one two =
+    elim (nat_le one two) as (λ b. b ≡ nat_le one two → (max one two ≡ one) ⊎ (max one two ≡ two)) [
+      | true ↦ λ order. inr (let low : one ≤ two = leb-true one two (sym order) in omega (arith, low))
+      | false ↦ λ order. inl (let low = leb-false one two (sym order) in omega (arith, low))
+    ] refl
+
+sent_more : (best : Option Sample) (newest : ℕ) (sample : Sample) (samples : List Sample) → IsNewest newest best samples → HasSent (max newest sample.sent) (sample ∷ samples)
+sent_more None newest sample samples known = inl (omega (arith, known))
+sent_more (Some best) newest sample samples known =
+    elim (greater newest sample.sent) [
+      | inl same ↦ inr (subst (λ sent. HasSent sent samples) (sym same) known)
+      | inr same ↦ inl (sym same)
+    ]
+
+newest_sampled : (clock : TaskClock) (now : ℕ) (sample : Sample) (answer : Result (Unit {0}) ClockRefusal) (samples : List Sample)
+    → IsNewest clock.newest clock.best samples
+    → IsNewest (after_sample clock now sample answer).newest (after_sample clock now sample answer).best (with_sample sample answer samples)
+newest_sampled clock now sample (Ok done) samples known = sent_more clock.best clock.newest sample samples known
+newest_sampled clock now sample (Err why) samples known = known
+
+newest_read : (clock : TaskClock) (now : ℕ) (answer : Result ℕ ClockRefusal) (samples : List Sample) → IsNewest clock.newest clock.best samples
+    → IsNewest (after_read clock now answer).newest (after_read clock now answer).best samples
+newest_read clock now (Ok value) samples known = known
+newest_read clock now (Err why) samples known = known
+
+newest_sent : (drift : Drift) (oldest : ℕ) (past : Past)
+    → IsNewest (clock_after drift oldest past).newest (clock_after drift oldest past).best (samples_of drift oldest past)
+newest_sent drift oldest [] = refl
+newest_sent drift oldest (EarlyRead reading ∷ past) = newest_sent drift oldest past
+newest_sent drift oldest (TableRead moment ∷ past) = newest_sent drift oldest past
+newest_sent drift oldest (Other ∷ past) = newest_sent drift oldest past
+newest_sent drift oldest (Sampled at sample ∷ past) =
+    let clock = clock_after drift oldest past in
+    newest_sampled clock at sample (sample_answer clock sample.sent at) (samples_of drift oldest past) (newest_sent drift oldest past)
+newest_sent drift oldest (TaskRead at ∷ past) =
+    let clock = clock_after drift oldest past in
+    newest_read clock at (read_answer clock at) (samples_of drift oldest past) (newest_sent drift oldest past)
+
+young : (sent oldest at : ℕ) (samples : List Sample) → at - sent ≤ oldest → HasSent sent samples → HasFresh oldest at samples
+young sent oldest at [] order has = absurd has
+young sent oldest at (sample ∷ samples) order (inl same) = inl (omega (arith, order, same))
+young sent oldest at (sample ∷ samples) order (inr has) = inr (young sent oldest at samples order has)
+
+fresh_by : (clock : TaskClock) (at : ℕ) (best : Option Sample) (samples : List Sample) → IsNewest clock.newest best samples
+    → IfOk (answer_by clock at best) (λ _. HasFresh clock.oldest at samples)
+fresh_by clock at None samples known = tt
+fresh_by clock at (Some best) samples known =
+    let P : Result ℕ ClockRefusal → Type 0 = λ r. IfOk r (λ _. HasFresh clock.oldest at samples) in
+    cond_both (nat_lt clock.oldest (at - clock.newest)) (Err _) _ P (λ _. tt)
+    (λ order. cond_both (nat_lt (reach clock.drift best at + clock.drift.grain) (2 ^ 64)) (Ok _) (Err _) P
+    (λ _. young clock.newest clock.oldest at samples (ltb-false _ _ order) known) (λ _. tt))
+
+fresh_read : (clock : TaskClock) (at : ℕ) (samples : List Sample) → IsNewest clock.newest clock.best samples
+    → IfOk (read_answer clock at) (λ _. HasFresh clock.oldest at samples)
+fresh_read clock at samples known =
+    cond_both (nat_lt at clock.last) (Err _) (answer_by clock at clock.best) (λ r. IfOk r (λ _. HasFresh clock.oldest at samples)) (λ _. tt)
+    (λ _. fresh_by clock at clock.best samples known)
+
+fresh : (drift : Drift) (oldest : ℕ) (past : Past) → IsFresh drift oldest oldest past
+fresh drift oldest [] = tt
+fresh drift oldest (EarlyRead reading ∷ past) = fresh drift oldest past
+fresh drift oldest (TableRead moment ∷ past) = fresh drift oldest past
+fresh drift oldest (Other ∷ past) = fresh drift oldest past
+fresh drift oldest (Sampled at sample ∷ past) = fresh drift oldest past
+fresh drift oldest (TaskRead at ∷ past) =
+    let clock = clock_after drift oldest past in (
+      subst (λ age. IfOk (read_answer clock at) (λ _. HasFresh age at (samples_of drift oldest past))) (same_oldest drift oldest past)
+          (fresh_read clock at (samples_of drift oldest past) (newest_sent drift oldest past)),
+      fresh drift oldest past,
+    )
+
+pub always_close : (drift : Drift) (oldest : ℕ) (past : Past) → SamplesAreAnswers past → IsClose drift oldest oldest past
+always_close drift oldest past honest = close drift oldest oldest past honest (fresh drift oldest past)

@@ -3,4 +3,4 @@ pub mod Stretching
 pub mod Bounding
 pub mod Keeping
 pub mod Freshness
-pub mod Living
+pub mod Restarting

@@ -5,4 +5,4 @@ pub mod Pasts
 pub mod Timely
 pub mod Worked
 pub mod TableClocks
-pub mod Lives
+pub mod Restarts

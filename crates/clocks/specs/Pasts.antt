@@ -1,5 +1,5 @@
 -- What happens to the table's clock and to one task's, newest first, and the premise that their rates differ by at most the drift.
-use Rattle.std.specs.Prelude.{◌≡◌, ℕ, ◌+◌, ◌-◌, ◌≤◌, List, [], ◌∷◌, ◌⊎◌, ⊤, Option, Some, None}
+use Rattle.std.specs.Prelude.{◌≡◌, ℕ, ◌+◌, ◌-◌, ◌≤◌, max, List, [], ◌∷◌, ◌⊎◌, ⊤, Option, Some, None}
 use Rattle.std.specs.List.{AllByRecursion}
 use Rattle.clocks.specs.declared.drift.Drift.{Drift}
 use Rattle.clocks.specs.declared.task_clock.Sample.{Sample}
@@ -22,6 +22,18 @@ pub data Event : Type 0 where
 -- what happened so far, newest first
 abbrev pub Past : Type 0
 Past = List Event
+
+-- a reading of the table, when the task's local clock shows this, or does not run
+abbrev pub table_seen : ℕ → Option ℕ → Event
+table_seen reading None = EarlyRead reading
+table_seen reading (Some local) = TableRead (record { table = reading; local = local })
+
+-- the greatest reading of the table so far
+abbrev pub newest : Past → ℕ
+newest [] = 0
+newest (EarlyRead reading ∷ past) = max reading (newest past)
+newest (TableRead moment ∷ past) = max moment.table (newest past)
+newest (_ ∷ past) = newest past
 
 -- what the task's local clock shows at an event
 abbrev pub local_of : Event → Option ℕ

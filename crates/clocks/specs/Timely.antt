@@ -1,5 +1,5 @@
 -- What a task's clock answers over a past, and the law of it.
-use Rattle.std.specs.Prelude.{◌≡◌, ℕ, ◌+◌, ◌-◌, ◌≤◌, max, ◌⊎◌, List, [], ◌∷◌, Result, Ok, Err, MatchOption, IfOk, ⊤, Contains}
+use Rattle.std.specs.Prelude.{◌≡◌, ℕ, ◌+◌, ◌-◌, ◌≤◌, ◌⊎◌, List, [], ◌∷◌, Result, Ok, Err, MatchOption, IfOk, ⊤, Contains}
 use Rattle.std.specs.List.{AllByRecursion}
 use Rattle.clocks.specs.declared.drift.Drift.{Drift}
 use Rattle.clocks.specs.declared.refusal.ClockRefusal.{ClockRefusal}
@@ -7,7 +7,7 @@ use Rattle.clocks.specs.declared.task_clock.Sample.{Sample}
 use Rattle.clocks.specs.declared.task_clock.TaskClock.{TaskClock}
 use Rattle.clocks.specs.Drifts.{most_gain}
 use Rattle.clocks.specs.TaskClocks.{reach, new_clock, sample_answer, after_sample, read_answer, after_read}
-use Rattle.clocks.specs.Pasts.{EarlyRead, TableRead, Sampled, TaskRead, Past, IsAtMost}
+use Rattle.clocks.specs.Pasts.{Sampled, TaskRead, Past, newest, IsAtMost}
 
 -- the task's clock after what happened
 abbrev pub clock_after : Drift → ℕ → Past → TaskClock
@@ -58,13 +58,6 @@ SaysLess drift last sample other = (at : ℕ) → last ≤ at → reach drift sa
 -- the kept sample is one of those that were taken, and says no more than any of them
 abbrev pub IsBest : Drift → TaskClock → List Sample → Type 0
 IsBest drift clock samples = MatchOption clock.best (samples ≡ []) (λ kept. Contains samples kept × AllByRecursion (SaysLess drift clock.last kept) samples)
-
--- the greatest reading of the table so far
-abbrev pub newest : Past → ℕ
-newest [] = 0
-newest (EarlyRead reading ∷ past) = max reading (newest past)
-newest (TableRead moment ∷ past) = max moment.table (newest past)
-newest (_ ∷ past) = newest past
 
 -- one of these samples was sent at most this long before
 abbrev pub HasFresh : ℕ → ℕ → List Sample → Type 0

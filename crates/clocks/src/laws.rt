@@ -1,13 +1,10 @@
 //! What holds of every past.
 
-ghost use Rattle.std.specs.Prelude.{◌≡◌, ℕ, ◌+◌, ◌-◌, ◌≤◌, List, [], ◌∷◌, ◌++◌, IfOk};
+ghost use Rattle.std.specs.Prelude.{◌≡◌, ℕ, [], ◌∷◌};
 ghost use Rattle.clocks.specs.declared.drift.Drift.{Drift};
-ghost use Rattle.clocks.specs.declared.table_clock.TableClock.{TableClock};
-ghost use Rattle.clocks.specs.Drifts.{most_gain};
-ghost use Rattle.clocks.specs.TableClocks.{table_answer};
-ghost use Rattle.clocks.specs.Lives.{Life, kept_after, task_after, shown_in, shown_after, ran, AreLives, AreKept, AreWithin, IsIn};
-ghost use Rattle.clocks.specs.Worked.{a_third, two_lives, worked};
-ghost use Rattle.clocks.specs.Pasts.{Past, KeepsDrift, SamplesAreAnswers, GainsWithin};
+ghost use Rattle.clocks.specs.Restarts.{TablePast, readings_in, EachKeepsDrift};
+ghost use Rattle.clocks.specs.Worked.{a_third, two_processes, worked};
+ghost use Rattle.clocks.specs.Pasts.{Past, TableRead, KeepsDrift, SamplesAreAnswers};
 ghost use Rattle.clocks.specs.Timely.{IsTimely, IsFresh, IsClose, IsRising, IsBest, clock_after, values_of, samples_of};
 
 /// Each value that a task's clock answers is at or above every reading of the table's clock before it, where
@@ -16,10 +13,12 @@ pub fn timely_law()
     ensures { (drift : Drift) (oldest : ℕ) (past : Past) → KeepsDrift drift past → SamplesAreAnswers past → IsTimely drift oldest past }
 {}
 
-/// The price: no answer is above the greatest reading of the table before it by more than the drift over the age of some
-/// sample, from when its request was sent. The drift itself need not be kept for that.
+/// The price: no value is above the greatest reading of the table before it by more than the drift over the age of the
+/// newest sample, from when its request was sent. That age is at most the clock's `oldest`. This needs no drift premise.
 pub fn close_law()
-    ensures { (drift : Drift) (oldest : ℕ) (age : ℕ) (past : Past) → SamplesAreAnswers past → IsFresh drift oldest age past → IsClose drift oldest age past }
+    ensures fresh { (drift : Drift) (oldest age : ℕ) (past : Past) → SamplesAreAnswers past → IsFresh drift oldest age past
+        → IsClose drift oldest age past }
+    ensures always { (drift : Drift) (oldest : ℕ) (past : Past) → SamplesAreAnswers past → IsClose drift oldest oldest past }
 {}
 
 /// What a task's clock keeps and answers, whatever the table's clock does: it keeps one of the samples that it took, of which
@@ -29,36 +28,11 @@ pub fn keeping_law()
     ensures rising { (drift : Drift) (oldest : ℕ) (past : Past) → IsRising (values_of drift oldest past) }
 {}
 
-/// The table's clock over the processes that it ran in, where what is kept is at most `ahead` above what it shows: from any moment
-/// of a process to the end of a later one it gains at most what the local clocks of the processes gain, and nothing while none runs. And
-/// where what a process answers is kept before it ends, no later process answers less.
-pub fn lives_law()
-    ensures pace { (ahead : ℕ) (later : List Life) (life : Life) (before : List Life) (at : ℕ)
-        → AreLives ahead (later ++ life ∷ before) → life.opened ≤ at → at ≤ life.closed
-        → shown_after ahead (later ++ life ∷ before) ≤ shown_in ahead before life at + (life.closed - at) + ran later }
-    ensures order { (later : List Life) (life : Life) (before : List Life) (early now : ℕ) (clock : TableClock)
-        → AreKept (later ++ life ∷ before) → early ≤ life.kept → clock.kept ≡ kept_after (later ++ life ∷ before)
-        → IfOk (table_answer clock now) (λ value. early ≤ value) }
-{}
-
-/// The drift holds over restarts too, whatever their number: where each process alone gains on a task's local clock no more than the drift, and
-/// keeps nothing, or a grain and a tick less than `ahead` above what the clock shows. So readings of two processes are as `GainsWithin`
-/// asks, where the earlier was kept before its process ended, and the later is not below what was kept.
+/// The readings of the table's clock keep the drift as a whole, over any number of restarts on any hosts, if each process
+/// alone keeps it, and each opens the clock with a reading that was kept: at or above the last reading, and less than it and
+/// `ahead` by a grain and a tick. The time in which no process runs does not count, and the clock never falls.
 pub fn restart_law()
-    ensures gain { (drift : Drift) (ahead : ℕ) (later : List Life) (life : Life) (before : List Life) (at task_at : ℕ)
-        → AreWithin drift ahead (later ++ life ∷ before) → IsIn drift life at task_at
-        → shown_after ahead (later ++ life ∷ before)
-        ≤ shown_in ahead before life at + most_gain drift (task_after (later ++ life ∷ before) - task_at) + drift.grain }
-    ensures drift { (drift : Drift) (ahead : ℕ) (next : Life) (later : List Life) (life : Life) (before : List Life) (at task_at : ℕ)
-        → AreWithin drift ahead (next ∷ later ++ life ∷ before) → AreKept (later ++ life ∷ before) → IsIn drift life at task_at
-        → shown_in ahead before life at ≤ life.kept
-        → kept_after (later ++ life ∷ before) ≤ shown_in ahead (later ++ life ∷ before) next next.closed
-        → GainsWithin drift (record { table = shown_in ahead (later ++ life ∷ before) next next.closed; local = next.task_closed })
-        (record { table = shown_in ahead before life at; local = task_at }) }
-
-    // What a process may keep when it answers a reading, at which the clock had run for a grain and a tick.
-    ensures room { (drift : Drift) (ahead value shown kept : ℕ) → drift.grain + 1 ≤ value → value ≤ shown
-        → kept + drift.grain + 1 ≤ value + ahead → (kept - ahead) + drift.grain + 1 ≤ shown }
+    ensures { (drift : Drift) (ahead : ℕ) (past : TablePast) → EachKeepsDrift drift ahead past → KeepsDrift drift (readings_in ahead past) }
 {}
 
 /// A worked example, in which the premises hold: a task reads 104 and then 109, just above the table's 108; and the table's clock
@@ -67,6 +41,6 @@ pub fn worked_law()
     ensures paced { KeepsDrift a_third worked }
     ensures honest { SamplesAreAnswers worked }
     ensures values { values_of a_third 20 worked ≡ 109 ∷ 104 ∷ [] }
-    ensures lives { AreWithin a_third 10 two_lives }
-    ensures shown { shown_after 10 two_lives ≡ 61 }
+    ensures each { EachKeepsDrift a_third 10 two_processes }
+    ensures readings { readings_in 10 two_processes ≡ TableRead (record { table = 61; local = 213 }) ∷ TableRead (record { table = 50; local = 150 }) ∷ [] }
 {}

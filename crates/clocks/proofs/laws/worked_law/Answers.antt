@@ -74,12 +74,17 @@ pub returns-clause-values : goal.returns-clause-values
 unfolding div_up most_gain
 returns-clause-values c = refl
 
-pub returns-clause-lives : goal.returns-clause-lives
+pub returns-clause-each : goal.returns-clause-each
 unfolding div_up most_gain
-returns-clause-lives c = (
-  record { order = lit≤ tt; after = lit≤ tt; gained = lit≤ tt; room = inl refl },
-  (record { order = lit≤ tt; after = lit≤ tt; gained = lit≤ tt; room = inr (lit≤ tt) }, tt),
+returns-clause-each c = (
+  lit≤ tt,
+  (lit≤ tt, (lit≤ tt, (lit≤ tt, tt))),
+  (
+    record { above = lit≤ tt; room = lit≤ tt },
+    (lit≤ tt, (lit≤ tt, tt)),
+    (lit≤ tt, (lit≤ tt, tt), (record { above = lit≤ tt; room = lit≤ tt }, tt, tt)),
+  ),
 )
 
-pub returns-clause-shown : goal.returns-clause-shown
-returns-clause-shown c = refl
+pub returns-clause-readings : goal.returns-clause-readings
+returns-clause-readings c = refl
