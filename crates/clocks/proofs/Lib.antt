@@ -4,3 +4,4 @@ pub mod Bounding
 pub mod Keeping
 pub mod Freshness
 pub mod Restarting
+pub mod Ticking

@@ -6,3 +6,4 @@ pub mod Timely
 pub mod Worked
 pub mod TableClocks
 pub mod Restarts
+pub mod Ticks

@@ -1,10 +1,11 @@
 //! What holds of every past.
 
-ghost use Rattle.std.specs.Prelude.{◌≡◌, ℕ, [], ◌∷◌};
+ghost use Rattle.std.specs.Prelude.{◌≡◌, ℕ, ◌<◌, ◌≤◌, [], ◌∷◌};
 ghost use Rattle.clocks.specs.declared.drift.Drift.{Drift};
 ghost use Rattle.clocks.specs.Restarts.{TablePast, readings_in, EachKeepsDrift};
 ghost use Rattle.clocks.specs.Worked.{a_third, two_processes, worked};
-ghost use Rattle.clocks.specs.Pasts.{Past, TableRead, KeepsDrift, SamplesAreAnswers};
+ghost use Rattle.clocks.specs.Pasts.{Moment, Past, TableRead, GainsWithin, KeepsDrift, SamplesAreAnswers};
+ghost use Rattle.clocks.specs.Ticks.{GainsExactly, in_ticks, CoversTicks, IsOutOfStep};
 ghost use Rattle.clocks.specs.Timely.{IsTimely, IsFresh, IsClose, IsRising, IsBest, clock_after, values_of, samples_of};
 
 /// Each value that a task's clock answers is at or above every reading of the table's clock before it, where
@@ -33,6 +34,15 @@ pub fn keeping_law()
 /// `ahead` by a grain and a tick. The time in which no process runs does not count, and the clock never falls.
 pub fn restart_law()
     ensures { (drift : Drift) (ahead : ℕ) (past : TablePast) → EachKeepsDrift drift ahead past → KeepsDrift drift (readings_in ahead past) }
+{}
+
+/// Clocks that show whole ticks, rounded down, keep a drift whose grain is 1 more than the drift, rounded up, if the
+/// clocks themselves keep its ratio exactly: 1 if there is no drift, 2 for a drift of at most 1. With any drift, 1 is not
+/// enough.
+pub fn ticks_law()
+    ensures enough { (drift : Drift) (units : ℕ) (late early : Moment) → 0 < units → CoversTicks drift → GainsExactly drift late early
+        → GainsWithin drift (in_ticks units late) (in_ticks units early) }
+    ensures least { (drift : Drift) → 0 < drift.extra → drift.grain ≤ 1 → IsOutOfStep drift }
 {}
 
 /// A worked example, in which the premises hold: a task reads 104 and then 109, just above the table's 108; and the table's clock

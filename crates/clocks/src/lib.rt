@@ -13,7 +13,7 @@ mod table_clock;
 mod task_clock;
 
 pub use drift::{Drift, TICK_GRAIN};
-pub use laws::{close_law, keeping_law, restart_law, timely_law, worked_law};
+pub use laws::{close_law, keeping_law, restart_law, ticks_law, timely_law, worked_law};
 pub use refusal::ClockRefusal;
 pub use table_clock::TableClock;
 pub use task_clock::{Sample, TaskClock};
