@@ -1,5 +1,5 @@
 -- The readings of the table's clock keep the drift over restarts.
-use Rattle.std.proofs.Common.{◌≡◌, ℕ, ◌+◌, ◌-◌, ◌^◌, ◌≤◌, max, List, [], ◌∷◌, Result, Ok, Err, IfOk, Option, Some, None, nat_lt, arith}
+use Rattle.std.proofs.Common.{◌≡◌, ℕ, ◌+◌, ◌-◌, ◌^◌, ◌≤◌, max, [], ◌∷◌, Result, Ok, Err, IfOk, Option, Some, None, nat_lt, arith}
 use Rattle.std.proofs.lemmas.Bool.{cond_both, ltb-false}
 use Rattle.std.specs.List.{AllByRecursion}
 use Rattle.clocks.specs.declared.drift.Drift.{Drift}
@@ -9,7 +9,7 @@ use Rattle.clocks.specs.declared.task_clock.Sample.{Sample}
 use Rattle.clocks.specs.Drifts.{most_gain}
 use Rattle.clocks.specs.TableClocks.{shown, table_answer, after_table_read}
 use Rattle.clocks.specs.Pasts.{Moment, Event, EarlyRead, TableRead, Sampled, TaskRead, Other, Past, table_seen, newest, local_of, IsWithinDrift, KeepsDrift}
-use Rattle.clocks.specs.Restarts.{TableEvent, Opens, Reads, TablePast, task_local, table_clock_after, with_reading, readings_in, HostGainsWithin, KeepsDriftSinceOpened, IsKept, GoesOn, EachKeepsDrift}
+use Rattle.clocks.specs.Restarts.{Opens, Reads, TablePast, task_local, table_clock_after, with_reading, readings_in, HostGainsWithin, KeepsDriftSinceOpened, IsKept, GoesOn, EachKeepsDrift}
 use Rattle.clocks.proofs.Stretching as stretched
 
 -- what is known of a reading that is answered

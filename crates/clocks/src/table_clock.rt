@@ -5,23 +5,27 @@ ghost use Rattle.clocks.specs.TableClocks.{opened, table_answer, after_table_rea
 
 use crate::refusal::ClockRefusal;
 
-/// The table's clock, over restarts and over hosts: it goes on from the reading that was kept, and gains only what the
-/// local clock of the process gains. While no process runs it stands still.
+/// The table's clock, over restarts and hosts: it goes on from a reading that was kept, and gains what the local clock of
+/// its process gains. While no process runs it stands still.
+///
+/// Before a reading is used, keep a value that is not below it. The clock of the next process is opened with the last
+/// value kept. All readings are in ticks of one length.
 #[derive(Clone, Copy, Debug)]
 pub struct TableClock {
     // What it showed when it was opened.
     pub(crate) start: u64,
-    // What the local clock showed then.
+    // The local reading then.
     pub(crate) opened: u64,
-    // The reading that was kept before; the clock is not read below it.
+    // The value that was kept before; no reading is below it.
     pub(crate) kept: u64,
     // The last local reading.
     pub(crate) last: u64,
 }
 
 impl TableClock {
-    /// The clock of a new process: from the reading that was kept, which is at most `ahead` ticks above what the clock
-    /// showed in the process before, and from what the local clock shows now.
+    /// Opens the clock in a new process: `kept` is the last value kept, 0 at first, and `now` the local reading. The clock
+    /// starts `ahead` ticks below `kept`, or at 0 if `ahead` is more. Let `ahead` be at least how far above a reading
+    /// values are kept, with the drift's grain and 1 added (`restart_law`).
     pub fn open(kept: u64, ahead: u64, now: u64) -> Self
         ensures { result ≡ opened kept ahead now }
     {
@@ -33,7 +37,12 @@ impl TableClock {
         }
     }
 
-    /// Reads the clock, at a local reading. It is refused below the reading that was kept.
+    /// Returns the clock's reading at a local reading: not below what was kept before, nor below an earlier reading.
+    ///
+    /// # Errors, in this order
+    ///
+    /// `LocalClockBack` if `now` is below an earlier local reading; `TooLarge` if the reading would not be below 2^64;
+    /// `NotYet { until }` while it is below what was kept, `until`. An error leaves the clock unchanged.
     pub fn read(&mut self, now: u64) -> Result<u64, ClockRefusal>
         ensures answer { result ≡ table_answer self.old now }
         ensures clock { self.new ≡ after_table_read self.old now result }

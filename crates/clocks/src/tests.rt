@@ -1,6 +1,6 @@
-use crate::{ClockRefusal, Drift, TableClock, TaskClock};
+use crate::{ClockRefusal, Drift, TICK_GRAIN, TableClock, TaskClock};
 
-// While the local clock gains 3 ticks, the table's gains at most 4, and one at once.
+// While the local clock gains 3 ticks, the table's gains at most 4, and 1 at once.
 fn fast_by_a_third() -> Drift {
     Drift {
         extra: 1,
@@ -31,8 +31,50 @@ fn task_reads_least_bound(rt: HostRuntime) {
 }
 
 #[test]
+fn task_counts_the_age_of_the_newest_sample(rt: HostRuntime) {
+    let mut clock = TaskClock::new(fast_by_a_third(), 30);
+    assert_eq!(rt; clock.sample(10, 100, 11), Ok(()));
+    // worse than the first, and newer
+    assert_eq!(rt; clock.sample(20, 120, 21), Ok(()));
+    assert_eq!(rt; clock.read(50), Ok(155));
+    assert_eq!(rt; clock.read(51), Err(ClockRefusal::TooOld));
+    // an older one changes nothing
+    assert_eq!(rt; clock.sample(15, 130, 51), Ok(()));
+    assert_eq!(rt; clock.read(51), Err(ClockRefusal::TooOld));
+    assert_eq!(rt; clock.sample(51, 158, 52), Ok(()));
+    assert_eq!(rt; clock.read(52), Ok(157));
+}
+
+#[test]
+fn drift_has_a_period(rt: HostRuntime) {
+    assert_eq!(rt; Drift::new(1, 0, TICK_GRAIN), None);
+    assert_eq!(rt; Drift::new(1, 3, 1), Some(fast_by_a_third()));
+}
+
+// Two clocks within 100 parts in a million of true time each, in nanoseconds: a reading of 10^18, asked for at
+// 5 * 10^18 and read a second later, may have come to 1 second, 201 microseconds and the grain more.
+#[test]
+fn task_reads_nanoseconds(rt: HostRuntime) {
+    let drift = Drift {
+        extra: 201,
+        per: 1_000_000,
+        grain: TICK_GRAIN,
+    };
+    let mut clock = TaskClock::new(drift, u64::MAX);
+    let sent = 5_000_000_000_000_000_000;
+    assert_eq!(rt;
+        clock.sample(sent, 1_000_000_000_000_000_000, sent + 3_000_000),
+        Ok(())
+    );
+    assert_eq!(rt;
+        clock.read(sent + 1_000_000_000),
+        Ok(1_000_000_001_000_201_002)
+    );
+}
+
+#[test]
 fn task_refuses(rt: HostRuntime) {
-    let mut clock = TaskClock::new(fast_by_a_third(), 1_000);
+    let mut clock = TaskClock::new(fast_by_a_third(), u64::MAX);
     assert_eq!(rt; clock.sample(9, 100, 8), Err(ClockRefusal::SentAhead));
     assert_eq!(rt; clock.read(8), Err(ClockRefusal::NoSample));
     assert_eq!(rt; clock.sample(8, u64::MAX - 4, 8), Ok(()));

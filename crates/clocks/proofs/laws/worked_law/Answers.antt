@@ -1,4 +1,4 @@
-use Rattle.std.proofs.Common.{refl, inl, inr, lit≤}
+use Rattle.std.proofs.Common.{refl, inl, lit≤}
 use Rattle.clocks.specs.Rounding.{div_up}
 use Rattle.clocks.specs.Drifts.{most_gain}
 use Rattle.clocks.proofs.laws.worked_law.Goals as goal
