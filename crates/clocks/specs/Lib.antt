@@ -7,3 +7,4 @@ pub mod Worked
 pub mod TableClocks
 pub mod Restarts
 pub mod Ticks
+pub mod Numbers

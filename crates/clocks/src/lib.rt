@@ -7,6 +7,7 @@
 
 mod drift;
 mod laws;
+mod numbers;
 mod refusal;
 mod rounding;
 mod table_clock;
@@ -14,6 +15,7 @@ mod task_clock;
 
 pub use drift::{Drift, TICK_GRAIN};
 pub use laws::{close_law, keeping_law, restart_law, ticks_law, timely_law, worked_law};
+pub use numbers::TaskClockNumbers;
 pub use refusal::ClockRefusal;
 pub use table_clock::TableClock;
 pub use task_clock::{Sample, TaskClock};

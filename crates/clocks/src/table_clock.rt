@@ -10,6 +10,7 @@ use crate::refusal::ClockRefusal;
 ///
 /// Before a reading is used, keep a value that is not below it. The clock of the next process is opened with the last
 /// value kept. All readings are in ticks of one length.
+#[repr(C)]
 #[derive(Clone, Copy, Debug)]
 pub struct TableClock {
     // What it showed when it was opened.
