@@ -35,7 +35,8 @@ gains_more units early late gain some same =
     let low = div-mul-le_self early units in
     omega (arith, high, low, times units (early / units) (late / units) gain same)
 
--- what the ticks of the table gain, from what those of the task do: all in units, and times the ratio's `per`
+-- what the ticks of the table gain, from what those of the task do: all in units, and times the
+-- ratio's `per`
 module _ (units per extra table local exact_table exact_local beyond grain : ℕ) where
   scaled : table * units < exact_table + units → exact_local < local * units + units → exact_table * per ≤ exact_local * (per + extra)
       → local * extra ≤ beyond * per → extra ≤ grain * per → 0 < per → 0 < units → table * units * per < (local + beyond + grain + 2) * units * per

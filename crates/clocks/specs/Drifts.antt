@@ -3,7 +3,8 @@ use Rattle.std.specs.Prelude.{◌≡◌, ℕ, ◌+◌, ◌*◌}
 use Rattle.clocks.specs.declared.drift.Drift.{Drift}
 use Rattle.clocks.specs.Rounding.{div_up}
 
--- the most that the table's clock gains while a local clock gains `elapsed` ticks, without the grain
+-- the most that the table's clock gains while a local clock gains `elapsed` ticks, without the
+-- grain
 unfoldable pub most_gain : Drift → ℕ → ℕ
 most_gain drift elapsed = elapsed + div_up (elapsed * drift.extra) drift.per
 

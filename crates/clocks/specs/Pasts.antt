@@ -1,4 +1,5 @@
--- What happens to the table's clock and to one task's, newest first, and the premise that their rates differ by at most the drift.
+-- What happens to the table's clock and to one task's, newest first, and the premise that their
+-- rates differ by at most the drift.
 use Rattle.std.specs.Prelude.{◌≡◌, ℕ, ◌+◌, ◌-◌, ◌≤◌, max, List, [], ◌∷◌, ◌⊎◌, ⊤, Option, Some, None}
 use Rattle.std.specs.List.{AllByRecursion}
 use Rattle.clocks.specs.declared.drift.Drift.{Drift}
@@ -10,8 +11,8 @@ pub record Moment : Type 0 where
   pub table : ℕ
   pub local : ℕ
 
--- the table reads its clock, before the task's local clock runs or while it runs; the task takes a sample, or reads its clock, at a reading
--- of its local clock; anything else
+-- the table reads its clock, before the task's local clock runs or while it runs; the task takes a
+-- sample, or reads its clock, at a reading of its local clock; anything else
 pub data Event : Type 0 where
   EarlyRead : ℕ → Event
   TableRead : Moment → Event
@@ -47,7 +48,8 @@ abbrev pub IsNotBack : Option ℕ → Option ℕ → Type 0
 IsNotBack (Some early) (Some late) = early ≤ late
 IsNotBack _ _ = ⊤
 
--- from one reading of the table's clock to a later one it does not fall, and gains at most what the drift allows for the local gain
+-- from one reading of the table's clock to a later one it does not fall, and gains at most what the
+-- drift allows for the local gain
 pub record GainsWithin (drift : Drift) (late early : Moment) : Type 0 where
   pub rises : early.table ≤ late.table
   pub gains : late.table ≤ early.table + most_gain drift (late.local - early.local) + drift.grain
@@ -70,7 +72,8 @@ abbrev pub KeepsDrift : Drift → Past → Type 0
 KeepsDrift drift [] = ⊤
 KeepsDrift drift (late ∷ past) = AllByRecursion (IsWithinDrift drift late) past × KeepsDrift drift past
 
--- an event answers a sample: the table reads this reading, when the local clock is at or past the sample's `sent`
+-- an event answers a sample: the table reads this reading, when the local clock is at or past the
+-- sample's `sent`
 abbrev pub IsAnswer : Sample → Event → Type 0
 IsAnswer sample (TableRead moment) = (moment.table ≡ sample.reading) × (sample.sent ≤ moment.local)
 IsAnswer sample _ = ⊥

@@ -8,8 +8,9 @@ use Rattle.clocks.specs.Drifts.{most_gain}
 use Rattle.clocks.specs.TableClocks.{opened, table_answer, after_table_read}
 use Rattle.clocks.specs.Pasts.{Past, table_seen, newest}
 
--- a process opens the clock with the reading that was kept, at a reading of its local clock; the process reads the clock, at a reading of
--- its local clock. Last comes what a task's local clock shows then, if it runs
+-- a process opens the clock with the reading that was kept, at a reading of its local clock; the
+-- process reads the clock, at a reading of its local clock. Last comes what a task's local clock
+-- shows then, if it runs
 pub data TableEvent : Type 0 where
   Opens : ℕ → ℕ → Option ℕ → TableEvent
   Reads : ℕ → Option ℕ → TableEvent
@@ -39,7 +40,8 @@ readings_in ahead [] = []
 readings_in ahead (Opens kept now local ∷ past) = readings_in ahead past
 readings_in ahead (Reads now local ∷ past) = with_reading (table_answer (table_clock_after ahead past) now) local (readings_in ahead past)
 
--- from one moment of a process to a later one, its local clock gains on the task's at most what the drift allows
+-- from one moment of a process to a later one, its local clock gains on the task's at most what the
+-- drift allows
 abbrev pub HostGainsWithin : Drift → ℕ → Option ℕ → ℕ → Option ℕ → Type 0
 HostGainsWithin drift late (Some local) early (Some from) = late - early ≤ most_gain drift (local - from) + drift.grain
 HostGainsWithin drift late _ early _ = ⊤
@@ -50,7 +52,8 @@ KeepsDriftSinceOpened drift now local [] = ⊤
 KeepsDriftSinceOpened drift now local (Opens kept early from ∷ past) = HostGainsWithin drift now local early from
 KeepsDriftSinceOpened drift now local (Reads early from ∷ past) = HostGainsWithin drift now local early from × KeepsDriftSinceOpened drift now local past
 
--- what is kept is at or above the last reading, and below it with `ahead` added by a grain and a tick
+-- what is kept is not below the last reading, and below it with `ahead` added by at least the grain
+-- and one tick
 pub record IsKept (drift : Drift) (ahead kept last : ℕ) : Type 0 where
   pub above : last ≤ kept
   pub room : kept + drift.grain + 1 ≤ last + ahead
@@ -65,7 +68,8 @@ GoesOn (Some early) (Some late) = early ≤ late
 GoesOn (Some early) None = ⊥
 GoesOn None _ = ⊤
 
--- THE PREMISE for the table's clock: each process alone keeps the drift, and opens the clock with a reading that was kept so
+-- THE PREMISE for the table's clock: each process alone keeps the drift, and opens the clock with a
+-- reading that was kept so
 abbrev pub EachKeepsDrift : Drift → ℕ → TablePast → Type 0
 EachKeepsDrift drift ahead [] = ⊤
 EachKeepsDrift drift ahead (event ∷ past) =

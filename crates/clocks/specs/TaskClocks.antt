@@ -7,7 +7,8 @@ use Rattle.clocks.specs.declared.task_clock.Sample.{Sample}
 use Rattle.clocks.specs.declared.task_clock.TaskClock.{TaskClock}
 use Rattle.clocks.specs.Drifts.{most_gain}
 
--- how far the table's clock may have come by a local reading, by what a sample says, without the grain
+-- how far the table's clock may have come by a local reading, by what a sample says, without the
+-- grain
 abbrev pub reach : Drift → Sample → ℕ → ℕ
 reach drift sample at = sample.reading + most_gain drift (at - sample.sent)
 

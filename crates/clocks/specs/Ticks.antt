@@ -4,8 +4,8 @@ use Rattle.clocks.specs.declared.drift.Drift.{Drift}
 use Rattle.clocks.specs.Rounding.{div_up}
 use Rattle.clocks.specs.Pasts.{Moment, GainsWithin}
 
--- two clocks in units as small as one likes: from one moment to a later one the table's gains on the local one no more than the ratio says,
--- with no grain and nothing rounded
+-- two clocks in units as small as one likes: from one moment to a later one the table's gains on
+-- the local one no more than the ratio says, with no grain and nothing rounded
 pub record GainsExactly (drift : Drift) (late early : Moment) : Type 0 where
   pub local : early.local ≤ late.local
   pub rises : early.table ≤ late.table

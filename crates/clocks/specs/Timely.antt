@@ -20,7 +20,8 @@ clock_after drift oldest (_ ∷ past) = clock_after drift oldest past
 abbrev pub LeadsTo : Past → TaskClock → Type 0
 LeadsTo past clock = clock_after clock.drift clock.oldest past ≡ clock
 
--- TIMELY: each value that the task's clock answered is at or above every reading of the table before it
+-- TIMELY: each value that the task's clock answered is at or above every reading of the table
+-- before it
 abbrev pub IsTimely : Drift → ℕ → Past → Type 0
 IsTimely drift oldest [] = ⊤
 IsTimely drift oldest (TaskRead at ∷ past) = IfOk (read_answer (clock_after drift oldest past) at) (λ value. AllByRecursion (IsAtMost value) past) × IsTimely drift oldest past
@@ -70,7 +71,8 @@ IsFresh drift oldest age [] = ⊤
 IsFresh drift oldest age (TaskRead at ∷ past) = IfOk (read_answer (clock_after drift oldest past) at) (λ _. HasFresh age at (samples_of drift oldest past)) × IsFresh drift oldest age past
 IsFresh drift oldest age (_ ∷ past) = IsFresh drift oldest age past
 
--- CLOSE: each answer is above the greatest reading of the table before it by no more than the drift of this long
+-- CLOSE: each answer is above the greatest reading of the table before it by no more than the drift
+-- of this long
 abbrev pub IsClose : Drift → ℕ → ℕ → Past → Type 0
 IsClose drift oldest age [] = ⊤
 IsClose drift oldest age (TaskRead at ∷ past) =

@@ -1,8 +1,10 @@
-//! Clocks that are timely with nothing synchronised: a task's clock from answers of the table, and the table's own.
+//! Clocks that are timely with nothing synchronised: a task's clock, made from answers of the table,
+//! and the table's own.
 //!
-//! A task reads its own local clock before it asks the table, and the answer carries a reading of the table's
-//! clock. So at a later local reading the table's clock has gained at most what the drift allows for the
-//! local time since the request was sent. A `TaskClock` answers that bound: never below an earlier reading of the table.
+//! A task reads its local clock before it asks the table, and the answer carries a reading of the
+//! table's clock. At a later local reading the table's clock has gained at most what the drift allows
+//! for the local time since the request was sent. A `TaskClock` returns that bound: it is never below
+//! an earlier reading of the table. No clock is read here: calls take numbers and return numbers.
 #![tactic(auto)]
 
 mod drift;

@@ -19,8 +19,8 @@ pub struct Sample {
 }
 
 impl Sample {
-    // How far the table's clock may have come by a local reading, without the grain; `None` if that is above
-    // the largest reading.
+    // How far the table's clock may have come by a local reading, without the grain; `None` if that
+    // is above the largest reading.
     fn reach(self, drift: Drift, at: u64) -> Option<u64>
         ensures { MatchOption result (2 ^ 64 ≤ reach drift self at) (λ most. most ≡ reach drift self at) }
     {
@@ -30,8 +30,9 @@ impl Sample {
         }
     }
 
-    // Whether this sample's reach is no more than another's, from the later of the two on. They are compared
-    // where the later one was sent: its reach is a whole number there, so rounding the other changes nothing.
+    // Whether this sample's reach is no more than another's, from the later of the two on. They are
+    // compared where the later one was sent: its reach is a whole number there, so rounding the
+    // other changes nothing.
     fn is_better(self, new: Sample, drift: Drift) -> bool
         ensures { result ≡ is_better drift self new }
     {
@@ -49,10 +50,11 @@ impl Sample {
     }
 }
 
-/// A clock of a task that is never behind the table's: at a local reading it returns the least value that no
-/// earlier reading of the table's clock can be above.
+/// A clock of a task that is never behind the table's: at a local reading it returns the least
+/// value that no earlier reading of the table's clock can be above.
 ///
-/// It keeps one sample, the best of all that it took, and no memory. All readings are in ticks of one length.
+/// It keeps one sample, the best of all that it took, and no memory. All readings are in ticks of
+/// one length.
 #[derive(Clone, Copy, Debug)]
 pub struct TaskClock {
     pub(crate) drift: Drift,
@@ -69,8 +71,8 @@ pub struct TaskClock {
 }
 
 impl TaskClock {
-    /// Creates a clock with no sample. `oldest` is how many local ticks ago the newest sample may have been sent
-    /// when the clock is read; `u64::MAX` sets no limit.
+    /// Creates a clock with no sample. `oldest` is how many local ticks ago the newest sample may
+    /// have been sent when the clock is read; `u64::MAX` sets no limit.
     pub fn new(drift: Drift, oldest: u64) -> Self
         ensures clock { result ≡ new_clock drift oldest }
         ensures past { LeadsTo [] result }
@@ -85,13 +87,13 @@ impl TaskClock {
         }
     }
 
-    /// Takes an answer of the table: the local clock before the request was sent, the table's reading in the answer,
-    /// and the local clock now.
+    /// Takes an answer of the table: the local clock before the request was sent, the table's
+    /// reading in the answer, and the local clock now.
     ///
     /// # Errors, in this order
     ///
-    /// `LocalClockBack` if `now` is below an earlier local reading, `SentAhead` if `sent` is above `now`. An error
-    /// leaves the clock unchanged.
+    /// `LocalClockBack` if `now` is below an earlier local reading, `SentAhead` if `sent` is above
+    /// `now`. An error leaves the clock unchanged.
     pub fn sample(&mut self, sent: u64, reading: u64, now: u64) -> Result<(), ClockRefusal>
         ensures answer { result ≡ sample_answer self.old sent now }
         ensures clock { self.new ≡ after_sample self.old now (record { sent = sent; reading = reading }) result }
@@ -126,14 +128,14 @@ impl TaskClock {
         }
     }
 
-    /// Returns the clock's value at a local reading: at or above each earlier reading of the table's clock, and not
-    /// below a value that it returned before.
+    /// Returns the clock's value at a local reading: at or above each earlier reading of the
+    /// table's clock, and not below a value that it returned before.
     ///
     /// # Errors, in this order
     ///
-    /// `LocalClockBack` if `now` is below an earlier local reading; `NoSample` before the first sample; `TooOld` if
-    /// the newest sample was sent more than `oldest` ticks before `now`; `TooLarge` if the value would not be below
-    /// 2^64. An error leaves the clock unchanged.
+    /// `LocalClockBack` if `now` is below an earlier local reading; `NoSample` before the first
+    /// sample; `TooOld` if the newest sample was sent more than `oldest` ticks before `now`;
+    /// `TooLarge` if the value would not be below 2^64. An error leaves the clock unchanged.
     pub fn read(&mut self, now: u64) -> Result<u64, ClockRefusal>
         ensures answer { result ≡ read_answer self.old now }
         ensures clock { self.new ≡ after_read self.old now result }

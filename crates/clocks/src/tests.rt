@@ -51,8 +51,9 @@ fn drift_has_a_period(rt: HostRuntime) {
     assert_eq!(rt; Drift::new(1, 3, 1), Some(fast_by_a_third()));
 }
 
-// Two clocks within 100 parts in a million of true time each, in nanoseconds: a reading of 10^18, asked for at
-// 5 * 10^18 and read a second later, may have come to 1 second, 201 microseconds and the grain more.
+// Two clocks within 100 parts in a million of true time each, in nanoseconds: a reading of 10^18,
+// asked for at 5 * 10^18 and read a second later, may have come to 1 second, 201 microseconds and
+// the grain more.
 #[test]
 fn task_reads_nanoseconds(rt: HostRuntime) {
     let drift = Drift {

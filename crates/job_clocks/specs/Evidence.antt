@@ -19,7 +19,8 @@ term_of policy Bridge = policy.bridge
 abbrev pub sent_at : Terms → Grant → ℕ
 sent_at policy grant = grant.table_ends - term_of policy grant.lease.kind
 
--- the grant was sent at a reading of the table's clock that is more than the skew above this reading of a task's
+-- the grant was sent at a reading of the table's clock that is more than the skew above this
+-- reading of a task's
 abbrev pub IsAhead : Terms → Grant → ℕ → Type 0
 IsAhead policy grant at = at + policy.skew < sent_at policy grant
 

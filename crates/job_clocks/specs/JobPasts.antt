@@ -1,4 +1,5 @@
--- What happens to the clocks of a job, newest first: the table's clock, and that of each life of a task.
+-- What happens to the clocks of a job, newest first: the table's clock, and that of each life of a
+-- task.
 use Rattle.std.specs.Prelude.{ℕ, List, [], ◌∷◌, map, nat_eq, Option, Result, Ok, Err, if◌then◌else◌}
 use Rattle.clocks.specs.declared.drift.Drift.{Drift}
 use Rattle.clocks.specs.declared.refusal.ClockRefusal.{ClockRefusal}
@@ -9,8 +10,9 @@ use Rattle.clocks.specs.Timely.{clock_after}
 use Rattle.cluster.specs.declared.timing.Reading.{Reading}
 use Rattle.cluster.specs.declared.timing.Reading.TheVariants.{TableClock, TaskClock}
 
--- the table reads its clock, when each life's local clock shows this, or does not run; a life takes a sample, or reads its clock, at a
--- reading of its local clock. Lives have numbers, one for each task clock that is made
+-- the table reads its clock, when each life's local clock shows this, or does not run; a life takes
+-- a sample, or reads its clock, at a reading of its local clock. Lives have numbers, one for each
+-- task clock that is made
 pub data JobEvent : Type 0 where
   TableReads : ℕ → (ℕ → Option ℕ) → JobEvent
   LifeSamples : ℕ → ℕ → Sample → JobEvent
@@ -30,7 +32,8 @@ seen_by life (LifeReads who at) = if nat_eq who life then TaskRead at else Other
 abbrev pub past_of : ℕ → JobPast → Past
 past_of life past = map (seen_by life) past
 
--- THE PREMISE: for each life, the table's clock and its local clock keep the drift, and its samples are earlier answers of the table
+-- THE PREMISE: for each life, the table's clock and its local clock keep the drift, and its samples
+-- are earlier answers of the table
 pub record KeepsJobDrift (drift : ℕ → Drift) (past : JobPast) : Type 0 where
   pub paced : (life : ℕ) → KeepsDrift (drift life) (past_of life past)
   pub honest : (life : ℕ) → SamplesAreAnswers (past_of life past)

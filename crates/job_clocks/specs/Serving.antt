@@ -7,7 +7,8 @@ use Rattle.cluster.specs.Pasts.{Past, readings}
 use Rattle.cluster.specs.Replies.{rule_in}
 use Rattle.job_clocks.specs.Within.{AreWithinDrift}
 
--- a task may serve a key now: at some value of its task clock the written rule allows the key, on the calls that it accepted
+-- a task may serve a key now: at some value of its task clock the written rule allows the key, on
+-- the calls that it accepted
 pub record MayServeByDrift (drift : ℕ → Drift) (past : Past) (task key : ℕ) : Type 0 where
   pub at : ℕ
   pub within : AreWithinDrift drift (TaskClock at ∷ readings past)

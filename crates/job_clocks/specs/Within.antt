@@ -21,8 +21,9 @@ abbrev pub HaveInOrder : List Reading → List Reading → Type 0
 HaveInOrder [] some = some ≡ []
 HaveInOrder (reading ∷ all) some = HaveInOrder all some ⊎ StartsWith reading (HaveInOrder all) some
 
--- the drift in place of timely clocks: each reading of these calls is one of the table's clock or a value of a task clock, in the order of
--- real time, and the rates of the clocks differ by at most the drift. The clocks may be read more often than calls are made
+-- the drift in place of timely clocks: each reading of these calls is one of the table's clock or a
+-- value of a task clock, in the order of real time, and the rates of the clocks differ by at most
+-- the drift. The clocks may be read more often than calls are made
 pub record AreWithinDrift (drift : ℕ → Drift) (readings : List Reading) : Type 0 where
   pub oldest : ℕ → ℕ
   pub clocks : JobPast

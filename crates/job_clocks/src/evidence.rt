@@ -16,8 +16,8 @@ fn term_of(policy: Policy, kind: Kind) -> u64
     }
 }
 
-/// Returns the table's reading when it sent a grant, in ticks: the end of its row, less the term of its kind. The policy
-/// is the one of the table.
+/// Returns the table's reading when it sent a grant, in ticks: the end of its row, less the term of
+/// its kind. The policy is the one of the table.
 pub fn sent_at(grant: &Grant, policy: Policy) -> u64
     ensures { result ≡ sent_at policy grant.now }
 {
@@ -26,8 +26,9 @@ pub fn sent_at(grant: &Grant, policy: Policy) -> u64
         .saturating_sub(term_of(policy, grant.lease.kind))
 }
 
-/// Whether a grant that a task has at the reading `at` of its clock shows that clocks are not timely: it was sent at a
-/// reading of the table's clock that is more than the skew above `at`. The grant need not be heard, and may be refused.
+/// Whether a grant that a task has at the reading `at` of its clock shows that clocks are not
+/// timely: it was sent at a reading of the table's clock that is more than the skew above `at`. The
+/// grant need not be heard, and may be refused.
 pub fn clock_evidence(grant: &Grant, at: u64, policy: Policy) -> bool
     ensures { IsTrue result ↔ IsAhead policy grant.now at }
 {

@@ -18,17 +18,18 @@ ghost use Rattle.job_clocks.specs.Evidence.{sent_at, IsAhead, IsSilent};
 ghost use Rattle.job_clocks.specs.Within.{AreWithinDrift};
 ghost use Rattle.job_clocks.specs.Serving.{MayServeByDrift};
 
-/// Readings are timely with any skew, even 0, if each is one of the table's clock or a value of a task clock, and the
-/// rates of the clocks differ by at most the drift.
+/// Readings are timely with any skew, even 0, if each is one of the table's clock or a value of a
+/// task clock, and the rates of the clocks differ by at most the drift.
 pub fn timely_job_law()
     ensures { (drift : ℕ → Drift) (skew : ℕ) (readings : List Reading) → AreWithinDrift drift readings → IsTimely skew readings }
 {
     clocks::timely_law();
 }
 
-/// With clocks whose rates differ by at most the drift, whoever may serve a key owns it in the committed assignment; if
-/// slices have at most one owner, it is never two tasks. From the `hold` of a handle to a `check` that found it
-/// continuous its task owned the key; if slices have at most one owner, no other task may serve the key in between.
+/// With clocks whose rates differ by at most the drift, whoever may serve a key owns it in the
+/// committed assignment; if slices have at most one owner, it is never two tasks. From the `hold`
+/// of a handle to a `check` that found it continuous its task owned the key; if slices have at most
+/// one owner, no other task may serve the key in between.
 pub fn drift_law()
     ensures owner { (drift : ℕ → Drift) (job : Job) (past : Past) (task key : ℕ) → is_policy job.policy ≡ true → IsRun job past
         → MayServeByDrift drift past task key → IsOwner past task key }
@@ -47,9 +48,10 @@ pub fn drift_law()
     cluster::interval_law();
 }
 
-/// What evidence shows, and what it does not. A grant tells the reading of an earlier call of the table. So if it is ahead
-/// of a reading of a task's clock, the clocks are not timely, and their rates differ by more than any drift that task
-/// clocks were given, or a sample was no answer of the table. But clocks may be untimely without a grant that tells it.
+/// What evidence shows, and what it does not. A grant tells the reading of an earlier call of the
+/// table. So if it is ahead of a reading of a task's clock, the clocks are not timely, and their
+/// rates differ by more than any drift that task clocks were given, or a sample was no answer of
+/// the table. But clocks may be untimely without a grant that tells it.
 pub fn evidence_law()
     ensures sent { (job : Job) (past : Past) (grant : Grant) → IsRun job past → IsSent (table_calls past) grant
         → WasRead past (sent_at job.policy grant) }

@@ -1,7 +1,7 @@
 //! The laws of a job whose tasks read task clocks: it is timely, though no clocks are synchronised.
 //!
-//! The premise is a bound on the drift: the table's clock gains on each task's local clock no more than it says. So
-//! whoever may serve a key owns it.
+//! The premise is a bound on the drift: the table's clock gains on each task's local clock no more
+//! than it says. So whoever may serve a key owns it.
 #![tactic(auto)]
 
 mod evidence;
