@@ -12,7 +12,8 @@ use Rattle.clocks.specs.Pasts.{Sampled, TaskRead, Past, newest, IsAtMost}
 -- the task's clock after what happened
 abbrev pub clock_after : Drift → ℕ → Past → TaskClock
 clock_after drift oldest [] = new_clock drift oldest
-clock_after drift oldest (Sampled at sample ∷ past) = after_sample (clock_after drift oldest past) at sample (sample_answer (clock_after drift oldest past) sample.sent at)
+clock_after drift oldest (Sampled at sample ∷ past) =
+    after_sample (clock_after drift oldest past) at sample (sample_answer (clock_after drift oldest past) sample.sent at)
 clock_after drift oldest (TaskRead at ∷ past) = after_read (clock_after drift oldest past) at (read_answer (clock_after drift oldest past) at)
 clock_after drift oldest (_ ∷ past) = clock_after drift oldest past
 
@@ -24,7 +25,8 @@ LeadsTo past clock = clock_after clock.drift clock.oldest past ≡ clock
 -- before it
 abbrev pub IsTimely : Drift → ℕ → Past → Type 0
 IsTimely drift oldest [] = ⊤
-IsTimely drift oldest (TaskRead at ∷ past) = IfOk (read_answer (clock_after drift oldest past) at) (λ value. AllByRecursion (IsAtMost value) past) × IsTimely drift oldest past
+IsTimely drift oldest (TaskRead at ∷ past) =
+    IfOk (read_answer (clock_after drift oldest past) at) (λ value. AllByRecursion (IsAtMost value) past) × IsTimely drift oldest past
 IsTimely drift oldest (_ ∷ past) = IsTimely drift oldest past
 
 -- the values that the task's clock answered, newest first
@@ -44,7 +46,8 @@ with_sample sample (Err why) samples = samples
 
 abbrev pub samples_of : Drift → ℕ → Past → List Sample
 samples_of drift oldest [] = []
-samples_of drift oldest (Sampled at sample ∷ past) = with_sample sample (sample_answer (clock_after drift oldest past) sample.sent at) (samples_of drift oldest past)
+samples_of drift oldest (Sampled at sample ∷ past) =
+    with_sample sample (sample_answer (clock_after drift oldest past) sample.sent at) (samples_of drift oldest past)
 samples_of drift oldest (_ ∷ past) = samples_of drift oldest past
 
 -- no value is below an earlier one
@@ -68,7 +71,8 @@ HasFresh age at (sample ∷ samples) = (at - sample.sent ≤ age) ⊎ HasFresh a
 -- at each answer the clock had taken a sample that was sent at most this long before
 abbrev pub IsFresh : Drift → ℕ → ℕ → Past → Type 0
 IsFresh drift oldest age [] = ⊤
-IsFresh drift oldest age (TaskRead at ∷ past) = IfOk (read_answer (clock_after drift oldest past) at) (λ _. HasFresh age at (samples_of drift oldest past)) × IsFresh drift oldest age past
+IsFresh drift oldest age (TaskRead at ∷ past) =
+    IfOk (read_answer (clock_after drift oldest past) at) (λ _. HasFresh age at (samples_of drift oldest past)) × IsFresh drift oldest age past
 IsFresh drift oldest age (_ ∷ past) = IsFresh drift oldest age past
 
 -- CLOSE: each answer is above the greatest reading of the table before it by no more than the drift

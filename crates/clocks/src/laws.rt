@@ -56,5 +56,6 @@ pub fn worked_law()
     ensures honest { SamplesAreAnswers worked }
     ensures values { values_of a_third 20 worked ≡ 109 ∷ 104 ∷ [] }
     ensures each { EachKeepsDrift a_third 10 two_processes }
-    ensures readings { readings_in 10 two_processes ≡ TableRead (record { table = 61; local = 213 }) ∷ TableRead (record { table = 50; local = 150 }) ∷ [] }
+    ensures readings { readings_in 10 two_processes
+        ≡ TableRead (record { table = 61; local = 213 }) ∷ TableRead (record { table = 50; local = 150 }) ∷ [] }
 {}
