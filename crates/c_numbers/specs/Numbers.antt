@@ -13,6 +13,8 @@ use Rattle.lease_table.specs.declared.error.TableError.{TableError}
 use Rattle.lease_table.specs.declared.error.TableError.TheVariants as table
 use Rattle.weighted_move.specs.declared.error.PlanError.{PlanError}
 use Rattle.weighted_move.specs.declared.error.PlanError.TheVariants as planning
+use Rattle.clocks.specs.declared.refusal.ClockRefusal.{ClockRefusal}
+use Rattle.clocks.specs.declared.refusal.ClockRefusal.TheVariants as clock
 use Rattle.wire.specs.declared.fault.Refusal.{Refusal}
 use Rattle.wire.specs.declared.fault.Refusal.TheVariants as refusal
 use Rattle.c_numbers.specs.declared.answer.Answer.{Answer}
@@ -60,6 +62,15 @@ plan_number planning.NoTasks = pos 31
 plan_number planning.LoadsLength = pos 32
 plan_number planning.LoadRange = pos 33
 
+-- why a clock refuses a call
+abbrev pub clock_number : ClockRefusal → ℤ
+clock_number clock.LocalClockBack = pos 2
+clock_number clock.SentAhead = pos 34
+clock_number clock.NoSample = pos 35
+clock_number clock.TooOld = pos 36
+clock_number clock.TooLarge = pos 37
+clock_number (clock.NotYet until) = pos 38
+
 -- why pairs make no set of keys
 abbrev pub ranges_number : RangesError → ℤ
 ranges_number pairs.PastEnd = negsuc 6
@@ -96,6 +107,7 @@ answer_number answer.Broken = pos 14
 answer_number answer.Stranger = pos 15
 answer_number (answer.Committed generation) = pos 0
 answer_number (answer.Table why) = table_number why
+answer_number (answer.Clock why) = clock_number why
 answer_number (answer.OldGeneration generation) = pos 28
 answer_number answer.Unknown = pos 29
 answer_number answer.NotAdopted = pos 30

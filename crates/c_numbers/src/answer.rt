@@ -4,9 +4,10 @@ ghost use Rattle.std.specs.Prelude.{◌≡◌};
 ghost use Rattle.c_numbers.specs.Numbers.{answer_number};
 ghost use Rattle.c_numbers.specs.Told.{answer_told, ground_told, slicelet_told, table_told};
 
-use crate::refusals::{ground_number, plan_number, slicelet_number, table_number};
+use crate::refusals::{clock_number, ground_number, plan_number, slicelet_number, table_number};
 use crate::told::{Told, kind_number};
 use crate::unread::unread_number;
+use clocks::ClockRefusal;
 use lease_table::TableError;
 use policy_rules::{Ground, Verdict};
 use slicelet::SliceletError;
@@ -30,6 +31,8 @@ pub enum Answer {
     Committed(u64),
     /// The table refused the call.
     Table(TableError),
+    /// A clock refused the call.
+    Clock(ClockRefusal),
     /// The assignment is not newer than the one that the clerk keeps, which has this generation.
     OldGeneration(u64),
     /// The clerk keeps no assignment.
@@ -70,6 +73,7 @@ impl Answer {
             Answer::Broken => 14,
             Answer::Stranger => 15,
             Answer::Table(error) => table_number(error),
+            Answer::Clock(refusal) => clock_number(refusal),
             Answer::OldGeneration(_) => 28,
             Answer::Unknown => 29,
             Answer::NotAdopted => 30,

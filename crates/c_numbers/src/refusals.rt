@@ -1,8 +1,9 @@
 //! Codes for refusals.
 
 ghost use Rattle.std.specs.Prelude.{◌≡◌};
-ghost use Rattle.c_numbers.specs.Numbers.{ground_number, plan_number, slicelet_number, table_number};
+ghost use Rattle.c_numbers.specs.Numbers.{clock_number, ground_number, plan_number, slicelet_number, table_number};
 
+use clocks::ClockRefusal;
 use lease_table::TableError;
 use policy_rules::Ground;
 use slicelet::SliceletError;
@@ -71,5 +72,19 @@ pub fn plan_number(error: PlanError) -> i32
         PlanError::NoTasks => 31,
         PlanError::LoadsLength => 32,
         PlanError::LoadRange => 33,
+    }
+}
+
+/// Returns the code of a clock's refusal.
+pub fn clock_number(refusal: ClockRefusal) -> i32
+    ensures { result ≡ clock_number refusal }
+{
+    match refusal {
+        ClockRefusal::LocalClockBack => 2,
+        ClockRefusal::SentAhead => 34,
+        ClockRefusal::NoSample => 35,
+        ClockRefusal::TooOld => 36,
+        ClockRefusal::TooLarge => 37,
+        ClockRefusal::NotYet { until: _ } => 38,
     }
 }

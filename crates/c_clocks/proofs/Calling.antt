@@ -1,0 +1,51 @@
+-- A call of a clock that is kept as numbers.
+use Rattle.std.proofs.Common.{◌≡◌, ℕ, refl, subst, inl, Ok, Err}
+use Rattle.std.specs.Bool.{⊤}
+use Rattle.clocks.specs.declared.drift.Drift.{Drift}
+use Rattle.clocks.specs.declared.numbers.TaskClockNumbers.{TaskClockNumbers}
+use Rattle.clocks.specs.declared.refusal.ClockRefusal.{ClockRefusal}
+use Rattle.clocks.specs.declared.task_clock.TaskClock.{TaskClock}
+use Rattle.clocks.specs.Drifts.{IsDriftOf}
+use Rattle.clocks.specs.Numbers.{IsClockOf}
+use Rattle.clocks.specs.TaskClocks.{new_clock, sample_answer, after_sample, read_answer, after_read}
+use Rattle.c_numbers.specs.declared.answer.Answer.TheVariants.{Done, Clock}
+use Rattle.c_clocks.specs.TaskClocks.{IsNew, OnTaskClock, IsSampled, IsRead}
+
+pub made : (extra per grain oldest : ℕ) (old new : TaskClockNumbers) (drift : Drift) (clock : TaskClock) → IsDriftOf extra per grain drift
+    → clock ≡ new_clock drift oldest → IsClockOf new clock → IsNew extra per grain oldest old new Done
+made extra per grain oldest old new drift clock is_drift same is_clock =
+    inl (refl, record { drift = drift; is_drift = is_drift; is_clock = subst (λ k. IsClockOf new k) same is_clock })
+
+pub sampled : (clock after : TaskClock) (sent reading now : ℕ) (old new : TaskClockNumbers) → IsClockOf old clock → Ok tt ≡ sample_answer clock sent now
+    → after ≡ after_sample clock now (record { sent = sent; reading = reading }) (Ok tt) → IsClockOf new after
+    → OnTaskClock old new Done ⊤ (λ known. IsSampled known sent reading now old new Done (sample_answer known sent now))
+sampled clock after sent reading now old new is_clock answered same is_after = inl (record {
+  clock = clock;
+  is_clock = is_clock;
+  done = subst (λ r. IsSampled clock sent reading now old new Done r) answered (refl, subst (λ k. IsClockOf new k) same is_after);
+})
+
+pub not_sampled : (clock : TaskClock) (sent reading now : ℕ) (old : TaskClockNumbers) (why : ClockRefusal) → IsClockOf old clock → Err why ≡ sample_answer clock sent now
+    → OnTaskClock old old (Clock why) ⊤ (λ known. IsSampled known sent reading now old old (Clock why) (sample_answer known sent now))
+not_sampled clock sent reading now old why is_clock refused = inl (record {
+  clock = clock;
+  is_clock = is_clock;
+  done = subst (λ r. IsSampled clock sent reading now old old (Clock why) r) refused (refl, refl);
+})
+
+pub read : (clock after : TaskClock) (now value was : ℕ) (old new : TaskClockNumbers) → IsClockOf old clock → Ok value ≡ read_answer clock now
+    → after ≡ after_read clock now (Ok value) → IsClockOf new after
+    → OnTaskClock old new Done (value ≡ was) (λ known. IsRead known now old new was value Done (read_answer known now))
+read clock after now value was old new is_clock answered same is_after = inl (record {
+  clock = clock;
+  is_clock = is_clock;
+  done = subst (λ r. IsRead clock now old new was value Done r) answered (refl, refl, subst (λ k. IsClockOf new k) same is_after);
+})
+
+pub not_read : (clock : TaskClock) (now was : ℕ) (old : TaskClockNumbers) (why : ClockRefusal) → IsClockOf old clock → Err why ≡ read_answer clock now
+    → OnTaskClock old old (Clock why) (was ≡ was) (λ known. IsRead known now old old was was (Clock why) (read_answer known now))
+not_read clock now was old why is_clock refused = inl (record {
+  clock = clock;
+  is_clock = is_clock;
+  done = subst (λ r. IsRead clock now old old was was (Clock why) r) refused (refl, refl, refl);
+})

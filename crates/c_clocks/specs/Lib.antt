@@ -1,0 +1,3 @@
+pub mod TaskClocks
+pub mod TableClocks
+pub mod Evidence

@@ -1,0 +1,4 @@
+pub mod JobPasts
+pub mod Within
+pub mod Serving
+pub mod Evidence
