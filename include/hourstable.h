@@ -8,7 +8,8 @@
  *   - a session, which is a whole job, played step by step in the words of scripts.
  * Readings are those of the caller's own clock, in ticks. Grants, notes and assignments are
  * messages: bytes of JSON, as they go over the network (docs/FORMATS.md). docs/CONCEPTS.md explains
- * the terms, and docs/BINDINGS.md says how to build, link and call.
+ * the terms, and docs/BINDINGS.md says how to build, link and call. A clock has no place: it is a
+ * struct, which the caller keeps.
  *
  * Every function but hs_library_version, hs_slice_key and hs_place_free returns a code of hs_code:
  * 0 if the call is done, positive if it is refused, negative if an argument cannot be used or
@@ -30,8 +31,8 @@
  *   - A pointer to bytes, numbers or rows is not null, even at length 0, and its length is true.
  *     Every other pointer is to a value of its type. Each is aligned for its type, and no two
  *     pointers of a call overlap. What a call only writes need not hold a value.
- *   - One call at a time is made on a place, on any thread. Two places share nothing that needs a
- *     lock.
+ *   - One call at a time is made on a place or a clock, on any thread. Two places or clocks share
+ *     nothing that needs a lock.
  *   - malloc, realloc and free belong to one allocator, whose blocks are aligned to each power of
  *     two up to 16 that divides their size. No call comes from a signal handler, nor from the
  *     forked child of a program with threads.
@@ -44,7 +45,9 @@
  *   - Threads that share a slicelet hold its lock from hs_slicelet_serve until the answer is given
  *     or the write is done.
  *   - Clocks are timely: no reading of the table's clock is more than the skew ahead of a later
- *     reading of a task's clock. All readings of a job are in one unit.
+ *     reading of a task's clock. All readings of a job are in one unit. Clocks that are within the
+ *     skew of each other are timely. So are values of hs_task_clock_read, even with a skew of 0, if
+ *     the rates of the clocks differ by at most the drift: see `Clocks` below.
  */
 #ifndef HOURSTABLE_H
 #define HOURSTABLE_H
@@ -115,6 +118,13 @@ enum hs_code {
     HS_NO_TASKS = 31,       /* there is no task */
     HS_LOADS_LENGTH = 32,   /* there are not as many loads as slices */
     HS_LOAD_RANGE = 33,     /* a load is above 2^40 */
+
+    /* Why a clock refuses a call; also HS_CLOCK_BACK. */
+    HS_SENT_AHEAD = 34, /* `sent` of the sample is above `now` */
+    HS_NO_SAMPLE = 35,  /* the clock has taken no sample */
+    HS_TOO_OLD = 36,    /* the request of the newest sample was sent more than `oldest` ticks ago */
+    HS_TOO_LARGE = 37,  /* the value would be 2^64 or more */
+    HS_NOT_YET = 38,    /* the table's clock is below the value that was kept, clock->kept */
 
     HS_NO_MEMORY = -1, /* out of memory */
     HS_NO_ROOM = -2,   /* the buffer is shorter than `needed`: call again with a longer one; after
@@ -215,6 +225,30 @@ struct hs_plan_policy {
     uint64_t cold;  /* neighbours merge up to this load */
     uint64_t hot;   /* a slice above this load is halved */
     uint64_t most;  /* slices are halved while there are fewer than this, 1 to 1,024 */
+};
+
+/* A task's clock. hs_task_clock_new writes it. A caller may read and copy it, but changes no field;
+ * a clock of any other numbers is safe to pass, but may be behind the table's. */
+struct hs_task_clock {
+    uint64_t extra;   /* the drift: while the local clock gains `per` ticks, the table's clock gains */
+    uint64_t per;     /* at most `per` + `extra`, in proportion and rounded up, */
+    uint64_t grain;   /* and `grain` ticks more */
+    uint64_t oldest;  /* how many ticks ago the request of the newest sample may have been sent */
+    uint64_t sampled; /* 0 before the first sample, then 1 */
+    uint64_t sent;    /* of the best sample: the local reading before its request was sent */
+    uint64_t reading; /* of the best sample: the table's reading in the answer */
+    uint64_t newest;  /* the greatest `sent` of a sample */
+    uint64_t last;    /* the last accepted local reading */
+    uint64_t given;   /* the last value, 0 before the first */
+};
+
+/* The table's clock in one process. hs_table_clock_open writes it. A caller may read and copy it,
+ * but changes no field. */
+struct hs_table_clock {
+    uint64_t start;  /* what it showed when it was opened */
+    uint64_t opened; /* the local reading at which it was opened */
+    uint64_t kept;   /* the value that was kept; no reading is below it */
+    uint64_t last;   /* the last accepted local reading */
 };
 
 /* A version of the library: major.minor.patch. */
@@ -377,6 +411,67 @@ int32_t hs_assigner_next(struct hs_place *place, uint64_t at, const struct hs_ph
 int32_t hs_plan(const uint8_t *assignment, size_t assignment_len, const uint64_t *loads, size_t loads_len,
                 const uint64_t *tasks, size_t tasks_len, const struct hs_plan_policy *policy, uint8_t *out,
                 size_t out_len, size_t *needed);
+
+/* Clocks. --------------------------------------------------------------------------------------------------------- */
+
+/* With these clocks nothing has to be synchronised. A task notes its local clock, `sent`, and asks
+ * the table for its reading. From then on the table's clock is at most that reading and the local
+ * time since `sent`, stretched by the drift. The task uses this value as its reading in every call
+ * of its slicelet. So no value is below an earlier reading of the table, and clocks are timely with
+ * any skew, if:
+ *   - While the local clock of the task gains `per` ticks, that of the table's process gains at
+ *     most `per` + `extra`. Two clocks that each keep within 100 parts in a million of true time
+ *     have the drift 201 in 1000000. A time service that slews a clock adds to this: ntpd up to 500
+ *     parts in a million, and chronyd on Linux up to 83334, unless its maxslewrate is lower.
+ *   - Local clocks are monotonic, and are rounded down to ticks, which have one length in the whole
+ *     job. `grain` is how much more the rounding may show: 2 is enough if `extra` is at most `per`.
+ *   - A sample is an answer to its own request. Keep `sent` with the request. A request that is
+ *     sent again keeps its first `sent`, unless answers tell which of the two they answer.
+ *   - A task's local clock counts while the machine is suspended. On Linux CLOCK_BOOTTIME does.
+ *     CLOCK_MONOTONIC does not: after a suspension the task is behind the table, and may serve a
+ *     key that has moved. Elsewhere take mach_continuous_time, which is CLOCK_MONOTONIC_RAW, on
+ *     macOS, and QueryInterruptTimePrecise on Windows, not QueryUnbiasedInterruptTime. FreeBSD has
+ *     no clock that is sure to: CLOCK_MONOTONIC is CLOCK_UPTIME there. A task whose machine may
+ *     have been suspended without its clock counting, as a virtual machine that was paused, starts
+ *     a new life with a new clock.
+ *   - The table has one process at a time. Its local clock may be any of these: if it stands still,
+ *     leases only last longer.
+ * A clock takes no memory and no lock. A new life of a task has a new clock. */
+
+/* Writes a clock of a task with no sample. `oldest` is how many ticks the task goes on without an
+ * answer of the table: HS_TOO_OLD then stops it, before its values are so far ahead of the table
+ * that its leases are worth nothing; UINT64_MAX sets no limit. HS_WRONG_FORM if `per` is 0. */
+int32_t hs_task_clock_new(struct hs_task_clock *clock, uint64_t extra, uint64_t per, uint64_t grain, uint64_t oldest);
+
+/* Takes an answer of the table: the local reading before its request was sent, the table's reading
+ * that it carries, and the local reading now. Answers may come late, twice, and in any order; the
+ * clock keeps the best. HS_WRONG_FORM if `per` is 0, HS_CLOCK_BACK, HS_SENT_AHEAD. */
+int32_t hs_task_clock_sample(struct hs_task_clock *clock, uint64_t sent, uint64_t reading, uint64_t now);
+
+/* Writes the value of the clock at the local reading `now`, which is the task's reading. Values do
+ * not fall. Read the local clock and then this one for each decision, and decide at once.
+ * HS_WRONG_FORM if `per` is 0, HS_CLOCK_BACK, HS_NO_SAMPLE, HS_TOO_OLD, HS_TOO_LARGE. */
+int32_t hs_task_clock_read(struct hs_task_clock *clock, uint64_t now, uint64_t *out);
+
+/* Writes the clock of a new process of the table, on any host: `kept` is the last value that was
+ * kept, 0 at first, and `now` the local reading. The time in which no process ran does not count.
+ * The clock starts `ahead` ticks below `kept`, or at 0 if `ahead` is more. If values are kept up to
+ * S ticks above the reading, `ahead` is at least S + `grain` + 1, so that the clock is not ahead of
+ * what tasks may have read. */
+int32_t hs_table_clock_open(struct hs_table_clock *clock, uint64_t kept, uint64_t ahead, uint64_t now);
+
+/* Writes the table's reading at the local reading `now`. Readings do not fall. Before a reading is
+ * used, keep a value that is not below it, where the next process finds it. HS_CLOCK_BACK,
+ * HS_TOO_LARGE, HS_NOT_YET: for at most `ahead` ticks after hs_table_clock_open. */
+int32_t hs_table_clock_read(struct hs_table_clock *clock, uint64_t now, uint64_t *out);
+
+/* Writes 1 if a grant, given as its message, shows at the reading `at` of its task that clocks are
+ * not timely: it was made at a reading of the table that is more than the skew above `at`.
+ * Otherwise writes 0, which shows nothing. `policy` is that of the table. Needs no place, and the
+ * grant need not be heard. HS_WRONG_FORM if a number of the policy is outside its limits, then
+ * message codes. */
+int32_t hs_clock_evidence(const uint8_t *grant, size_t grant_len, uint64_t at, const struct hs_policy *policy,
+                          uint32_t *out);
 
 /* Sessions. ------------------------------------------------------------------------------------------------------- */
 

@@ -5,7 +5,7 @@
 #include <stdlib.h>
 
 #define LOWEST HS_NO_JOB
-#define HIGHEST HS_LOAD_RANGE
+#define HIGHEST HS_NOT_YET
 
 const struct hs_policy policy = {
     .low = 1, .high = 1, .skew = 10, .guard = 100, .bridge = 200, .job = 1000, .numbers = 1000};
@@ -71,6 +71,7 @@ int main(void) {
     check("tables", check_tables);
     check("assigners", check_assigners);
     check("plans", check_plans);
+    check("clocks", check_clocks);
     check("sessions", check_sessions);
     check("memory", check_memory);
     for (int32_t code = LOWEST; code <= HIGHEST; code++) {

@@ -95,6 +95,7 @@ void check_clerks(void);
 void check_tables(void);
 void check_assigners(void);
 void check_plans(void);
+void check_clocks(void);
 void check_sessions(void);
 void check_memory(void);
 

@@ -201,6 +201,32 @@ int32_t guarded_plan(const uint8_t *assignment, size_t assignment_len, const uin
                             READ_ALL(tasks, tasks_len), READ(policy), OUT));
 }
 
+int32_t guarded_task_clock_new(struct hs_task_clock *clock, uint64_t extra, uint64_t per, uint64_t grain,
+                               uint64_t oldest) {
+    return returned(hs_task_clock_new(WRITTEN(clock), extra, per, grain, oldest));
+}
+
+int32_t guarded_task_clock_sample(struct hs_task_clock *clock, uint64_t sent, uint64_t reading, uint64_t now) {
+    return returned(hs_task_clock_sample(WRITTEN(clock), sent, reading, now));
+}
+
+int32_t guarded_task_clock_read(struct hs_task_clock *clock, uint64_t now, uint64_t *out) {
+    return returned(hs_task_clock_read(WRITTEN(clock), now, WRITTEN(out)));
+}
+
+int32_t guarded_table_clock_open(struct hs_table_clock *clock, uint64_t kept, uint64_t ahead, uint64_t now) {
+    return returned(hs_table_clock_open(WRITTEN(clock), kept, ahead, now));
+}
+
+int32_t guarded_table_clock_read(struct hs_table_clock *clock, uint64_t now, uint64_t *out) {
+    return returned(hs_table_clock_read(WRITTEN(clock), now, WRITTEN(out)));
+}
+
+int32_t guarded_clock_evidence(const uint8_t *grant, size_t grant_len, uint64_t at, const struct hs_policy *policy,
+                               uint32_t *out) {
+    return returned(hs_clock_evidence(READ_ALL(grant, grant_len), at, READ(policy), WRITTEN(out)));
+}
+
 int32_t guarded_session_open(struct hs_place *place, const uint8_t *line, size_t line_len, uint32_t json) {
     return returned(hs_session_open(PLACE, READ_ALL(line, line_len), json));
 }

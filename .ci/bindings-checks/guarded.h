@@ -52,6 +52,14 @@ int32_t guarded_assigner_next(struct hs_place *place, uint64_t at, const struct 
 int32_t guarded_plan(const uint8_t *assignment, size_t assignment_len, const uint64_t *loads, size_t loads_len,
                      const uint64_t *tasks, size_t tasks_len, const struct hs_plan_policy *policy, uint8_t *out,
                      size_t out_len, size_t *needed);
+int32_t guarded_task_clock_new(struct hs_task_clock *clock, uint64_t extra, uint64_t per, uint64_t grain,
+                               uint64_t oldest);
+int32_t guarded_task_clock_sample(struct hs_task_clock *clock, uint64_t sent, uint64_t reading, uint64_t now);
+int32_t guarded_task_clock_read(struct hs_task_clock *clock, uint64_t now, uint64_t *out);
+int32_t guarded_table_clock_open(struct hs_table_clock *clock, uint64_t kept, uint64_t ahead, uint64_t now);
+int32_t guarded_table_clock_read(struct hs_table_clock *clock, uint64_t now, uint64_t *out);
+int32_t guarded_clock_evidence(const uint8_t *grant, size_t grant_len, uint64_t at, const struct hs_policy *policy,
+                               uint32_t *out);
 int32_t guarded_session_open(struct hs_place *place, const uint8_t *line, size_t line_len, uint32_t json);
 int32_t guarded_session_answer(struct hs_place *place, const uint8_t *line, size_t line_len, uint8_t *out,
                                size_t out_len, size_t *needed);
@@ -94,6 +102,12 @@ int32_t guarded_session_last(struct hs_place *place, uint8_t *out, size_t out_le
 #define hs_assigner_restart guarded_assigner_restart
 #define hs_assigner_next guarded_assigner_next
 #define hs_plan guarded_plan
+#define hs_task_clock_new guarded_task_clock_new
+#define hs_task_clock_sample guarded_task_clock_sample
+#define hs_task_clock_read guarded_task_clock_read
+#define hs_table_clock_open guarded_table_clock_open
+#define hs_table_clock_read guarded_table_clock_read
+#define hs_clock_evidence guarded_clock_evidence
 #define hs_session_open guarded_session_open
 #define hs_session_answer guarded_session_answer
 #define hs_session_last guarded_session_last

@@ -145,6 +145,15 @@ static int32_t plan(struct hs_place *place) {
     return code;
 }
 
+static int32_t weigh(struct hs_place *place) {
+    const char *text = GRANT("guard", "1", "7", ALL_KEYS, "2");
+    uint32_t shown = UNTOLD;
+    (void)place;
+    int32_t code = hs_clock_evidence((const uint8_t *)text, strlen(text), 5, &policy, &shown);
+    HOLDS(shown == (code == HS_DONE ? 0 : UNTOLD));
+    return code;
+}
+
 static uint64_t state_when_done(const struct trial *trial) {
     struct hs_place place = trial->begin();
     IS(trial->call(&place), HS_DONE);
@@ -222,12 +231,20 @@ static void takes_none(void) {
     struct hs_place task = serving_task(), clerk = knowing_clerk();
     struct hs_key_handle handle;
     struct hs_owners owners;
+    struct hs_task_clock clock;
+    struct hs_table_clock table_clock;
+    uint64_t value = 0;
     size_t before = allocations;
     IS(hs_slicelet_serve(&task, HELLO, 6, fresh_told()), HS_DONE);
     IS(hs_slicelet_hold(&task, HELLO, 6, &handle, fresh_told()), HS_DONE);
     IS(hs_slicelet_check(&task, &handle, 6), HS_DONE);
     IS(hs_clerk_look(&clerk, HELLO, &owners), HS_DONE);
     HOLDS(hs_slice_key(HELLO) == handle.slice_key);
+    IS(hs_task_clock_new(&clock, 1, 3, 1, 1000), HS_DONE);
+    IS(hs_task_clock_sample(&clock, 10, 100, 12), HS_DONE);
+    IS(hs_task_clock_read(&clock, 12, &value), HS_DONE);
+    IS(hs_table_clock_open(&table_clock, 0, 0, 12), HS_DONE);
+    IS(hs_table_clock_read(&table_clock, 12, &value), HS_DONE);
     HOLDS(allocations == before);
     hs_place_free(task);
     hs_place_free(clerk);
@@ -245,6 +262,7 @@ void check_memory(void) {
         {"committed", granted_table, give_committed, table_state},
         {"session", knowing_clerk, open_session, clerk_state},
         {"plan", knowing_clerk, plan, clerk_state},
+        {"evidence", knowing_clerk, weigh, clerk_state},
     };
     for (size_t at = 0; at < sizeof trials / sizeof *trials; at++)
         refuse_each(&trials[at]);

@@ -1,6 +1,6 @@
 """Checks what examples/python/hourstable.py adds to the library: numbers that do not fit are refused, refusals have the
-texts of scripts, and objects cannot be copied. Expected values are those of include/hourstable.h and of the refusals in
-docs/FORMATS.md.
+texts of scripts, objects cannot be copied, and clocks can. Expected values are those of include/hourstable.h and of the
+refusals in docs/FORMATS.md.
 
 Run at the top of the repository, with HOURSTABLE_LIBRARY set.
 """
@@ -9,11 +9,15 @@ import copy
 import ctypes
 import pickle
 import sys
+import time
 
 sys.path.insert(0, "examples/python")
 import handover
 import hourstable
-from hourstable import Clerk, JobTerm, KeyHandle, Phase, PlanPolicy, Policy, Refused, Told
+from hourstable import (
+    Clerk, JobTerm, KeyHandle, Phase, PlanPolicy, Policy, Refused, TableClock, TaskClock, Told, boottime_ticks,
+    clock_evidence,
+)
 
 U32, U64 = 1 << 32, 1 << 64
 faults = []
@@ -73,7 +77,9 @@ def check_refusals():
         (24, {"task": 2, "kind": 2, "number": 9}, "HELD", {"task": 2, "kind": "bridge", "number": 9}, "held 2 bridge 9"),
         (28, {"generation": 4}, "OLD_GENERATION", {"generation": 4}, "old 4"),
         (-7, {}, "PAST_END", {}, "past-end"),
-        (34, {}, "CODE 34", {}, "code 34"),
+        (34, {}, "SENT_AHEAD", {}, "sent-ahead"),
+        (38, {"until": 1000}, "NOT_YET", {"until": 1000}, "not-yet 1000"),
+        (39, {}, "CODE 39", {}, "code 39"),
         (-20, {}, "CODE -20", {}, "code -20"),
     ]:
         refusal = refused(code, **told)
@@ -100,10 +106,84 @@ def check_places():
         raises(TypeError, "a place is not pickled", pickle.dumps, clerk)
 
 
+GRANT = (b'{"type":"grant","value":{"ends":130,"generation":3,"kind":"guard","life":1,"number":7,'
+         b'"ranges":[[0,9223372036854775808]],"task":2,"until":140},"version":1}')
+
+
+def numbers_of(clock):
+    return [getattr(clock, name) for name, _ in clock._fields_]
+
+
+def is_refused(text, what, call, *given):
+    """The call is refused with this text, and leaves the clock as it was."""
+    before = numbers_of(call.__self__)
+    try:
+        holds(False, f"{what} is refused: {call(*given)}")
+    except Refused as refusal:
+        holds(str(refusal) == text, f"{what} is refused as {text}: {refusal}")
+    holds(numbers_of(call.__self__) == before, f"{what} changes nothing")
+
+
+def check_task_clocks():
+    clock = TaskClock(1, 3, 1, oldest=30)
+    holds(numbers_of(clock) == [1, 3, 1, 30, 0, 0, 0, 0, 0, 0], "a new clock of a task")
+    is_refused("no-sample", "a read before the first sample", clock.read, 5)
+    clock.sample(10, 100, now=12)
+    holds(clock.read(12) == 104 and clock.read(16) == 109, "100 and the drift of 2 and of 6 ticks, and a grain")
+    holds(numbers_of(clock) == [1, 3, 1, 30, 1, 10, 100, 10, 16, 109], "a clock of a task after two reads")
+    for copied in (copy.copy(clock), copy.deepcopy(clock), pickle.loads(pickle.dumps(clock))):
+        holds(type(copied) is TaskClock and copied.read(19) == 113, "a copy of a clock is a clock")
+    holds(clock.read(16) == 109, "a copy is a clock of its own")
+    is_refused("clock-back", "a read at 15", clock.read, 15)
+    is_refused("too-old", "a read at 41", clock.read, 41)
+    is_refused("sent-ahead", "a sample that was sent at 18", clock.sample, 18, 100, 17)
+    clock.sample(40, U64 - 1, now=40)
+    holds(clock.sent == 10 and clock.newest == 40, "the better sample is kept")
+    clock = TaskClock(0, 1, 2, U64 - 1)
+    clock.sample(0, U64 - 2, 0)
+    is_refused("too-large", "a value of 2^64", clock.read, 0)
+    raises(Refused, "a drift in 0 ticks", TaskClock, 1, 0, 1, 30)
+    raises(AttributeError, "a field of a clock is not set", setattr, clock, "given", 0)
+    for value in (U64, -1, 1.0, None):
+        raises((ValueError, ctypes.ArgumentError), f"a reading of {value!r}", clock.read, value)
+        raises((ValueError, ctypes.ArgumentError), f"a sample of {value!r}", clock.sample, 0, value, 0)
+
+
+def check_table_clocks():
+    clock = TableClock(1000, 100, now=7)
+    holds(numbers_of(clock) == [900, 7, 1000, 7], "a new clock of the table")
+    is_refused("not-yet 1000", "a read below what was kept", clock.read, 106)
+    holds(clock.read(107) == 1000 and clock.read(110) == 1003, "the table's clock goes on from what was kept")
+    is_refused("clock-back", "a read at 109", clock.read, 109)
+    holds(copy.copy(clock).read(111) == 1004 and numbers_of(clock) == [900, 7, 1000, 110], "a copy of the table's clock")
+    is_refused("too-large", "a reading of 2^64", TableClock(U64 - 1, 0, 0).read, 1)
+    raises(AttributeError, "a field of the table's clock is not set", setattr, clock, "kept", 0)
+
+
+def check_evidence():
+    policy = Policy(1, 1, 10, 100, 200, 1000, 1000)
+    holds(clock_evidence(GRANT, 29, policy) is True, "a grant that was made at 40 is evidence at 29, with a skew of 10")
+    holds(clock_evidence(GRANT, 30, policy) is False, "a grant that was made at 40 is no evidence at 30")
+    raises(Refused, "evidence of bytes that are no grant", clock_evidence, b"{", 30, policy)
+    raises(Refused, "evidence by numbers that are no policy", clock_evidence, GRANT, 30, Policy())
+    raises((ValueError, ctypes.ArgumentError), "evidence at -1", clock_evidence, GRANT, -1, policy)
+
+
+def check_ticks():
+    before = time.clock_gettime(time.CLOCK_BOOTTIME)
+    ticks = boottime_ticks()
+    after = time.clock_gettime(time.CLOCK_BOOTTIME)
+    holds(int(before * 1000) <= ticks <= after * 1000, f"{ticks} is the boot time in milliseconds: {before}, {after}")
+
+
 check_numbers()
 check_refusals()
 check_replies()
 check_places()
+check_task_clocks()
+check_table_clocks()
+check_evidence()
+check_ticks()
 for fault in faults:
     print(f"not so: {fault}")
 sys.exit(1 if faults else 0)

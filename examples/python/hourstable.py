@@ -4,19 +4,20 @@ HOURSTABLE_LIBRARY names the shared object. If it is not set, the system looks f
 
 A call that is not done raises Refused, with the name of its code and the numbers that it sets, or MemoryError. An
 object takes one call at a time, on any thread: threads that share one hold a lock around each call. close() or the end
-of a `with` destroys it.
+of a `with` destroys it. A clock is numbers: it may be copied and pickled, and needs no close().
 """
 
 import ctypes
 import json
 import os
+import time
 from collections import namedtuple
 
 REFUSALS = (
     "DONE DOWN CLOCK_BACK ENDED NOT_OWNED NO_LEASE NOT_STARTED OLD_LIFE OTHER_TASK OTHER_LIFE OLD TOO_LATE NOTHING_HELD"
     " HISTORY_FULL BROKEN STRANGER READING_RANGE JOB_HELD NOT_HOLDER STALE_BASE PENDING NOTHING_PENDING"
     " TOO_MANY_OWNERS_FOR_JOB GRACE HELD NO_ROW NO_ASSIGNMENT NUMBERS_SPENT OLD_GENERATION UNKNOWN NOT_ADOPTED NO_TASKS"
-    " LOADS_LENGTH LOAD_RANGE"
+    " LOADS_LENGTH LOAD_RANGE SENT_AHEAD NO_SAMPLE TOO_OLD TOO_LARGE NOT_YET"
 ).split()
 UNREAD = (
     "DONE NO_MEMORY NO_ROOM NOT_JSON VERSION OTHER_TYPE WRONG_FORM PAST_END UNSORTED EMPTY NO_SLICES FIRST_NOT_ZERO"
@@ -25,7 +26,7 @@ UNREAD = (
 CARRIED = {
     "NOT_OWNED": ["generation"], "OLD": ["number"], "JOB_HELD": ["until"], "NOT_HOLDER": ["number"],
     "STALE_BASE": ["generation"], "GRACE": ["until"], "HELD": ["task", "kind", "number"],
-    "OLD_GENERATION": ["generation"], "VERSION": ["number"],
+    "OLD_GENERATION": ["generation"], "VERSION": ["number"], "NOT_YET": ["until"],
 }
 KINDS = {"guard": 1, "bridge": 2}
 KIND_WORDS = {number: word for word, number in KINDS.items()}
@@ -132,6 +133,63 @@ class PlanPolicy(Numbers):
     _fields_ = fields("low high churn cold hot most")
 
 
+class Clock(Numbers):
+    """A clock: numbers that may be read, and that only its calls change."""
+
+    def __setattr__(self, name, _):
+        raise AttributeError(f"{name} of a {type(self).__name__} is changed by its calls alone")
+
+    def do(self, name, *given):
+        done(getattr(library, f"hs_{name}")(ctypes.byref(self), *given))
+
+
+class TaskClock(Clock):
+    """A task's clock, whose values are never below an earlier reading of the table's clock.
+
+    While the task's local clock gains `per` ticks, the table's gains at most `per` + `extra`, and `grain` ticks more.
+    `oldest` is for how many ticks the task goes on without an answer of the table. The header says under `Clocks` what
+    a caller must see to. boottime_ticks() reads a local clock that will do.
+    """
+
+    _fields_ = fields("extra per grain oldest sampled sent reading newest last given")
+
+    def __init__(self, extra, per, grain, oldest):
+        super().__init__()
+        self.do("task_clock_new", extra, per, grain, oldest)
+
+    def sample(self, sent, reading, now):
+        """Takes an answer of the table: the local reading before its request was sent, the reading that it carries, and
+        the local reading now."""
+        self.do("task_clock_sample", sent, reading, now)
+
+    def read(self, now):
+        """Returns the value at a local reading, which is the task's reading in calls of its slicelet."""
+        value = ctypes.c_uint64()
+        self.do("task_clock_read", now, ctypes.byref(value))
+        return value.value
+
+
+class TableClock(Clock):
+    """The table's clock in one process. It goes on from `kept`, the last value that was kept, 0 at first.
+
+    `ahead` is at least how many ticks above the reading values are kept, and the grain and 1 more.
+    """
+
+    _fields_ = fields("start opened kept last")
+
+    def __init__(self, kept, ahead, now):
+        super().__init__()
+        self.do("table_clock_open", kept, ahead, now)
+
+    def read(self, now):
+        """Returns the table's reading at a local reading. Keep a value that is not below it before you use it. Raises
+        Refused with `until`, what was kept, while the clock is below that."""
+        reading = ctypes.c_uint64()
+        code = library.hs_table_clock_read(ctypes.byref(self), now, ctypes.byref(reading))
+        done(code, Told(until=self.kept))
+        return reading.value
+
+
 Version = namedtuple("Version", "major minor patch")
 Found = namedtuple("Found", "generation tasks")
 Served = namedtuple("Served", "kind generation")
@@ -170,6 +228,12 @@ DECLARED = {
     "assigner_adopt": [P(Place), P(JobTerm)],
     "assigner_restart": [P(Place)],
     "assigner_next": [P(Place), U64, P(Phase), U32, P(ctypes.c_uint32), P(ctypes.c_uint64)],
+    "task_clock_new": [P(TaskClock), U64, U64, U64, U64],
+    "task_clock_sample": [P(TaskClock), U64, U64, U64],
+    "task_clock_read": [P(TaskClock), U64, P(ctypes.c_uint64)],
+    "table_clock_open": [P(TableClock), U64, U64, U64],
+    "table_clock_read": [P(TableClock), U64, P(ctypes.c_uint64)],
+    "clock_evidence": [*BYTES, U64, P(Policy), P(ctypes.c_uint32)],
     "plan": [*BYTES, ctypes.c_void_p, SIZE, ctypes.c_void_p, SIZE, P(PlanPolicy), *OUT],
     "session_open": [P(Place), *BYTES, U32],
     "session_answer": [P(Place), *BYTES, *OUT],
@@ -227,6 +291,19 @@ def plan(assignment, loads, tasks, policy):
     loads, tasks = array_of(ctypes.c_uint64, loads), array_of(ctypes.c_uint64, tasks)
     given = (assignment, len(assignment), loads, len(loads), tasks, len(tasks), ctypes.byref(policy))
     return text_of(library.hs_plan, *given)
+
+
+def boottime_ticks():
+    """Returns CLOCK_BOOTTIME of Linux in ticks of a millisecond. It counts while the machine is suspended, as a task's
+    local clock must; time.monotonic() does not."""
+    return time.clock_gettime_ns(time.CLOCK_BOOTTIME) // 1_000_000
+
+
+def clock_evidence(grant, at, policy):
+    """Whether a grant shows at the reading `at` of its task that clocks are not timely. False shows nothing."""
+    shown = ctypes.c_uint32()
+    done(library.hs_clock_evidence(grant, len(grant), at, ctypes.byref(policy), ctypes.byref(shown)))
+    return shown.value == 1
 
 
 class Standing:
