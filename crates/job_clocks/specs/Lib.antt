@@ -2,3 +2,4 @@ pub mod JobPasts
 pub mod Within
 pub mod Serving
 pub mod Evidence
+pub mod Worked

@@ -1,7 +1,8 @@
 //! What holds of every run.
 
-ghost use Rattle.std.specs.Prelude.{◌≡◌, ℕ, true, List, ◌∷◌};
+ghost use Rattle.std.specs.Prelude.{◌≡◌, ℕ, true, List, [], ◌∷◌};
 ghost use Rattle.clocks.specs.declared.drift.Drift.{Drift};
+ghost use Rattle.clocks.specs.Worked.{a_third};
 ghost use Rattle.slicelet.specs.declared.handle.KeyHandle.{KeyHandle};
 ghost use Rattle.lease_table.specs.declared.values.Grant.{Grant};
 ghost use Rattle.lease_table.specs.OpenRows.{IsSent};
@@ -9,7 +10,7 @@ ghost use Rattle.lease_table.specs.Policies.{is_policy};
 ghost use Rattle.cluster.specs.Jobs.{Job};
 ghost use Rattle.cluster.specs.declared.timing.Reading.{Reading};
 ghost use Rattle.cluster.specs.Timing.{IsTimely};
-ghost use Rattle.cluster.specs.declared.timing.Reading.TheVariants.{TaskClock};
+ghost use Rattle.cluster.specs.declared.timing.Reading.TheVariants.{TableClock, TaskClock, NoClock};
 ghost use Rattle.cluster.specs.Pasts.{Past, readings, table_calls};
 ghost use Rattle.cluster.specs.Promises.{WasRead};
 ghost use Rattle.cluster.specs.Runs.{IsRun};
@@ -65,3 +66,8 @@ pub fn evidence_law()
     cluster::told_law();
     timely_job_law();
 }
+
+/// A worked example, in which the premise holds: a task reads 104 just after the table read 100.
+pub fn worked_law()
+    ensures { AreWithinDrift (λ life. a_third) (TaskClock 104 ∷ NoClock ∷ TableClock 100 ∷ []) }
+{}

@@ -8,4 +8,4 @@ mod evidence;
 mod laws;
 
 pub use evidence::{clock_evidence, sent_at};
-pub use laws::{drift_law, evidence_law, timely_job_law};
+pub use laws::{drift_law, evidence_law, timely_job_law, worked_law};
