@@ -6,6 +6,7 @@
 
 mod assigner_exports;
 mod clerk_exports;
+mod clock_exports;
 mod place_exports;
 mod session_exports;
 mod slicelet_exports;
