@@ -1,0 +1,5 @@
+pub mod Accepting
+pub mod Publishing
+pub mod FirstLease
+pub mod Finding
+pub mod HalfOwners
