@@ -6,7 +6,8 @@ use lease_table::TableError;
 use machines::Trouble;
 use slicelet::SliceletError;
 use std::alloc::AllocError;
-use std::io;
+use std::io::{self, Eprint};
+use std::process::ExitCode;
 use thiserror::Error;
 use wire::DecodeError;
 
@@ -51,6 +52,17 @@ where
         match trouble {
             Trouble::Refused(refusal) => refusal.into(),
             Trouble::NoMemory => ExampleError::Memory(AllocError),
+        }
+    }
+}
+
+/// Reports why the example stopped, and returns the exit status: 0 if it did not.
+pub fn exit_code(rt: &impl Eprint, played: Result<(), ExampleError>) -> ExitCode {
+    match played {
+        Ok(()) => ExitCode::from(0),
+        Err(error) => {
+            let _ = eprintln!(rt; "library_example: {error}");
+            ExitCode::from(1)
         }
     }
 }

@@ -10,13 +10,14 @@ ghost use Rattle.slice_ranges.specs.declared.key.TheConstants.{KEYS};
 ghost use Rattle.assignment.specs.Owners.{owns};
 
 use assignment::{Assignment, Listed, Slice, TaskId};
-use error::ExampleError;
+use error::{ExampleError, exit_code};
 use lease_table::{Grant, LeaseTable, Policy};
 use policy_rules::{Lease, Verdict};
 use slice_ranges::{KEYS, slice_key};
 use slicelet::Slicelet;
 use std::alloc::Global;
 use std::io;
+use std::process::ExitCode;
 use steps::{owners_by_clerk, publish, start_with_lease, write_once};
 use wire::kind_word;
 
@@ -114,7 +115,6 @@ fn run(rt: &(impl Print + AllocGlobal), name: &str) -> Result<(), ExampleError> 
     Ok(())
 }
 
-fn main(rt: HostRuntime) -> anyhow::Result<()> {
-    run(&rt, "hello")?;
-    Ok(())
+fn main(rt: HostRuntime) -> ExitCode {
+    exit_code(&rt, run(&rt, "hello"))
 }
