@@ -8,6 +8,7 @@ from collections import Counter
 from typing import NamedTuple
 
 MOST = 4096  # entries of a log
+SIZE = 5  # numbers of an entry: its schedule, its kind, and a Read
 
 # Kinds of entries. Those of refusals are their codes in include/hourstable.h.
 READ, SAMPLED, LOST, DELAYED, TWICE = 0, 101, 102, 103, 104
@@ -40,9 +41,12 @@ class Cell:
 
 
 class Log:
+    """The entries of a process. Each has the number of its schedule: one that is late in a schedule counts in no other."""
+
     def __init__(self) -> None:
+        self.schedule = 0
         self.count = Cell()
-        self.numbers = (ctypes.c_uint64 * (4 * MOST)).from_buffer(mmap.mmap(-1, 32 * MOST))
+        self.numbers = (ctypes.c_uint64 * (SIZE * MOST)).from_buffer(mmap.mmap(-1, 8 * SIZE * MOST))
 
     def is_full(self) -> bool:
         return self.count.get() > MOST - 8
@@ -50,18 +54,20 @@ class Log:
     def note(self, kind: int, before: int = 0, after: int = 0, value: int = 0) -> None:
         count = self.count.get()
         if count < MOST:
-            self.numbers[4 * count : 4 * count + 4] = [kind, before, after, value]
+            self.numbers[SIZE * count : SIZE * count + SIZE] = [self.schedule, kind, before, after, value]
             self.count.put(count + 1)
 
     def clear(self) -> None:
         self.count.put(0)
 
-    def entries(self) -> list[int]:
-        return self.numbers[: 4 * self.count.get()]
+    def entries(self) -> list[list[int]]:
+        """The entries of this schedule: kind, before, after, value."""
+        numbers = self.numbers[: SIZE * self.count.get()]
+        entries = [numbers[at : at + SIZE] for at in range(0, len(numbers), SIZE)]
+        return [entry[1:] for entry in entries if entry[0] == self.schedule]
 
     def reads(self) -> list[Read]:
-        numbers = self.entries()
-        return [Read(*numbers[at + 1 : at + 4]) for at in range(0, len(numbers), 4) if numbers[at] == READ]
+        return [Read(*entry[1:]) for entry in self.entries() if entry[0] == READ]
 
     def kinds(self) -> Counter[int]:
-        return Counter(self.entries()[::4])
+        return Counter(entry[0] for entry in self.entries())

@@ -15,8 +15,8 @@ hourstable = importlib.import_module("hourstable")
 # What a set orders: a schedule begins; the table closes its clock, and opens it anew; a schedule is over.
 BEGIN, CLOSE, OPEN, END = b"B", b"C", b"O", b"E"
 ORDER = struct.Struct("<cQQ?")
-# A request and its answer: the number of the request, and a reading.
-MESSAGE = struct.Struct("<QQ")
+# A request and its answer: the schedule, the number of the request, and a reading. One of another schedule is left out.
+MESSAGE = struct.Struct("<QQQ")
 
 
 class Player:
@@ -29,6 +29,7 @@ class Player:
         while order := self.line.recv(64):
             word, seed, index, is_beyond = ORDER.unpack(order)
             if word == BEGIN:
+                self.log.schedule = index
                 self.play(plan_of(seed, index, is_beyond))
                 self.done()
 
@@ -39,18 +40,20 @@ class Player:
     def play(self, plan: Plan) -> None:
         raise NotImplementedError
 
-    def messages(self, peer: socket.socket) -> list[bytes]:
-        """The messages that are there."""
-        found: list[bytes] = []
+    def messages(self, peer: socket.socket) -> list[tuple[int, int]]:
+        """The messages of this schedule that are there: the number of a request, and a reading."""
+        found: list[tuple[int, int]] = []
         try:
             while True:
-                found.append(peer.recv(64))
+                schedule, number, reading = MESSAGE.unpack(peer.recv(64))
+                if schedule == self.log.schedule:
+                    found.append((number, reading))
         except BlockingIOError:
             return found
 
     def send(self, peer: socket.socket, number: int, reading: int) -> None:
         try:
-            peer.send(MESSAGE.pack(number, reading))
+            peer.send(MESSAGE.pack(self.log.schedule, number, reading))
         except BlockingIOError:
             self.log.note(LOST)
 
@@ -87,8 +90,8 @@ class Table(Player):
                 if word != BEGIN:
                     return bool(word == CLOSE)
             for which, peer in enumerate(self.peers):
-                for message in self.messages(peer) if peer in ready else ():
-                    self.answer(which, MESSAGE.unpack(message)[0])
+                for number, _ in self.messages(peer) if peer in ready else ():
+                    self.answer(which, number)
             while self.late and self.late[0][0] < time.monotonic_ns():
                 _, which, number, reading = heapq.heappop(self.late)
                 self.send(self.peers[which], number, reading)
@@ -141,8 +144,8 @@ class Task(Player):
         draw = random.Random(f"{plan.seed} task {self.number}")
         table = self.peers[0]
         for _ in range(plan.turns):
-            for message in self.messages(table):
-                self.take(*MESSAGE.unpack(message))
+            for number, reading in self.messages(table):
+                self.take(number, reading)
             luck = draw.randrange(100)
             if luck < 40 or not self.asked:
                 self.last += 1
@@ -155,7 +158,7 @@ class Task(Player):
             select.select([table], [], [], draw.randrange(PAUSE) / 1e9)
 
     def take(self, number: int, reading: int) -> None:
-        """Takes an answer with the `sent` of its own request. One of an earlier schedule answers no request."""
+        """Takes an answer with the `sent` of its own request."""
         if number in self.asked:
             self.clock.sample(self.asked[number], reading, self.host.ticks())
             self.log.note(SAMPLED)
