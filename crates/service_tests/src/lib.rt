@@ -3,10 +3,6 @@
 #![tactic(auto)]
 
 #[cfg(test)]
-mod live;
-#[cfg(test)]
-mod message_memory;
-#[cfg(test)]
 mod message_refusals;
 #[cfg(test)]
 mod messages;

@@ -156,28 +156,6 @@ fn reads_the_bridge_story_a_byte_at_a_time(rt: HostRuntime) -> Result<(), Fail> 
     Ok(())
 }
 
-/// Returns the result of the story, with room for its text. Nothing may be written when memory runs
-/// out.
-fn story_at_last(alloc: Global, written: &mut Vec<u8>) -> Result<(), Fault<ScriptError>> {
-    match run_script(alloc, &mut STORY.as_bytes(), written) {
-        Err(Fault::Memory) if written.is_empty() => {
-            run_script(alloc, &mut STORY.as_bytes(), written)
-        }
-        answer => answer,
-    }
-}
-
-#[test]
-fn plays_the_story_as_before_without_memory(rt: HostRuntime) -> Result<(), Fail> {
-    let mut written = match Vec::with_capacity(rt.alloc(), 4096) {
-        Ok(written) => written,
-        Err(_) => Vec::with_capacity(rt.alloc(), 4096)?,
-    };
-    assert_eq!(rt; story_at_last(rt.alloc(), &mut written), Ok(()));
-    assert_eq!(rt; written.as_slice(), STORY_TEXT.as_bytes());
-    Ok(())
-}
-
 /// Returns a space at each read, without an end.
 #[derive(Drop)]
 struct Endless {
