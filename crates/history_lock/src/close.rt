@@ -91,6 +91,7 @@ impl<M: Machine> LaneLock<M> {
             lanes: _,
             limit: _,
             alloc: _,
+            writers: _,
         } = self;
         let Pass { mut place, lane } = passes.pop().unwrap();
         take_in(&board.shared, &mut place, lane, passes);

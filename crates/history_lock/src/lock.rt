@@ -9,6 +9,7 @@ ghost use Rattle.history_lock.specs.Answers.{HasWaited, IsTurnedAway, Wrote, Tri
 use crate::error::{Busy, LockError, WriteError};
 use crate::pass::{LaneLock, Pass};
 use crate::turn::{meet_at, share_at, write_at};
+use crate::waiting::pause;
 use machines::Machine;
 use std::sync::Wait;
 
@@ -81,10 +82,15 @@ impl<M: Machine> LaneLock<M> {
         ensures answer { (late : PassView M M.Event) × HasWaited self.now pass.old late
             × Wrote M.step self.now (λ event. F.step make.old event make.new) (make.new ≡ make.old) late result pass.new }
     {
+        self.writers.enter();
+        let mut looks = 0u32;
         for _ in rt.forever() {
             if let Ok(answer) = self.attempt(pass, make) {
+                self.writers.leave();
                 return answer;
             }
+            pause(looks);
+            looks = looks.saturating_add(1);
         }
         unreachable!()
     }
@@ -116,6 +122,7 @@ impl<M: Machine> LaneLock<M> {
             × Shared M.step self.now (λ machine answer. CalledAt F.FnMut f.old machine answer f.new) late result pass.new }
     {
         for _ in rt.forever() {
+            self.writers.let_pass();
             if let Ok(answer) = self.try_shared(pass, f) {
                 return answer;
             }

@@ -12,6 +12,7 @@ use crate::pass::{LaneLock, Pass};
 use crate::rule::{Board, Common, Deal, Place, WORDS_A_LANE};
 use crate::shared_machine::SharedMachine;
 use crate::view::{Book, Opened};
+use crate::waiting::Writers;
 use atomic_table::{Refused, Table};
 use machines::Machine;
 use std::alloc::{AllocError, Global};
@@ -71,6 +72,7 @@ fn open<M: Machine>(
         lanes,
         limit,
         alloc,
+        writers: Writers::none(),
     };
     Ok((lock, passes))
 }

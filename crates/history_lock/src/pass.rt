@@ -3,6 +3,7 @@
 ghost use Rattle.std.specs.Prelude.{◌≡◌};
 
 use crate::rule::{Board, Place};
+use crate::waiting::Writers;
 use machines::Machine;
 use std::alloc::Global;
 use std::marker::Model;
@@ -17,6 +18,7 @@ pub struct LaneLock<M: Machine> {
     pub(crate) lanes: u64,
     pub(crate) limit: usize,
     pub(crate) alloc: Global,
+    pub(crate) writers: Writers,
 }
 
 impl<M: Machine> Model for LaneLock<M> {
