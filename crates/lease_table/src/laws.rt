@@ -22,7 +22,11 @@ ghost use Rattle.machines.specs.Calls.{LeadsOn, answered_call};
 ghost use Rattle.lease_table.specs.Runs.{IsRun, commits_in, proposed_at, restarted_at, longest_term};
 ghost use Rattle.lease_table.specs.Generations.{assignment_in, published_in, newest_generation, covers_by_owners, HasFewOwners};
 ghost use Rattle.lease_table.specs.OpenRows.{IsSent, IsFreed, IsLost, IsOut, IsOpen, HoldsUp, IsHeldUp, grant_numbered};
-ghost use Rattle.lease_table.specs.Steps.{row_of, held_up, commit_step, guard_of, bridge_of};
+ghost use Rattle.lease_table.specs.Steps.{row_of, standing_after_restart, held_up, commit_step, guard_of, bridge_of};
+ghost use Rattle.machines.specs.Refusals.{first_of};
+ghost use Rattle.lease_table.specs.declared.kept.Kept.{Kept};
+ghost use Rattle.lease_table.specs.KeptValues.{kept_of, kept_checks, restored_from, crashed, Covers, IsKeptAhead};
+ghost use Rattle.lease_table.specs.Lives.{Happening, Answered, table_after, IsLife, IsRunOf, IsOneRun};
 ghost use Rattle.lease_table.specs.JobTerms.{takes_in, number_passed, HoldsJob, IsGiven};
 
 use crate::policy::Policy;
@@ -213,4 +217,43 @@ pub fn terms_law()
     ensures one { (policy : Terms) (past : List AnsweredTableCall) (at : ℕ) (term other : JobTerm) → IsRun policy past → last_reading past ≤ at
         → IsGiven past term → IsGiven past other → at < term.until → at < other.until
         → (term.number ≡ other.number) × (term.assigner ≡ other.assigner) }
+{}
+
+/// States that the values a table keeps restore it, as a restart leaves it.
+///
+/// No check refuses values that a table of the policy kept after any calls. The table restored from
+/// them is the one after these calls and one more, `Restart`, and the calls with the restart are
+/// again a run. So all laws of this crate hold of the calls before a crash and after it as of one
+/// table. A restored table keeps the values that it was restored from.
+pub fn kept_law()
+    ensures taken { (policy : Terms) (past : List AnsweredTableCall) → is_policy policy ≡ true → IsRun policy past
+        → first_of (kept_checks policy (kept_of (standing_after policy past))) ≡ None }
+    ensures restart { (t : Standing) → restored_from (kept_of t) ≡ standing_after_restart t }
+    ensures run { (policy : Terms) (past : List AnsweredTableCall) → IsRun policy past → IsRun policy (crashed past) }
+    ensures leads { (policy : Terms) (past : List AnsweredTableCall)
+        → LeadsTo policy (crashed past) (restored_from (kept_of (standing_after policy past))) }
+    ensures again { (kept : Kept) → kept_of (restored_from kept) ≡ kept }
+{}
+
+/// States that values saved ahead of a table are those that it keeps after some grants to nobody.
+///
+/// So the table restored from them is the one after its calls, these grants and a restart.
+pub fn ahead_law()
+    ensures { (policy : Terms) (past : List AnsweredTableCall) (saved : Kept) → IsRun policy past
+        → Covers (kept_of (standing_after policy past)) saved → IsKeptAhead policy past saved }
+{}
+
+/// States that a table with any number of crashes at any moments is one run of one table.
+///
+/// `life` is what happened to the table, newest first: a call was answered, or a process ended and
+/// the table was restored from what was saved, which covered the kept values of the table before.
+/// Then each call of each process, with its reply, is in one run that leads to the table as it
+/// stands now, so all laws of this crate hold of the replies of all processes together. What was
+/// saved is never refused.
+pub fn lives_law()
+    ensures run { (policy : Terms) (life : List Happening) → is_policy policy ≡ true → IsLife policy life → IsOneRun policy life }
+    ensures replies { (life : List Happening) (run : List AnsweredTableCall) (e : AnsweredTableCall) → IsRunOf life run
+        → Contains life (Answered e) → Contains run e }
+    ensures taken { (policy : Terms) (life : List Happening) (saved : Kept) → is_policy policy ≡ true → IsLife policy life
+        → Covers (kept_of (table_after policy life)) saved → first_of (kept_checks policy saved) ≡ None }
 {}

@@ -47,6 +47,18 @@ impl Publication {
         }
     }
 
+    /// Creates a publication of these assignments.
+    pub fn of(alloc: Global, committed: Option<Assignment>, pending: Option<Assignment>) -> Self
+        ensures { result ≡ record { committed = committed; pending = pending } }
+    {
+        Publication {
+            alloc,
+            committed: keyed(committed),
+            pending: keyed(pending),
+            both: KeySets::none(),
+        }
+    }
+
     /// Returns the committed assignment, if there is one.
     pub fn committed(&self) -> Option<&Assignment>
         ensures { option_map (λ a. a.now) result ≡ self.now.committed }
@@ -126,6 +138,16 @@ impl Publication {
             pending: copy_of(&self.pending)?,
             both: self.both.copy()?,
         })
+    }
+}
+
+// The assignment with no key sets yet.
+fn keyed(assignment: Option<Assignment>) -> Option<KeyedAssignment>
+    ensures { result ≡ assignment }
+{
+    match assignment {
+        Some(assignment) => Some(KeyedAssignment::new(assignment)),
+        None => None,
     }
 }
 

@@ -8,7 +8,8 @@ ghost use Rattle.lease_table.specs.Tables.{opening, phase_of, generation_of, sli
 ghost use Rattle.machines.specs.Answers.{Answers, Takes, trouble_of};
 ghost use Rattle.lease_table.specs.Steps.{grant_checks, standing_at, propose_checks, grant_with, with_row, take_step, renew_step, propose_step, commit_step, grant_step, free_step, standing_after_restart};
 
-mod checks;
+pub(crate) mod checks;
+mod keeping;
 
 use self::checks::any_written_has_more_owners;
 use crate::error::TableError;
@@ -104,6 +105,13 @@ impl LeaseTable {
         ensures { result ≡ self.now.last }
     {
         self.last
+    }
+
+    /// Returns how many grants the table has made.
+    pub fn granted(&self) -> u64
+        ensures { result ≡ self.now.granted }
+    {
+        self.granted
     }
 
     /// Returns the last term of the job lease that was given, if any; it may have ended.

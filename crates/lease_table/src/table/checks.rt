@@ -165,7 +165,7 @@ impl LeaseTable {
 }
 
 // Whether a slice has more owners than this.
-fn any_has_more_owners(slices: &[OwnedSlice], most: u64) -> bool
+pub(crate) fn any_has_more_owners(slices: &[OwnedSlice], most: u64) -> bool
     ensures { result ≡ list_any (λ s. nat_lt most (length s.owners)) slices.now }
 {
     slices
