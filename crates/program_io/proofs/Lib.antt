@@ -2,3 +2,4 @@ pub mod Forms
 pub mod Turns
 pub mod Written
 pub mod Keeping
+pub mod NameSets

@@ -1,9 +1,12 @@
 -- Bytes as the text of a JSON value.
-use Rattle.std.specs.Prelude.{◌≡◌, ℕ, List, Some, None, ⊤, IsUtf8}
+use Rattle.std.specs.Prelude.{◌≡◌, ℕ, List, Some, None, ⊤, IsUtf8, string_bytes}
 use Rattle.serde_json.specs.Data.{Data}
 use Rattle.serde_json.specs.Read.{read}
 use Rattle.program_io.specs.declared.fault.Unread.{Unread}
 use Rattle.program_io.specs.declared.fault.Unread.TheVariants as unread
+use Rattle.program_io.specs.declared.fault.JsonError.{JsonError}
+use Rattle.program_io.specs.declared.fault.JsonError.TheVariants as error
+use Rattle.program_io.specs.Repeated.{repeated_name}
 
 -- the bytes are a text of this JSON value
 pub record IsJson (bytes : List ℕ) (value : Data) : Type 0 where
@@ -18,3 +21,20 @@ IsNoJson bytes = IsUtf8 bytes → read bytes ≡ None
 abbrev pub IsUnreadJson : List ℕ → Unread → Type 0
 IsUnreadJson bytes unread.WrongForm = IsNoJson bytes
 IsUnreadJson bytes unread.Memory = ⊤
+
+-- the bytes are a text of this JSON value, and no object in it has a member twice
+pub record IsStrictJson (bytes : List ℕ) (value : Data) : Type 0 where
+  pub json : IsJson bytes value
+  pub once : repeated_name bytes ≡ None
+
+-- the bytes are a text of a JSON value, and an object in it has this member twice
+pub record Repeats (bytes name : List ℕ) : Type 0 where
+  pub value : Data
+  pub json : IsJson bytes value
+  pub twice : repeated_name bytes ≡ Some name
+
+-- the bytes are the text of no JSON value, or repeat a member, or memory ran out
+abbrev pub IsNotStrict : List ℕ → JsonError → Type 0
+IsNotStrict bytes (error.NotJson why) = IsNoJson bytes
+IsNotStrict bytes (error.Repeated name) = Repeats bytes (string_bytes name)
+IsNotStrict bytes error.Memory = ⊤

@@ -2,6 +2,7 @@
 
 ghost use Rattle.std.specs.Prelude.{◌≡◌};
 ghost use Rattle.program_io.specs.declared.fault.Fault.TheVariants as fault;
+ghost use Rattle.program_io.specs.declared.fault.JsonError.TheVariants as text;
 ghost use Rattle.program_io.specs.declared.fault.ReadError.TheVariants as reading;
 ghost use Rattle.program_io.specs.declared.fault.Unread.TheVariants as unread;
 ghost use Rattle.program_io.specs.Status.{fault_of_reading, status_of};
@@ -44,6 +45,25 @@ impl<T: Drop> From<AllocFailed<T>> for Unread {
 
     fn from(_error: AllocFailed<T>) -> Self {
         Unread::Memory
+    }
+}
+
+/// Why bytes are not read as a JSON value in which no object has a member twice.
+#[derive(Debug, Drop)]
+pub enum JsonError {
+    /// The bytes are not the text of a JSON value.
+    NotJson(serde_json::Error),
+    /// An object has this member twice: it is the first in the text that repeats a name.
+    Repeated(String),
+    /// Memory ran out.
+    Memory,
+}
+
+impl From<AllocError> for JsonError {
+    ghost from_gives = { λ _ e. e ≡ text.Memory };
+
+    fn from(_error: AllocError) -> Self {
+        JsonError::Memory
     }
 }
 
