@@ -5,3 +5,4 @@ pub mod Keeping
 pub mod Freshness
 pub mod Restarting
 pub mod Ticking
+pub mod KeptNumbers

@@ -46,6 +46,30 @@ impl Drift {
     pub(crate) fn most_gain(self, elapsed: u64) -> Option<u64>
         ensures { MatchOption result (2 ^ 64 ≤ most_gain self elapsed) (λ most. most ≡ most_gain self elapsed) }
     {
+        match self.quick_gain(elapsed) {
+            Some(most) => Some(most),
+            None => self.wide_gain(elapsed),
+        }
+    }
+
+    // The same with a division of 64 bits; `None` also if these are too few for what is divided.
+    #[inline]
+    pub(crate) fn quick_gain(self, elapsed: u64) -> Option<u64>
+        ensures { IfSome result (λ most. most ≡ most_gain self elapsed) }
+    {
+        let raised = elapsed as u128 * self.extra as u128 + (self.per - 1) as u128;
+        if raised <= u64::MAX as u128 {
+            elapsed.checked_add(raised as u64 / self.per)
+        } else {
+            None
+        }
+    }
+
+    // The same with a division of 128 bits, which is slow.
+    #[cold]
+    fn wide_gain(self, elapsed: u64) -> Option<u64>
+        ensures { MatchOption result (2 ^ 64 ≤ most_gain self elapsed) (λ most. most ≡ most_gain self elapsed) }
+    {
         let beyond = div_up(elapsed as u128 * self.extra as u128, self.per as u128);
         if beyond <= u64::MAX as u128 {
             elapsed.checked_add(beyond as u64)

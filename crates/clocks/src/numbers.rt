@@ -1,9 +1,10 @@
 //! A task's clock as numbers.
 
 ghost use Rattle.std.specs.Prelude.{◌≡◌, ◌↔◌, IsNone, IfSome};
-ghost use Rattle.clocks.specs.Numbers.{IsClockOf, sample_of};
+ghost use Rattle.clocks.specs.Numbers.{AreRead, IsClockOf, sample_of};
 
 use crate::drift::Drift;
+use crate::refusal::ClockRefusal;
 use crate::task_clock::{Sample, TaskClock};
 
 /// A task's clock as numbers, for a caller that keeps it in memory of its own, as C does.
@@ -30,6 +31,43 @@ pub struct TaskClockNumbers {
     pub last: u64,
     /// The last value returned.
     pub given: u64,
+}
+
+impl TaskClockNumbers {
+    /// Reads the clock of the numbers as [`TaskClock::read`] does, and keeps it in them. Returns
+    /// `None` if `per` is 0.
+    ///
+    /// `None` and an error leave the numbers unchanged.
+    #[inline]
+    pub fn read(&mut self, now: u64) -> Option<Result<u64, ClockRefusal>>
+        ensures { AreRead self.old self.new now result }
+    {
+        let clock = TaskClock::of_numbers(*self)?;
+        match clock.quick_value(now) {
+            Some(value) => {
+                self.last = now;
+                self.given = value;
+                Some(Ok(value))
+            }
+            None => self.read_in_full(now),
+        }
+    }
+
+    // The same without the quick value.
+    #[cold]
+    #[inline(never)]
+    fn read_in_full(&mut self, now: u64) -> Option<Result<u64, ClockRefusal>>
+        ensures { AreRead self.old self.new now result }
+    {
+        let mut clock = TaskClock::of_numbers(*self)?;
+        match clock.read(now) {
+            Ok(value) => {
+                *self = clock.numbers();
+                Some(Ok(value))
+            }
+            Err(why) => Some(Err(why)),
+        }
+    }
 }
 
 impl TaskClock {

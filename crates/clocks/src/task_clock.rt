@@ -1,6 +1,6 @@
 //! A task's clock.
 
-ghost use Rattle.std.specs.Prelude.{◌≡◌, ◌+◌, ◌<◌, ◌≤◌, ◌^◌, [], ◌∷◌, ℕ, Some, MatchOption, IfOk};
+ghost use Rattle.std.specs.Prelude.{◌≡◌, ◌+◌, ◌<◌, ◌≤◌, ◌^◌, [], ◌∷◌, ℕ, Some, MatchOption, IfOk, IfSome, Ok};
 ghost use Rattle.std.specs.List.{AllByRecursion};
 ghost use Rattle.clocks.specs.TaskClocks.{reach, is_better, better_of, new_clock, sample_answer, after_sample, read_answer, after_read, answer_by};
 ghost use Rattle.clocks.specs.Pasts.{Past, Sampled, TaskRead, IsAtMost, KeepsDrift, SamplesAreAnswers};
@@ -150,6 +150,24 @@ impl TaskClock {
         self.last = now;
         self.given = value;
         Ok(value)
+    }
+
+    // The value to return at a local reading if 64 bits are enough to compute it; `None` also if
+    // the clock refuses.
+    #[inline]
+    pub(crate) fn quick_value(&self, now: u64) -> Option<u64>
+        ensures { IfSome result (λ value. read_answer self.now now ≡ Ok value) }
+    {
+        let sample = self.best?;
+        if now < self.last || self.oldest < now.saturating_sub(self.newest) {
+            return None;
+        }
+        let bound = self
+            .drift
+            .quick_gain(now.saturating_sub(sample.sent))?
+            .checked_add(sample.reading)?
+            .checked_add(self.drift.grain)?;
+        Some(bound.max(self.given))
     }
 
     // The value to return at a local reading.

@@ -1,4 +1,4 @@
-use crate::{ClockRefusal, Drift, TICK_GRAIN, TableClock, TaskClock};
+use crate::{ClockRefusal, Drift, TICK_GRAIN, TableClock, TaskClock, TaskClockNumbers};
 
 // While the local clock gains 3 ticks, the table's gains at most 4, and 1 at once.
 fn fast_by_a_third() -> Drift {
@@ -85,6 +85,31 @@ fn task_refuses(rt: HostRuntime) {
     assert_eq!(rt; clock.read(11), Err(ClockRefusal::TooLarge));
     assert_eq!(rt; clock.read(u64::MAX), Err(ClockRefusal::TooLarge));
     assert_eq!(rt; clock.read(10), Ok(u64::MAX));
+}
+
+// A drift of 1, in so many ticks that 64 bits are too few for what is divided from 2 ticks on.
+#[test]
+fn numbers_are_read_as_their_clock(rt: HostRuntime) {
+    let mut numbers = TaskClockNumbers {
+        extra: 1 << 63,
+        per: 1 << 63,
+        grain: 1,
+        oldest: 9,
+        sampled: 1,
+        sent: 10,
+        reading: 100,
+        newest: 10,
+        last: 10,
+        given: 0,
+    };
+    assert_eq!(rt; numbers.read(11), Some(Ok(103)));
+    assert_eq!(rt; numbers.read(14), Some(Ok(109)));
+    assert_eq!(rt; (numbers.last, numbers.given), (14, 109));
+    assert_eq!(rt; numbers.read(13), Some(Err(ClockRefusal::LocalClockBack)));
+    assert_eq!(rt; numbers.read(20), Some(Err(ClockRefusal::TooOld)));
+    assert_eq!(rt; (numbers.last, numbers.given), (14, 109));
+    numbers.per = 0;
+    assert_eq!(rt; numbers.read(20), None);
 }
 
 #[test]

@@ -1,6 +1,6 @@
 use Rattle.std.proofs.Common.{arith, rules}
 use Rattle.clocks.specs.Drifts.{most_gain}
-use Rattle.clocks.proofs.drift.Drift.most_gain.Goals as goal
+use Rattle.clocks.proofs.drift.Drift.wide_gain.Goals as goal
 
 pub returns-then-beyond : goal.returns-then-beyond
 unfolding most_gain
