@@ -1,5 +1,5 @@
 -- What was found of a call that was accepted: none of its refusals, and the reply of its step.
-use Rattle.std.proofs.Common.{◌≡◌, ℕ, ◌+◌, ◌<◌, ◌≤◌, Bool, true, false, length, refl, arith, List}
+use Rattle.std.proofs.Common.{◌≡◌, ℕ, ◌+◌, ◌<◌, ◌≤◌, Bool, true, false, length, refl, sym, arith, List}
 use Rattle.std.specs.Prelude.{Option, Some, None, Ok, nat_lt, nat_le, is_none, is_some, not, ◌==◌, ◌&&◌, filter, option_map, Result}
 use Rattle.std.specs.List.{list_any}
 use Rattle.std.proofs.lemmas.Bool.Decides.{nat_tests}
@@ -20,6 +20,7 @@ use Rattle.lease_table.specs.declared.values.Row.{Row}
 use Rattle.lease_table.specs.Policies.{Terms}
 use Rattle.lease_table.specs.Rows.{running_rows, closes, first_up_to}
 use Rattle.lease_table.specs.Tables.{Standing, generation_of}
+use Rattle.lease_table.specs.internals.Numbers.{newest_of}
 use Rattle.lease_table.specs.Steps
 use Rattle.lease_table.specs.Calls.{AnsweredTableCall, reading_after, standing_after, table_step}
 
@@ -103,6 +104,16 @@ unnot false e = absurd (cc)
 unsome : (p : Option Slicing) → is_some p ≡ false → p ≡ None
 unsome None e = refl
 unsome (Some slicing) e = absurd (cc)
+
+-- a proposal that is not refused is of a generation below none
+pub proposed_newest : (t : Standing) (number : ℕ) (slicing : Slicing) (at : ℕ) → None ≡ first_of (Steps.propose_checks t number slicing at)
+    → newest_of t.committed t.pending ≤ slicing.generation
+proposed_newest t number slicing at e =
+    let none = all_none (Steps.propose_checks t number slicing at) (sym e) in
+    let next : (slicing.generation == generation_of t.committed + 1) ≡ true = unnot _ (not_when _ _ none.1.1.1.0) in
+    let alone : t.pending ≡ None = unsome t.pending (not_when _ _ none.1.1.1.1.0) in
+    let l : generation_of t.committed ≤ slicing.generation = grind (arith, nat_tests) in
+    rw alone l
 
 unheld_row : (o : Option Row) → option_map (λ row. Held row.task row.kind row.number) o ≡ None → o ≡ None
 unheld_row None e = refl

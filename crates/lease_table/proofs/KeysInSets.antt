@@ -1,6 +1,6 @@
 -- The keys in a set that is found.
 use Rattle.std.proofs.Common.{◌≡◌, ◌∙◌, ℕ, ◌++◌, Bool, true, false, List, [], ◌∷◌, refl, ap, arith}
-use Rattle.std.specs.Prelude.{◌==◌, if◌then◌else◌, Option, Some, None, find, option_map}
+use Rattle.std.specs.Prelude.{◌==◌, if◌then◌else◌, Some, find, option_map}
 use Rattle.std.proofs.lemmas.Bool.Decides.{nat_tests}
 use Rattle.machines.proofs.Every.{all_push}
 use Rattle.slice_ranges.specs.Sets.{keys_where}

@@ -5,6 +5,7 @@ ghost use Rattle.machines.specs.Refusals.{first_of};
 ghost use Rattle.slice_ranges.specs.Sets.{keys_where};
 ghost use Rattle.assignment.specs.Owners.{owns};
 ghost use Rattle.lease_table.specs.Tables.{opening, phase_of, generation_of, slices_of, last_number};
+ghost use Rattle.lease_table.specs.internals.Numbers.{newest_of};
 ghost use Rattle.machines.specs.Answers.{Answers, Takes, trouble_of};
 ghost use Rattle.lease_table.specs.Steps.{grant_checks, standing_at, propose_checks, grant_with, with_row, take_step, renew_step, propose_step, commit_step, grant_step, free_step, standing_after_restart};
 
@@ -49,7 +50,7 @@ impl Model for LeaseTable {
     ghost Value = { Standing };
 
     ghost use Rattle.lease_table.specs.Rows.{running_rows};
-    ghost use Rattle.lease_table.specs.internals.Numbers.{IsInRange};
+    ghost use Rattle.lease_table.specs.internals.Numbers.{IsInRange, newest_of};
 
     ghost view = { λ t. record {
       policy = t.policy;
@@ -63,7 +64,7 @@ impl Model for LeaseTable {
       rows = running_rows t.last t.rows;
     } };
 
-    ghost invariant = { λ t. IsInRange t.last t.policy.job t.granted t.term t.rows };
+    ghost invariant = { λ t. IsInRange t.last t.policy.job t.granted (newest_of t.publication.committed t.publication.pending) t.term t.rows };
 }
 
 impl LeaseTable {
@@ -395,17 +396,27 @@ impl LeaseTable {
         requires high { at < READINGS }
         requires number { row.number ≡ self.old.granted + 1 }
         requires spare { self.old.granted < MOST_GRANTS }
+        requires generation { row.generation ≡ newest_of self.old.committed self.old.pending }
         requires runs { at < row.table_ends }
         ensures ok { OnOk result (self.new ≡ with_row self.old at row) }
         ensures err { OnErr result (self.new ≡ self.old) }
     {
         let deadline = later_of(self.deadline, row.table_ends);
         self.rows.push(row)?;
-        self.rows.keep_running(at);
         self.granted += 1;
         self.deadline = deadline;
         self.last = at;
+        self.sweep();
         Ok(())
+    }
+
+    // Removes rows that have ended, if a sweep is due.
+    fn sweep(&mut self)
+        ensures { self.new ≡ self.old }
+    {
+        if self.rows.is_sweep_due() {
+            self.rows.keep_running(self.last);
+        }
     }
 
     // Accepts a reading: rows that have ended at it no longer count.

@@ -15,7 +15,7 @@ use crate::values::{JobTerm, ReleaseNote, Row};
 use assignment::{Assignment, OwnedSlice, Slice};
 
 impl LeaseTable {
-    // What every call asks of its reading.
+    // Checks the reading of a call.
     pub(super) fn check_reading(&self, at: u64) -> Result<(), TableError>
         ensures refusal { result_err result ≡ first_of (out_of_range at ∷ clock_back self.now at ∷ []) }
         ensures reading { OnOk result ((self.now.last ≤ at) × (at < READINGS)) }
@@ -29,6 +29,7 @@ impl LeaseTable {
         Ok(())
     }
 
+    // Checks a call of `job_take`.
     pub(super) fn check_take(&self, at: u64) -> Result<(), TableError>
         ensures { result_err result ≡ first_of (take_checks self.now at) }
     {
@@ -39,7 +40,7 @@ impl LeaseTable {
         }
     }
 
-    // The last term given, where it is of this number and has not ended.
+    // Returns the last term given, if it has this number and has not ended.
     pub(super) fn check_holder(&self, number: u64, at: u64) -> Result<JobTerm, TableError>
         ensures refusal { result_err result ≡ first_of (renew_checks self.now number at) }
         ensures term { IfOk result (λ term. self.now.term ≡ Some term) }
@@ -54,8 +55,7 @@ impl LeaseTable {
         }
     }
 
-    // Whether an assignment of a generation may be proposed, of which it is known whether some slice
-    // has too many owners.
+    // Checks a proposal of a generation. `too_many` says whether a slice has too many owners.
     pub(super) fn check_proposal(
         &self,
         number: u64,
@@ -82,7 +82,7 @@ impl LeaseTable {
         Ok(())
     }
 
-    // Whether an assignment may be proposed.
+    // Checks a proposal of an assignment.
     pub(super) fn check_assignment(
         &self,
         number: u64,
@@ -96,16 +96,18 @@ impl LeaseTable {
         self.check_proposal(number, assignment.generation(), too_many, at)
     }
 
-    // The generation that is proposed, where it may be committed.
-    pub(super) fn check_commit(&self, number: u64, at: u64) -> Result<u64, TableError>
-        ensures refusal { result_err result ≡ first_of (commit_checks self.now number at) }
-        ensures generation { IfOk result (λ generation. generation ≡ generation_of self.now.pending) }
-        ensures reading { OnOk result ((self.now.last ≤ at) × (at < READINGS)) }
+    // Checks a commit, and returns the proposed generation. The table is unchanged.
+    pub(super) fn check_commit(&mut self, number: u64, at: u64) -> Result<u64, TableError>
+        ensures refusal { result_err result ≡ first_of (commit_checks self.old number at) }
+        ensures generation { IfOk result (λ generation. generation ≡ generation_of self.old.pending) }
+        ensures reading { OnOk result ((self.old.last ≤ at) × (at < READINGS)) }
+        ensures same { self.new ≡ self.old }
     {
         self.check_holder(number, at)?;
         let Some(next) = self.publication.pending() else {
             return Err(TableError::NothingPending);
         };
+        let generation = next.generation();
         if at < self.grace {
             return Err(TableError::Grace { until: self.grace });
         }
@@ -116,18 +118,21 @@ impl LeaseTable {
                 number: row.number,
             });
         }
-        Ok(next.generation())
+        Ok(generation)
     }
 
-    // The first row of the committed generation or an older one that has not ended.
-    pub(super) fn first_held(&self, at: u64) -> Option<Row>
-        requires { self.now.last ≤ at }
-        ensures { result ≡ first_up_to (generation_of self.now.committed) at self.now.rows }
+    // Returns the first row of the committed generation or an older one that has not ended. The
+    // table is unchanged.
+    pub(super) fn first_held(&mut self, at: u64) -> Option<Row>
+        requires { self.old.last ≤ at }
+        ensures first { result ≡ first_up_to (generation_of self.old.committed) at self.old.rows }
+        ensures same { self.new ≡ self.old }
     {
-        self.rows.first_up_to(self.generation(), at)
+        let generation = self.generation();
+        self.rows.first_up_to(generation, at)
     }
 
-    // How many rows a note frees.
+    // Checks a release note, and returns how many rows it frees.
     pub(super) fn check_free(&self, note: &ReleaseNote, at: u64) -> Result<u64, TableError>
         ensures refusal { result_err result ≡ first_of (free_checks self.now note.now at) }
         ensures count { IfOk result (λ count. count ≡ length (filter (closes note.now) (running_rows at self.now.rows))) }
@@ -140,7 +145,7 @@ impl LeaseTable {
         }
     }
 
-    // How many rows that have not ended a note closes.
+    // Returns how many rows that have not ended a note closes.
     pub(super) fn count_closed(&self, note: &ReleaseNote, at: u64) -> usize
         requires { self.now.last ≤ at }
         ensures { result ≡ length (filter (closes note.now) (running_rows at self.now.rows)) }
@@ -148,6 +153,7 @@ impl LeaseTable {
         self.rows.count_closed(note, at)
     }
 
+    // Checks a grant.
     pub(super) fn check_grant(&self, at: u64) -> Result<(), TableError>
         ensures refusal { result_err result ≡ first_of (grant_checks self.now at) }
         ensures reading { OnOk result ((self.now.last ≤ at) × (at < READINGS)) }
@@ -164,7 +170,7 @@ impl LeaseTable {
     }
 }
 
-// Whether a slice has more owners than this.
+// Returns whether a slice has more owners than `most`.
 pub(crate) fn any_has_more_owners(slices: &[OwnedSlice], most: u64) -> bool
     ensures { result ≡ list_any (λ s. nat_lt most (length s.owners)) slices.now }
 {
@@ -173,7 +179,7 @@ pub(crate) fn any_has_more_owners(slices: &[OwnedSlice], most: u64) -> bool
         .any(|slice| slice.owners().len() as u64 > most)
 }
 
-// The same of slices as they are written.
+// Returns whether a slice of a proposal that is not built has more owners than `most`.
 pub(super) fn any_written_has_more_owners(slices: &[Slice], most: u64) -> bool
     ensures { result ≡ list_any (λ s. nat_lt most (length s.owners)) slices.now }
 {
