@@ -4,8 +4,8 @@ ghost use Rattle.std.specs.Prelude.{◌≡◌, ◌+◌, ◌≤◌, length, IfOk,
 ghost use Rattle.history_lock.specs.Passes.{IsPassOf, ArePassesOf};
 
 use crate::counter::Counter;
-use crate::locks::{TwoLanes, close_all, close_with_both, entries_of, new_lock, two_lanes};
-use history_lock::{Closed, LaneLock, Pass};
+use crate::locks::{TwoLanes, close_all, close_with_both, new_lock, two_lanes};
+use history_lock::{Closed, History, LaneLock, Pass};
 use std::alloc::{AllocError, Global};
 use std::sync::Wait;
 use std::test::Fail;
@@ -63,7 +63,7 @@ fn added_in_two_threads<R: Threads + Wait + Sync>(
         others,
         p0,
         p1,
-    } = two_lanes(alloc, Counter { count: 0 }, limit)?;
+    } = two_lanes(alloc, limit)?;
     let ((p0, first), (p1, second)) = add_in_two_threads(rt, &lock, p0, p1, 100);
     let closed = close_with_both(lock, others, p0, p1)?;
     Ok((first + second, closed))
@@ -147,11 +147,17 @@ fn written_in_threads<R: Threads + Wait + Sync>(
     threads: u64,
     times: u64,
 ) -> Result<(u64, Closed<Counter>), Fail> {
-    let (lock, passes) = new_lock(alloc, Counter { count: 0 }, threads, 10_000)?;
+    let (lock, passes) = new_lock(alloc, threads, 10_000)?;
     let done = read_and_write_in_threads(rt, &lock, passes, times)?;
     let (passes, answered) = all_answered(alloc, &lock, done)?;
     let closed = close_all(lock, passes)?;
     Ok((answered, closed))
+}
+
+// How many entries are of a lane.
+fn entries_of(history: &History<u16>, lane: u64) -> u64 {
+    let entries = history.entries().iter();
+    entries.filter(|entry| entry.lane == lane).count() as u64
 }
 
 #[test]

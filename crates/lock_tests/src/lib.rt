@@ -6,15 +6,11 @@ mod counter;
 #[cfg(test)]
 mod counter_calls;
 #[cfg(test)]
-mod counter_laws;
-#[cfg(test)]
 mod counter_memory;
 #[cfg(test)]
 mod counter_threads;
 #[cfg(test)]
 mod locks;
-#[cfg(test)]
-mod outcomes;
 #[cfg(test)]
 mod ticket_draws;
 #[cfg(test)]

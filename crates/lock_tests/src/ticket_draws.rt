@@ -1,31 +1,8 @@
-//! Tickets drawn by one thread.
+//! The limits of a ticket.
 
 use std::alloc::Global;
 use std::test::Fail;
-use tickets::{MOST_DRAWS, MOST_PASSES, Spent, Ticket, TicketError};
-
-#[test]
-fn numbers_draws_in_the_order_in_which_they_come(rt: HostRuntime) -> Result<(), Fail> {
-    let (ticket, mut passes) = Ticket::new(rt.alloc(), 2, 1).ok().ok_or("two passes")?;
-    assert_eq!(rt; ticket.draw(&mut passes[1]), Ok(0));
-    assert_eq!(rt; ticket.draw(&mut passes[1]), Err(Spent));
-    assert_eq!(rt; passes[0].left(), 1);
-    assert_eq!(rt; ticket.draw(&mut passes[0]), Ok(1));
-    assert_eq!(rt; passes[0].left(), 0);
-    assert_eq!(rt; ticket.close(passes).ok(), Some(2));
-    Ok(())
-}
-
-#[test]
-fn hands_all_back_where_a_pass_is_missing(rt: HostRuntime) -> Result<(), Fail> {
-    let (ticket, mut passes) = Ticket::new(rt.alloc(), 2, 2).ok().ok_or("two passes")?;
-    assert_eq!(rt; ticket.draw(&mut passes[0]), Ok(0));
-    drop(passes.pop());
-    let mut back = ticket.close(passes).err().ok_or("a pass is missing")?;
-    assert_eq!(rt; back.passes.len(), 1);
-    assert_eq!(rt; back.ticket.draw(&mut back.passes[0]), Ok(1));
-    Ok(())
-}
+use tickets::{MOST_DRAWS, MOST_PASSES, Ticket, TicketError};
 
 fn is_beyond_limits(alloc: Global, passes: u64, quota: u64) -> bool {
     matches!(Ticket::new(alloc, passes, quota), Err(TicketError::Passes))

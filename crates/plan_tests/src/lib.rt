@@ -14,16 +14,6 @@ mod owners;
 #[cfg(test)]
 mod plans;
 #[cfg(test)]
-mod ranges;
-#[cfg(test)]
 mod samples;
 #[cfg(test)]
-mod sets;
-#[cfg(test)]
-mod ties;
-#[cfg(test)]
 mod values_memory;
-#[cfg(test)]
-mod verdicts;
-#[cfg(test)]
-mod wide;

@@ -4,8 +4,6 @@
 #![tactic(auto)]
 
 #[cfg(test)]
-mod changes;
-#[cfg(test)]
 mod clerks;
 #[cfg(test)]
 mod grants;
@@ -14,19 +12,11 @@ mod jobs;
 #[cfg(test)]
 mod memory;
 #[cfg(test)]
-mod restarts;
-#[cfg(test)]
 mod samples;
 #[cfg(test)]
 mod stamps;
 #[cfg(test)]
-mod task_age;
-#[cfg(test)]
 mod task_calls;
-#[cfg(test)]
-mod task_handles;
-#[cfg(test)]
-mod task_machine;
 #[cfg(test)]
 mod task_memory;
 #[cfg(test)]

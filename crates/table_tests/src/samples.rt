@@ -1,7 +1,7 @@
 //! What the tests share: assignments, and tables with and without a first grant.
 
 use assignment::{Assignment, AssignmentError, Listed, Slice, TaskId};
-use lease_table::{Grant, JobTerm, LeaseTable, Policy, ReleaseNote, Row, TableError};
+use lease_table::{Grant, JobTerm, LeaseTable, Policy, Row, TableError};
 use machines::Trouble;
 use policy_rules::Kind;
 use std::alloc::{AllocError, Global};
@@ -86,14 +86,6 @@ pub fn grant(table: &mut LeaseTable, task: TaskId, at: u64) -> Result<Grant, Tro
     table.grant(task, 1, at)
 }
 
-pub fn free(table: &mut LeaseTable, note: &ReleaseNote, at: u64) -> Result<u64, TableError> {
-    table.free(note, at)
-}
-
-pub fn restart(table: &mut LeaseTable) -> u64 {
-    table.restart()
-}
-
 pub fn rows_of(table: &LeaseTable) -> Result<Vec<Row>, AllocError> {
     table.rows()
 }
@@ -145,56 +137,4 @@ pub fn base_of(alloc: Global, numbers: u64) -> Result<LeaseTable, Fail> {
         return Err("grant 1 guard 1 until 105 95".into());
     }
     Ok(table)
-}
-
-// The note that gives grant 1 back.
-pub fn note_1() -> Result<ReleaseNote, Fail> {
-    Ok(ReleaseNote {
-        task: task_of(1)?,
-        life: 1,
-        kind: Kind::Guard,
-        number: 1,
-    })
-}
-
-pub fn refusal(answer: Result<(), Trouble<TableError>>) -> Option<TableError> {
-    match answer {
-        Err(Trouble::Refused(error)) => Some(error),
-        _ => None,
-    }
-}
-
-// How a proposal of these slices is refused.
-fn proposal(
-    alloc: Global,
-    table: &mut LeaseTable,
-    (number, at): (u64, u64),
-    generation: u64,
-    listed: &[(u64, &[u64])],
-) -> Result<Option<TableError>, Fail> {
-    let next = assignment_of(alloc, generation, listed)?;
-    Ok(refusal(propose(table, number, &next, at)))
-}
-
-// How proposals under a term at a reading are refused: of a generation that is committed, with too
-// many owners, one that is taken, and a second one while the first waits.
-pub fn proposals(
-    alloc: Global,
-    table: &mut LeaseTable,
-    under: (u64, u64),
-) -> Result<[Option<TableError>; 4], Fail> {
-    let stale = proposal(alloc, table, under, 1, &[(0, &[1])])?;
-    let too_many = proposal(alloc, table, under, 2, &[(0, &[1, 2])])?;
-    let taken = proposal(alloc, table, under, 2, &[(0, &[1])])?;
-    let pending = proposal(alloc, table, under, 2, &[(0, &[1])])?;
-    Ok([stale, too_many, taken, pending])
-}
-
-pub fn wanted_of_proposals() -> [Option<TableError>; 4] {
-    [
-        Some(TableError::StaleBase { generation: 1 }),
-        Some(TableError::TooManyOwnersForJob),
-        None,
-        Some(TableError::Pending),
-    ]
 }

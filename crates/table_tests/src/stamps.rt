@@ -1,9 +1,9 @@
 //! Sets of keys with stamps.
 
-use crate::samples::{again, task_of};
+use crate::samples::again;
 use machines::Trouble;
 use slice_ranges::{Ranges, SliceKey};
-use slicelet::{KeyHandle, Stamped};
+use slicelet::Stamped;
 use std::alloc::Global;
 use std::test::Fail;
 
@@ -56,24 +56,5 @@ fn stamps_as_before_without_memory(rt: HostRuntime) -> Result<(), Fail> {
         (found, copied),
         ([Some(1), Some(2), None], [Some(1), Some(2), None])
     );
-    Ok(())
-}
-
-// Whether a handle of life 1 on a key, taken after so many calls, is good in a life.
-fn is_still(stamped: &Stamped, key: u64, position: u64, life: u32) -> Result<bool, Fail> {
-    Ok(KeyHandle::new(task_of(1)?, 1, key_of(key)?, position).still(life, stamped))
-}
-
-#[test]
-fn compares_stamps_with_positions(rt: HostRuntime) -> Result<(), Fail> {
-    let stamped = stamped_twice(rt.alloc())?;
-    let found = [
-        is_still(&stamped, 3, 1, 1)?,
-        is_still(&stamped, 5, 2, 1)?,
-        is_still(&stamped, 5, 1, 1)?,
-        is_still(&stamped, 0, 9, 1)?,
-        is_still(&stamped, 3, 1, 2)?,
-    ];
-    assert_eq!(rt; found, [true, true, false, false, false]);
     Ok(())
 }
