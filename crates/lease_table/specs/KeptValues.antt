@@ -19,9 +19,17 @@ use Rattle.lease_table.specs.Runs.{longest_term, IsRun}
 
 -- the kept values of a table
 abbrev pub kept_of : Standing → Kept
-kept_of t = record { policy = t.policy; last = t.last; term = t.term; committed = t.committed; pending = t.pending; granted = t.granted; deadline = t.deadline }
+kept_of t = record {
+  policy = t.policy;
+  last = t.last;
+  term = t.term;
+  committed = t.committed;
+  pending = t.pending;
+  granted = t.granted;
+  deadline = t.deadline;
+}
 
--- the table restored from kept values: it has no rows, and accepts no commit before the greatest deadline that was given
+-- the table restored from kept values: no rows, and no commit before the greatest deadline that was given
 abbrev pub restored_from : Kept → Standing
 restored_from k = record {
   policy = k.policy;

@@ -27,13 +27,15 @@ table_after policy [] = opening policy
 table_after policy (Answered e ∷ life) = left_by (table_after policy life) (table_step (table_after policy life) e.call)
 table_after policy (Restored saved ∷ life) = restored_from saved
 
--- each call was answered by its step, and each table was restored from what the one before kept, or from values ahead of that
+-- each call was answered by its step, and each table was restored from what the one before kept, or from
+-- values ahead of that
 abbrev pub IsLife : Terms → List Happening → Type 0
 IsLife policy [] = ⊤
 IsLife policy (Answered e ∷ life) = (e.answer ≡ answer_of (table_step (table_after policy life) e.call)) × IsLife policy life
 IsLife policy (Restored saved ∷ life) = Covers (kept_of (table_after policy life)) saved × IsLife policy life
 
--- each answered call is in the run, in its order, and where the table was restored are grants to nobody, if any, and a restart
+-- the run has each answered call in its order, and where the table was restored, grants to nobody, if any,
+-- and a restart
 abbrev pub IsRunOf : List Happening → List AnsweredTableCall → Type 0
 IsRunOf [] run = run ≡ []
 IsRunOf (Answered e ∷ life) run = (past : List AnsweredTableCall) × (run ≡ e ∷ past) × IsRunOf life past

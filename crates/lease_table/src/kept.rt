@@ -19,13 +19,13 @@ use std::alloc::AllocError;
 /// The kept values of a table: everything that must outlast its process.
 ///
 /// Save them before the reply to a call that changed them leaves the process.
-/// [`LeaseTable::restore`](crate::LeaseTable::restore) makes the table of them again. Readings and
-/// deadlines are in ticks of the table's clock.
+/// [`LeaseTable::restore`](crate::LeaseTable::restore) restores the table from them. Ticks are those
+/// of the table's clock.
 #[derive(Debug, Drop)]
 pub struct Kept {
     /// The policy of the job.
     pub policy: Policy,
-    /// The last accepted reading; 0 before the first.
+    /// The last accepted reading, in ticks; 0 before the first.
     pub last: u64,
     /// The last term of the job lease that was given, if any; it may have ended.
     pub term: Option<JobTerm>,
@@ -35,7 +35,8 @@ pub struct Kept {
     pub pending: Option<Assignment>,
     /// How many grants the table has made.
     pub granted: u64,
-    /// The greatest deadline of all grants, also of those that were freed; 0 if there was none.
+    /// The greatest deadline of all grants, in ticks, also of those that were freed; 0 if there was
+    /// none.
     pub deadline: u64,
 }
 

@@ -247,13 +247,16 @@ pub fn ahead_law()
 ///
 /// `life` is what happened to the table, newest first: a call was answered, or a process ended and
 /// the table was restored from what was saved, which covered the kept values of the table before.
-/// Then each call of each process, with its reply, is in one run that leads to the table as it
+/// A call that was not saved when its process ended, and whose reply was not handed out, is not in
+/// it. Then each call of each process, with its reply, is in one run that leads to the table as it
 /// stands now, so all laws of this crate hold of the replies of all processes together. What was
 /// saved is never refused.
 pub fn lives_law()
-    ensures run { (policy : Terms) (life : List Happening) → is_policy policy ≡ true → IsLife policy life → IsOneRun policy life }
-    ensures replies { (life : List Happening) (run : List AnsweredTableCall) (e : AnsweredTableCall) → IsRunOf life run
-        → Contains life (Answered e) → Contains run e }
-    ensures taken { (policy : Terms) (life : List Happening) (saved : Kept) → is_policy policy ≡ true → IsLife policy life
-        → Covers (kept_of (table_after policy life)) saved → first_of (kept_checks policy saved) ≡ None }
+    ensures run { (policy : Terms) (life : List Happening) → is_policy policy ≡ true
+        → IsLife policy life → IsOneRun policy life }
+    ensures replies { (life : List Happening) (run : List AnsweredTableCall) (e : AnsweredTableCall)
+        → IsRunOf life run → Contains life (Answered e) → Contains run e }
+    ensures taken { (policy : Terms) (life : List Happening) (saved : Kept) → is_policy policy ≡ true
+        → IsLife policy life → Covers (kept_of (table_after policy life)) saved
+        → first_of (kept_checks policy saved) ≡ None }
 {}

@@ -108,7 +108,7 @@ impl LeaseTable {
         self.last
     }
 
-    /// Returns how many grants the table has made.
+    /// Returns how many grants the table has made; the next one gets the number after that.
     pub fn granted(&self) -> u64
         ensures { result ≡ self.now.granted }
     {

@@ -10,7 +10,7 @@ use crate::table::checks::any_has_more_owners;
 use crate::values::JobTerm;
 use assignment::Assignment;
 
-pub fn same_policy(policy: Policy, other: Policy) -> bool
+pub(super) fn same_policy(policy: Policy, other: Policy) -> bool
     ensures { result ≡ same_terms policy other }
 {
     policy.low() == other.low()
@@ -23,7 +23,7 @@ pub fn same_policy(policy: Policy, other: Policy) -> bool
 }
 
 // The longer of the terms of task leases, in ticks.
-pub fn longest_term(policy: Policy) -> u64
+pub(super) fn longest_term(policy: Policy) -> u64
     ensures value { result ≡ longest_term policy }
     ensures within { result ≤ LONGEST_TERM }
 {
@@ -31,7 +31,7 @@ pub fn longest_term(policy: Policy) -> u64
 }
 
 // How many ticks a lease of the current phase lasts.
-pub fn lease_term(policy: Policy, pending: &Option<Assignment>) -> u64
+pub(super) fn lease_term(policy: Policy, pending: &Option<Assignment>) -> u64
     ensures value { result ≡ lease_term policy pending.now }
     ensures within { result ≤ LONGEST_TERM }
 {
@@ -43,7 +43,7 @@ pub fn lease_term(policy: Policy, pending: &Option<Assignment>) -> u64
 
 // Whether a term has a number from 1 up to its end, and ends at most a job term after the last
 // reading.
-pub fn is_term(last: u64, job: u64, term: &Option<JobTerm>) -> bool
+pub(super) fn is_term(last: u64, job: u64, term: &Option<JobTerm>) -> bool
     requires { last + job < 2 ^ 64 }
     ensures { result ≡ is_term last job term.now }
 {
@@ -54,7 +54,7 @@ pub fn is_term(last: u64, job: u64, term: &Option<JobTerm>) -> bool
 }
 
 // Whether the committed generation is 1 or more, and the proposed one is the next.
-pub fn are_generations(committed: &Option<Assignment>, pending: &Option<Assignment>) -> bool
+pub(super) fn are_generations(committed: &Option<Assignment>, pending: &Option<Assignment>) -> bool
     ensures { result ≡ (is_committed committed.now && is_next (generation_of committed.now) pending.now) }
 {
     let generation = match committed {
@@ -83,7 +83,7 @@ fn is_next(generation: u64, pending: &Option<Assignment>) -> bool
 }
 
 // Whether a slice has more owners than this.
-pub fn has_many_owners(high: u64, assignment: &Option<Assignment>) -> bool
+pub(super) fn has_many_owners(high: u64, assignment: &Option<Assignment>) -> bool
     ensures { result ≡ has_many_owners high assignment.now }
 {
     match assignment {
@@ -93,7 +93,7 @@ pub fn has_many_owners(high: u64, assignment: &Option<Assignment>) -> bool
 }
 
 // Whether there is a deadline exactly if grants were made, and it is not after the latest.
-pub fn is_deadline(latest: u64, granted: u64, deadline: u64) -> bool
+pub(super) fn is_deadline(latest: u64, granted: u64, deadline: u64) -> bool
     ensures { result ≡ is_deadline latest granted deadline }
 {
     if granted == 0 {

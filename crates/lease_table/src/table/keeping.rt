@@ -45,7 +45,8 @@ impl LeaseTable {
     pub fn restore(alloc: Global, policy: Policy, kept: Kept) -> Result<Self, KeptFault>
         ensures table { IfOk result (λ table. table ≡ restored_from kept) }
         ensures refusal { result_err result ≡ first_of (kept_checks policy kept) }
-        ensures crash { (past : List AnsweredTableCall) → IsRun policy past → kept ≡ kept_of (standing_after policy past)
+        ensures crash { (past : List AnsweredTableCall) → IsRun policy past
+            → kept ≡ kept_of (standing_after policy past)
             → IsOkAnd result (λ table. LeadsTo policy (crashed past) table) }
     {
         policy_law(policy);
