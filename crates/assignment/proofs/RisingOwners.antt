@@ -33,6 +33,10 @@ rising_stay owners rises = filter-range (is_among owners) TASKS 1 owners (λ t l
 pub rising_twice : (owners : List ℕ) → rising_owners (rising_owners owners) ≡ rising_owners owners
 rising_twice owners = rising_stay (rising_owners owners) (owners_rise_between owners)
 
+-- a slice with one owner stays as it is
+pub single_stays : (start owner : ℕ) → 1 ≤ owner → owner ≤ TASKS → in_rising_order (record { start = start; owners = owner ∷ [] }) ≡ record { start = start; owners = owner ∷ [] }
+single_stays start owner low high = rw (rising_stay (owner ∷ []) (low, omega arith)) refl
+
 no_stranger : (t : ℕ) (owners : List ℕ) → All (λ o. is_task o ≡ true) owners → is_task t ≡ false → is_among owners t ≡ false
 no_stranger t owners known stranger = list_any_none (λ o. o == t) owners (λ k d l. differs (get_or owners k d) (known k d l))
   where

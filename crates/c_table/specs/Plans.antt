@@ -3,6 +3,7 @@ use Rattle.std.specs.Prelude.{◌≡◌, ◌⊎◌, ℕ, ◌+◌, ◌^◌, ◌&&
 use Rattle.std.specs.List.{list_all}
 use Rattle.assignment.specs.declared.slice.Slice.{Slice}
 use Rattle.assignment.specs.Slices.{Slicing, is_task}
+use Rattle.assignment.specs.Owners.{built}
 use Rattle.weighted_move.specs.declared.error.PlanError.{PlanError}
 use Rattle.weighted_move.specs.declared.made.Plan.{Plan}
 use Rattle.weighted_move.specs.Owning.{rise_from}
@@ -32,11 +33,11 @@ are_tasks numbers = list_all is_task numbers && rise_from 1 numbers
 abbrev pub is_in_form : Slicing → Wanted → Bool
 is_in_form slicing w = is_policy w.limits && nat_lt (slicing.generation + 1) (2 ^ 64) && are_tasks w.tasks
 
--- an assignment of a generation with the slices that a plan makes of others
+-- the assignment of a generation that is built of the slices that a plan makes of others
 pub record IsPlanMade (generation : ℕ) (slices : List Slice) (w : Wanted) (next : Slicing) : Type 0 where
   pub plan : Plan
   pub planned : IsPlan slices w.loads w.tasks w.limits plan
-  pub is : next ≡ record { generation = generation; slices = plan.slices }
+  pub is : next ≡ built generation plan.slices
 
 -- an assignment of the next generation that a plan makes, and its message
 pub record IsNextText (slicing : Slicing) (w : Wanted) (text : List ℕ) : Type 0 where

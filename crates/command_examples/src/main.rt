@@ -12,7 +12,7 @@ use std::alloc::Global;
 use std::fs;
 use std::rt::Files;
 
-const NAMES: [&str; 72] = [
+const NAMES: [&str; 73] = [
     "help",
     "help-of-run",
     "help-of-session",
@@ -49,6 +49,7 @@ const NAMES: [&str; 72] = [
     "session-empty-input",
     "audit-hand-over",
     "audit-two-files",
+    "audit-owners-in-another-order",
     "audit-no-actor",
     "audit-slow-clock",
     "audit-committed-over-a-guard",

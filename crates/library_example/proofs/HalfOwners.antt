@@ -5,8 +5,9 @@ use Rattle.std.specs.Prelude.{Some, None, nat_lt, nat_le, if◌then◌else◌}
 use Rattle.std.specs.Option.{option_map_or}
 use Rattle.slice_ranges.specs.declared.key.TheConstants.{KEYS}
 use Rattle.assignment.specs.declared.slice.Slice.{Slice}
-use Rattle.assignment.specs.Owners.{owns, greater}
+use Rattle.assignment.specs.Owners.{built, owns, greater, with_rising_owners}
 use Rattle.assignment.specs.Slices.{Slicing, is_among}
+use Rattle.assignment.proofs.RisingOwners.{single_stays}
 
 abbrev pub slice_from : ℕ → List ℕ → Slice
 slice_from start owners = record { start = start; owners = owners }
@@ -34,9 +35,12 @@ upper_owned : (high : Bool) → owns_in 2 high ≡ high
 upper_owned true = refl
 upper_owned false = refl
 
-module _ (slicing : Slicing) (lower upper : List ℕ) (built : slicing ≡ record { generation = 1; slices = halves_of lower upper }) (one : lower ≡ 1 ∷ []) (two : upper ≡ 2 ∷ []) where
+module _ (slicing : Slicing) (lower upper : List ℕ) (made : slicing ≡ built 1 (halves_of lower upper)) (one : lower ≡ 1 ∷ []) (two : upper ≡ 2 ∷ []) where
   slices_are : slicing.slices ≡ halves_of (1 ∷ []) (2 ∷ [])
-  slices_are = ap (λ (s : Slicing). s.slices) built ∙ (ap (λ (owners : List ℕ). halves_of owners upper) one ∙ ap (λ (owners : List ℕ). halves_of (1 ∷ []) owners) two)
+  slices_are =
+      ap (λ (s : Slicing). s.slices) made
+      ∙ (ap (λ (owners : List ℕ). with_rising_owners (halves_of owners upper)) one
+        ∙ (ap (λ (owners : List ℕ). with_rising_owners (halves_of (1 ∷ []) owners)) two ∙ rw (single_stays 0 1 (omega arith) (omega arith), single_stays (KEYS / 2) 2 (omega arith) (omega arith)) refl))
 
   pub owns_lower : (key : ℕ) → owns slicing.slices key 1 ≡ nat_lt key (KEYS / 2)
   owns_lower key = ap (λ (slices : List Slice). owns slices key 1) slices_are ∙ (owns_by_half key 1 ∙ lower_owned key)

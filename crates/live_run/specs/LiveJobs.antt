@@ -1,6 +1,7 @@
 -- Live jobs.
 use Rattle.std.specs.Prelude.{ℕ, ◌+◌, ◌%◌, ◌^◌, [], ◌∷◌, Bool, ◌&&◌}
 use Rattle.assignment.specs.Slices.{Slicing}
+use Rattle.assignment.specs.Owners.{built}
 use Rattle.assignment.specs.declared.slice.Slice.{Slice}
 use Rattle.lease_table.specs.Policies.{Terms, terms}
 use Rattle.machines.specs.Numbers.{is_within}
@@ -35,7 +36,4 @@ half_of start owner = record { start = start; owners = owner ∷ [] }
 
 -- the assignment of a generation: of the task numbers from 1 on, taken round, the one after the generation's and the next own a half of the keys each
 abbrev pub halves_of : ℕ → ℕ → Slicing
-halves_of generation tasks = record {
-  generation = generation;
-  slices = half_of 0 (generation % tasks + 1) ∷ half_of (2 ^ 62) ((generation + 1) % tasks + 1) ∷ [];
-}
+halves_of generation tasks = built generation (half_of 0 (generation % tasks + 1) ∷ half_of (2 ^ 62) ((generation + 1) % tasks + 1) ∷ [])

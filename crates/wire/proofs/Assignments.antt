@@ -3,6 +3,7 @@ use Rattle.std.proofs.Common.{◌≡◌, ◌≤◌, false, List, None, Ok, refl,
 use Rattle.serde_json.specs.Data.{Data, depth}
 use Rattle.serde_json.specs.Written.{has_float}
 use Rattle.assignment.specs.Slices.{Slicing, refusal_of}
+use Rattle.assignment.specs.Owners.{with_rising_owners}
 use Rattle.assignment.specs.declared.slice.Slice.{Slice}
 use Rattle.program_io.specs.Members.{list_at, number_of}
 use Rattle.wire.specs.Assignments.{assignment_data, assignment_of, slice_data, slice_of, slicing_in}
@@ -26,9 +27,9 @@ slices_whole slices = items_whole slice_data slice_whole slices
 pub slices_shallow : (slices : List Slice) → depth (list_data slice_data slices) ≤ 3
 slices_shallow slices = omega (arith, items_shallow slice_data 2 slice_shallow slices)
 
-pub assignment_read : (a : Slicing) → refusal_of a.slices ≡ None → assignment_of (assignment_data a) ≡ Ok a
+pub assignment_read : (a : Slicing) → refusal_of a.slices ≡ None → with_rising_owners a.slices ≡ a.slices → assignment_of (assignment_data a) ≡ Ok a
 unfolding assignment_of slicing_in list_at
-assignment_read a accepted = rw (list_read slice_of slice_data slice_read a.slices, accepted) refl
+assignment_read a accepted rising = rw (list_read slice_of slice_data slice_read a.slices, accepted, rising) refl
 
 pub assignment_written : (a : Slicing) (d : Data) → d ≡ assignment_data a → assignment_of (assignment_data a) ≡ Ok a → IsWritten assignment_data assignment_of a d
 assignment_written a d is reads = record {

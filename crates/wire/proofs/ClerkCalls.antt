@@ -3,6 +3,7 @@ use Rattle.std.proofs.Common.{◌≡◌, ◌≤◌, false, None, Ok, refl, arith
 use Rattle.serde_json.specs.Data.{Data, depth}
 use Rattle.serde_json.specs.Written.{has_float}
 use Rattle.assignment.specs.Slices.{Slicing, refusal_of}
+use Rattle.assignment.specs.Owners.{with_rising_owners}
 use Rattle.clerk.specs.declared.call.ClerkCall.{ClerkCall}
 use Rattle.clerk.specs.declared.call.ClerkCall.TheVariants.{Learn, Forget}
 use Rattle.clerk.specs.declared.call.ClerkReply.{ClerkReply}
@@ -14,9 +15,9 @@ use Rattle.wire.specs.ClerkCalls.{clerk_call_data, clerk_call_of, learn_of, forg
 use Rattle.wire.proofs.Assignments.{slice_read, slices_shallow, slices_whole}
 use Rattle.wire.proofs.Lists.{list_read}
 
-pub learn_read : (slicing : Slicing) → refusal_of slicing.slices ≡ None → clerk_call_of (clerk_call_data (Learn slicing)) ≡ Ok (Learn slicing)
+pub learn_read : (slicing : Slicing) → refusal_of slicing.slices ≡ None → with_rising_owners slicing.slices ≡ slicing.slices → clerk_call_of (clerk_call_data (Learn slicing)) ≡ Ok (Learn slicing)
 unfolding clerk_call_of learn_of slicing_in list_at
-learn_read slicing accepted = rw (list_read slice_of slice_data slice_read slicing.slices, accepted) refl
+learn_read slicing accepted rising = rw (list_read slice_of slice_data slice_read slicing.slices, accepted, rising) refl
 
 pub forget_read : clerk_call_of (clerk_call_data Forget) ≡ Ok Forget
 unfolding clerk_call_of forget_of

@@ -3,6 +3,7 @@ use Rattle.std.proofs.Common.{◌≡◌, ℕ, ◌^◌, ◌<◌, ◌≤◌, false
 use Rattle.serde_json.specs.Data.{Data, depth}
 use Rattle.serde_json.specs.Written.{has_float}
 use Rattle.assignment.specs.Slices.{Slicing, refusal_of}
+use Rattle.assignment.specs.Owners.{with_rising_owners}
 use Rattle.assignment.specs.declared.task.TheConstants.{TASKS}
 use Rattle.lease_table.specs.declared.values.ReleaseNote.{ReleaseNote}
 use Rattle.lease_table.specs.declared.call.TableCall.{TableCall}
@@ -24,9 +25,10 @@ pub renew_read : (number at : ℕ) → call_of (call_data (JobRenew number at)) 
 unfolding call_of renew_of
 renew_read number at = refl
 
-pub propose_read : (number : ℕ) (slicing : Slicing) (at : ℕ) → refusal_of slicing.slices ≡ None → call_of (call_data (Propose number slicing at)) ≡ Ok (Propose number slicing at)
+pub propose_read : (number : ℕ) (slicing : Slicing) (at : ℕ) → refusal_of slicing.slices ≡ None → with_rising_owners slicing.slices ≡ slicing.slices
+    → call_of (call_data (Propose number slicing at)) ≡ Ok (Propose number slicing at)
 unfolding call_of propose_of slicing_in list_at
-propose_read number slicing at accepted = rw (list_read slice_of slice_data slice_read slicing.slices, accepted) refl
+propose_read number slicing at accepted rising = rw (list_read slice_of slice_data slice_read slicing.slices, accepted, rising) refl
 
 pub commit_read : (number at : ℕ) → call_of (call_data (Commit number at)) ≡ Ok (Commit number at)
 unfolding call_of commit_of

@@ -2,6 +2,7 @@
 use Rattle.std.specs.Prelude.{ℕ, List, [], ◌∷◌, codes, Option, Some, None, Result, Ok, Err}
 use Rattle.serde_json.specs.Data.{Data, array, item, no_items}
 use Rattle.assignment.specs.Slices.{Slicing, refusal_of}
+use Rattle.assignment.specs.Owners.{built}
 use Rattle.assignment.specs.declared.slice.Slice.{Slice}
 use Rattle.assignment.specs.declared.error.AssignmentError.{AssignmentError}
 use Rattle.program_io.specs.declared.fault.WrongForm.{WrongForm}
@@ -30,9 +31,9 @@ slice_of d = do
   owners ← list_of number_of pair.1
   Ok (record { start = start; owners = owners })
 
--- the assignment of a generation that has these slices, unless they are refused
+-- the assignment that is built of a generation and slices, unless they are refused
 abbrev pub slicing_of : ℕ → List Slice → Option AssignmentError → Result Slicing Refusal
-slicing_of generation slices None = Ok (record { generation = generation; slices = slices })
+slicing_of generation slices None = Ok (built generation slices)
 slicing_of generation slices (Some why) = Err (Slices why)
 
 -- the members `generation` and `slices` of an object, as an assignment

@@ -1,16 +1,19 @@
 -- A proposal of slices for which there is no memory.
-use Rattle.std.proofs.Common.{◌≡◌, ℕ, Bool, true, ◌∷◌, refl, sym, ◌∙◌, ap, subst}
+use Rattle.std.proofs.Common.{◌≡◌, ℕ, Bool, true, List, ◌∷◌, refl, sym, ◌∙◌, ap, subst}
 use Rattle.std.specs.Prelude.{Option, Some, None, Result, Ok, Err, alloc_error}
 use Rattle.std.specs.declared.alloc.AllocError.{AllocError}
 use Rattle.machines.specs.Answers.{with_named_reply}
 use Rattle.machines.specs.Refusals.{first_of, unless_refused}
-use Rattle.assignment.specs.Slices.{Slicing}
+use Rattle.assignment.specs.declared.slice.Slice.{Slice}
+use Rattle.assignment.specs.Slices.{Slicing, refusal_of}
+use Rattle.assignment.specs.Owners.{built}
+use Rattle.assignment.proofs.RisingOwners.{same_counts}
 use Rattle.lease_table.specs.declared.call.TableCall.TheVariants.{Propose}
 use Rattle.lease_table.specs.declared.call.TableReply.{TableReply}
 use Rattle.lease_table.specs.declared.call.TableReply.TheVariants.{Proposed}
 use Rattle.lease_table.specs.declared.error.TableError.{TableError}
 use Rattle.lease_table.specs.Tables.{Standing}
-use Rattle.lease_table.specs.Steps.{propose_checks}
+use Rattle.lease_table.specs.Steps.{proposal_checks, propose_checks}
 use Rattle.cluster.specs.declared.call.ClusterCall.{ClusterCall}
 use Rattle.cluster.specs.declared.call.ClusterCall.TheVariants as call
 use Rattle.cluster.specs.declared.error.ClusterError.{ClusterError}
@@ -27,6 +30,11 @@ use Rattle.world.specs.declared.step.Step.{Step}
 use Rattle.world.specs.declared.reply.Refusal.TheVariants as refusal
 use Rattle.world.specs.declared.reply.Reply.TheVariants as reply
 use Rattle.world.specs.internals.Asking.{IsAsked}
+
+-- the table refuses the assignment that is built as it would the slices of which it is built
+pub same_refusal : (t : Standing) (number generation : ℕ) (slices : List Slice) (at : ℕ) → refusal_of slices ≡ None
+    → first_of (propose_checks t number (built generation slices) at) ≡ first_of (propose_checks t number (record { generation = generation; slices = slices }) at)
+same_refusal t number generation slices at accepted = ap (λ (many : Bool). first_of (proposal_checks t number generation many at)) (same_counts slices t.policy.high accepted)
 
 module _ (job : Job) (calls : ClusterPast) (number at : ℕ) (slicing : Slicing) (s : Step) (cluster : Cluster) (leads : LeadsToCluster job calls cluster) where
   abbrev proposal : ClusterCall

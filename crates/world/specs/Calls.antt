@@ -4,6 +4,7 @@ use Rattle.machines.specs.Numbers.{is_within}
 use Rattle.slice_ranges.specs.Hash.{slice_key}
 use Rattle.assignment.specs.declared.error.AssignmentError.{AssignmentError}
 use Rattle.assignment.specs.Slices.{refusal_of}
+use Rattle.assignment.specs.Owners.{built}
 use Rattle.lease_table.specs.declared.call.TableCall.TheVariants as asked
 use Rattle.slicelet.specs.declared.call.SliceletCall.TheVariants.{Start, Hear, Release}
 use Rattle.slicelet.specs.declared.handle.KeyHandle.{KeyHandle}
@@ -45,7 +46,7 @@ abbrev pub call_of : Job → Past → ClusterPast → Step → Result ClusterCal
 call_of job past calls (step.Take assigner at) = if_actor assigner job.assigners (Ok (call.Table (asked.JobTake assigner at)))
 call_of job past calls (step.Renew assigner at) = if_actor assigner job.assigners (Ok (call.Table (asked.JobRenew (kept_number assigner past) at)))
 call_of job past calls (step.Propose assigner generation slices at) =
-    if_actor assigner job.assigners (if_built (refusal_of slices) (call.Table (asked.Propose (kept_number assigner past) (record { generation = generation; slices = slices }) at)))
+    if_actor assigner job.assigners (if_built (refusal_of slices) (call.Table (asked.Propose (kept_number assigner past) (built generation slices) at)))
 call_of job past calls (step.Commit assigner at) = if_actor assigner job.assigners (Ok (call.Table (asked.Commit (kept_number assigner past) at)))
 call_of job past calls step.Phase = Ok call.Phase
 call_of job past calls step.Rows = Ok call.Rows

@@ -3,6 +3,7 @@ use Rattle.std.specs.Prelude.{ℕ, ◌==◌, List, [], ◌∷◌, ◌++◌, map,
 use Rattle.std.specs.List.{range_with_len}
 use Rattle.slice_ranges.specs.Hash.{slice_key}
 use Rattle.assignment.specs.Slices.{Slicing}
+use Rattle.assignment.specs.Owners.{built}
 use Rattle.lease_table.specs.declared.values.JobTerm.{JobTerm}
 use Rattle.lease_table.specs.Tables.{last_number}
 use Rattle.load_ledger.specs.declared.share.LoadRecord.{LoadRecord}
@@ -16,9 +17,9 @@ use Rattle.world.specs.Pasts.{Past, is_accepted}
 
 -- THE DRAFT
 
--- the draft: the slices of the last accepted `assign`
+-- the draft: the assignment that the last accepted `assign` built
 abbrev pub draft_after : Step → Option Slicing → Option Slicing
-draft_after (step.Assign generation slices) before = Some (record { generation = generation; slices = slices })
+draft_after (step.Assign generation slices) before = Some (built generation slices)
 draft_after _ before = before
 
 abbrev pub draft_of : Past → Option Slicing

@@ -1,6 +1,8 @@
 //! The steps of the table and its assigners.
 
-ghost use Rattle.std.specs.Prelude.{◌≡◌};
+ghost use Rattle.std.specs.Prelude.{◌≡◌, None};
+ghost use Rattle.assignment.specs.Slices.{refusal_of};
+ghost use Rattle.assignment.specs.Owners.{built};
 ghost use Rattle.lease_table.specs.declared.call.TableCall.TheVariants.{Propose};
 ghost use Rattle.cluster.specs.declared.call.ClusterCall.TheVariants as call;
 ghost use Rattle.cluster.specs.Pasts.{Past as ClusterPast};
@@ -38,8 +40,9 @@ fn adopt(assigner: &mut Assigner, reply: &Reply)
 
 // Returns the reply to a proposal whose slices make an assignment for which there is no memory.
 fn unproposed(cluster: &Cluster, number: u64, generation: u64, slices: &[Slice], at: u64) -> Reply
+    requires { refusal_of slices.now ≡ None }
     ensures asked { (job : Job) (calls : ClusterPast) (s : Step) → LeadsToCluster job calls cluster.now → IsAsked job calls s
-        (call.Table (Propose number (record { generation = generation; slices = slices.now }) at)) result cluster.now }
+        (call.Table (Propose number (built generation slices.now) at)) result cluster.now }
     ensures run { (job : Job) (calls : ClusterPast) → LeadsToCluster job calls cluster.now → IsClusterRun job calls }
 {
     cluster.run_law();

@@ -3,7 +3,7 @@ use Rattle.wire.proofs.TableCalls.{take_read, renew_read, propose_read, commit_r
 use Rattle.wire.proofs.table_call.call_law.Goals as goal
 
 pub returns-in-Propose : goal.returns-in-Propose
-returns-in-Propose c = rw c.in-Propose.is (propose_read c.in-Propose.number c.in-Propose.assignment c.in-Propose.at c.slices-slices.ensures.accepted)
+returns-in-Propose c = rw c.in-Propose.is (propose_read c.in-Propose.number c.in-Propose.assignment c.in-Propose.at c.slices-slices.ensures.accepted c.slices-slices.ensures.rising)
 
 pub returns-in-Grant : goal.returns-in-Grant
 returns-in-Grant c =

@@ -2,6 +2,7 @@ use Rattle.std.proofs.Common.{◌≡◌, ℕ, ◌<◌, List, length, refl, sym, 
 use Rattle.std.specs.Prelude.{Option, None, Result, Ok}
 use Rattle.assignment.specs.declared.error.AssignmentError.{AssignmentError}
 use Rattle.assignment.specs.Slices.{Slicing, refusal_of}
+use Rattle.assignment.specs.Owners.{built}
 use Rattle.lease_table.specs.declared.call.TableCall.TheVariants as asked
 use Rattle.lease_table.specs.Tables.{last_number}
 use Rattle.assigner.specs.Terms.{Keeping}
@@ -19,7 +20,7 @@ use Rattle.world.proofs.world.World.propose.Goals as goal
 pub returns-in-Ok : goal.returns-in-Ok
 returns-in-Ok c = λ job past k like.
     let s = step.Propose c.args.assigner c.args.generation c.args.slices.now c.args.at in
-    let slicing : Slicing = record { generation = c.args.generation; slices = c.args.slices.now } in
+    let slicing : Slicing = built c.args.generation c.args.slices.now in
     let made = call.Table (asked.Propose c.number-number.result c.in-Ok.assignment c.args.at) in
     let within = subst (λ (xs : List Keeping). c.in_ok-place.place < length xs) c.as_slice.ensures.value c.in_ok-place.ensures.1 in
     let own = own_assigner job past c.args.self.now.assigners.items c.args.assigner c.in_ok-place.place c.index.result.now k.assigners c.in_ok-place.ensures.0 within c.index.ensures in
@@ -30,10 +31,13 @@ returns-in-Ok c = λ job past k like.
     ∙ (ap (λ (n : ℕ). one n slicing) (sym number) ∙ ap (λ (a : Slicing). one c.number-number.result a) (sym c.in-Ok.ensures.built))) in
     asked_on job past s made c.args.self.now _ k is (record { job = refl; draft = refl; shares = refl; book = refl }) (fits s made (λ t. refl) (λ r. refl) (λ r. refl)) c.ask.ensures.run c.args.asked.now like c.ask.result (c.ask.ensures.asked job (calls_in job past) k.cluster) refl (λ n before. refl)
 
+pub unproposed-requires : goal.unproposed-requires
+unproposed-requires c = no_refusal (refusal_of c.args.slices.now) (rw c.in-Err-NoMemory.field-0-is at c.in-Err-NoMemory.ensures.refused)
+
 pub returns-in-Err-NoMemory : goal.returns-in-Err-NoMemory
 returns-in-Err-NoMemory c = λ job past k like.
     let s = step.Propose c.args.assigner c.args.generation c.args.slices.now c.args.at in
-    let slicing : Slicing = record { generation = c.args.generation; slices = c.args.slices.now } in
+    let slicing : Slicing = built c.args.generation c.args.slices.now in
     let made = call.Table (asked.Propose c.number-number.result slicing c.args.at) in
     let within = subst (λ (xs : List Keeping). c.in_ok-place.place < length xs) c.as_slice.ensures.value c.in_ok-place.ensures.1 in
     let own = own_assigner job past c.args.self.now.assigners.items c.args.assigner c.in_ok-place.place c.index.result.now k.assigners c.in_ok-place.ensures.0 within c.index.ensures in
