@@ -73,15 +73,15 @@ one_more : (test : ℕ → Bool) (x n low : ℕ) → test x ≡ false → low �
     → length (filter (λ t. x == t || test t) (range_with_len low n)) ≡ suc (length (filter test (range_with_len low n)))
 one_more test x zero low fails l h = absurd (omega arith)
 one_more test x (suc n) low fails l h = elim (cases_lt low x) [
-    | inl later ↦
-        let other : (x == low) ≡ false = grind (arith, nat_tests) in
-        rw other (by_test (test low) (one_more test x n (low + 1) fails (omega arith) (omega arith)))
-    | inr here ↦
-        let is : x ≡ low = omega arith in
-        let itself : (x == low) ≡ true = grind (arith, nat_tests) in
-        let out : test low ≡ false = subst (λ (y : ℕ). test y ≡ false) is fails in
-        rw (itself, out) (ap suc (none_more test x n (low + 1) (omega arith)))
-  ]
+  | inl later ↦
+      let other : (x == low) ≡ false = grind (arith, nat_tests) in
+      rw other (by_test (test low) (one_more test x n (low + 1) fails (omega arith) (omega arith)))
+  | inr here ↦
+      let is : x ≡ low = omega arith in
+      let itself : (x == low) ≡ true = grind (arith, nat_tests) in
+      let out : test low ≡ false = subst (λ (y : ℕ). test y ≡ false) is fails in
+      rw (itself, out) (ap suc (none_more test x n (low + 1) (omega arith)))
+]
   where
     by_test : (b : Bool) → length (filter (λ t. x == t || test t) (range_with_len (low + 1) n)) ≡ suc (length (filter test (range_with_len (low + 1) n)))
         → length (if b then low ∷ filter (λ t. x == t || test t) (range_with_len (low + 1) n) else filter (λ t. x == t || test t) (range_with_len (low + 1) n))
@@ -146,7 +146,7 @@ rising_accepted slices accepted =
     let e6 : list_any (λ (s : Slice). nat_lt MOST_OWNERS (length s.owners)) (with_rising_owners slices) ≡ list_any (λ s. nat_lt MOST_OWNERS (length s.owners)) slices = any_sound (λ s. nat_lt MOST_OWNERS (length s.owners)) slices (λ s h. ap (λ n. nat_lt MOST_OWNERS n) (sound_many s h)) facts in
     let e7 : list_any (λ (s : Slice). has_twice s.owners) (with_rising_owners slices) ≡ list_any (λ s. has_twice s.owners) slices = any_sound (λ s. has_twice s.owners) slices (λ s h. not_twice 1 65 (rising_owners s.owners) (owners_rise_between s.owners) ∙ sym h.distinct) facts in
     let e8 : list_any (λ (s : Slice). list_any (λ o. not (is_task o)) s.owners) (with_rising_owners slices) ≡ list_any (λ s. list_any (λ o. not (is_task o)) s.owners) slices =
-      any_sound (λ s. list_any (λ o. not (is_task o)) s.owners) slices (λ s h. no_strangers (rising_owners s.owners) (owners_rise_between s.owners) ∙ sym (list_any_none (λ o. not (is_task o)) s.owners (λ i d l. let known = h.tasks i d l in rw known refl))) facts in
+    any_sound (λ s. list_any (λ o. not (is_task o)) s.owners) slices (λ s h. no_strangers (rising_owners s.owners) (owners_rise_between s.owners) ∙ sym (list_any_none (λ o. not (is_task o)) s.owners (λ i d l. let known = h.tasks i d l in rw known refl))) facts in
     rw (e1, same_first 0 slices, same_order slices, e4, e5, e6, e7, e8) accepted
 
 -- slices with their owners in rising order stay as they are

@@ -64,7 +64,7 @@ const GRANT: &str =
     r#"{"type":"grant","value":{"ends":95,"generation":3,"kind":"bridge","life":1,"number":7,"ranges":[[0,5],[9,9223372036854775808]],"task":64,"until":105},"version":1}"#;
 
 const ASSIGNMENT: &str =
-    r#"{"type":"assignment","value":{"generation":4,"slices":[[0,[2,1]],[4611686018427387904,[3]]]},"version":1}"#;
+    r#"{"type":"assignment","value":{"generation":4,"slices":[[0,[1,2]],[4611686018427387904,[3]]]},"version":1}"#;
 
 #[test]
 fn writes_notes_and_handles(rt: HostRuntime) -> Result<(), Fail> {
@@ -96,6 +96,16 @@ fn writes_grants_and_assignments(rt: HostRuntime) -> Result<(), Fail> {
 }
 
 #[test]
+fn reads_owners_in_any_order(rt: HostRuntime) -> Result<(), Fail> {
+    let text =
+        r#"{"type":"assignment","value":{"generation":4,"slices":[[0,[2,1]],[4611686018427387904,[3]]]},"version":1}"#;
+    let read: Assignment = decode(rt.alloc(), text.as_bytes())?;
+    assert!(rt; read == assignment_of(rt.alloc())?);
+    assert!(rt; is_written(rt.alloc(), &read, ASSIGNMENT)?);
+    Ok(())
+}
+
+#[test]
 fn writes_calls(rt: HostRuntime) -> Result<(), Fail> {
     let alloc = rt.alloc();
     let calls = [
@@ -113,7 +123,7 @@ fn writes_calls(rt: HostRuntime) -> Result<(), Fail> {
                 assignment: assignment_of(alloc)?,
                 at: 5,
             },
-            r#"{"type":"table-call","value":{"at":5,"do":"propose","generation":4,"slices":[[0,[2,1]],[4611686018427387904,[3]]],"term":1},"version":1}"#,
+            r#"{"type":"table-call","value":{"at":5,"do":"propose","generation":4,"slices":[[0,[1,2]],[4611686018427387904,[3]]],"term":1},"version":1}"#,
         ),
         (
             TableCall::Commit { number: 1, at: 6 },
@@ -254,7 +264,7 @@ fn writes_calls_of_clerks(rt: HostRuntime) -> Result<(), Fail> {
     let alloc = rt.alloc();
     let learn = ClerkCall::Learn(assignment_of(alloc)?);
     let text =
-        r#"{"type":"clerk-call","value":{"do":"learn","generation":4,"slices":[[0,[2,1]],[4611686018427387904,[3]]]},"version":1}"#;
+        r#"{"type":"clerk-call","value":{"do":"learn","generation":4,"slices":[[0,[1,2]],[4611686018427387904,[3]]]},"version":1}"#;
     assert!(rt; is_written(alloc, &learn, text)?);
     let text = r#"{"type":"clerk-call","value":{"do":"forget"},"version":1}"#;
     assert!(rt; is_written(alloc, &ClerkCall::Forget, text)?);
