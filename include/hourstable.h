@@ -288,8 +288,8 @@ int32_t hs_session_close(struct hs_place *place);
  * HS_WRONG_FORM. */
 int32_t hs_slicelet_open(struct hs_place *place, uint64_t task);
 
-/* Starts a life of the task, which holds no lease yet. HS_OLD_LIFE, HS_CLOCK_BACK, HS_HISTORY_FULL,
- * HS_NO_MEMORY. */
+/* Starts a life of the task, which holds no lease yet. Takes no memory. HS_OLD_LIFE, HS_CLOCK_BACK,
+ * HS_HISTORY_FULL. */
 int32_t hs_slicelet_start(struct hs_place *place, uint32_t life, uint64_t at);
 
 /* Hears a grant, given as its message: its lease replaces the held one of its kind. Message codes,

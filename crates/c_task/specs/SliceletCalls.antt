@@ -9,16 +9,16 @@ use Rattle.wire.specs.Grants.{grant_of}
 use Rattle.wire.specs.declared.fault.DecodeError.{DecodeError}
 use Rattle.c_numbers.specs.declared.answer.Answer.{Answer}
 use Rattle.c_numbers.specs.declared.answer.Answer.TheVariants.{Done, Slicelet}
-use Rattle.c_numbers.specs.Taken.{IsTaken}
+use Rattle.c_numbers.specs.Taken.{IsStepped, IsTaken}
 use Rattle.c_numbers.specs.Reading.{unread_answer, IsReadFrom}
 
 -- the slicelet of a task before its first call, where the number is that of a task
 abbrev pub opened : ℕ → Option SliceletState
 opened task = if is_within task TASKS then Some (opening task) else None
 
--- a life was started, or why it was not, and nothing is changed
+-- a life was started, or why it was not, and nothing is changed; to start takes no memory
 abbrev pub IsStarted : ℕ → ℕ → SliceletState → SliceletState → Answer → Type 0
-IsStarted life at old new answer = IsTaken (λ _. Done) Slicelet (start_step old life at) old new answer
+IsStarted life at old new answer = IsStepped (λ _. Done) Slicelet (start_step old life at) old new answer
 
 -- the grant that was read was heard, or why it was not; bytes that are none change nothing
 abbrev pub IsHeard : ℕ → SliceletState → SliceletState → Answer → Result Grant DecodeError → Type 0

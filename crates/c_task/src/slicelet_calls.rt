@@ -29,12 +29,14 @@ pub fn open_slicelet(alloc: Global, task: u64) -> Option<Slicelet>
     Some(Slicelet::new(alloc, task))
 }
 
-/// Starts a life of the task.
-#[tactic(auto, using(crate::proofs::Steps::taken))]
+/// Starts a life of the task. The call takes no memory.
 pub fn start(slicelet: &mut Slicelet, life: u32, at: u64) -> Answer
     ensures { IsStarted life at slicelet.old slicelet.new result }
 {
-    slicelet_answer(slicelet.start(life, at))
+    match slicelet.start(life, at) {
+        Ok(()) => Answer::Done,
+        Err(why) => Answer::Slicelet(why),
+    }
 }
 
 /// Decodes a grant from its message and hears it.

@@ -14,10 +14,13 @@ use Rattle.lease_table.specs.Generations.{assignment_in, published_in}
 use Rattle.clerk.specs.declared.call.ClerkCall.TheVariants.{Learn}
 use Rattle.clerk.specs.declared.call.ClerkReply.{ClerkReply}
 use Rattle.clerk.specs.declared.error.ClerkError.{ClerkError}
-use Rattle.clerk.specs.Memory.{takes_memory}
+use Rattle.clerk.specs.Memory.{takes_memory as clerk_takes_memory}
 use Rattle.machines.specs.Refusals.{when}
 use Rattle.lease_table.specs.declared.values.Grant.{Grant}
 use Rattle.slicelet.specs.declared.call.SliceletCall.TheVariants.{Hear}
+use Rattle.slicelet.specs.declared.call.SliceletReply.{SliceletReply}
+use Rattle.slicelet.specs.declared.error.SliceletError.{SliceletError}
+use Rattle.slicelet.specs.Memory.{takes_memory}
 use Rattle.cluster.specs.Jobs.{Job}
 use Rattle.cluster.specs.declared.call.ClusterCall.TheVariants as asked
 use Rattle.cluster.specs.declared.error.ClusterError.TheVariants as error
@@ -72,6 +75,11 @@ pub hear_played : (job : Job) (past : Past) (task at : ℕ) (grant : Grant) (o :
 hear_played job past task at grant o none result new e played =
     subst (λ (o : Option Grant). IsPlayedOr job past (option_map (λ grant. asked.Task task (Hear grant at)) o) none result new) e played
 
+-- to hear takes memory
+pub hear_takes : (grant : Grant) (at : ℕ) (answer : Result SliceletReply (Trouble SliceletError)) → IfErr answer (λ trouble. trouble ≡ NoMemory → takes_memory (Hear grant at) ≡ true)
+hear_takes grant at (Ok told) = tt
+hear_takes grant at (Err trouble) = λ e. refl
+
 -- a published assignment comes to a clerk
 pub published_comes : (job : Job) (past : Past) (generation : ℕ) (slicing : Slicing) → IsTableRun job.policy (table_calls past)
     → ((calls : List AnsweredTableCall) (generation : ℕ) → generation ≤ commits_in calls → assignment_in generation calls ≡ published_in generation calls)
@@ -90,6 +98,6 @@ learn_played job past clerk slicing o none result new e played =
     subst (λ (o : Option Slicing). IsPlayedOr job past (option_map (λ slicing. asked.Clerk clerk (Learn slicing)) o) none result new) e played
 
 -- to learn takes memory
-pub learn_takes : (slicing : Slicing) (answer : Result ClerkReply (Trouble ClerkError)) → IfErr answer (λ trouble. trouble ≡ NoMemory → takes_memory (Learn slicing) ≡ true)
+pub learn_takes : (slicing : Slicing) (answer : Result ClerkReply (Trouble ClerkError)) → IfErr answer (λ trouble. trouble ≡ NoMemory → clerk_takes_memory (Learn slicing) ≡ true)
 learn_takes slicing (Ok told) = tt
 learn_takes slicing (Err trouble) = λ e. refl

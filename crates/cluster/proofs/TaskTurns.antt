@@ -1,9 +1,10 @@
 -- A call of a task.
 use Rattle.std.proofs.Common.{◌≡◌, ℕ, ◌+◌, ◌<◌, Bool, true, false, List, ◌∷◌, length, refl, sym, ◌∙◌, ap, subst, arith}
-use Rattle.std.specs.Prelude.{◌≢◌, ◌==◌, Option, None, Result, Ok, Err, reverse, set, get_or}
+use Rattle.std.specs.Prelude.{◌≢◌, ◌==◌, Option, None, Result, Ok, Err, IfErr, reverse, set, get_or}
 use Rattle.std.proofs.lemmas.Bool.Decides.{nat_tests}
 use Rattle.std.proofs.lemmas.List.{set-get_or}
 use Rattle.machines.specs.declared.machine.Trouble.{Trouble}
+use Rattle.machines.specs.declared.machine.Trouble.TheVariants.{NoMemory}
 use Rattle.std.specs.List.{list_any}
 use Rattle.indexmap.specs.IndexSet.{contains}
 use Rattle.machines.specs.Answers.{Takes}
@@ -14,6 +15,7 @@ use Rattle.slicelet.specs.declared.call.SliceletCall.{SliceletCall}
 use Rattle.slicelet.specs.declared.call.SliceletReply.{SliceletReply}
 use Rattle.slicelet.specs.declared.call.SliceletReply.TheVariants.{Started, Heard, Released}
 use Rattle.slicelet.specs.declared.error.SliceletError.{SliceletError}
+use Rattle.slicelet.specs.Memory.{takes_memory}
 use Rattle.slicelet.specs.States.{SliceletState, state_after}
 use Rattle.slicelet.specs.Steps.{slicelet_step}
 use Rattle.std.specs.declared.alloc.AllocError.{AllocError}
@@ -78,10 +80,10 @@ module _ (job : Job) (past : Past) (task place : ℕ) (c : SliceletCall) (old ne
       ∙ ap (λ (o : Option ClusterError). unless o (from_machine error.Slicelet reply.Task (slicelet_step (history task past) c))) came
 
   pub task_played : (answer : Result SliceletReply (Trouble SliceletError)) → Takes (slicelet_step before c) before answer after
-      → reverse new.notes.items ≡ notes_kept answer (reverse old.notes.items)
+      → IfErr answer (λ trouble. trouble ≡ NoMemory → takes_memory c ≡ true) → reverse new.notes.items ≡ notes_kept answer (reverse old.notes.items)
       → ((note : ReleaseNote) → contains same_note new.known_notes note ≡ known_after answer note (contains same_note old.known_notes note)) → IsPlayed job past (call.Task task c) (told_as error.Slicelet reply.Task answer) new
   unfolding LeadsTo
-  task_played (Ok told) took notes known =
+  task_played (Ok told) took memory notes known =
       let later : Past = event (call.Task task c) (reply.Task told) ∷ past in
       let done : slicelet_step (history task past) c ≡ Ok (after, told) = subst (λ (s : SliceletState). slicelet_step s c ≡ Ok (after, told)) at_place took in
       let now : after ≡ history (place + 1) later =
@@ -101,7 +103,7 @@ module _ (job : Job) (past : Past) (task place : ℕ) (c : SliceletCall) (old ne
         known_handles = λ handle. others.known_handles handle ∙ k.known_handles handle;
         proposals = others.proposals ∙ k.proposals;
       }
-  task_played (Err trouble) took notes known =
+  task_played (Err trouble) took memory notes known =
       untaken job past (call.Task task c) error.Slicelet reply.Task (slicelet_step (history task past) c) reply_is tt old new before after trouble k (record {
         job = others.job;
         table = others.table;
@@ -113,14 +115,14 @@ module _ (job : Job) (past : Past) (task place : ℕ) (c : SliceletCall) (old ne
         known_notes = known;
         known_handles = others.known_handles;
         proposals = others.proposals;
-      }) (subst (λ (s : SliceletState). Takes (slicelet_step s c) before (Err trouble) after) at_place took) (λ none. refl) (λ r. refl)
+      }) (subst (λ (s : SliceletState). Takes (slicelet_step s c) before (Err trouble) after) at_place took) memory (λ r. refl)
 
 -- a call that comes to its task
 pub task_turn : (job : Job) (past : Past) (task place : ℕ) (c : SliceletCall) (old new : Cluster) → place + 1 ≡ task → task_refusal past c ≡ None → LeadsTo job past old
     → (before after : SliceletState) → before ≡ get_or old.tasks.items place before → place < length old.tasks.items
     → new.tasks.items ≡ set old.tasks.items place after → IsSameBesideTasks old new → (answer : Result SliceletReply (Trouble SliceletError))
-    → Takes (slicelet_step before c) before answer after → reverse new.notes.items ≡ notes_kept answer (reverse old.notes.items)
+    → Takes (slicelet_step before c) before answer after → IfErr answer (λ trouble. trouble ≡ NoMemory → takes_memory c ≡ true) → reverse new.notes.items ≡ notes_kept answer (reverse old.notes.items)
     → ((note : ReleaseNote) → contains same_note new.known_notes note ≡ known_after answer note (contains same_note old.known_notes note)) → (result : Result ClusterReply AllocError) → result ≡ told_as error.Slicelet reply.Task answer → IsPlayed job past (call.Task task c) result new
-task_turn job past task place c old new number came k before after found within tasks others answer took notes known result is =
+task_turn job past task place c old new number came k before after found within tasks others answer took memory notes known result is =
     subst (λ (r : Result ClusterReply AllocError). IsPlayed job past (call.Task task c) r new) (sym is)
-    (task_played job past task place c old new number came k before after found within tasks others answer took notes known)
+    (task_played job past task place c old new number came k before after found within tasks others answer took memory notes known)

@@ -1,6 +1,7 @@
 -- When a call may be out of memory.
 use Rattle.std.specs.Prelude.{◌≡◌, Bool, true, false}
 use Rattle.lease_table.specs.Memory.{takes_memory as table_takes_memory}
+use Rattle.slicelet.specs.Memory.{takes_memory as slicelet_takes_memory}
 use Rattle.clerk.specs.Memory.{takes_memory as clerk_takes_memory}
 use Rattle.cluster.specs.Jobs.{Job}
 use Rattle.cluster.specs.declared.call.ClusterCall.{ClusterCall}
@@ -13,7 +14,7 @@ use Rattle.cluster.specs.Replies.{reply_to}
 -- a call takes memory
 abbrev pub takes_memory : ClusterCall → Bool
 takes_memory (call.Table c) = table_takes_memory c
-takes_memory (call.Task task c) = true
+takes_memory (call.Task task c) = slicelet_takes_memory c
 takes_memory (call.Clerk clerk c) = clerk_takes_memory c
 takes_memory call.Rows = true
 takes_memory (call.Hold task key at) = true

@@ -1,7 +1,9 @@
 //! Calls of tasks.
 
-ghost use Rattle.std.specs.Prelude.{◌≡◌, ◌∷◌, ◌++◌, [], ◌||◌, Ok, IfOk, OnOk, OnErr, reverse};
+ghost use Rattle.std.specs.Prelude.{◌≡◌, ◌∷◌, ◌++◌, [], ◌||◌, true, Ok, IfOk, IfErr, OnOk, OnErr, reverse};
+ghost use Rattle.machines.specs.declared.machine.Trouble.TheVariants.{NoMemory};
 ghost use Rattle.machines.specs.Answers.{Takes};
+ghost use Rattle.slicelet.specs.Memory.{takes_memory};
 ghost use Rattle.slicelet.specs.Steps.{release_step, slicelet_step};
 ghost use Rattle.cluster.specs.Jobs.{Job};
 ghost use Rattle.cluster.specs.declared.call.ClusterCall.TheVariants as asked;
@@ -52,12 +54,13 @@ fn take(
     call: &SliceletCall,
 ) -> Result<SliceletReply, Trouble<SliceletError>>
     ensures step { Takes (slicelet_step slicelet.old call.now) slicelet.old result slicelet.new }
+    ensures memory { IfErr result (λ trouble. trouble ≡ NoMemory → takes_memory call.now ≡ true) }
     ensures notes { reverse notes.new.items ≡ notes_kept result (reverse notes.old.items) }
     ensures known { (note : Note) → contains same_note known.new note ≡ known_after result note (contains same_note known.old note) }
 {
     match call {
         SliceletCall::Start { life, at } => {
-            slicelet.start(*life, *at)?;
+            slicelet.start(*life, *at).map_err(Trouble::Refused)?;
             Ok(SliceletReply::Started)
         }
         SliceletCall::Hear { grant, at } => {

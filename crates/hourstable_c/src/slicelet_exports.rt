@@ -32,7 +32,7 @@ pub extern "C" fn hs_slicelet_open(alloc: Global, place: &mut Place, task: u64) 
     }
 }
 
-/// Starts a life of the task.
+/// Starts a life of the task. The call takes no memory.
 #[unsafe(no_mangle)]
 #[tactic(auto, using(crate::proofs::Returning::returns))]
 pub extern "C" fn hs_slicelet_start(place: &mut Place, life: u32, at: u64) -> i32

@@ -1,4 +1,5 @@
 pub mod Calls
+pub mod Memory
 pub mod Rules
 pub mod Stamping
 pub mod Stamps

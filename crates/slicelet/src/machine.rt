@@ -1,6 +1,9 @@
 //! A slicelet as a machine.
 
+ghost use Rattle.std.specs.Prelude.{◌≡◌, true, IfErr};
+ghost use Rattle.machines.specs.declared.machine.Trouble.TheVariants.{NoMemory};
 ghost use Rattle.machines.specs.Answers.{Takes};
+ghost use Rattle.slicelet.specs.Memory.{takes_memory};
 ghost use Rattle.slicelet.specs.Steps.{event_step, slicelet_step};
 
 use crate::call::{SliceletCall, SliceletReply};
@@ -15,14 +18,15 @@ pub type SliceletEvent = Event<SliceletCall>;
 impl Slicelet {
     /// Makes a call given as a value, and returns the reply of its method.
     ///
-    /// Errors are those of the method, in its order, with out of memory last. An error leaves the
-    /// slicelet unchanged.
+    /// Errors are those of the method, in its order, then out of memory, which is possible only for
+    /// `Hear` and `Release`. An error leaves the slicelet unchanged.
     pub fn call(&mut self, call: &SliceletCall) -> Result<SliceletReply, Trouble<SliceletError>>
-        ensures { Takes (slicelet_step self.old call.now) self.old result self.new }
+        ensures step { Takes (slicelet_step self.old call.now) self.old result self.new }
+        ensures memory { IfErr result (λ trouble. trouble ≡ NoMemory → takes_memory call.now ≡ true) }
     {
         match call {
             SliceletCall::Start { life, at } => {
-                self.start(*life, *at)?;
+                self.start(*life, *at).map_err(Trouble::Refused)?;
                 Ok(SliceletReply::Started)
             }
             SliceletCall::Hear { grant, at } => {

@@ -3,7 +3,7 @@
 ghost use Rattle.std.specs.Prelude.{◌≡◌, ◌+◌, ◌^◌, ◌<◌, ℕ, List, None, length, option_map, IfOk, OnOk};
 ghost use Rattle.std.specs.Result.{result_err};
 ghost use Rattle.machines.specs.Refusals.{first_of};
-ghost use Rattle.machines.specs.Answers.{Takes};
+ghost use Rattle.machines.specs.Answers.{Answers, Takes};
 ghost use Rattle.slicelet.specs.declared.call.SliceletCall.{SliceletCall};
 ghost use Rattle.slicelet.specs.Calls.{life_of};
 ghost use Rattle.slicelet.specs.Rules.{rule_after, covers_key};
@@ -98,10 +98,10 @@ impl Slicelet {
     ///
     /// Errors, in this order: `OldLife`, `ClockBack`, `HistoryFull`. An error leaves the slicelet
     /// unchanged.
-    pub fn start(&mut self, life: u32, at: u64) -> Result<(), Trouble<SliceletError>>
-        ensures { Takes (start_step self.old life at) self.old result self.new }
+    pub fn start(&mut self, life: u32, at: u64) -> Result<(), SliceletError>
+        ensures { Answers (start_step self.old life at) self.old result self.new }
     {
-        self.check_start(life, at).map_err(Trouble::Refused)?;
+        self.check_start(life, at)?;
         self.count += 1;
         self.life = life;
         self.holding = no_leases(true, at);

@@ -2,7 +2,6 @@
 
 use crate::task_samples::{allow, grant_of, hear, serve, slicelet_of, start};
 use lease_table::Grant;
-use machines::Trouble;
 use policy_rules::{Ground, Kind, Verdict};
 use slice_ranges::SliceKey;
 use slicelet::{Slicelet, SliceletError};
@@ -45,19 +44,12 @@ fn serves_its_keys_until_the_deadline(rt: HostRuntime) -> Result<(), Fail> {
     Ok(())
 }
 
-fn refusal(answer: Result<(), Trouble<SliceletError>>) -> Option<SliceletError> {
-    match answer {
-        Err(Trouble::Refused(error)) => Some(error),
-        _ => None,
-    }
-}
-
 // How a task refuses a new life after 65,536 calls.
 fn refusal_where_full(slicelet: &mut Slicelet) -> Result<Option<SliceletError>, Fail> {
     for life in 1..=65_536 {
         start(slicelet, life, 0).ok().ok_or("each life is new")?;
     }
-    Ok(refusal(start(slicelet, 65_537, 0)))
+    Ok(start(slicelet, 65_537, 0).err())
 }
 
 #[test]

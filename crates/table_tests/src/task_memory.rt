@@ -11,17 +11,6 @@ use slicelet::Slicelet;
 use std::alloc::{AllocError, Global};
 use std::test::Fail;
 
-// Starts life 1, the second time where there was no memory for it, which changed nothing.
-fn started_at_last(slicelet: &mut Slicelet, key: SliceKey) -> Result<(), Fail> {
-    match start(slicelet, 1, 3) {
-        Err(Trouble::NoMemory) if serve(slicelet, key, 3) == Verdict::Deny(Ground::Down) => {
-            start(slicelet, 1, 3).ok().ok_or("a second time")?;
-        }
-        first => first.ok().ok_or("running out of memory changes nothing")?,
-    }
-    Ok(())
-}
-
 // Hears a grant, the second time where there was no memory for it, which changed nothing.
 fn heard_at_last(slicelet: &mut Slicelet, grant: &Grant, key: SliceKey) -> Result<(), Fail> {
     match hear(slicelet, grant, 6) {
@@ -64,7 +53,7 @@ type Answers = ([Verdict; 2], u64, Verdict);
 
 fn answers_at_last(alloc: Global, slicelet: &mut Slicelet) -> Result<Answers, Fail> {
     let key = SliceKey::new(7).ok_or("a number of 63 bits is a key")?;
-    started_at_last(slicelet, key)?;
+    start(slicelet, 1, 3).ok().ok_or("a start takes no memory")?;
     hear_at_last(alloc, slicelet, key)?;
     let heard = serve(slicelet, key, 7);
     let copied = verdict_of_a_copy(slicelet, key)?;

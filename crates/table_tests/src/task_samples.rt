@@ -20,7 +20,7 @@ pub fn slicelet_of(alloc: Global, task: u64) -> Result<Slicelet, Fail> {
     Ok(Slicelet::new(alloc, task_of(task)?))
 }
 
-pub fn start(slicelet: &mut Slicelet, life: u32, at: u64) -> Result<(), Trouble<SliceletError>> {
+pub fn start(slicelet: &mut Slicelet, life: u32, at: u64) -> Result<(), SliceletError> {
     slicelet.start(life, at)
 }
 

@@ -43,7 +43,6 @@ takes_memory (step.Judge question) = true
 takes_memory (step.Propose assigner generation slices at) = true
 takes_memory step.Rows = true
 takes_memory (step.Grant task life at) = true
-takes_memory (step.Start task life at) = true
 takes_memory (step.Hear task number at) = true
 takes_memory (step.Release task kind at) = true
 takes_memory (step.Hold task key at) = true

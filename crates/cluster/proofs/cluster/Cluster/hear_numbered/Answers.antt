@@ -14,7 +14,7 @@ use Rattle.cluster.specs.Deliveries.{same_note}
 use Rattle.cluster.specs.Numbers.{with_number}
 use Rattle.cluster.proofs.TaskTurns.{inside_job, task_turn}
 use Rattle.cluster.proofs.Turning.{heard_no_note, heard_none_known}
-use Rattle.cluster.proofs.Numbering.{hear_of_none, hear_unsent, hear_played, sent_comes}
+use Rattle.cluster.proofs.Numbering.{hear_of_none, hear_unsent, hear_played, hear_takes, sent_comes}
 use Rattle.cluster.proofs.cluster.Cluster.hear_numbered.Goals as goal
 
 pub returns-in_default : goal.returns-in_default
@@ -38,6 +38,6 @@ returns c = λ job past k.
     hear_played job past c.args.task c.args.at c.in-Some-with_number.grant.now (with_number c.args.number (grants past)) (by_actor c.args.task job.tasks (reply.Refused error.NotSent)) _ _ found
     (task_turn job past c.args.task c.in-Some.place (Hear c.in-Some-with_number.grant.now c.args.at) c.args.self.now _ c.in-Some.ensures.0
     (sent_comes past c.args.number c.in-Some-with_number.grant.now c.args.at (sym found)) k c.index_mut.result.now c.hear.new.slicelet c.index_mut.ensures.value inside refl
-    (record { job = refl; table = refl; clerks = refl; grants = refl; handles = refl; known_handles = λ key. refl; proposals = refl }) c.hear.result c.hear.ensures
+    (record { job = refl; table = refl; clerks = refl; grants = refl; handles = refl; known_handles = λ key. refl; proposals = refl }) c.hear.result c.hear.ensures (hear_takes c.in-Some-with_number.grant.now c.args.at c.hear.result)
     (heard_no_note c.index_mut.result.now c.in-Some-with_number.grant.now c.args.at c.hear.new.slicelet c.hear.result _ c.hear.ensures)
     (heard_none_known c.index_mut.result.now c.in-Some-with_number.grant.now c.args.at c.hear.new.slicelet c.hear.result c.hear.ensures (contains same_note c.args.self.now.known_notes)) _ c.told_by_task.ensures)

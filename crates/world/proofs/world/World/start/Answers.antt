@@ -10,4 +10,4 @@ pub returns : goal.returns
 returns c = λ job past k.
     let s = step.Start c.args.task c.args.life c.args.at in
     let made = call.Task c.args.task (Start c.args.life c.args.at) in
-    asked_on job past s made c.args.self.now _ k refl (record { job = refl; draft = refl; shares = refl; book = refl }) (fits s made (λ t. refl) (λ r. refl) (λ r. refl)) c.ask.ensures.run s refl c.ask.result (c.ask.ensures.asked job (calls_in job past) k.cluster) refl (λ n before. refl)
+    asked_on job past s made c.args.self.now _ k refl (record { job = refl; draft = refl; shares = refl; book = refl }) (fits s made (λ t. t) (λ r. refl) (λ r. refl)) c.ask.ensures.run s refl c.ask.result (c.ask.ensures.asked job (calls_in job past) k.cluster) refl (λ n before. refl)
