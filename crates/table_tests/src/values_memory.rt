@@ -1,7 +1,7 @@
 //! Sets, assignments and the written rule when memory runs out: each call is made once more, and
 //! then returns what it returns with ample memory.
 
-use crate::samples::{HALF, again, task_of};
+use crate::plan_samples::{HALF, again, task_of};
 use assignment::{Assignment, Listed, Slice};
 use machines::Trouble;
 use policy_rules::{Holding, Kind, Lease, permitted};

@@ -1,6 +1,6 @@
 //! Tasks, assignments and the owners of a key.
 
-use crate::samples::{HALF, key_of};
+use crate::plan_samples::{HALF, key_of};
 use assignment::{Assignment, AssignmentError, Listed, Slice, TaskId};
 use machines::Trouble;
 use std::alloc::{AllocError, Global};
