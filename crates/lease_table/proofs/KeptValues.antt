@@ -24,7 +24,7 @@ use Rattle.lease_table.specs.Runs.{IsRun, commits_in}
 use Rattle.lease_table.specs.Generations.{HasFewOwners}
 use Rattle.lease_table.specs.OpenRows.{IsSent}
 use Rattle.lease_table.specs.KeptValues.{kept_of, kept_checks, same_terms, is_term, is_committed, is_next, has_many_owners, is_deadline}
-use Rattle.lease_table.specs.internals.Numbers.{IsTermInRange, IsInRange}
+use Rattle.lease_table.specs.internals.Numbers.{IsTermInRange, IsInRange, newest_of}
 use Rattle.lease_table.proofs.Acceptance.{IsAcceptedAfter}
 use Rattle.lease_table.proofs.Induction.{after_run, of_each_sent}
 use Rattle.lease_table.proofs.Assignments.{counted, few_owners, assignment_committed, assignment_proposed}
@@ -47,7 +47,7 @@ term_in_range policy last (Some term) within low e =
 
 -- values with no fault are in range
 pub in_range : (policy : Terms) (k : Kept) → is_policy k.policy ≡ true → first_of (kept_checks policy k) ≡ None
-    → IsInRange k.last k.policy.job k.granted k.term []
+    → IsInRange k.last k.policy.job k.granted (newest_of k.committed k.pending) k.term []
 in_range policy k within e =
     let none = all_none (kept_checks policy k) e in
     let range : nat_le READINGS k.last ≡ false = not_when _ _ none.1.0 in
@@ -60,6 +60,7 @@ in_range policy k within e =
       term = term_in_range k.policy k.last k.term within reading term;
       grants = grind (arith, nat_tests);
       rows = tt;
+      generations = tt;
     }
 
 -- THE VALUES OF EVERY TABLE HAVE NO FAULT
