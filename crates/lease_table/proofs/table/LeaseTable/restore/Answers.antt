@@ -7,7 +7,7 @@ use Rattle.lease_table.proofs.KeptValues.{in_range, taken}
 use Rattle.lease_table.proofs.table.LeaseTable.restore.Goals as goal
 
 pub invariant_of-result : goal.invariant_of-result
-invariant_of-result c = rw c.new.ensures (in_range c.args.policy c.args.kept c.policy_law-2.ensures (sym c.in_default.ensures))
+invariant_of-result c = rw (c.new.ensures, c.of.ensures) (in_range c.args.policy c.args.kept c.policy_law-2.ensures (sym c.in_default.ensures))
 
 pub returns-in-Some-clause-crash : goal.returns-in-Some-clause-crash
 returns-in-Some-clause-crash c = λ past run e.
