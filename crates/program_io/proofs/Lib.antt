@@ -3,3 +3,4 @@ pub mod Turns
 pub mod Written
 pub mod Keeping
 pub mod NameSets
+pub mod Once

@@ -33,6 +33,10 @@ pub record Repeats (bytes name : List ℕ) : Type 0 where
   pub json : IsJson bytes value
   pub twice : repeated_name bytes ≡ Some name
 
+-- an object in the JSON text has a member twice
+abbrev pub HasRepeatedMember : List ℕ → Type 0
+HasRepeatedMember bytes = (name : List ℕ) × Repeats bytes name
+
 -- the bytes are the text of no JSON value, or repeat a member, or memory ran out
 abbrev pub IsNotStrict : List ℕ → JsonError → Type 0
 IsNotStrict bytes (error.NotJson why) = IsNoJson bytes

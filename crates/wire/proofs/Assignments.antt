@@ -1,15 +1,16 @@
 -- What is written of an assignment is read as the assignment.
 use Rattle.std.proofs.Common.{◌≡◌, ◌≤◌, false, List, None, Ok, refl, arith}
 use Rattle.serde_json.specs.Data.{Data, depth}
-use Rattle.serde_json.specs.Written.{has_float}
+use Rattle.serde_json.specs.Written.{has_float, outline}
 use Rattle.assignment.specs.Slices.{Slicing, refusal_of}
 use Rattle.assignment.specs.Owners.{with_rising_owners}
 use Rattle.assignment.specs.declared.slice.Slice.{Slice}
+use Rattle.program_io.specs.Repeated.{first_repeated}
 use Rattle.program_io.specs.Members.{list_at, number_of}
 use Rattle.wire.specs.Assignments.{assignment_data, assignment_of, slice_data, slice_of, slicing_in}
 use Rattle.wire.specs.Messages.{IsWritten}
 use Rattle.wire.specs.Objects.{list_data, number_data}
-use Rattle.wire.proofs.Lists.{items_shallow, items_whole, list_read}
+use Rattle.wire.proofs.Lists.{items_once, items_shallow, items_whole, list_read}
 
 pub slice_read : (slice : Slice) → slice_of (slice_data slice) ≡ Ok slice
 unfolding slice_of
@@ -20,6 +21,12 @@ slice_whole slice = rw (items_whole number_data (λ n. refl) slice.owners) refl
 
 slice_shallow : (slice : Slice) → depth (slice_data slice) ≤ 2
 slice_shallow slice = omega (arith, items_shallow number_data 0 (λ n. omega arith) slice.owners)
+
+slice_once : (slice : Slice) → first_repeated (outline (slice_data slice)) ≡ None
+slice_once slice = rw (items_once number_data (λ n. refl) slice.owners) refl
+
+pub slices_once : (slices : List Slice) → first_repeated (outline (list_data slice_data slices)) ≡ None
+slices_once slices = items_once slice_data slice_once slices
 
 pub slices_whole : (slices : List Slice) → has_float (list_data slice_data slices) ≡ false
 slices_whole slices = items_whole slice_data slice_whole slices
@@ -37,4 +44,5 @@ assignment_written a d is reads = record {
   reads = rw (is, reads) refl;
   whole = rw (is, slices_whole a.slices) refl;
   shallow = rw is (omega (arith, slices_shallow a.slices));
+  once = rw (is, slices_once a.slices) refl;
 }

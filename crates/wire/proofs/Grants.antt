@@ -1,14 +1,15 @@
 -- What is written of a grant is read as the grant.
-use Rattle.std.proofs.Common.{◌≡◌, ◌^◌, ◌<◌, ◌≤◌, false, Ok, refl, arith}
+use Rattle.std.proofs.Common.{◌≡◌, ◌^◌, ◌<◌, ◌≤◌, false, None, Ok, refl, arith}
 use Rattle.serde_json.specs.Data.{Data, depth}
-use Rattle.serde_json.specs.Written.{has_float}
+use Rattle.serde_json.specs.Written.{has_float, outline}
 use Rattle.assignment.specs.declared.task.TheConstants.{TASKS}
 use Rattle.slice_ranges.specs.Sets.{IsRanges}
 use Rattle.lease_table.specs.declared.values.Grant.{Grant}
+use Rattle.program_io.specs.Repeated.{first_repeated}
 use Rattle.wire.specs.Grants.{grant_data, grant_of}
 use Rattle.wire.specs.Messages.{IsWritten}
 use Rattle.wire.specs.Ranges.{pair_data, pairs_of}
-use Rattle.wire.proofs.Lists.{items_shallow, items_whole}
+use Rattle.wire.proofs.Lists.{items_once, items_shallow, items_whole}
 use Rattle.wire.proofs.Notes.{kind_read}
 use Rattle.wire.proofs.Numbers.{is_life, is_task}
 use Rattle.wire.proofs.Pairs.{ranges_read}
@@ -24,10 +25,14 @@ grant_whole grant = rw (items_whole pair_data (λ pair. refl) (pairs_of grant.le
 pub grant_shallow : (grant : Grant) → depth (grant_data grant) ≤ 3
 grant_shallow grant = omega (arith, items_shallow pair_data 1 (λ pair. omega arith) (pairs_of grant.lease.ranges))
 
+pub grant_once : (grant : Grant) → first_repeated (outline (grant_data grant)) ≡ None
+grant_once grant = rw (items_once pair_data (λ pair. refl) (pairs_of grant.lease.ranges)) refl
+
 pub grant_written : (grant : Grant) (d : Data) → d ≡ grant_data grant → grant_of (grant_data grant) ≡ Ok grant → IsWritten grant_data grant_of grant d
 grant_written grant d is reads = record {
   is = is;
   reads = rw (is, reads) refl;
   whole = rw is (grant_whole grant);
   shallow = rw is (omega (arith, grant_shallow grant));
+  once = rw (is, grant_once grant) refl;
 }

@@ -20,4 +20,5 @@ handle_written handle d is reads = record {
   reads = rw (is, reads) refl;
   whole = rw is refl;
   shallow = rw is (omega arith);
+  once = rw is refl;
 }

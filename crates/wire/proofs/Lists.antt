@@ -1,11 +1,12 @@
--- What is written of lists is read as the lists, and has no fractions and few levels.
-use Rattle.std.proofs.Common.{◌≡◌, ℕ, suc, ◌≤◌, false, List, [], ◌∷◌, map, Result, Ok, refl, arith}
+-- What is written of lists is read as the lists, and has no fractions, few levels and no member twice.
+use Rattle.std.proofs.Common.{◌≡◌, ℕ, suc, ◌≤◌, false, List, [], ◌∷◌, map, None, Result, Ok, refl, arith}
 use Rattle.serde_json.specs.Data.{Data, depth, items_depth}
 use Rattle.serde_json.specs.View.{items_of}
-use Rattle.serde_json.specs.Written.{has_float, items_have_float}
+use Rattle.serde_json.specs.Written.{has_float, items_have_float, items_outline, outline}
 use Rattle.program_io.specs.declared.fault.WrongForm.{WrongForm}
 use Rattle.program_io.specs.Reading.{in_turn}
 use Rattle.program_io.specs.Members.{list_of}
+use Rattle.program_io.specs.Repeated.{first_repeated, repeated_in_items}
 use Rattle.program_io.proofs.Forms.{elements_items}
 use Rattle.wire.specs.Objects.{list_data}
 
@@ -24,3 +25,7 @@ items_whole write each (x ∷ xs) = rw (each x) (items_whole write each xs)
 pub items_shallow : {A : Type 0} (write : A → Data) (n : ℕ) → ((x : A) → depth (write x) ≤ n) → (xs : List A) → items_depth (items_of (map write xs)) ≤ n
 items_shallow write n each [] = omega arith
 items_shallow write n each (x ∷ xs) = omega (arith, each x, items_shallow write n each xs)
+
+pub items_once : {A : Type 0} (write : A → Data) → ((x : A) → first_repeated (outline (write x)) ≡ None) → (xs : List A) → repeated_in_items (items_outline (items_of (map write xs))) ≡ None
+items_once write each [] = refl
+items_once write each (x ∷ xs) = rw (each x) (items_once write each xs)

@@ -25,4 +25,5 @@ note_written note d is reads = record {
   reads = rw (is, reads) refl;
   whole = rw is refl;
   shallow = rw is (omega arith);
+  once = rw is refl;
 }

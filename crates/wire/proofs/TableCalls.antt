@@ -1,7 +1,7 @@
 -- What is written of a call is read as the call.
 use Rattle.std.proofs.Common.{◌≡◌, ℕ, ◌^◌, ◌<◌, ◌≤◌, false, None, Ok, refl, arith}
 use Rattle.serde_json.specs.Data.{Data, depth}
-use Rattle.serde_json.specs.Written.{has_float}
+use Rattle.serde_json.specs.Written.{has_float, outline}
 use Rattle.assignment.specs.Slices.{Slicing, refusal_of}
 use Rattle.assignment.specs.Owners.{with_rising_owners}
 use Rattle.assignment.specs.declared.task.TheConstants.{TASKS}
@@ -9,11 +9,12 @@ use Rattle.lease_table.specs.declared.values.ReleaseNote.{ReleaseNote}
 use Rattle.lease_table.specs.declared.call.TableCall.{TableCall}
 use Rattle.lease_table.specs.declared.call.TableCall.TheVariants.{JobTake, JobRenew, Propose, Commit, Grant, Free, Restart}
 use Rattle.program_io.specs.Members.{list_at}
+use Rattle.program_io.specs.Repeated.{first_repeated}
 use Rattle.wire.specs.Assignments.{slice_data, slice_of, slicing_in}
 use Rattle.wire.specs.Messages.{IsWritten}
 use Rattle.wire.specs.Notes.{note_data, note_of}
 use Rattle.wire.specs.TableCalls.{call_data, call_of, take_of, renew_of, propose_of, commit_of, grant_call_of, free_of, lose_of}
-use Rattle.wire.proofs.Assignments.{slice_read, slices_shallow, slices_whole}
+use Rattle.wire.proofs.Assignments.{slice_read, slices_once, slices_shallow, slices_whole}
 use Rattle.wire.proofs.Lists.{list_read}
 use Rattle.wire.proofs.Numbers.{is_life, is_task}
 
@@ -64,10 +65,20 @@ call_shallow (Grant task life at) = omega arith
 call_shallow (Free note at) = omega arith
 call_shallow Restart = omega arith
 
+call_once : (call : TableCall) → first_repeated (outline (call_data call)) ≡ None
+call_once (JobTake assigner at) = refl
+call_once (JobRenew number at) = refl
+call_once (Propose number slicing at) = rw (slices_once slicing.slices) refl
+call_once (Commit number at) = refl
+call_once (Grant task life at) = refl
+call_once (Free note at) = refl
+call_once Restart = refl
+
 pub call_written : (call : TableCall) (d : Data) → d ≡ call_data call → call_of (call_data call) ≡ Ok call → IsWritten call_data call_of call d
 call_written call d is reads = record {
   is = is;
   reads = rw (is, reads) refl;
   whole = rw (is, call_whole call) refl;
   shallow = rw is (omega (arith, call_shallow call));
+  once = rw (is, call_once call) refl;
 }

@@ -1,15 +1,16 @@
 -- What is written of a reply is read as the reply.
-use Rattle.std.proofs.Common.{◌≡◌, ℕ, ◌≤◌, false, Ok, refl, arith}
+use Rattle.std.proofs.Common.{◌≡◌, ℕ, ◌≤◌, false, None, Ok, refl, arith}
 use Rattle.serde_json.specs.Data.{Data, depth}
-use Rattle.serde_json.specs.Written.{has_float}
+use Rattle.serde_json.specs.Written.{has_float, outline}
 use Rattle.lease_table.specs.declared.values.Grant.{Grant}
 use Rattle.lease_table.specs.declared.values.JobTerm.{JobTerm}
 use Rattle.lease_table.specs.declared.call.TableReply.{TableReply}
 use Rattle.lease_table.specs.declared.call.TableReply.TheVariants.{Term, Proposed, Committed, Granted, Freed, Lost}
+use Rattle.program_io.specs.Repeated.{first_repeated}
 use Rattle.wire.specs.Grants.{grant_data, grant_of}
 use Rattle.wire.specs.Messages.{IsWritten}
 use Rattle.wire.specs.TableReplies.{reply_data, reply_of, term_of, proposed_of, committed_of, granted_of, freed_of, lost_of}
-use Rattle.wire.proofs.Grants.{grant_shallow, grant_whole}
+use Rattle.wire.proofs.Grants.{grant_once, grant_shallow, grant_whole}
 
 pub term_read : (term : JobTerm) → reply_of (reply_data (Term term)) ≡ Ok (Term term)
 unfolding reply_of term_of
@@ -51,10 +52,19 @@ reply_shallow (Granted grant) = omega (arith, grant_shallow grant)
 reply_shallow (Freed rows) = omega arith
 reply_shallow (Lost rows) = omega arith
 
+reply_once : (reply : TableReply) → first_repeated (outline (reply_data reply)) ≡ None
+reply_once (Term term) = refl
+reply_once Proposed = refl
+reply_once (Committed generation) = refl
+reply_once (Granted grant) = rw (grant_once grant) refl
+reply_once (Freed rows) = refl
+reply_once (Lost rows) = refl
+
 pub reply_written : (reply : TableReply) (d : Data) → d ≡ reply_data reply → reply_of (reply_data reply) ≡ Ok reply → IsWritten reply_data reply_of reply d
 reply_written reply d is reads = record {
   is = is;
   reads = rw (is, reads) refl;
   whole = rw (is, reply_whole reply) refl;
   shallow = rw is (omega (arith, reply_shallow reply));
+  once = rw (is, reply_once reply) refl;
 }

@@ -1,7 +1,7 @@
 -- What is written of the calls of a slicelet and their replies is read as these.
-use Rattle.std.proofs.Common.{◌≡◌, ℕ, ◌^◌, ◌<◌, ◌≤◌, false, Ok, refl, arith}
+use Rattle.std.proofs.Common.{◌≡◌, ℕ, ◌^◌, ◌<◌, ◌≤◌, false, None, Ok, refl, arith}
 use Rattle.serde_json.specs.Data.{Data, depth}
-use Rattle.serde_json.specs.Written.{has_float}
+use Rattle.serde_json.specs.Written.{has_float, outline}
 use Rattle.policy_rules.specs.declared.lease.Kind.{Kind}
 use Rattle.lease_table.specs.declared.values.Grant.{Grant}
 use Rattle.lease_table.specs.declared.values.ReleaseNote.{ReleaseNote}
@@ -9,11 +9,12 @@ use Rattle.slicelet.specs.declared.call.SliceletCall.{SliceletCall}
 use Rattle.slicelet.specs.declared.call.SliceletCall.TheVariants.{Start, Hear, Release}
 use Rattle.slicelet.specs.declared.call.SliceletReply.{SliceletReply}
 use Rattle.slicelet.specs.declared.call.SliceletReply.TheVariants.{Started, Heard, Released}
+use Rattle.program_io.specs.Repeated.{first_repeated}
 use Rattle.wire.specs.Grants.{grant_data, grant_of}
 use Rattle.wire.specs.Messages.{IsWritten}
 use Rattle.wire.specs.Notes.{note_data, note_of}
 use Rattle.wire.specs.TaskCalls.{task_call_data, task_call_of, start_of, hear_of, release_of, task_reply_data, task_reply_of, started_of, heard_of, released_of}
-use Rattle.wire.proofs.Grants.{grant_shallow, grant_whole}
+use Rattle.wire.proofs.Grants.{grant_once, grant_shallow, grant_whole}
 use Rattle.wire.proofs.Notes.{kind_read}
 use Rattle.wire.proofs.Numbers.{is_life}
 
@@ -39,12 +40,18 @@ task_call_shallow (Start life at) = omega arith
 task_call_shallow (Hear grant at) = omega (arith, grant_shallow grant)
 task_call_shallow (Release kind at) = omega arith
 
+task_call_once : (call : SliceletCall) → first_repeated (outline (task_call_data call)) ≡ None
+task_call_once (Start life at) = refl
+task_call_once (Hear grant at) = rw (grant_once grant) refl
+task_call_once (Release kind at) = refl
+
 pub task_call_written : (call : SliceletCall) (d : Data) → d ≡ task_call_data call → task_call_of (task_call_data call) ≡ Ok call → IsWritten task_call_data task_call_of call d
 task_call_written call d is reads = record {
   is = is;
   reads = rw (is, reads) refl;
   whole = rw (is, task_call_whole call) refl;
   shallow = rw is (omega (arith, task_call_shallow call));
+  once = rw (is, task_call_once call) refl;
 }
 
 pub started_read : task_reply_of (task_reply_data Started) ≡ Ok Started
@@ -69,10 +76,16 @@ task_reply_shallow Started = omega arith
 task_reply_shallow Heard = omega arith
 task_reply_shallow (Released note) = omega arith
 
+task_reply_once : (reply : SliceletReply) → first_repeated (outline (task_reply_data reply)) ≡ None
+task_reply_once Started = refl
+task_reply_once Heard = refl
+task_reply_once (Released note) = refl
+
 pub task_reply_written : (reply : SliceletReply) (d : Data) → d ≡ task_reply_data reply → task_reply_of (task_reply_data reply) ≡ Ok reply → IsWritten task_reply_data task_reply_of reply d
 task_reply_written reply d is reads = record {
   is = is;
   reads = rw (is, reads) refl;
   whole = rw (is, task_reply_whole reply) refl;
   shallow = rw is (omega (arith, task_reply_shallow reply));
+  once = rw (is, task_reply_once reply) refl;
 }

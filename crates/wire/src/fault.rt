@@ -13,12 +13,19 @@ use thiserror::Error;
 
 /// Why bytes are not a message of a type.
 ///
-/// The version is checked first, then the type, then the value.
+/// The length is checked first, then that the bytes are JSON, then that no member is repeated, then
+/// the version, the type and the value.
 #[derive(Clone, Copy, Debug, PartialEq, Eq, Error)]
 pub enum Refusal {
+    /// There are more than [`MOST_BYTES`](crate::MOST_BYTES) bytes.
+    #[error("longer than 1048576 bytes")]
+    TooLong,
     /// The bytes are not the text of a JSON value.
     #[error("not JSON")]
     NotJson,
+    /// An object in the message has a member twice.
+    #[error("a member is written twice")]
+    RepeatedMember,
     /// The message has this version, which this crate does not read.
     #[error("version {0}")]
     Version(u64),

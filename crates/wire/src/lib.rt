@@ -21,6 +21,6 @@ pub use fault::{DecodeError, Refusal};
 pub use grant::{grant_json, grant_of};
 pub use handle::{handle_json, handle_of};
 pub use lease_members::{kind_at, kind_word, life_at, task_at};
-pub use message::{VERSION, Wire, decode, encode};
+pub use message::{MOST_BYTES, VERSION, Wire, decode, encode};
 pub use note::{note_json, note_of};
 pub use slicing::{SliceForm, assignment_in, assignment_json, assignment_of};

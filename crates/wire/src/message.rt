@@ -1,19 +1,22 @@
 //! Messages: a value of a type as bytes.
 
-ghost use Rattle.std.specs.Prelude.{◌≡◌, ℕ, List, Result, IfErr, IfOk};
+ghost use Rattle.std.specs.Prelude.{◌≡◌, ℕ, List, Result, IfErr, IfOk, OnOk};
 ghost use Rattle.serde_json.specs.Data.{Data};
 ghost use Rattle.serde_json.specs.View.{view};
 ghost use Rattle.wire.specs.declared.fault.Refusal.{Refusal};
 ghost use Rattle.wire.specs.Refusals.{Gives, IsRead};
-ghost use Rattle.wire.specs.Messages.{IsDecodedAs, IsMessage, IsUndecoded, IsWritten, content_of, message_data, message_text};
+ghost use Rattle.wire.specs.Messages.{IsDecodedAs, IsMessage, IsShort, IsUndecoded, IsWritten, content_of, message_data, message_text};
 
 use crate::fault::{DecodeError, Refusal};
-use program_io::{Unread, exactly, member_at, number_at, text_at, value_of};
+use program_io::{JsonError, exactly, member_at, number_at, strict_value_of, text_at};
 use serde_json::{Value, json};
 use std::alloc::{AllocError, Global};
 
 /// The version of the messages that this crate writes and reads.
 pub const VERSION: u64 = 1;
+
+/// The greatest number of bytes that [`decode`] reads as a message.
+pub const MOST_BYTES: usize = 1_048_576;
 
 /// A value that can be written as the bytes of a message and read back.
 pub trait Wire: Drop {
@@ -76,16 +79,23 @@ pub fn encode<T: Wire>(alloc: Global, value: &T) -> Result<Vec<u8>, AllocError>
 
 /// Decodes the bytes of a message of the type, or returns why they are not such a message.
 ///
-/// Decoding the bytes of a value gives the same value, unless memory runs out.
+/// Decoding the bytes of a value gives the same value, unless memory runs out or there are more than
+/// [`MOST_BYTES`] of them. More bytes are refused before they are parsed.
 pub fn decode<T: Wire>(alloc: Global, bytes: &[u8]) -> Result<T, DecodeError>
     ensures ok { IfOk result (IsMessage T.name T.form bytes.now) }
+    ensures short { OnOk result (IsShort bytes.now) }
     ensures err { IfErr result (IsUndecoded T.name T.form bytes.now) }
-    ensures same { (value : T) → IsMessage T.name T.form bytes.now value → IsDecodedAs value result }
+    ensures same { (value : T) → IsMessage T.name T.form bytes.now value
+        → IsDecodedAs bytes.now value result }
 {
-    let message = match value_of(alloc, bytes) {
+    if bytes.len() > MOST_BYTES {
+        return Err(DecodeError::Refused(Refusal::TooLong));
+    }
+    let message = match strict_value_of(alloc, bytes) {
         Ok(message) => message,
-        Err(Unread::WrongForm) => return Err(DecodeError::Refused(Refusal::NotJson)),
-        Err(Unread::Memory) => return Err(DecodeError::NoMemory),
+        Err(JsonError::NotJson(_)) => return Err(DecodeError::Refused(Refusal::NotJson)),
+        Err(JsonError::Repeated(_)) => return Err(DecodeError::Refused(Refusal::RepeatedMember)),
+        Err(JsonError::Memory) => return Err(DecodeError::NoMemory),
     };
     let value = content_of(T::name(), &message)?;
     T::of_json(alloc, value)
