@@ -57,6 +57,7 @@ pub enum Answer {
 
 impl Answer {
     /// Returns the code of the answer, as C gets it.
+    #[inline(always)]
     pub fn number(&self) -> i32
         ensures { result ≡ answer_number self.now }
     {

@@ -5,3 +5,4 @@ pub mod Keys
 pub mod KeyHandles
 pub mod Owners
 pub mod ClerkCalls
+pub mod SliceKeys

@@ -1,6 +1,7 @@
 //! Key handles as structs of numbers.
 
 ghost use Rattle.std.specs.Prelude.{◌≡◌, Some};
+ghost use Rattle.c_task.specs.Keys.{slice_key_of};
 
 use assignment::TaskId;
 use slice_ranges::SliceKey;
@@ -18,6 +19,13 @@ pub struct HandleNumbers {
     pub position: u64,
     /// The task's life when the handle was taken.
     pub life: u32,
+}
+
+/// Returns the slice key with a number, or `None` if the number is no slice key.
+pub fn slice_key_of(number: u64) -> Option<SliceKey>
+    ensures { result ≡ slice_key_of number }
+{
+    SliceKey::new(number)
 }
 
 impl HandleNumbers {

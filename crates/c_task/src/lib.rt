@@ -12,8 +12,8 @@ mod owners;
 mod slicelet_calls;
 mod slicelet_release;
 
-pub use clerk_calls::{learn, look};
+pub use clerk_calls::{learn, look, look_at};
 pub use key_handle::HandleNumbers;
 pub use owners::OwnersNumbers;
-pub use slicelet_calls::{check, hear, hold, open_slicelet, serve, start};
+pub use slicelet_calls::{check, hear, hold, hold_at, open_slicelet, serve, serve_at, start};
 pub use slicelet_release::release;

@@ -7,16 +7,17 @@ ghost use Rattle.slicelet.specs.declared.handle.KeyHandle.{KeyHandle};
 ghost use Rattle.slicelet.specs.Accepted.{StandsAfter};
 ghost use Rattle.slicelet.specs.Continuity.{handle_on};
 ghost use Rattle.c_task.specs.KeyHandles.{IsCheckAnswered, check_answer, checked_answer, handle_of, held_answer, held_numbers};
-ghost use Rattle.c_task.specs.Keys.{rule_for, rule_for_after, taken_by};
+ghost use Rattle.c_task.specs.Keys.{rule_at, rule_at_after, rule_for, rule_for_after, slice_key_of, taken_at, taken_by};
+ghost use Rattle.c_task.specs.SliceKeys.{held_after, held_at, numbers_at, served_after, served_at};
 ghost use Rattle.c_task.specs.SliceletCalls.{IsGrantHeard, IsStarted, opened};
 
 use crate::answers::slicelet_answer;
-use crate::key_handle::HandleNumbers;
+use crate::key_handle::{HandleNumbers, slice_key_of};
 use assignment::TaskId;
 use c_numbers::{Answer, unread_answer};
 use lease_table::Grant;
 use policy_rules::Verdict;
-use slice_ranges::slice_key;
+use slice_ranges::{SliceKey, slice_key};
 use slicelet::{Slicelet, Stranger};
 use std::alloc::Global;
 use wire::decode;
@@ -59,6 +60,18 @@ pub fn serve(slicelet: &Slicelet, key: &[u8], at: u64) -> Answer
     Answer::Judged(slicelet.serve(slice_key(key), at))
 }
 
+/// Returns whether the task may serve the keys of a slice key. `WrongForm` if it is no slice key.
+pub fn serve_at(slicelet: &Slicelet, slice_key: u64, at: u64) -> Answer
+    ensures state { result ≡ served_at (slice_key_of slice_key) slicelet.now at }
+    ensures calls { (calls : List SliceletCall) → StandsAfter calls slicelet.now
+        → result ≡ served_after (slice_key_of slice_key) calls at }
+{
+    match slice_key_of(slice_key) {
+        Some(key) => Answer::Judged(slicelet.serve(key, at)),
+        None => Answer::WrongForm,
+    }
+}
+
 /// Takes a handle on a key if the task may serve it, and otherwise returns why not.
 pub fn hold(slicelet: &Slicelet, key: &[u8], at: u64, out: &mut HandleNumbers) -> Answer
     ensures state { result ≡ held_answer (taken_by (rule_for key.now slicelet.now at) key.now slicelet.now) }
@@ -67,7 +80,31 @@ pub fn hold(slicelet: &Slicelet, key: &[u8], at: u64, out: &mut HandleNumbers) -
     ensures calls { (calls : List SliceletCall) → StandsAfter calls slicelet.now
         → result ≡ held_answer (taken_by (rule_for_after key.now calls at) key.now slicelet.now) }
 {
-    match slicelet.hold(slice_key(key), at) {
+    take_handle(slicelet, slice_key(key), at, out)
+}
+
+/// Takes a handle on the keys of a slice key, as [`hold`] does. `WrongForm` if it is no slice key.
+pub fn hold_at(slicelet: &Slicelet, slice_key: u64, at: u64, out: &mut HandleNumbers) -> Answer
+    ensures state { result ≡ held_at (slice_key_of slice_key) slicelet.now at }
+    ensures handle { out.new ≡ numbers_at (slice_key_of slice_key) slicelet.now at out.old }
+    ensures reads { result ≡ Answer.Done → handle_of out.new ≡ Some (handle_on slice_key slicelet.now) }
+    ensures calls { (calls : List SliceletCall) → StandsAfter calls slicelet.now
+        → result ≡ held_after (slice_key_of slice_key) calls slicelet.now at }
+{
+    match slice_key_of(slice_key) {
+        Some(key) => take_handle(slicelet, key, at, out),
+        None => Answer::WrongForm,
+    }
+}
+
+fn take_handle(slicelet: &Slicelet, key: SliceKey, at: u64, out: &mut HandleNumbers) -> Answer
+    ensures state { result ≡ held_answer (taken_at (rule_at key slicelet.now at) key slicelet.now) }
+    ensures handle { out.new ≡ held_numbers (taken_at (rule_at key slicelet.now at) key slicelet.now) out.old }
+    ensures reads { result ≡ Answer.Done → handle_of out.new ≡ Some (handle_on key slicelet.now) }
+    ensures calls { (calls : List SliceletCall) → StandsAfter calls slicelet.now
+        → result ≡ held_answer (taken_at (rule_at_after key calls at) key slicelet.now) }
+{
+    match slicelet.hold(key, at) {
         Ok(handle) => {
             *out = HandleNumbers::of(&handle);
             Answer::Done
