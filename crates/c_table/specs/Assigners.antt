@@ -7,9 +7,13 @@ use Rattle.assigner.specs.declared.action.Action.{Action}
 use Rattle.assigner.specs.declared.action.Action.TheVariants.{Take, Renew, Commit, Propose, Rest}
 use Rattle.assigner.specs.declared.action.View.{View}
 use Rattle.assigner.specs.Actions.{next_action}
-use Rattle.assigner.specs.Terms.{Keeping, is_adopted}
+use Rattle.assigner.specs.Terms.{Keeping, is_adopted, opening}
 use Rattle.c_numbers.specs.declared.answer.Answer.{Answer}
 use Rattle.c_numbers.specs.declared.answer.Answer.TheVariants.{Done, NotAdopted, WrongForm}
+
+-- the assigner of a number before its first call; 0 is none
+abbrev pub opened : ℕ → ℕ → Option Keeping
+opened id job = if id == 0 then None else Some (opening id job)
 
 -- the number of an action
 abbrev pub action_number : Action → ℕ

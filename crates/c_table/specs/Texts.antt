@@ -1,5 +1,5 @@
 -- What a table gives by its message: the next grant, and the committed assignment.
-use Rattle.std.specs.Prelude.{◌≡◌, ◌⊎◌, ℕ, List, codes, Option, Some, None, Result, Ok, Err, if◌then◌else◌}
+use Rattle.std.specs.Prelude.{◌≡◌, ◌⊎◌, ℕ, ◌==◌, List, codes, Option, Some, None, Result, Ok, Err, if◌then◌else◌}
 use Rattle.machines.specs.declared.machine.Trouble.{Trouble}
 use Rattle.machines.specs.declared.machine.Trouble.TheVariants as trouble
 use Rattle.assignment.specs.Slices.{Slicing, is_task}
@@ -49,10 +49,15 @@ abbrev pub IsGrantStep : Result (Standing × Grant) TableError → Standing → 
 IsGrantStep (Ok p) old new was now answer = IsGrantMade p old new was now answer ⊎ ((answer ≡ NoMemory) × (new ≡ old) × (now ≡ was))
 IsGrantStep (Err why) old new was now answer = (answer ≡ Table why) × (new ≡ old) × (now ≡ was)
 
--- no grant is made for a number that is no task
-abbrev pub IsGranted : Option ℕ → ℕ → ℕ → Standing → Standing → Output ℕ → Output ℕ → Answer → Type 0
+-- the life of a number: a task starts lives from 1 on
+abbrev pub life_of : ℕ → Option ℕ
+life_of number = if number == 0 then None else Some number
+
+-- no grant is made for numbers that are no task or no life
+abbrev pub IsGranted : Option ℕ → Option ℕ → ℕ → Standing → Standing → Output ℕ → Output ℕ → Answer → Type 0
 IsGranted None life at old new was now answer = (answer ≡ WrongForm) × (new ≡ old) × (now ≡ was)
-IsGranted (Some task) life at old new was now answer = IsGrantStep (grant_step old task life at) old new was now answer
+IsGranted (Some task) None at old new was now answer = (answer ≡ WrongForm) × (new ≡ old) × (now ≡ was)
+IsGranted (Some task) (Some life) at old new was now answer = IsGrantStep (grant_step old task life at) old new was now answer
 
 -- the message of an assignment is given, or there is no room for it
 pub record IsAssignmentGiven (slicing : Slicing) (was now : Output ℕ) (answer : Answer) : Type 0 where

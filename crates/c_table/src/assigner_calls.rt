@@ -2,7 +2,7 @@
 
 ghost use Rattle.std.specs.Prelude.{◌≡◌};
 ghost use Rattle.assigner.specs.Terms.{adopted_term};
-ghost use Rattle.c_table.specs.Assigners.{IsNext, action_number, adopt_answer, next_numbers};
+ghost use Rattle.c_table.specs.Assigners.{IsNext, action_number, adopt_answer, next_numbers, opened};
 ghost use Rattle.c_table.specs.Terms.{phase_of, term_of};
 
 use crate::terms::{PhaseNumbers, TermNumbers};
@@ -18,6 +18,17 @@ fn action_number(action: Action) -> u32
         Action::Commit => 3,
         Action::Propose => 4,
         Action::Rest => 5,
+    }
+}
+
+/// Creates an assigner, or returns `None` if its number is 0, which no assigner has.
+pub fn open_assigner(id: u64, job: u64) -> Option<Assigner>
+    ensures { result ≡ opened id job }
+{
+    if id == 0 {
+        None
+    } else {
+        Some(Assigner::new(id, job))
     }
 }
 

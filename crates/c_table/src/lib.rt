@@ -12,7 +12,7 @@ mod table_calls;
 mod table_texts;
 mod terms;
 
-pub use assigner_calls::{adopt, next};
+pub use assigner_calls::{adopt, next, open_assigner};
 pub use plan_calls::plan;
 pub use policy_numbers::{PlanPolicyNumbers, PolicyNumbers};
 pub use row_numbers::RowNumbers;

@@ -5,11 +5,11 @@ ghost use Rattle.lease_table.specs.Policies.{Terms};
 ghost use Rattle.lease_table.specs.Calls.{AnsweredTableCall, LeadsTo};
 ghost use Rattle.lease_table.specs.Runs.{IsRun};
 ghost use Rattle.lease_table.specs.Tables.{phase_of};
-ghost use Rattle.lease_table.specs.Steps.{take_step, renew_step, commit_step, standing_after_restart};
+ghost use Rattle.lease_table.specs.Steps.{renew_step, commit_step, standing_after_restart};
 ghost use Rattle.wire.specs.Assignments.{assignment_of};
 ghost use Rattle.wire.specs.Notes.{note_of};
 ghost use Rattle.wire.specs.Refusals.{or_wrong};
-ghost use Rattle.c_table.specs.Calls.{IsCommitStep, IsFreed, IsProposed, IsTableStep};
+ghost use Rattle.c_table.specs.Calls.{IsCommitStep, IsFreed, IsProposed, IsTableStep, IsTermTaken, assigner_of};
 ghost use Rattle.c_table.specs.PolicyNumbers.{table_of};
 ghost use Rattle.c_numbers.specs.Reading.{IsReadFrom};
 ghost use Rattle.c_table.specs.Terms as numbers;
@@ -31,11 +31,20 @@ pub fn open_table(alloc: Global, policy: &PolicyNumbers) -> Option<LeaseTable>
     Some(LeaseTable::new(alloc, policy.policy()?))
 }
 
-/// Gives the job lease to an assigner, and writes the term to `out`.
-pub fn take(table: &mut LeaseTable, assigner: u64, at: u64, out: &mut TermNumbers) -> Answer
-    ensures step { IsTableStep (take_step table.old assigner at) table.old table.new result }
-    ensures term { out.new ≡ term_given (take_step table.old assigner at) out.old }
+fn assigner_of(number: u64) -> Option<u64>
+    ensures { result ≡ assigner_of number }
 {
+    if number == 0 { None } else { Some(number) }
+}
+
+/// Gives the job lease to an assigner, and writes the term to `out`. `WrongForm` if its number is
+/// 0.
+pub fn take(table: &mut LeaseTable, assigner: u64, at: u64, out: &mut TermNumbers) -> Answer
+    ensures { IsTermTaken (assigner_of assigner) at table.old table.new out.old out.new result }
+{
+    let Some(assigner) = assigner_of(assigner) else {
+        return Answer::WrongForm;
+    };
     match table.job_take(assigner, at) {
         Ok(term) => {
             *out = TermNumbers::of(term);

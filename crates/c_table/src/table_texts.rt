@@ -6,7 +6,7 @@ ghost use Rattle.machines.specs.Refusals.{first_of};
 ghost use Rattle.lease_table.specs.Steps.{grant_checks, grant_with};
 ghost use Rattle.c_numbers.specs.Outputs.{IsGivenUnlessMemory, output};
 ghost use Rattle.c_table.specs.Rows.{row_numbers};
-ghost use Rattle.c_table.specs.Texts.{IsCommittedGiven, IsGrantText, IsGranted, task_of, trouble_answer};
+ghost use Rattle.c_table.specs.Texts.{IsCommittedGiven, IsGrantText, IsGranted, life_of, task_of, trouble_answer};
 
 use crate::row_numbers::{RowNumbers, numbers_of};
 use assignment::TaskId;
@@ -20,6 +20,12 @@ fn task_of(number: u64) -> Option<TaskId>
     ensures { result ≡ task_of number }
 {
     TaskId::new(number)
+}
+
+fn life_of(number: u32) -> Option<u32>
+    ensures { result ≡ life_of number }
+{
+    if number == 0 { None } else { Some(number) }
 }
 
 // Returns the message of the grant that would be made next. The table is unchanged.
@@ -51,7 +57,8 @@ fn refused(trouble: Trouble<TableError>) -> Answer
 
 /// Grants a task a lease for one of its lives, and writes the message of the grant to `out`.
 ///
-/// If the message does not fit, no grant is made.
+/// `WrongForm` if `task` is not 1 to 64 or `life` is 0. If the message does not fit, no grant is
+/// made.
 pub fn grant(
     alloc: Global,
     table: &mut LeaseTable,
@@ -61,10 +68,13 @@ pub fn grant(
     out: &mut [u8],
     needed: &mut usize,
 ) -> Answer
-    ensures { IsGranted (task_of task) life at table.old table.new
+    ensures { IsGranted (task_of task) (life_of life) at table.old table.new
         (output out.old needed.old) (output out.new needed.new) result }
 {
     let Some(task) = task_of(task) else {
+        return Answer::WrongForm;
+    };
+    let Some(life) = life_of(life) else {
         return Answer::WrongForm;
     };
     let text = match next_text(alloc, table, task, life, at) {
