@@ -94,6 +94,8 @@ abbrev pub unread_number : Refusal → ℤ
 unread_number refusal.NotJson = negsuc 2
 unread_number (refusal.Version version) = negsuc 3
 unread_number refusal.OtherType = negsuc 4
+unread_number refusal.TooLong = negsuc 5
+unread_number refusal.RepeatedMember = negsuc 5
 unread_number refusal.WrongForm = negsuc 5
 unread_number (refusal.Slices why) = slices_number why
 unread_number (refusal.Ranges why) = ranges_number why
