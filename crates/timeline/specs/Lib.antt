@@ -1,4 +1,5 @@
 pub mod Stretches
 pub mod Tasks
 pub mod Scripts
+pub mod Escapes
 pub mod internals
