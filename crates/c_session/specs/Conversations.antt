@@ -1,6 +1,6 @@
 -- What a line of a conversation is answered.
 use Rattle.std.specs.Prelude.{◌≡◌, ◌⊎◌, ℕ, List, [], string_bytes}
-use Rattle.program_io.specs.Json.{IsNoJson}
+use Rattle.program_io.specs.Json.{HasRepeatedMember, IsNoJson}
 use Rattle.session.specs.declared.answer.ReplyForm.{ReplyForm}
 use Rattle.session.specs.Lines.{SaysJob, HasNoJob, HasBadJob}
 use Rattle.session.specs.Turns.{IsAt, IsTurned}
@@ -18,7 +18,7 @@ pub record IsBegun (form : ReplyForm) (line : List ℕ) (c : Conversation) : Typ
 
 -- the line says no job, or memory ran out
 abbrev pub IsNotBegun : List ℕ → Answer → Type 0
-IsNotBegun line why = ((why ≡ NoJob) × (IsNoJson line ⊎ HasNoJob line ⊎ HasBadJob line)) ⊎ (why ≡ NoMemory)
+IsNotBegun line why = ((why ≡ NoJob) × (IsNoJson line ⊎ HasRepeatedMember line ⊎ HasNoJob line ⊎ HasBadJob line)) ⊎ (why ≡ NoMemory)
 
 -- the line was answered after those before it, in the job and the form of the session
 pub record IsTurnedOn (line : List ℕ) (old new : Conversation) : Type 0 where

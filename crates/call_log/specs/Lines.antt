@@ -1,11 +1,11 @@
 -- What a line of a log says: a call at its ticket, with the words that its caller was told.
 use Rattle.std.specs.Prelude.{◌≡◌, ◌⊎◌, ℕ, List, ◌++◌, codes, ⊤, Result, Ok, Err}
 use Rattle.serde_json.specs.Data.{Data}
-use Rattle.program_io.specs.Json.{IsJson, IsNoJson}
+use Rattle.program_io.specs.Json.{HasRepeatedMember, IsNoJson, IsStrictJson}
 use Rattle.program_io.specs.Reading.{◌>>=◌}
 use Rattle.program_io.specs.Members.{number_at, text_at}
 use Rattle.wire.specs.declared.fault.Refusal.{Refusal}
-use Rattle.wire.specs.declared.fault.Refusal.TheVariants.{NotJson}
+use Rattle.wire.specs.declared.fault.Refusal.TheVariants.{NotJson, RepeatedMember}
 use Rattle.wire.specs.Refusals.{or_wrong}
 use Rattle.wire.specs.TableCalls.{read_named}
 use Rattle.call_log.specs.declared.reading.NoLine.{NoLine}
@@ -33,18 +33,18 @@ line_of d = do
 -- the bytes are a text of this line
 pub record SaysLine (bytes : List ℕ) (line : LoggedLine) : Type 0 where
   pub value : Data
-  pub json : IsJson bytes value
+  pub json : IsStrictJson bytes value
   pub says : line_of value ≡ Ok line
 
 -- the bytes are a text of a JSON value that is no line, for this reason
 pub record HasNoLine (bytes : List ℕ) (why : Refusal) : Type 0 where
   pub value : Data
-  pub json : IsJson bytes value
+  pub json : IsStrictJson bytes value
   pub says : line_of value ≡ Err why
 
 -- the bytes are no line, for this reason
 abbrev pub SaysNoLine : List ℕ → Refusal → Type 0
-SaysNoLine bytes why = ((why ≡ NotJson) × IsNoJson bytes) ⊎ HasNoLine bytes why
+SaysNoLine bytes why = ((why ≡ NotJson) × IsNoJson bytes) ⊎ ((why ≡ RepeatedMember) × HasRepeatedMember bytes) ⊎ HasNoLine bytes why
 
 -- the bytes are no line, or memory ran out
 abbrev pub IsNoLine : List ℕ → NoLine → Type 0

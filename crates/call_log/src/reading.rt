@@ -9,9 +9,9 @@ ghost use Rattle.call_log.specs.Lines.{IsNoLine, SaysLine, call_in, line_of};
 use crate::line::{LoggedCall, LoggedLine, Words};
 use crate::mend::call_mend;
 use crate::table_lines::table_call_named;
-use diagnosis::line_mend;
-use program_io::{number_at, text_at};
-use serde_json::{Category, Value};
+use diagnosis::{line_mend, repeated_mend};
+use program_io::{JsonError, number_at, strict_value_of, text_at};
+use serde_json::Value;
 use std::alloc::{AllocError, Global};
 use wire::{DecodeError, Refusal};
 
@@ -64,13 +64,18 @@ pub fn line_said(alloc: Global, bytes: &[u8]) -> Result<LoggedLine, NoLine>
     ensures ok { IfOk result (SaysLine bytes.now) }
     ensures err { IfErr result (IsNoLine bytes.now) }
 {
-    let value = match Value::from_slice(alloc, bytes) {
+    let value = match strict_value_of(alloc, bytes) {
         Ok(value) => value,
-        Err(error) if error.classify() == Category::Memory => return Err(NoLine::Memory),
-        Err(error) => {
+        Err(JsonError::Memory) => return Err(NoLine::Memory),
+        Err(JsonError::NotJson(error)) => {
             let words = line_mend(alloc, &error)?;
             let mend = format!(in alloc; "not JSON: {words}")?;
             let why = Refusal::NotJson;
+            return Err(NoLine::Refused { why, mend });
+        }
+        Err(JsonError::Repeated(name)) => {
+            let mend = repeated_mend(alloc, name.as_str())?;
+            let why = Refusal::RepeatedMember;
             return Err(NoLine::Refused { why, mend });
         }
     };

@@ -12,7 +12,7 @@ use std::alloc::Global;
 use std::fs;
 use std::rt::Files;
 
-const NAMES: [&str; 73] = [
+const NAMES: [&str; 77] = [
     "help",
     "help-of-run",
     "help-of-session",
@@ -46,6 +46,8 @@ const NAMES: [&str; 73] = [
     "session-job-alone",
     "session-bad-job",
     "session-no-job",
+    "session-repeated-member",
+    "session-repeated-job",
     "session-empty-input",
     "audit-hand-over",
     "audit-two-files",
@@ -63,6 +65,8 @@ const NAMES: [&str; 73] = [
     "audit-empty-input",
     "audit-missing-log",
     "audit-not-json",
+    "audit-repeated-member",
+    "audit-repeated-grant-member",
     "audit-no-object",
     "audit-no-do",
     "audit-unknown-call",

@@ -1,4 +1,4 @@
-//! Where bytes stop being JSON.
+//! Where bytes stop being JSON, and which member is written twice.
 
 ghost use Rattle.std.specs.Prelude.{◌≡◌, [], ◌∷◌, IfOk, map};
 
@@ -33,6 +33,11 @@ pub fn line_mend(alloc: Global, error: &Error) -> Result<String, AllocError> {
         return format!(in alloc; "at the end of the line: {words}");
     }
     format!(in alloc; "column {}: {words}", error.column())
+}
+
+/// Returns how to fix a line in which an object has a member of this name twice.
+pub fn repeated_mend(alloc: Global, name: &str) -> Result<String, AllocError> {
+    format!(in alloc; "member {name:?} is written twice")
 }
 
 /// Returns the one fault of bytes that are not JSON: where the reader stopped, and why.

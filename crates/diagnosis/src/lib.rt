@@ -15,7 +15,7 @@ pub use error::AnswerError;
 pub use faults::{MOST_FAULTS, ScriptFault, faults_of};
 pub use found::Found;
 pub use job_faults::{job_line_mend, job_mend};
-pub use json::{json_faults, line_mend};
+pub use json::{json_faults, line_mend, repeated_mend};
 pub use laws::first_fault_law;
 pub use step_faults::{missing_member, step_mend, unknown_member};
 pub use steps::Members;

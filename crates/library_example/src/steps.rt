@@ -8,7 +8,7 @@ ghost use Rattle.policy_rules.specs.Rule.{is_allowed};
 ghost use Rattle.lease_table.specs.Steps.{grant_step};
 ghost use Rattle.slicelet.specs.Rules.{covers_key};
 ghost use Rattle.slicelet.specs.States.{permits, rule_in_state};
-ghost use Rattle.wire.specs.Messages.{IsDecodedAs};
+ghost use Rattle.wire.specs.Messages.{IsDecodedAs, message_text};
 
 use crate::error::ExampleError;
 use assignment::{Assignment, TaskId};
@@ -20,9 +20,10 @@ use slicelet::Slicelet;
 use std::alloc::Global;
 use wire::{DecodeError, Wire, decode, encode};
 
-/// Carries a value as bytes, as a transport would: what arrives is what was sent, unless memory runs out.
+/// Carries a value as bytes, as a transport would: what arrives is what was sent, unless there are more
+/// bytes than a message may have, or memory runs out.
 pub fn carry<T: Wire>(alloc: Global, value: &T) -> Result<T, DecodeError>
-    ensures { IsDecodedAs value.now result }
+    ensures { IsDecodedAs (message_text T.name (T.data_of value.now)) value.now result }
 {
     let bytes = encode(alloc, value)?;
     decode(alloc, bytes.as_slice())

@@ -77,6 +77,63 @@ fn refuses_notes(rt: HostRuntime) -> Result<(), Fail> {
     Ok(())
 }
 
+// A member is repeated wherever an object has it twice, however it is spelled and whatever it has.
+const REPEATED: &[&str] = &[
+    r#"{"type":"note","value":{"kind":"guard","life":1,"number":7,"task":2},"type":"note","version":1}"#,
+    r#"{"type":"note","value":{"kind":"guard","life":1,"number":7,"task":2},"version":1,"version":2}"#,
+    r#"{"type":"note","value":{"kind":"guard","life":1,"number":7,"number":8,"task":2},"version":1}"#,
+    r#"{"type":"note","value":{"kind":"guard","life":1,"number":7,"t\u0061sk":2,"task":2},"version":1}"#,
+    r#"{"type":"note","value":[[{"a":[],"a":[]}]],"version":2}"#,
+    r#"{"version":2,"version":2}"#,
+    r#"[{"":1,"":1}]"#,
+];
+
+#[test]
+fn refuses_a_repeated_member(rt: HostRuntime) -> Result<(), Fail> {
+    for text in REPEATED {
+        let refusal = refusal_of::<ReleaseNote>(rt.alloc(), text);
+        assert_eq!(rt; refusal, Some(Refusal::RepeatedMember), "{text}");
+    }
+    let cut_off = r#"{"version":2,"version":2"#;
+    let refusal = refusal_of::<ReleaseNote>(rt.alloc(), cut_off);
+    assert_eq!(rt; refusal, Some(Refusal::NotJson));
+    let too_large = r#"{"version":2,"version":1e400}"#;
+    let refusal = refusal_of::<ReleaseNote>(rt.alloc(), too_large);
+    assert_eq!(rt; refusal, Some(Refusal::NotJson));
+    let in_two_objects = r#"[{"a":1},{"a":{"a":1}}]"#;
+    let refusal = refusal_of::<ReleaseNote>(rt.alloc(), in_two_objects);
+    assert_eq!(rt; refusal, Some(Refusal::WrongForm));
+    Ok(())
+}
+
+// A note with spaces before it, so that there are this many bytes.
+fn padded(alloc: Global, bytes: usize) -> Result<String, Fail> {
+    let note =
+        r#"{"type":"note","value":{"kind":"guard","life":1,"number":7,"task":2},"version":1}"#;
+    let mut text = String::with_capacity(alloc, bytes)?;
+    while text.len() + note.len() < bytes {
+        text.push_str(" ")?;
+    }
+    text.push_str(note)?;
+    Ok(text)
+}
+
+#[test]
+fn reads_a_mebibyte_and_no_more(rt: HostRuntime) -> Result<(), Fail> {
+    let longest = padded(rt.alloc(), 1_048_576)?;
+    assert_eq!(rt; longest.len(), 1_048_576);
+    let read: ReleaseNote = decode(rt.alloc(), longest.as_str().as_bytes())?;
+    assert_eq!(rt; read.number, 7);
+    let longer = padded(rt.alloc(), 1_048_577)?;
+    let refusal = refusal_of::<ReleaseNote>(rt.alloc(), longer.as_str());
+    assert_eq!(rt; refusal, Some(Refusal::TooLong));
+    let mut nothing = Vec::new(rt.alloc());
+    nothing.resize(1_048_577, 0)?;
+    let read: Result<ReleaseNote, DecodeError> = decode(rt.alloc(), nothing.as_slice());
+    assert!(rt; matches!(read, Err(DecodeError::Refused(Refusal::TooLong))));
+    Ok(())
+}
+
 const GRANTS: &[(&str, Refusal)] = &[
     ("[[5,9],[0,2]]", Refusal::Ranges(RangesError::Unsorted)),
     ("[[5,5]]", Refusal::Ranges(RangesError::Empty)),

@@ -274,3 +274,21 @@ fn writes_calls_of_clerks(rt: HostRuntime) -> Result<(), Fail> {
     assert!(rt; is_written(alloc, &ClerkReply::Forgotten, text)?);
     Ok(())
 }
+
+#[test]
+fn carries_the_largest_assignment(rt: HostRuntime) -> Result<(), Fail> {
+    let mut slices = Vec::new(rt.alloc());
+    for i in 0..1024u64 {
+        slices.push(Slice {
+            start: i * 9_007_199_254_740_991,
+            owners: Listed::from_slice(rt.alloc(), &[60, 61, 62, 63, 64])?,
+        })?;
+    }
+    let largest = Assignment::build(rt.alloc(), 18_446_744_073_709_551_615, &slices)?;
+    let bytes = encode(rt.alloc(), &largest)?;
+    let read: Assignment = decode(rt.alloc(), bytes.as_slice())?;
+    assert_eq!(rt; read.generation(), 18_446_744_073_709_551_615);
+    assert_eq!(rt; read.slices().len(), 1024);
+    assert_eq!(rt; read.slices()[1023].owners().len(), 5);
+    Ok(())
+}

@@ -136,7 +136,7 @@ nothing_is_read = refl
 -- no job is said by no bytes
 no_job_in_nothing : (first : List ℕ) (job : Job) → first ≡ [] → SaysJob first job → ⊥
 no_job_in_nothing first job none says =
-    let reads = says.json.reads in
+    let reads = says.json.json.reads in
     let some : read [] ≡ Some says.value = rw none at reads in
     let no : None ≡ Some says.value = sym nothing_is_read ∙ some in
     absurd (cc)

@@ -4,7 +4,7 @@ use Rattle.std.specs.List.{list_all}
 use Rattle.serde_json.specs.Data.{Data}
 use Rattle.world.specs.Jobs.{Job}
 use Rattle.world.specs.declared.step.Step.{Step}
-use Rattle.program_io.specs.Json.{IsJson, IsNoJson}
+use Rattle.program_io.specs.Json.{HasRepeatedMember, IsNoJson, IsStrictJson}
 use Rattle.program_io.specs.Members.{wrong}
 use Rattle.service.specs.declared.fault.ScriptError.{ScriptError}
 use Rattle.service.specs.declared.fault.ScriptError.TheVariants.{NotJson, NoJob, BadJob}
@@ -25,7 +25,7 @@ is_blank line = list_all is_space line
 -- the line is a JSON text whose one member `job` is this job
 pub record SaysJob (line : List ℕ) (job : Job) : Type 0 where
   pub value : Data
-  pub json : IsJson line value
+  pub json : IsStrictJson line value
   pub member : Data
   pub has : job_member value ≡ Ok member
   pub says : job_of member ≡ Ok job
@@ -33,19 +33,19 @@ pub record SaysJob (line : List ℕ) (job : Job) : Type 0 where
 -- the line is a JSON text of this step of the job
 pub record SaysStep (job : Job) (line : List ℕ) (step : Step) : Type 0 where
   pub value : Data
-  pub json : IsJson line value
+  pub json : IsStrictJson line value
   pub says : step_of job value ≡ Ok step
 
 -- the line is a JSON text of no job line
 pub record HasNoJob (line : List ℕ) : Type 0 where
   pub value : Data
-  pub json : IsJson line value
+  pub json : IsStrictJson line value
   pub says : job_member value ≡ Err wrong
 
 -- the line is a JSON text of a job line whose job is none
 pub record HasBadJob (line : List ℕ) : Type 0 where
   pub value : Data
-  pub json : IsJson line value
+  pub json : IsStrictJson line value
   pub member : Data
   pub has : job_member value ≡ Ok member
   pub says : job_of member ≡ Err wrong
@@ -53,7 +53,8 @@ pub record HasBadJob (line : List ℕ) : Type 0 where
 -- for what a first line is refused
 abbrev pub IsNoJobFor : List ℕ → List ScriptError → Type 0
 IsNoJobFor line refusals =
-    ((refusals ≡ NotJson ∷ []) × IsNoJson line) ⊎ ((refusals ≡ NoJob ∷ []) × HasNoJob line) ⊎ ((refusals ≡ BadJob ∷ []) × HasBadJob line)
+    ((refusals ≡ NotJson ∷ []) × IsNoJson line) ⊎ ((refusals ≡ BadJob ∷ []) × HasRepeatedMember line)
+    ⊎ ((refusals ≡ NoJob ∷ []) × HasNoJob line) ⊎ ((refusals ≡ BadJob ∷ []) × HasBadJob line)
 
 -- why a first line gives no job
 abbrev pub IsNoJob : List ℕ → AnswerError → Type 0
@@ -65,12 +66,12 @@ IsNoJob line answer.Memory = ⊤
 -- the line is a JSON text of no step of the job
 pub record HasNoStep (job : Job) (line : List ℕ) : Type 0 where
   pub value : Data
-  pub json : IsJson line value
+  pub json : IsStrictJson line value
   pub says : step_of job value ≡ Err wrong
 
 -- a line says no step
 abbrev pub SaysNoStep : Job → List ℕ → Type 0
-SaysNoStep job line = IsNoJson line ⊎ HasNoStep job line
+SaysNoStep job line = IsNoJson line ⊎ HasRepeatedMember line ⊎ HasNoStep job line
 
 -- a line says no step, or memory ran out
 abbrev pub IsNoStep : Job → List ℕ → NoStep → Type 0

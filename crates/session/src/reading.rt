@@ -4,10 +4,9 @@ ghost use Rattle.std.specs.Prelude.{◌≡◌, [], ◌∷◌, map, IfOk, IfErr};
 ghost use Rattle.session.specs.Lines.{SaysJob, SaysStep, IsNoJob, IsNoStep};
 
 use diagnosis::{
-    AnswerError, ScriptFault, job_line_mend, job_mend, json_faults, line_mend, step_mend,
+    AnswerError, ScriptFault, job_line_mend, job_mend, json_faults, line_mend, repeated_mend, step_mend,
 };
-use program_io::Unread;
-use serde_json::{Category, Value};
+use program_io::{JsonError, Unread, strict_value_of};
 use service::{ScriptError, job_member, job_of, lone_step};
 use std::alloc::{AllocError, Global};
 use world::{Job, Step};
@@ -45,10 +44,17 @@ pub fn job_said(alloc: Global, line: &[u8]) -> Result<Job, AnswerError>
     ensures ok { IfOk result (SaysJob line.now) }
     ensures err { IfErr result (IsNoJob line.now) }
 {
-    let value = match Value::from_slice(alloc, line) {
+    let value = match strict_value_of(alloc, line) {
         Ok(value) => value,
-        Err(error) if error.classify() == Category::Memory => return Err(AnswerError::Memory),
-        Err(error) => return Err(AnswerError::Refused(json_faults(alloc, &error)?)),
+        Err(JsonError::Memory) => return Err(AnswerError::Memory),
+        Err(JsonError::NotJson(error)) => {
+            return Err(AnswerError::Refused(json_faults(alloc, &error)?));
+        }
+        Err(JsonError::Repeated(name)) => {
+            let mend = repeated_mend(alloc, name.as_str())?;
+            let faults = one_fault(alloc, ScriptError::BadJob, mend)?;
+            return Err(AnswerError::Refused(faults));
+        }
     };
     let Ok(member) = job_member(&value) else {
         let mend = job_line_mend(alloc, &value)?;
@@ -70,12 +76,15 @@ pub fn step_said(alloc: Global, job: Job, line: &[u8]) -> Result<Step, NoStep>
     ensures ok { IfOk result (SaysStep job line.now) }
     ensures err { IfErr result (IsNoStep job line.now) }
 {
-    let value = match Value::from_slice(alloc, line) {
+    let value = match strict_value_of(alloc, line) {
         Ok(value) => value,
-        Err(error) if error.classify() == Category::Memory => return Err(NoStep::Memory),
-        Err(error) => {
+        Err(JsonError::Memory) => return Err(NoStep::Memory),
+        Err(JsonError::NotJson(error)) => {
             let mend = line_mend(alloc, &error)?;
             return Err(NoStep::Line(format!(in alloc; "not JSON: {mend}")?));
+        }
+        Err(JsonError::Repeated(name)) => {
+            return Err(NoStep::Line(repeated_mend(alloc, name.as_str())?));
         }
     };
     match lone_step(alloc, job, &value) {
