@@ -1,5 +1,6 @@
 -- A talk so far, and one turn more.
-use Rattle.std.proofs.Common.{◌≡◌, ◌∙◌, ◌⊎◌, ◌+◌, ℕ, List, [], ◌∷◌, ◌++◌, Option, Some, None, length, take, true, false, refl, sym, subst, inl, inr}
+use Rattle.std.proofs.Common.{◌≡◌, ◌∙◌, ◌⊎◌, ◌+◌, ◌&&◌, not, ℕ, Bool, List, [], ◌∷◌, ◌++◌, Option, Some, None, length, take, true, false, refl, sym, subst, inl, inr}
+use Rattle.std.specs.Prelude.{nat_eq}
 use Rattle.std.specs.Io.KnownBytes.{Consumes, Appends}
 use Rattle.serde_json.specs.Read.{read}
 use Rattle.serde_json.proofs.OnLiterals.{serde_json_on_literals}
@@ -15,12 +16,13 @@ use Rattle.diagnosis.specs.Errors.{error_of_reading}
 use Rattle.program_io.proofs.Keeping.{keeps_itself}
 use Rattle.session.specs.declared.answer.ReplyForm.{ReplyForm}
 use Rattle.session.specs.declared.session.Session.{Session}
-use Rattle.session.specs.Answers.{answer_text, error_text}
-use Rattle.session.specs.Lines.{SaysJob, SaysStep, SaysNoStep, IsNoJob}
+use Rattle.session.specs.Answers.{answer_text, error_text, long_words}
+use Rattle.session.specs.Lines.{SaysJob, SaysStep, SaysNoStep, IsNoJob, is_long}
 use Rattle.session.specs.Turns.{IsAt, IsTurned}
-use Rattle.session.specs.Talks.{AreLines, without_blanks, IsNextLine, HasNoLine, IsNext, Turn, past_of, lines_of, text_of, IsPlayed, IsPassed, AreTurns, IsConversation, IsTalked, IsStopped, IsCut, IsBroken}
+use Rattle.session.specs.Talks.{AreLines, without_skipped, IsNextLine, HasNoLine, Turn, past_of, lines_of, text_of, IsPlayed, IsPassed, IsOverlong, AreTurns, IsConversation, IsTalked, IsStopped, IsCut, IsRefused, IsBroken}
+use Rattle.session.specs.internals.Reading.{IsKept, IsNextRead, SaysFirst, SaysNoFirst, IsReadTurned}
 use Rattle.session.proofs.Bytes.{appends_more, appends_none, takes_more}
-use Rattle.session.proofs.Skipping.{reads_on, consumed, with_first, with_line, with_blanks}
+use Rattle.session.proofs.Skipping.{reads_on, consumed, with_first, with_line, with_blanks, not_empty}
 
 pub record IsTalking (form : ReplyForm) (before after held holds : Option (List ℕ)) (job : Job) (s : Session) : Type 0 where
   pub same : s.job ≡ job
@@ -31,7 +33,7 @@ pub record IsTalking (form : ReplyForm) (before after held holds : Option (List 
   pub run : IsRun job (past_of turns)
   pub lines : List (List ℕ)
   pub reads : AreLines before after lines
-  pub not_blank : without_blanks lines ≡ lines_of turns
+  pub not_blank : without_skipped lines ≡ lines_of turns
   pub wrote : Appends held holds (text_of turns)
 
 pub begins : (form : ReplyForm) (before held : Option (List ℕ)) (s : Session) → s.form ≡ form → IsAt [] s → IsTalking form before before held held s.job s
@@ -55,18 +57,20 @@ turn_of line text past = record { line = line; text = text; past = past }
 record IsMore (form : ReplyForm) (job : Job) (turns : List Turn) (new : Session) (line text : List ℕ) : Type 0 where
   past : Past
   is : IsPlayed form job (past_of turns) (turn_of line text past) ⊎ IsPassed form job (past_of turns) (turn_of line text past)
+      ⊎ IsOverlong form (past_of turns) (turn_of line text past)
   leads : IsAt past new
   run : IsRun job past
 
-turned : (form : ReplyForm) (before mid held was : Option (List ℕ)) (line text : List ℕ) (job : Job) (old new : Session)
-    → (t : IsTalking form before mid held was job old) → new.job ≡ old.job → IsTurned line old new text → IsMore form job t.turns new line text
-turned form before mid held was line text job old new t kept answer =
+turned_short : (form : ReplyForm) (before mid held was : Option (List ℕ)) (line text : List ℕ) (job : Job) (old new : Session)
+    → (t : IsTalking form before mid held was job old) → new.job ≡ old.job → is_long line ≡ false → IsTurned line old new text → IsMore form job t.turns new line text
+turned_short form before mid held was line text job old new t kept short answer =
     elim answer [
       | inl answered ↦
           let past : Past = event answered.step answered.played.reply ∷ past_of t.turns in
           record {
             past = past;
             is = inl (record {
+              short = short;
               step = answered.step;
               says = subst (λ (j : Job). SaysStep j line answered.step) t.same answered.says;
               reply = answered.played.reply;
@@ -80,44 +84,63 @@ turned form before mid held was line text job old new t kept answer =
       | inr unread ↦
           record {
             past = past_of t.turns;
-            is = inr (record {
+            is = inr (inl (record {
+              short = short;
               says = subst (λ (j : Job). SaysNoStep j line) t.same unread.says;
               after = refl;
               words = unread.words;
               wrote = subst (λ (f : ReplyForm). text ≡ error_text f unread.words) t.same_form unread.text_is;
-            });
+            }));
             leads = subst (IsAt (past_of t.turns)) (sym unread.kept) t.leads;
             run = t.run;
           }
     ]
 
+-- what a line that was read was answered, by its length
+turned : (form : ReplyForm) (before mid held was : Option (List ℕ)) (line kept text : List ℕ) (long : Bool) (job : Job) (old new : Session)
+    → (t : IsTalking form before mid held was job old) → new.job ≡ old.job → IsKept line kept long → IsReadTurned kept long old new text → IsMore form job t.turns new line text
+turned form before mid held was line kept text long job old new t same keeps (inl answer) = record {
+  past = past_of t.turns;
+  is = inr (inr (record {
+    long = sym keeps.measured ∙ answer.0;
+    after = refl;
+    wrote = subst (λ (f : ReplyForm). text ≡ error_text f long_words) t.same_form answer.1.text_is;
+  }));
+  leads = subst (IsAt (past_of t.turns)) (sym answer.1.kept) t.leads;
+  run = t.run;
+}
+turned form before mid held was line kept text long job old new t same keeps (inr answer) =
+    let whole : kept ≡ line = keeps.whole answer.0 in
+    turned_short form before mid held was line text job old new t same (sym keeps.measured ∙ answer.0) (subst (λ (l : List ℕ). IsTurned l old new text) whole answer.1)
+
 -- the lines with one more that was answered
 record AreMore (before after : Option (List ℕ)) (turns : List Turn) (line : List ℕ) : Type 0 where
   lines : List (List ℕ)
   reads : AreLines before after lines
-  not_blank : without_blanks lines ≡ lines_of turns ++ line ∷ []
+  not_blank : without_skipped lines ≡ lines_of turns ++ line ∷ []
 
 reads_more : (before mid after : Option (List ℕ)) (lines : List (List ℕ)) (turns : List Turn) (line : List ℕ)
-    → AreLines before mid lines → without_blanks lines ≡ lines_of turns → IsNextLine mid after line → AreMore before after turns line
+    → AreLines before mid lines → without_skipped lines ≡ lines_of turns → IsNextLine mid after line → AreMore before after turns line
 reads_more before mid after lines turns line reads these next = record {
   lines = lines ++ (next.blanks ++ line ∷ []);
   reads = reads_on before mid after lines (next.blanks ++ line ∷ []) reads next.reads;
   not_blank = rw (with_line lines next.blanks line next.blank next.more, these) refl;
 }
 
--- a line that is not empty
-pub is_line : (before after : Option (List ℕ)) (line : List ℕ) → (line ≡ [] → ⊥) → IsNext before after line → IsNextLine before after line
-is_line before after line more (inl next) = next
-is_line before after line more (inr none) = absurd (more none.0)
+-- a line that was read, and is not the end
+pub is_line : (before after : Option (List ℕ)) (kept : List ℕ) (long : Bool) → (not long && nat_eq (length kept) 0) ≡ false → IsNextRead before after kept long
+    → (line : List ℕ) × IsNextLine before after line × IsKept line kept long
+is_line before after kept long more (inl next) = next
+is_line before after kept long more (inr none) = let no : true ≡ false = rw (none.0, none.1) at more in absurd (cc)
 
-pub goes_on : (form : ReplyForm) (before mid after held was holds : Option (List ℕ)) (line text : List ℕ) (job : Job) (old new : Session)
-    → IsTalking form before mid held was job old → IsNextLine mid after line → new.job ≡ old.job → new.form ≡ old.form → IsTurned line old new text → Appends was holds text
-    → IsTalking form before after held holds job new
-goes_on form before mid after held was holds line text job old new t read kept kept_form answer wrote =
-    let next = turned form before mid held was line text job old new t kept answer in
+pub goes_on : (form : ReplyForm) (before mid after held was holds : Option (List ℕ)) (line kept text : List ℕ) (long : Bool) (job : Job) (old new : Session)
+    → IsTalking form before mid held was job old → IsNextLine mid after line → new.job ≡ old.job → new.form ≡ old.form → IsKept line kept long
+    → IsReadTurned kept long old new text → Appends was holds text → IsTalking form before after held holds job new
+goes_on form before mid after held was holds line kept text long job old new t read same kept_form keeps answer wrote =
+    let next = turned form before mid held was line kept text long job old new t same keeps answer in
     let more = reads_more before mid after t.lines t.turns line t.reads t.not_blank read in
     record {
-      same = kept ∙ t.same;
+      same = same ∙ t.same;
       same_form = kept_form ∙ t.same_form;
       turns = turn_of line text next.past ∷ t.turns;
       are = (next.is, t.are);
@@ -145,21 +168,27 @@ no_job_in_nothing first job none says =
 pub record IsOpened (before after : Option (List ℕ)) (job : Job) : Type 0 where
   pub first : List ℕ
   pub next : IsNextLine before after first
+  pub short : is_long first ≡ false
   pub says : SaysJob first job
 
-pub opened : (before after : Option (List ℕ)) (first slice : List ℕ) (job : Job) → IsNext before after first → slice ≡ first → SaysJob slice job → IsOpened before after job
-opened before after first slice job next same says =
-    let opens = subst (λ (l : List ℕ). SaysJob l job) same says in
-    record { first = first; next = is_line before after first (λ none. no_job_in_nothing first job none opens) next; says = opens }
+pub opened : (before after : Option (List ℕ)) (kept : List ℕ) (long : Bool) (job : Job) → IsNextRead before after kept long → SaysFirst kept long job → IsOpened before after job
+opened before after kept long job (inl next) first = record {
+  first = next.0;
+  next = next.1;
+  short = sym next.2.measured ∙ first.short;
+  says = subst (λ (l : List ℕ). SaysJob l job) (next.2.whole first.short) first.says;
+}
+opened before after kept long job (inr none) first = absurd (no_job_in_nothing kept job none.0 first.says)
 
 -- all lines so far, with the first one
 holds_so_far : (form : ReplyForm) (start before mid : Option (List ℕ)) (job : Job) (turns : List Turn) (lines : List (List ℕ)) → IsOpened start before job
-    → AreLines before mid lines → without_blanks lines ≡ lines_of turns → AreTurns form job turns → IsRun job (past_of turns) → IsConversation form start mid turns
+    → AreLines before mid lines → without_skipped lines ≡ lines_of turns → AreTurns form job turns → IsRun job (past_of turns) → IsConversation form start mid turns
 holds_so_far form start before mid job turns lines opened reads these are run = record {
   lines = (opened.next.blanks ++ opened.first ∷ []) ++ lines;
   reads = reads_on start before mid (opened.next.blanks ++ opened.first ∷ []) lines opened.next.reads reads;
   first = opened.first;
   not_blank = rw (with_first opened.next.blanks lines opened.first opened.next.blank opened.next.more, these) refl;
+  short = opened.short;
   job = job;
   opens = opened.says;
   are = are;
@@ -186,11 +215,11 @@ is_stopped_after form start before mid after held was job s line opened t next =
     is_stopped form start before mid after held was job s more.0 opened t more.1
 
 -- and a first part of one answer more
-pub is_cut_in : (form : ReplyForm) (start before mid after held was holds : Option (List ℕ)) (line text : List ℕ) (n : ℕ) (job : Job) (old new : Session)
-    → IsOpened start before job → IsTalking form before mid held was job old → IsNextLine mid after line → new.job ≡ old.job → IsTurned line old new text
-    → Appends was holds (take n text) → IsCut form start after held holds
-is_cut_in form start before mid after held was holds line text n job old new opened t read kept answer wrote =
-    let next = turned form before mid held was line text job old new t kept answer in
+pub is_cut_in : (form : ReplyForm) (start before mid after held was holds : Option (List ℕ)) (line kept text : List ℕ) (long : Bool) (n : ℕ) (job : Job) (old new : Session)
+    → IsOpened start before job → IsTalking form before mid held was job old → IsNextLine mid after line → new.job ≡ old.job → IsKept line kept long
+    → IsReadTurned kept long old new text → Appends was holds (take n text) → IsCut form start after held holds
+is_cut_in form start before mid after held was holds line kept text long n job old new opened t read same keeps answer wrote =
+    let next = turned form before mid held was line kept text long job old new t same keeps answer in
     let more = reads_more before mid after t.lines t.turns line t.reads t.not_blank read in
     let turns : List Turn = turn_of line text next.past ∷ t.turns in
     record {
@@ -201,11 +230,17 @@ is_cut_in form start before mid after held was holds line text n job old new ope
     }
 
 -- it ends where no line is left
-pub ends : (form : ReplyForm) (start before mid after held holds : Option (List ℕ)) (line : List ℕ) (s : Session) (job : Job)
-    → IsOpened start before job → IsTalking form before mid held holds job s → IsNext mid after line → line ≡ [] → IsTalked form start held holds
-ends form start before mid after held holds line s job opened t (inl next) none = let no : true ≡ false = rw none at next.more in absurd (cc)
-ends form start before mid after held holds line s job opened t (inr last) none =
-    let end : HasNoLine mid = last.1 in
+pub ends : (form : ReplyForm) (start before mid after held holds : Option (List ℕ)) (kept : List ℕ) (long : Bool) (s : Session) (job : Job)
+    → IsOpened start before job → IsTalking form before mid held holds job s → IsNextRead mid after kept long → (not long && nat_eq (length kept) 0) ≡ true → IsTalked form start held holds
+ends form start before mid after held holds kept true s job opens t next none = absurd (cc)
+ends form start before mid after held holds (x ∷ xs) false s job opens t next none =
+    let some : nat_eq (length (x ∷ xs)) 0 ≡ false = not_empty x xs in
+    let both : true ≡ false = sym none ∙ some in
+    absurd (cc)
+ends form start before mid after held holds [] false s job opened t (inl next) none =
+    let no : true ≡ false = rw (sym (next.2.whole refl)) at next.1.more in absurd (cc)
+ends form start before mid after held holds [] false s job opened t (inr last) none =
+    let end : HasNoLine mid = last.2 in
     record {
       turns = t.turns;
       at_end = end.at_end;
@@ -221,11 +256,28 @@ unread_first form before after held reading.Failed = inl (keeps_itself held)
 unread_first form before after held reading.Memory = inl (keeps_itself held)
 
 -- where the first line says no job
-pub unopened : (form : ReplyForm) (before after held : Option (List ℕ)) (first : List ℕ) (e : AnswerError) → IsNext before after first → IsNoJob first e → IsBroken form before after held held e
-unopened form before after held first (answer.Refused faults) read says = record { first = first; reads = read; says = says; kept = keeps_itself held }
-unopened form before after held first answer.Read read says = absurd says
-unopened form before after held first answer.Write read says = absurd says
-unopened form before after held first answer.Memory read says = inl (keeps_itself held)
+is_refused : (before after held : Option (List ℕ)) (kept : List ℕ) (long : Bool) (e : AnswerError) → IsNextRead before after kept long → SaysNoFirst kept long e
+    → IsRefused before after held held e
+is_refused before after held kept long e (inl next) (inl lack) =
+    record { first = next.0; reads = inl next.1; says = inl (sym next.2.measured ∙ lack.0, lack.1); kept = keeps_itself held }
+is_refused before after held kept long e (inl next) (inr lack) = record {
+  first = next.0;
+  reads = inl next.1;
+  says = inr (sym next.2.measured ∙ lack.0, subst (λ (l : List ℕ). IsNoJob l e) (next.2.whole lack.0) lack.1);
+  kept = keeps_itself held;
+}
+is_refused before after held kept long e (inr none) (inl lack) = let not : true ≡ false = sym lack.0 ∙ none.1 in absurd (cc)
+is_refused before after held kept long e (inr none) (inr lack) =
+    record { first = []; reads = inr (refl, none.2); says = inr (refl, subst (λ (l : List ℕ). IsNoJob l e) none.0 lack.1); kept = keeps_itself held }
+
+pub unopened : (form : ReplyForm) (before after held : Option (List ℕ)) (kept : List ℕ) (long : Bool) (e : AnswerError) → IsNextRead before after kept long → SaysNoFirst kept long e
+    → IsBroken form before after held held e
+unopened form before after held kept long (answer.Refused faults) read says = is_refused before after held kept long (answer.Refused faults) read says
+unopened form before after held kept long answer.Read read (inl lack) = absurd lack.1
+unopened form before after held kept long answer.Read read (inr lack) = absurd lack.1
+unopened form before after held kept long answer.Write read (inl lack) = absurd lack.1
+unopened form before after held kept long answer.Write read (inr lack) = absurd lack.1
+unopened form before after held kept long answer.Memory read says = inl (keeps_itself held)
 
 -- where a later line was not read
 pub unread_later : (form : ReplyForm) (before after held holds : Option (List ℕ)) (e : ReadError) → IsStopped form before after held holds

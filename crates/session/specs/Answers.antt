@@ -22,3 +22,7 @@ error_data words = object_data ((codes "error", string words) ∷ [])
 abbrev pub error_text : ReplyForm → List ℕ → List ℕ
 error_text form.Text words = codes "error: " ++ words ++ codes "\n"
 error_text form.Json words = compact_text (error_data words) ++ codes "\n"
+
+-- the words for a line that is too long
+abbrev pub long_words : List ℕ
+long_words = codes "the line has more than 1048576 bytes"

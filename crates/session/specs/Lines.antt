@@ -1,6 +1,7 @@
 -- What a line says.
-use Rattle.std.specs.Prelude.{◌≡◌, ◌⊎◌, ℕ, ◌==◌, ◌||◌, Bool, List, [], ◌∷◌, map, ⊤, Ok, Err}
+use Rattle.std.specs.Prelude.{◌≡◌, ◌⊎◌, ℕ, nat_lt, ◌==◌, ◌&&◌, ◌||◌, not, Bool, true, false, List, [], ◌∷◌, map, length, ⊤, Ok, Err}
 use Rattle.std.specs.List.{list_all}
+use Rattle.std.specs.Io.BufRead.{strip_last}
 use Rattle.serde_json.specs.Data.{Data}
 use Rattle.world.specs.Jobs.{Job}
 use Rattle.world.specs.declared.step.Step.{Step}
@@ -12,6 +13,7 @@ use Rattle.service.specs.Jobs.{job_member, job_of}
 use Rattle.service.specs.Steps.{step_of}
 use Rattle.diagnosis.specs.declared.error.AnswerError.{AnswerError}
 use Rattle.diagnosis.specs.declared.error.AnswerError.TheVariants as answer
+use Rattle.session.specs.declared.line_reading.TheConstants.{MOST_LINE_BYTES}
 use Rattle.session.specs.declared.reading.NoStep.{NoStep}
 use Rattle.session.specs.declared.reading.NoStep.TheVariants as none
 
@@ -21,6 +23,14 @@ is_space byte = byte == 32 || byte == 9 || byte == 13 || byte == 10
 
 abbrev pub is_blank : List ℕ → Bool
 is_blank line = list_all is_space line
+
+-- a line has more bytes than a line may have, beside its end
+abbrev pub is_long : List ℕ → Bool
+is_long line = nat_lt MOST_LINE_BYTES (length (strip_last 10 line))
+
+-- a line that is skipped
+abbrev pub is_skipped : List ℕ → Bool
+is_skipped line = is_blank line && not (is_long line)
 
 -- the line is a JSON text whose one member `job` is this job
 pub record SaysJob (line : List ℕ) (job : Job) : Type 0 where
@@ -62,6 +72,17 @@ IsNoJob line (answer.Refused faults) = IsNoJobFor line (map (λ f. f.refusal) fa
 IsNoJob line answer.Read = ⊥
 IsNoJob line answer.Write = ⊥
 IsNoJob line answer.Memory = ⊤
+
+-- a first line is too long to say a job, which is told as its lack
+abbrev pub IsLongJob : AnswerError → Type 0
+IsLongJob (answer.Refused faults) = map (λ f. f.refusal) faults.items ≡ NoJob ∷ []
+IsLongJob answer.Read = ⊥
+IsLongJob answer.Write = ⊥
+IsLongJob answer.Memory = ⊤
+
+-- why a line of any length gives no job
+abbrev pub IsNoFirst : List ℕ → AnswerError → Type 0
+IsNoFirst line why = ((is_long line ≡ true) × IsLongJob why) ⊎ ((is_long line ≡ false) × IsNoJob line why)
 
 -- the line is a JSON text of no step of the job
 pub record HasNoStep (job : Job) (line : List ℕ) : Type 0 where

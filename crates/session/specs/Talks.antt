@@ -12,8 +12,8 @@ use Rattle.service.specs.Output.{is_answer}
 use Rattle.diagnosis.specs.declared.error.AnswerError.{AnswerError}
 use Rattle.diagnosis.specs.declared.error.AnswerError.TheVariants as answer
 use Rattle.session.specs.declared.answer.ReplyForm.{ReplyForm}
-use Rattle.session.specs.Answers.{answer_text, error_text}
-use Rattle.session.specs.Lines.{SaysJob, SaysStep, SaysNoStep, IsNoJob, is_blank}
+use Rattle.session.specs.Answers.{answer_text, error_text, long_words}
+use Rattle.session.specs.Lines.{SaysJob, SaysStep, SaysNoStep, IsNoFirst, is_long, is_skipped}
 
 -- LINES
 
@@ -29,26 +29,26 @@ abbrev pub AreLines : Option (List ℕ) → Option (List ℕ) → List (List ℕ
 AreLines before after [] = before ≡ after
 AreLines before after (line ∷ lines) = (middle : Option (List ℕ)) × IsLine before middle line × AreLines middle after lines
 
--- those that are not blank
-abbrev pub without_blanks : List (List ℕ) → List (List ℕ)
-without_blanks lines = filter (λ line. not (is_blank line)) lines
+-- those that are not skipped
+abbrev pub without_skipped : List (List ℕ) → List (List ℕ)
+without_skipped lines = filter (λ line. not (is_skipped line)) lines
 
--- blank lines were read, and then a line that is not blank
+-- lines were read that are skipped, and then a line that is not
 pub record IsNextLine (before after : Option (List ℕ)) (line : List ℕ) : Type 0 where
   pub blanks : List (List ℕ)
-  pub blank : without_blanks blanks ≡ []
+  pub blank : without_skipped blanks ≡ []
   pub reads : AreLines before after (blanks ++ line ∷ [])
-  pub more : is_blank line ≡ false
+  pub more : is_skipped line ≡ false
 
--- blank lines were read, and then the reader was at its end
+-- lines were read that are skipped, and then the reader was at its end
 pub record HasNoLine (before : Option (List ℕ)) : Type 0 where
   pub blanks : List (List ℕ)
-  pub blank : without_blanks blanks ≡ []
+  pub blank : without_skipped blanks ≡ []
   pub at_end : Option (List ℕ)
   pub reads : AreLines before at_end blanks
   pub ended : IsAtEnd at_end
 
--- the next line that is not blank, or an empty one where there is none
+-- the next line that is not skipped, or an empty one where there is none
 abbrev pub IsNext : Option (List ℕ) → Option (List ℕ) → List ℕ → Type 0
 IsNext before after line = IsNextLine before after line ⊎ ((line ≡ []) × HasNoLine before)
 
@@ -77,6 +77,7 @@ text_of (t ∷ turns) = text_of turns ++ t.text
 
 -- the line says a step, which follows on what was before, and its reply was written
 pub record IsPlayed (form : ReplyForm) (job : Job) (before : Past) (t : Turn) : Type 0 where
+  pub short : is_long t.line ≡ false
   pub step : Step
   pub says : SaysStep job t.line step
   pub reply : Reply
@@ -86,25 +87,34 @@ pub record IsPlayed (form : ReplyForm) (job : Job) (before : Past) (t : Turn) : 
 
 -- the line says no step, nothing happened, and words for it were written
 pub record IsPassed (form : ReplyForm) (job : Job) (before : Past) (t : Turn) : Type 0 where
+  pub short : is_long t.line ≡ false
   pub says : SaysNoStep job t.line
   pub after : t.past ≡ before
   pub words : List ℕ
   pub wrote : t.text ≡ error_text form words
 
+-- the line is too long to say a step, nothing happened, and this was written
+pub record IsOverlong (form : ReplyForm) (before : Past) (t : Turn) : Type 0 where
+  pub long : is_long t.line ≡ true
+  pub after : t.past ≡ before
+  pub wrote : t.text ≡ error_text form long_words
+
 -- turns, newest first, each on what was before it
 abbrev pub AreTurns : ReplyForm → Job → List Turn → Type 0
 AreTurns form job [] = ⊤
-AreTurns form job (t ∷ turns) = (IsPlayed form job (past_of turns) t ⊎ IsPassed form job (past_of turns) t) × AreTurns form job turns
+AreTurns form job (t ∷ turns) =
+    (IsPlayed form job (past_of turns) t ⊎ IsPassed form job (past_of turns) t ⊎ IsOverlong form (past_of turns) t) × AreTurns form job turns
 
 -- CONVERSATIONS
 
--- lines were read; those that are not blank are a first line, which says a job, and the lines of the turns, each of which is answered by those
+-- lines were read; those that are not skipped are a first line, which says a job, and the lines of the turns, each of which is answered by those
 -- before it; their steps with their replies are a run of the job
 pub record IsConversation (form : ReplyForm) (before after : Option (List ℕ)) (turns : List Turn) : Type 0 where
   pub lines : List (List ℕ)
   pub reads : AreLines before after lines
   pub first : List ℕ
-  pub not_blank : without_blanks lines ≡ first ∷ lines_of turns
+  pub not_blank : without_skipped lines ≡ first ∷ lines_of turns
+  pub short : is_long first ≡ false
   pub job : Job
   pub opens : SaysJob first job
   pub are : AreTurns form job turns
@@ -138,7 +148,7 @@ pub record IsCut (form : ReplyForm) (before after held holds : Option (List ℕ)
 pub record IsRefused (before after held holds : Option (List ℕ)) (why : AnswerError) : Type 0 where
   pub first : List ℕ
   pub reads : IsNext before after first
-  pub says : IsNoJob first why
+  pub says : IsNoFirst first why
   pub kept : Keeps held holds
 
 -- what was read and written where the session came to no end

@@ -3,13 +3,17 @@
 #![tactic(auto)]
 
 mod answer;
+mod line_reading;
+mod quoted;
 mod reading;
 mod refusal_json;
 mod reply_json;
 mod session;
 mod talk;
 
-pub use answer::ReplyForm;
+pub use answer::{LONG_WORDS, ReplyForm};
+pub use line_reading::{MOST_LINE_BYTES, is_long};
+pub use quoted::{Escaped, MOST_TOLD, Quoted};
 pub use reading::job_said;
 pub use session::Session;
-pub use talk::run_session;
+pub use talk::{is_blank, run_session};

@@ -1,8 +1,10 @@
 //! Parsing lines.
 
 ghost use Rattle.std.specs.Prelude.{◌≡◌, [], ◌∷◌, map, IfOk, IfErr};
+ghost use Rattle.service.specs.declared.fault.ScriptError.TheVariants as fault;
 ghost use Rattle.session.specs.Lines.{SaysJob, SaysStep, IsNoJob, IsNoStep};
 
+use crate::answer::LONG_WORDS;
 use diagnosis::{
     AnswerError, ScriptFault, job_line_mend, job_mend, json_faults, line_mend, repeated_mend, step_mend,
 };
@@ -37,6 +39,14 @@ fn one_fault(
     let mut faults = Vec::new(alloc);
     faults.push(ScriptFault { refusal, mend })?;
     Ok(faults)
+}
+
+/// Returns the one fault of a first line that is too long.
+pub fn long_job_faults(alloc: Global) -> Result<Vec<ScriptFault>, AllocError>
+    ensures { IfOk result (λ faults. map (λ f. f.refusal) faults.items ≡ fault.NoJob ∷ []) }
+{
+    let mend = String::from_str(alloc, LONG_WORDS)?;
+    one_fault(alloc, ScriptError::NoJob, mend)
 }
 
 /// Parses the first line of a session, which is its job.

@@ -4,9 +4,11 @@ ghost use Rattle.std.specs.Prelude.{◌≡◌, [], IfOk, IfErr, string_bytes};
 ghost use Rattle.world.specs.Pasts.{Past};
 ghost use Rattle.session.specs.Lines.{SaysJob, IsNoJob};
 ghost use Rattle.session.specs.Turns.{IsAt, IsPlayedAs, IsTurned};
+ghost use Rattle.session.specs.internals.Reading.{IsReadTurned, SaysFirst, SaysNoFirst};
 
-use crate::answer::{ReplyForm, answer_text, error_text};
-use crate::reading::{NoStep, job_said, step_said};
+use crate::answer::{LONG_WORDS, ReplyForm, answer_text, error_text};
+use crate::line_reading::LineRead;
+use crate::reading::{NoStep, job_said, long_job_faults, step_said};
 use diagnosis::AnswerError;
 use std::alloc::{AllocError, Global};
 use world::{Job, Reply, Step, World};
@@ -52,6 +54,36 @@ impl Session {
             Err(NoStep::Line(words)) => error_text(self.alloc, self.form, words.as_str()),
             Err(NoStep::Memory) => Err(AllocError),
         }
+    }
+
+    // Opens a session for the job on a line that was read.
+    pub(crate) fn open_read(
+        alloc: Global,
+        form: ReplyForm,
+        line: &LineRead,
+    ) -> Result<Session, AnswerError>
+        ensures at { IfOk result (λ s. IsAt [] s) }
+        ensures job { IfOk result (λ s. SaysFirst line.now.bytes.items line.now.is_long s.job) }
+        ensures form { IfOk result (λ s. s.form ≡ form) }
+        ensures err { IfErr result (SaysNoFirst line.now.bytes.items line.now.is_long) }
+    {
+        if line.is_long {
+            return Err(AnswerError::Refused(long_job_faults(alloc)?));
+        }
+        Session::open(alloc, form, line.bytes.as_slice())
+    }
+
+    // Plays the step on a line that was read, and returns the line of its reply.
+    pub(crate) fn answer_read(&mut self, line: &LineRead) -> Result<String, AllocError>
+        ensures job { self.new.job ≡ self.old.job }
+        ensures form { self.new.form ≡ self.old.form }
+        ensures ok { IfOk result (λ text.
+            IsReadTurned line.now.bytes.items line.now.is_long self.old self.new (string_bytes text)) }
+    {
+        if line.is_long {
+            return error_text(self.alloc, self.form, LONG_WORDS);
+        }
+        self.answer(line.bytes.as_slice())
     }
 
     // Plays a step and returns the line of its reply. An out-of-memory reply is an error.

@@ -3,40 +3,42 @@
 ghost use Rattle.std.specs.Prelude.{◌≡◌, ℕ, List, IfOk, IfErr, OnOk, OnErr};
 ghost use Rattle.std.specs.Io.KnownBytes.{Consumes};
 ghost use Rattle.session.specs.Lines.{is_blank};
-ghost use Rattle.session.specs.Talks.{IsNext, IsTalked, IsBroken};
+ghost use Rattle.session.specs.Talks.{IsTalked, IsBroken};
+ghost use Rattle.session.specs.internals.Reading.{IsNextRead, ends_search};
 
 use crate::answer::ReplyForm;
+use crate::line_reading::{LineRead, read_line};
 use crate::session::Session;
 use diagnosis::AnswerError;
 use program_io::{ReadError, write_all};
 use std::alloc::Global;
-use std::io::{BufRead, ErrorKind, Write};
+use std::io::{BufRead, Write};
 
-// Whether a line is blank: spaces, tabs and line ends alone.
-fn is_blank(line: &[u8]) -> bool
+/// Whether a line is blank: spaces, tabs and line ends alone.
+pub fn is_blank(line: &[u8]) -> bool
     ensures { result ≡ is_blank line.now }
 {
     line.iter().all(|byte| *byte == b' ' || *byte == b'\t' || *byte == b'\r' || *byte == b'\n')
 }
 
-// Reads the next line that is not blank, with its line end. It is empty at the end of the input.
-fn next_line<R: BufRead>(alloc: Global, reader: &mut R) -> Result<Vec<u8>, ReadError>
-    ensures ok { IfOk result (λ line. IsNext (R.remaining reader.old) (R.remaining reader.new) line.items) }
+// Whether a line that was read is not skipped, or is the end of the input.
+fn ends_search(line: &LineRead) -> bool
+    ensures { result ≡ ends_search line.now.bytes.items line.now.is_long }
+{
+    line.is_long || line.bytes.is_empty() || !is_blank(line.bytes.as_slice())
+}
+
+// Reads the next line that is not skipped. It is empty at the end of the input.
+fn next_line<R: BufRead>(alloc: Global, reader: &mut R) -> Result<LineRead, ReadError>
+    ensures ok { IfOk result (λ line.
+        IsNextRead (R.remaining reader.old) (R.remaining reader.new) line.bytes.items line.is_long) }
     ensures err { OnErr result ((bytes : List ℕ)
         × Consumes (R.remaining reader.old) (R.remaining reader.new) bytes) }
 {
-    let mut line = Vec::new(alloc);
     'blanks: for _ in 0..u64::MAX {
-        match reader.read_until(b'\n', &mut line) {
-            Ok(0) => return Ok(line),
-            Ok(_) => {
-                if !is_blank(line.as_slice()) {
-                    return Ok(line);
-                }
-                line.clear();
-            }
-            Err(error) if error.kind() == ErrorKind::OutOfMemory => return Err(ReadError::Memory),
-            Err(_) => return Err(ReadError::Failed),
+        let line = read_line(alloc, reader)?;
+        if ends_search(&line) {
+            return Ok(line);
         }
     }
     Err(ReadError::Failed)
@@ -45,7 +47,9 @@ fn next_line<R: BufRead>(alloc: Global, reader: &mut R) -> Result<Vec<u8>, ReadE
 /// Opens a session for the job on the first line, and answers each later line before reading the
 /// next.
 ///
-/// A line ends after byte 10 or at the end of the input. Blank lines are skipped.
+/// A line ends after byte 10 or at the end of the input. Blank lines are skipped. A line of more
+/// than [`MOST_LINE_BYTES`](crate::MOST_LINE_BYTES) beside its end is not kept: the first line is refused for it, and a
+/// later one is answered with an error.
 ///
 /// After an error, only replies to lines that were read have been written, from the first one on:
 /// whole replies if the reader failed or memory ran out, and up to some byte of them if the writer
@@ -62,13 +66,13 @@ pub fn run_session<R: BufRead, W: Write>(
         (W.contents writer.old) (W.contents writer.new)) }
 {
     let first = next_line(alloc, reader)?;
-    let mut session = Session::open(alloc, form, first.as_slice())?;
+    let mut session = Session::open_read(alloc, form, &first)?;
     'lines: for _ in 0..u64::MAX {
         let line = next_line(alloc, reader)?;
-        if line.is_empty() {
+        if line.is_end() {
             return Ok(());
         }
-        let text = session.answer(line.as_slice())?;
+        let text = session.answer_read(&line)?;
         write_all(writer, text.as_str().as_bytes())?;
     }
     Err(AnswerError::Read)
