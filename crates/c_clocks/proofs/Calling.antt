@@ -1,13 +1,13 @@
 -- A call of a clock that is kept as numbers.
-use Rattle.std.proofs.Common.{◌≡◌, ℕ, refl, subst, inl, Ok, Err}
+use Rattle.std.proofs.Common.{◌≡◌, ℕ, refl, subst, inl, Some, Ok, Err}
 use Rattle.std.specs.Bool.{⊤}
 use Rattle.clocks.specs.declared.drift.Drift.{Drift}
 use Rattle.clocks.specs.declared.numbers.TaskClockNumbers.{TaskClockNumbers}
 use Rattle.clocks.specs.declared.refusal.ClockRefusal.{ClockRefusal}
 use Rattle.clocks.specs.declared.task_clock.TaskClock.{TaskClock}
 use Rattle.clocks.specs.Drifts.{IsDriftOf}
-use Rattle.clocks.specs.Numbers.{IsClockOf}
-use Rattle.clocks.specs.TaskClocks.{new_clock, sample_answer, after_sample, read_answer, after_read}
+use Rattle.clocks.specs.Numbers.{AreRead, IsClockOf}
+use Rattle.clocks.specs.TaskClocks.{new_clock, sample_answer, after_sample, read_answer}
 use Rattle.c_numbers.specs.declared.answer.Answer.TheVariants.{Done, Clock}
 use Rattle.c_clocks.specs.TaskClocks.{IsNew, OnTaskClock, IsSampled, IsRead}
 
@@ -33,19 +33,18 @@ not_sampled clock sent reading now old why is_clock refused = inl (record {
   done = subst (λ r. IsSampled clock sent reading now old old (Clock why) r) refused (refl, refl);
 })
 
-pub read : (clock after : TaskClock) (now value was : ℕ) (old new : TaskClockNumbers) → IsClockOf old clock → Ok value ≡ read_answer clock now
-    → after ≡ after_read clock now (Ok value) → IsClockOf new after
+pub read : (now value was : ℕ) (old new : TaskClockNumbers) → AreRead old new now (Some (Ok value))
     → OnTaskClock old new Done (value ≡ was) (λ known. IsRead known now old new was value Done (read_answer known now))
-read clock after now value was old new is_clock answered same is_after = inl (record {
-  clock = clock;
-  is_clock = is_clock;
-  done = subst (λ r. IsRead clock now old new was value Done r) answered (refl, refl, subst (λ k. IsClockOf new k) same is_after);
+read now value was old new on = inl (record {
+  clock = on.clock;
+  is_clock = on.is_clock;
+  done = subst (λ r. IsRead on.clock now old new was value Done r) on.done.0 (refl, refl, on.done.1);
 })
 
-pub not_read : (clock : TaskClock) (now was : ℕ) (old : TaskClockNumbers) (why : ClockRefusal) → IsClockOf old clock → Err why ≡ read_answer clock now
-    → OnTaskClock old old (Clock why) (was ≡ was) (λ known. IsRead known now old old was was (Clock why) (read_answer known now))
-not_read clock now was old why is_clock refused = inl (record {
-  clock = clock;
-  is_clock = is_clock;
-  done = subst (λ r. IsRead clock now old old was was (Clock why) r) refused (refl, refl, refl);
+pub not_read : (now was : ℕ) (old new : TaskClockNumbers) (why : ClockRefusal) → AreRead old new now (Some (Err why))
+    → OnTaskClock old new (Clock why) (was ≡ was) (λ known. IsRead known now old new was was (Clock why) (read_answer known now))
+not_read now was old new why on = inl (record {
+  clock = on.clock;
+  is_clock = on.is_clock;
+  done = subst (λ r. IsRead on.clock now old new was was (Clock why) r) on.done.0 (refl, on.done.1, refl);
 })

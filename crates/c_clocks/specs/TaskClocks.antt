@@ -5,7 +5,7 @@ use Rattle.clocks.specs.declared.numbers.TaskClockNumbers.{TaskClockNumbers}
 use Rattle.clocks.specs.declared.refusal.ClockRefusal.{ClockRefusal}
 use Rattle.clocks.specs.declared.task_clock.TaskClock.{TaskClock}
 use Rattle.clocks.specs.Drifts.{IsDriftOf}
-use Rattle.clocks.specs.Numbers.{IsClockOf}
+use Rattle.clocks.specs.Numbers.{IsClockOf, OnClock}
 use Rattle.clocks.specs.TaskClocks.{new_clock, after_sample, after_read}
 use Rattle.c_numbers.specs.declared.answer.Answer.{Answer}
 use Rattle.c_numbers.specs.declared.answer.Answer.TheVariants.{Done, WrongForm, Clock}
@@ -20,13 +20,7 @@ abbrev pub IsNew : ℕ → ℕ → ℕ → ℕ → TaskClockNumbers → TaskCloc
 IsNew extra per grain oldest old new answer =
     ((answer ≡ Done) × IsNewOf extra per grain oldest new) ⊎ ((per ≡ 0) × (answer ≡ WrongForm) × (new ≡ old))
 
--- a call of the clock of these numbers
-pub record OnClock (numbers : TaskClockNumbers) (does : TaskClock → Type 0) : Type 0 where
-  pub clock : TaskClock
-  pub is_clock : IsClockOf numbers clock
-  pub done : does clock
-
--- or `per` is 0, and nothing changed
+-- a call of the clock of these numbers; or `per` is 0, and nothing changed
 abbrev pub OnTaskClock : TaskClockNumbers → TaskClockNumbers → Answer → Type 0 → (TaskClock → Type 0) → Type 0
 OnTaskClock old new answer same does = OnClock old does ⊎ ((old.per ≡ 0) × (answer ≡ WrongForm) × (new ≡ old) × same)
 

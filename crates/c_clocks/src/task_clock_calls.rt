@@ -46,19 +46,17 @@ pub fn sample_task_clock(clock: &mut TaskClockNumbers, sent: u64, reading: u64, 
 
 /// Writes the clock's value to `out`. Refused by `WrongForm` if the clock's `per` is 0, then as
 /// [`TaskClock::read`] says.
+#[inline]
 pub fn read_task_clock(clock: &mut TaskClockNumbers, now: u64, out: &mut u64) -> Answer
     ensures { OnTaskClock clock.old clock.new result (out.new ≡ out.old)
         (λ known. IsRead known now clock.old clock.new out.old out.new result (read_answer known now)) }
 {
-    match TaskClock::of_numbers(*clock) {
-        Some(mut known) => match known.read(now) {
-            Ok(value) => {
-                *clock = known.numbers();
-                *out = value;
-                Answer::Done
-            }
-            Err(why) => Answer::Clock(why),
-        },
+    match clock.read(now) {
+        Some(Ok(value)) => {
+            *out = value;
+            Answer::Done
+        }
+        Some(Err(why)) => Answer::Clock(why),
         None => Answer::WrongForm,
     }
 }

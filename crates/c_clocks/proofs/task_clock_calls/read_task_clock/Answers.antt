@@ -1,10 +1,16 @@
+use Rattle.std.proofs.Common.{Some, subst}
+use Rattle.clocks.specs.Numbers.{AreRead}
 use Rattle.c_clocks.proofs.Calling.{read, not_read}
 use Rattle.c_clocks.proofs.task_clock_calls.read_task_clock.Goals as goal
 
-pub returns-in-Ok : goal.returns-in-Ok
-returns-in-Ok c =
-    read c.in-Some.known c.read.new.self c.args.now c.in-Ok.value c.args.out.now c.args.clock.now c.numbers.result c.in-Some.ensures.some c.in-Ok.ensures.answer
-    c.in-Ok.ensures.clock c.numbers.ensures
+pub returns-in-Some-Ok : goal.returns-in-Some-Ok
+returns-in-Some-Ok c =
+    let old = c.args.clock.now in
+    let new = c.read.new.self in
+    read c.args.now c.in-Some-Ok.value c.args.out.now old new (subst (λ r. AreRead old new c.args.now (Some r)) c.in-Some-Ok.field-0-is c.in-Some-Ok.ensures)
 
-pub returns-in-Err : goal.returns-in-Err
-returns-in-Err c = not_read c.in-Some.known c.args.now c.args.out.now c.args.clock.now c.in-Err.why c.in-Some.ensures.some c.in-Err.ensures.answer
+pub returns-in-Some-Err : goal.returns-in-Some-Err
+returns-in-Some-Err c =
+    let old = c.args.clock.now in
+    let new = c.read.new.self in
+    not_read c.args.now c.args.out.now old new c.in-Some-Err.why (subst (λ r. AreRead old new c.args.now (Some r)) c.in-Some-Err.field-0-is c.in-Some-Err.ensures)
