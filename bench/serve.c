@@ -38,7 +38,7 @@ static void begin(struct hs_place *place, uint64_t ranges) {
 
 int main(int count, char **words) {
     uint64_t calls = count > 1 ? strtoull(words[1], NULL, 10) : 1000000, served = 0;
-    struct hs_place place;
+    struct hs_place place = {0};
     struct hs_told told = {0};
     uint8_t key[20];
     memcpy(key, "a key of 20 bytes, 0", sizeof key);
@@ -48,7 +48,7 @@ int main(int count, char **words) {
         key[19] = (uint8_t)call;
         served += hs_slicelet_serve(&place, key, sizeof key, 2, &told) == HS_DONE;
     }
-    hs_place_free(place);
+    hs_place_free(&place);
     printf("%" PRIu64 " of %" PRIu64 " served\n", served, calls);
     return 0;
 }

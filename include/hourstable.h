@@ -22,12 +22,17 @@
  * A call that is not done changes nothing and writes nothing but `needed` and the fields of
  * hs_told that its code sets, unless its comment says otherwise.
  *
+ * A place is a struct that the caller keeps, zeroed at first: struct hs_place place = {0}. It holds
+ * nothing, and every function that is called for an object returns HS_OTHER_PLACE, hs_KIND_open too,
+ * until hs_place_new creates an empty place there. After hs_place_free it is zeroed again.
+ *
  * A text or a list of rows is written to `out` whole or not at all; `needed` is its length in bytes
  * or in rows. If it is longer than `out_len`, the function returns HS_NO_ROOM and nothing is lost:
  * call again with a longer buffer. After hs_session_answer, call hs_session_last instead.
  *
  * A caller must keep the following. Nothing checks it, and a call that breaks it is undefined:
- *   - A place was written by hs_place_new at code 0 and was not freed by hs_place_free.
+ *   - A place is zeroed before its first call, and the caller changes no field of it. Of two copies
+ *     of a place only one is used.
  *   - A pointer to bytes, numbers or rows is not null, even at length 0, and its length is true.
  *     Every other pointer is to a value of its type. Each is aligned for its type, and no two
  *     pointers of a call overlap. What a call only writes need not hold a value.
@@ -197,8 +202,8 @@ struct hs_policy {
 /* A term of the job lease. */
 struct hs_job_term {
     uint64_t number;
-    uint64_t assigner;
-    uint64_t until; /* the first reading at which it has ended */
+    uint64_t assigner; /* 1 or more */
+    uint64_t until;    /* the first reading at which it has ended */
 };
 
 /* The phase of a table: `proposed` is 0 if no assignment is proposed, otherwise `committed` + 1. */
@@ -258,7 +263,7 @@ struct hs_library_version {
     uint32_t patch;
 };
 
-/* A place, by its address. */
+/* A place, by its address: null before hs_place_new and after hs_place_free. */
 struct hs_place {
     void *at;
 };
@@ -269,11 +274,13 @@ void hs_library_version(struct hs_library_version *out);
 /* The slice key of a key: the first eight bytes of its SHA-256, most significant first, without the lowest bit. */
 uint64_t hs_slice_key(const uint8_t *key, size_t key_len);
 
-/* Creates an empty place. HS_NO_MEMORY. */
-int32_t hs_place_new(struct hs_place *out);
+/* Creates an empty place at `place`, which is zeroed. If a place is there, destroys what it holds and
+ * takes no memory. HS_NO_MEMORY. */
+int32_t hs_place_new(struct hs_place *place);
 
-/* Destroys what `place` holds, and frees the place. */
-void hs_place_free(struct hs_place place);
+/* Destroys what `place` holds, frees the place, and sets its address to null. A place whose address is
+ * null is unchanged, so a place may be freed twice. */
+void hs_place_free(struct hs_place *place);
 
 /* Each destroys the object of its kind, and leaves `place` empty. */
 int32_t hs_slicelet_close(struct hs_place *place);
@@ -309,10 +316,18 @@ int32_t hs_slicelet_release(struct hs_place *place, uint32_t kind, uint64_t at, 
 int32_t hs_slicelet_serve(struct hs_place *place, const uint8_t *key, size_t key_len, uint64_t at,
                           struct hs_told *told);
 
+/* The same by slice key, for a caller that keeps the slice keys of its keys: most of hs_slicelet_serve
+ * is the hash of the key. HS_WRONG_FORM if no key has this slice key, which is 2^63 or more. */
+int32_t hs_slicelet_serve_at(struct hs_place *place, uint64_t slice_key, uint64_t at, struct hs_told *told);
+
 /* Takes a handle on a key if the task may serve it, and leaves `told` unchanged; otherwise returns
  * the code of hs_slicelet_serve. Takes no memory. */
 int32_t hs_slicelet_hold(struct hs_place *place, const uint8_t *key, size_t key_len, uint64_t at,
                          struct hs_key_handle *out, struct hs_told *told);
+
+/* The same by slice key, as hs_slicelet_serve_at. HS_WRONG_FORM, also if no key has this slice key. */
+int32_t hs_slicelet_hold_at(struct hs_place *place, uint64_t slice_key, uint64_t at, struct hs_key_handle *out,
+                            struct hs_told *told);
 
 /* Whether the task has held the key of a handle without a break since it took the handle, and may
  * serve it now. HS_WRONG_FORM, HS_STRANGER, HS_BROKEN. Takes no memory. */
@@ -330,6 +345,9 @@ int32_t hs_clerk_learn(struct hs_place *place, const uint8_t *assignment, size_t
 /* Writes the owners of a key in the kept assignment. HS_UNKNOWN. Takes no memory. */
 int32_t hs_clerk_look(struct hs_place *place, const uint8_t *key, size_t key_len, struct hs_owners *out);
 
+/* The same by slice key. HS_WRONG_FORM if no key has this slice key, HS_UNKNOWN. */
+int32_t hs_clerk_look_at(struct hs_place *place, uint64_t slice_key, struct hs_owners *out);
+
 /* Forgets the kept assignment. */
 int32_t hs_clerk_forget(struct hs_place *place);
 
@@ -338,8 +356,8 @@ int32_t hs_clerk_forget(struct hs_place *place);
 /* Creates a new table with a policy in `place`, destroying what was there. HS_WRONG_FORM. */
 int32_t hs_table_open(struct hs_place *place, const struct hs_policy *policy);
 
-/* Gives the job lease to an assigner, and writes its term. HS_READING_RANGE, HS_CLOCK_BACK,
- * HS_JOB_HELD. */
+/* Gives the job lease to an assigner, and writes its term. HS_WRONG_FORM if `assigner` is 0,
+ * HS_READING_RANGE, HS_CLOCK_BACK, HS_JOB_HELD. */
 int32_t hs_table_take(struct hs_place *place, uint64_t assigner, uint64_t at, struct hs_job_term *out,
                       struct hs_told *told);
 
@@ -359,8 +377,8 @@ int32_t hs_table_propose(struct hs_place *place, uint64_t number, const uint8_t 
  * HS_HELD. */
 int32_t hs_table_commit(struct hs_place *place, uint64_t number, uint64_t at, struct hs_told *told);
 
-/* Grants a task a lease for one of its lives, and writes the message of the grant. HS_WRONG_FORM,
- * HS_READING_RANGE, HS_CLOCK_BACK, HS_NO_ASSIGNMENT, HS_NUMBERS_SPENT, then HS_NO_ROOM or
+/* Grants a task a lease for one of its lives, and writes the message of the grant. HS_WRONG_FORM if
+ * `task` is not 1 to 64 or `life` is 0, HS_READING_RANGE, HS_CLOCK_BACK, HS_NO_ASSIGNMENT, HS_NUMBERS_SPENT, then HS_NO_ROOM or
  * HS_NO_MEMORY. No grant is made unless the call is done. */
 int32_t hs_table_grant(struct hs_place *place, uint64_t task, uint32_t life, uint64_t at, uint8_t *out, size_t out_len,
                        size_t *needed);
@@ -388,7 +406,7 @@ int32_t hs_table_committed(struct hs_place *place, uint8_t *out, size_t out_len,
 /* Assigners. ------------------------------------------------------------------------------------------------------ */
 
 /* Creates a new assigner in `place`, destroying what was there. It keeps no term. A job lease lasts
- * `job` ticks. */
+ * `job` ticks. HS_WRONG_FORM if `id` is 0. */
 int32_t hs_assigner_open(struct hs_place *place, uint64_t id, uint64_t job);
 
 /* Keeps a term that a table gave. HS_NOT_ADOPTED. A term is newer than another if its number is

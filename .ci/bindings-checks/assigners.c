@@ -56,5 +56,5 @@ void check_assigners(void) {
     next_is(&place, 1000, &steady, 0, HS_TAKE, 0);
     IS(adopt(&place, 1, 7, 3000), HS_DONE);
     next_is(&place, 1000, &steady, 1, HS_PROPOSE, 1);
-    hs_place_free(place);
+    hs_place_free(&place);
 }

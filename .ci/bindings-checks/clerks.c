@@ -55,6 +55,7 @@ static void looks(struct hs_place *place) {
     struct hs_owners owners;
     memset(&owners, '-', sizeof owners);
     IS(hs_clerk_look(place, HELLO, &owners), HS_UNKNOWN);
+    IS(hs_clerk_look_at(place, 5, &owners), HS_UNKNOWN);
     HOLDS(are_dashes((const uint8_t *)&owners, sizeof owners));
     IS(learn(place, ASSIGNMENT("4", "[[0,[64,3,5,1,2]],[4611686018427387904,[7]]]")), HS_DONE);
     IS(hs_clerk_look(place, HELLO, &owners), HS_DONE);
@@ -63,6 +64,14 @@ static void looks(struct hs_place *place) {
     IS(hs_clerk_look(place, ABC, &owners), HS_DONE);
     HOLDS(owners.generation == 4 && owners.count == 1 && owners.tasks[0] == 7 && owners.tasks[1] == 0);
     HOLDS(owners.tasks[2] == 0 && owners.tasks[3] == 0 && owners.tasks[4] == 0);
+    IS(hs_clerk_look_at(place, 4611686018427387903, &owners), HS_DONE);
+    HOLDS(owners.generation == 4 && owners.count == 5 && owners.tasks[4] == 64);
+    IS(hs_clerk_look_at(place, 4611686018427387904, &owners), HS_DONE);
+    HOLDS(owners.generation == 4 && owners.count == 1 && owners.tasks[0] == 7 && owners.tasks[1] == 0);
+    memset(&owners, '-', sizeof owners);
+    IS(hs_clerk_look_at(place, (uint64_t)1 << 63, &owners), HS_WRONG_FORM);
+    IS(hs_clerk_look_at(place, UINT64_MAX, &owners), HS_WRONG_FORM);
+    HOLDS(are_dashes((const uint8_t *)&owners, sizeof owners));
 }
 
 static void keeps(struct hs_place *place) {
@@ -85,5 +94,5 @@ void check_clerks(void) {
     refused_slices(&place);
     looks(&place);
     keeps(&place);
-    hs_place_free(place);
+    hs_place_free(&place);
 }

@@ -55,8 +55,13 @@ uint64_t guarded_slice_key(const uint8_t *key, size_t key_len) {
     return found;
 }
 
-int32_t guarded_place_new(struct hs_place *out) {
-    return returned(hs_place_new(WRITTEN(out)));
+int32_t guarded_place_new(struct hs_place *place) {
+    return returned(hs_place_new(PLACE));
+}
+
+void guarded_place_free(struct hs_place *place) {
+    hs_place_free(PLACE);
+    returned(HS_DONE);
 }
 
 int32_t guarded_slicelet_close(struct hs_place *place) {
@@ -107,6 +112,15 @@ int32_t guarded_slicelet_hold(struct hs_place *place, const uint8_t *key, size_t
     return returned(hs_slicelet_hold(PLACE, KEY, at, WRITTEN(out), TOLD));
 }
 
+int32_t guarded_slicelet_serve_at(struct hs_place *place, uint64_t slice_key, uint64_t at, struct hs_told *told) {
+    return returned(hs_slicelet_serve_at(PLACE, slice_key, at, TOLD));
+}
+
+int32_t guarded_slicelet_hold_at(struct hs_place *place, uint64_t slice_key, uint64_t at, struct hs_key_handle *out,
+                                 struct hs_told *told) {
+    return returned(hs_slicelet_hold_at(PLACE, slice_key, at, WRITTEN(out), TOLD));
+}
+
 int32_t guarded_slicelet_check(struct hs_place *place, const struct hs_key_handle *handle, uint64_t at) {
     return returned(hs_slicelet_check(PLACE, READ(handle), at));
 }
@@ -122,6 +136,10 @@ int32_t guarded_clerk_learn(struct hs_place *place, const uint8_t *assignment, s
 
 int32_t guarded_clerk_look(struct hs_place *place, const uint8_t *key, size_t key_len, struct hs_owners *out) {
     return returned(hs_clerk_look(PLACE, KEY, WRITTEN(out)));
+}
+
+int32_t guarded_clerk_look_at(struct hs_place *place, uint64_t slice_key, struct hs_owners *out) {
+    return returned(hs_clerk_look_at(PLACE, slice_key, WRITTEN(out)));
 }
 
 int32_t guarded_clerk_forget(struct hs_place *place) {

@@ -1,4 +1,4 @@
-/* The functions of hourstable.h as the checks call them: see guarded.c. hs_place_free has no pointer. */
+/* The functions of hourstable.h as the checks call them: see guarded.c. */
 #ifndef GUARDED_H
 #define GUARDED_H
 
@@ -6,7 +6,8 @@
 
 void guarded_library_version(struct hs_library_version *out);
 uint64_t guarded_slice_key(const uint8_t *key, size_t key_len);
-int32_t guarded_place_new(struct hs_place *out);
+int32_t guarded_place_new(struct hs_place *place);
+void guarded_place_free(struct hs_place *place);
 int32_t guarded_slicelet_close(struct hs_place *place);
 int32_t guarded_clerk_close(struct hs_place *place);
 int32_t guarded_table_close(struct hs_place *place);
@@ -22,11 +23,15 @@ int32_t guarded_slicelet_serve(struct hs_place *place, const uint8_t *key, size_
                                struct hs_told *told);
 int32_t guarded_slicelet_hold(struct hs_place *place, const uint8_t *key, size_t key_len, uint64_t at,
                               struct hs_key_handle *out, struct hs_told *told);
+int32_t guarded_slicelet_serve_at(struct hs_place *place, uint64_t slice_key, uint64_t at, struct hs_told *told);
+int32_t guarded_slicelet_hold_at(struct hs_place *place, uint64_t slice_key, uint64_t at, struct hs_key_handle *out,
+                                 struct hs_told *told);
 int32_t guarded_slicelet_check(struct hs_place *place, const struct hs_key_handle *handle, uint64_t at);
 int32_t guarded_clerk_open(struct hs_place *place);
 int32_t guarded_clerk_learn(struct hs_place *place, const uint8_t *assignment, size_t assignment_len,
                             struct hs_told *told);
 int32_t guarded_clerk_look(struct hs_place *place, const uint8_t *key, size_t key_len, struct hs_owners *out);
+int32_t guarded_clerk_look_at(struct hs_place *place, uint64_t slice_key, struct hs_owners *out);
 int32_t guarded_clerk_forget(struct hs_place *place);
 int32_t guarded_table_open(struct hs_place *place, const struct hs_policy *policy);
 int32_t guarded_table_take(struct hs_place *place, uint64_t assigner, uint64_t at, struct hs_job_term *out,
@@ -70,6 +75,7 @@ int32_t guarded_session_last(struct hs_place *place, uint8_t *out, size_t out_le
 #define hs_library_version(out) guarded_library_version(out)
 #define hs_slice_key guarded_slice_key
 #define hs_place_new guarded_place_new
+#define hs_place_free guarded_place_free
 #define hs_slicelet_close guarded_slicelet_close
 #define hs_clerk_close guarded_clerk_close
 #define hs_table_close guarded_table_close
@@ -81,10 +87,13 @@ int32_t guarded_session_last(struct hs_place *place, uint8_t *out, size_t out_le
 #define hs_slicelet_release guarded_slicelet_release
 #define hs_slicelet_serve guarded_slicelet_serve
 #define hs_slicelet_hold guarded_slicelet_hold
+#define hs_slicelet_serve_at guarded_slicelet_serve_at
+#define hs_slicelet_hold_at guarded_slicelet_hold_at
 #define hs_slicelet_check guarded_slicelet_check
 #define hs_clerk_open guarded_clerk_open
 #define hs_clerk_learn guarded_clerk_learn
 #define hs_clerk_look guarded_clerk_look
+#define hs_clerk_look_at guarded_clerk_look_at
 #define hs_clerk_forget guarded_clerk_forget
 #define hs_table_open guarded_table_open
 #define hs_table_take guarded_table_take

@@ -158,7 +158,7 @@ static uint64_t state_when_done(const struct trial *trial) {
     struct hs_place place = trial->begin();
     IS(trial->call(&place), HS_DONE);
     uint64_t state = trial->state(&place);
-    hs_place_free(place);
+    hs_place_free(&place);
     return state;
 }
 
@@ -187,7 +187,7 @@ static void refuse_each(const struct trial *trial) {
             look_at(trial, &place, code, before);
         else
             IS(code, HS_DONE);
-        hs_place_free(place);
+        hs_place_free(&place);
     }
 }
 
@@ -216,13 +216,13 @@ static void refuse_answers(void) {
         refuse_allocation(0);
         if (!fell_short) {
             IS(code, HS_DONE);
-            hs_place_free(place);
+            hs_place_free(&place);
             break;
         }
         IS(code, HS_NO_MEMORY);
         HOLDS(are_dashes(out, sizeof out));
         IS(hs_session_last(&place, out, sizeof out, &needed), HS_OTHER_PLACE);
-        hs_place_free(place);
+        hs_place_free(&place);
     }
 }
 
@@ -237,8 +237,11 @@ static void takes_none(void) {
     size_t before = allocations;
     IS(hs_slicelet_serve(&task, HELLO, 6, fresh_told()), HS_DONE);
     IS(hs_slicelet_hold(&task, HELLO, 6, &handle, fresh_told()), HS_DONE);
+    IS(hs_slicelet_serve_at(&task, handle.slice_key, 6, fresh_told()), HS_DONE);
+    IS(hs_slicelet_hold_at(&task, handle.slice_key, 6, &handle, fresh_told()), HS_DONE);
     IS(hs_slicelet_check(&task, &handle, 6), HS_DONE);
     IS(hs_clerk_look(&clerk, HELLO, &owners), HS_DONE);
+    IS(hs_clerk_look_at(&clerk, handle.slice_key, &owners), HS_DONE);
     HOLDS(hs_slice_key(HELLO) == handle.slice_key);
     IS(hs_task_clock_new(&clock, 1, 3, 1, 1000), HS_DONE);
     IS(hs_task_clock_sample(&clock, 10, 100, 12), HS_DONE);
@@ -246,8 +249,8 @@ static void takes_none(void) {
     IS(hs_table_clock_open(&table_clock, 0, 0, 12), HS_DONE);
     IS(hs_table_clock_read(&table_clock, 12, &value), HS_DONE);
     HOLDS(allocations == before);
-    hs_place_free(task);
-    hs_place_free(clerk);
+    hs_place_free(&task);
+    hs_place_free(&clerk);
 }
 
 void check_memory(void) {

@@ -33,6 +33,10 @@ static void refuse_slicelet(struct hs_place *place) {
     HOLDS(tells(UNTOLD, UNTOLD, UNTOLD, UNTOLD, UNTOLD));
     IS(hs_slicelet_hold(place, HELLO, 5, &handle, fresh_told()), HS_OTHER_PLACE);
     HOLDS(handle.task == 2 && handle.slice_key == 5 && handle.position == 1 && handle.life == 1);
+    IS(hs_slicelet_serve_at(place, 5, 5, fresh_told()), HS_OTHER_PLACE);
+    IS(hs_slicelet_hold_at(place, 5, 5, &handle, fresh_told()), HS_OTHER_PLACE);
+    HOLDS(handle.task == 2 && handle.slice_key == 5 && handle.position == 1 && handle.life == 1);
+    HOLDS(tells(UNTOLD, UNTOLD, UNTOLD, UNTOLD, UNTOLD));
     IS(hs_slicelet_check(place, &handle, 5), HS_OTHER_PLACE);
     IS(hs_slicelet_close(place), HS_OTHER_PLACE);
     HOLDS(are_dashes(out, sizeof out));
@@ -43,6 +47,7 @@ static void refuse_clerk(struct hs_place *place) {
     memset(&owners, '-', sizeof owners);
     IS(learn(place, ASSIGNMENT("1", HALVES)), HS_OTHER_PLACE);
     IS(hs_clerk_look(place, HELLO, &owners), HS_OTHER_PLACE);
+    IS(hs_clerk_look_at(place, 5, &owners), HS_OTHER_PLACE);
     IS(hs_clerk_forget(place), HS_OTHER_PLACE);
     IS(hs_clerk_close(place), HS_OTHER_PLACE);
     HOLDS(are_dashes((const uint8_t *)&owners, sizeof owners));
@@ -127,11 +132,41 @@ static void refused_open(void) {
     STAYS(clerk_state(&clerk), hs_slicelet_open(&clerk, 0), HS_WRONG_FORM);
     STAYS(clerk_state(&clerk), hs_slicelet_open(&clerk, 65), HS_WRONG_FORM);
     STAYS(clerk_state(&clerk), hs_table_open(&clerk, &none), HS_WRONG_FORM);
+    STAYS(clerk_state(&clerk), hs_assigner_open(&clerk, 0, 1000), HS_WRONG_FORM);
     STAYS(clerk_state(&clerk), hs_session_open(&clerk, (const uint8_t *)"{}", 2, 0), HS_NO_JOB);
-    hs_place_free(clerk);
+    hs_place_free(&clerk);
+}
+
+/* A zeroed place holds nothing and takes nothing, and so does one that was freed. */
+static void nowhere(struct hs_place *place) {
+    refuse_others(place, NOTHING);
+    IS(hs_slicelet_open(place, 2), HS_OTHER_PLACE);
+    IS(hs_slicelet_open(place, 0), HS_OTHER_PLACE);
+    IS(hs_clerk_open(place), HS_OTHER_PLACE);
+    IS(hs_table_open(place, &policy), HS_OTHER_PLACE);
+    IS(hs_assigner_open(place, 1, 1000), HS_OTHER_PLACE);
+    IS(hs_session_open(place, (const uint8_t *)job, strlen(job), 0), HS_OTHER_PLACE);
+    HOLDS(!place->at);
+    hs_place_free(place);
+    HOLDS(!place->at);
+}
+
+static void made_and_freed(void) {
+    struct hs_place place = {NULL};
+    nowhere(&place);
+    IS(hs_place_new(&place), HS_DONE);
+    HOLDS(place.at);
+    IS(hs_clerk_open(&place), HS_DONE);
+    void *at = place.at;
+    IS(hs_place_new(&place), HS_DONE);
+    HOLDS(place.at == at);
+    refuse_others(&place, NOTHING);
+    hs_place_free(&place);
+    nowhere(&place);
 }
 
 void check_places(void) {
+    made_and_freed();
     for (enum standing kind = NOTHING; kind < KINDS; kind++) {
         struct hs_place place = new_place();
         open_as(&place, kind);
@@ -139,7 +174,7 @@ void check_places(void) {
         if (kind != NOTHING)
             IS(close_as(&place, kind), HS_DONE);
         refuse_others(&place, NOTHING);
-        hs_place_free(place);
+        hs_place_free(&place);
     }
     /* Each kind replaces each kind. The address sanitizer checks that what was there is freed. */
     for (enum standing one = NOTHING; one < KINDS; one++) {
@@ -148,7 +183,7 @@ void check_places(void) {
             open_as(&place, one);
             open_as(&place, other);
             refuse_others(&place, other);
-            hs_place_free(place);
+            hs_place_free(&place);
         }
     }
     refused_open();

@@ -108,5 +108,5 @@ void check_sessions(void) {
     errors(&place);
     no_room(&place);
     as_json(&place);
-    hs_place_free(place);
+    hs_place_free(&place);
 }

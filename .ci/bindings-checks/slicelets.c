@@ -178,7 +178,7 @@ static void late_release(void) {
     HOLDS(needed == strlen(note) && memcmp(out, note, needed) == 0);
     IS(serve(&place, UINT64_MAX - 1), HS_CLOCK_BACK);
     IS(serve(&place, UINT64_MAX), HS_NO_LEASE);
-    hs_place_free(place);
+    hs_place_free(&place);
 }
 
 /* A slicelet accepts 65,536 calls and then no more. */
@@ -198,7 +198,7 @@ static void fills_up(void) {
     IS(hs_slicelet_hold(&place, HELLO, 5, &handle, fresh_told()), HS_DONE);
     HOLDS(handle.position == 65536);
     IS(hs_slicelet_check(&place, &handle, 94), HS_DONE);
-    hs_place_free(place);
+    hs_place_free(&place);
 }
 
 /* The guard lease is asked first, and then the bridge lease. HS_NOT_OWNED sets the greater generation of
@@ -217,7 +217,27 @@ static void two_leases(void) {
     IS(hs_slicelet_serve(&place, ABC, 94, fresh_told()), HS_NOT_OWNED);
     HOLDS(tells(UNTOLD, 4, UNTOLD, UNTOLD, UNTOLD));
     IS(serve(&place, 99), HS_ENDED);
-    hs_place_free(place);
+    hs_place_free(&place);
+}
+
+/* By slice key as by the key that has it. */
+static void by_slice_key(void) {
+    struct hs_place task = serving_task();
+    const uint64_t hello = hs_slice_key(HELLO), keys = (uint64_t)1 << 63;
+    struct hs_key_handle handle = {5, 5, 5, 5};
+    IS(hs_slicelet_serve_at(&task, hello, 6, fresh_told()), HS_DONE);
+    HOLDS(tells(UNTOLD, 3, HS_GUARD, UNTOLD, UNTOLD));
+    IS(hs_slicelet_serve_at(&task, keys - 1, 6, fresh_told()), HS_DONE);
+    IS(hs_slicelet_serve_at(&task, hello, 95, fresh_told()), HS_ENDED);
+    IS(hs_slicelet_serve_at(&task, keys, 6, fresh_told()), HS_WRONG_FORM);
+    IS(hs_slicelet_serve_at(&task, UINT64_MAX, 6, fresh_told()), HS_WRONG_FORM);
+    IS(hs_slicelet_hold_at(&task, hello, 95, &handle, fresh_told()), HS_ENDED);
+    IS(hs_slicelet_hold_at(&task, keys, 6, &handle, fresh_told()), HS_WRONG_FORM);
+    HOLDS(handle.task == 5 && handle.slice_key == 5 && handle.position == 5 && handle.life == 5);
+    IS(hs_slicelet_hold_at(&task, hello, 6, &handle, fresh_told()), HS_DONE);
+    HOLDS(handle.task == 2 && handle.slice_key == hello && handle.position == 2 && handle.life == 1);
+    HOLDS(tells(UNTOLD, UNTOLD, UNTOLD, UNTOLD, UNTOLD));
+    hs_place_free(&task);
 }
 
 void check_slicelets(void) {
@@ -231,8 +251,9 @@ void check_slicelets(void) {
     checks_others(&place);
     releases(&place, &handle);
     restarts(&place, &handle);
-    hs_place_free(place);
+    hs_place_free(&place);
     late_release();
     fills_up();
     two_leases();
+    by_slice_key();
 }

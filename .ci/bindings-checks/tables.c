@@ -18,7 +18,7 @@ static int32_t open_with(uint64_t *member, uint64_t value, struct hs_policy *cha
     *member = value;
     int32_t code = hs_table_open(&place, changed);
     *member = kept;
-    hs_place_free(place);
+    hs_place_free(&place);
     return code;
 }
 
@@ -48,6 +48,7 @@ static void terms(struct hs_place *table) {
     struct hs_job_term term = {5, 5, 5};
     STAYS(table_state(table), hs_table_renew(table, 0, 0, &term, fresh_told()), HS_NOT_HOLDER);
     HOLDS(tells(0, UNTOLD, UNTOLD, UNTOLD, UNTOLD));
+    IS(hs_table_take(table, 0, READINGS, &term, fresh_told()), HS_WRONG_FORM);
     IS(hs_table_take(table, 1, READINGS, &term, fresh_told()), HS_READING_RANGE);
     HOLDS(term.number == 5 && term.assigner == 5 && term.until == 5);
     IS(hs_table_take(table, 3, 1, &term, fresh_told()), HS_DONE);
@@ -82,6 +83,7 @@ static void empties(struct hs_place *table) {
     IS(hs_table_grant(table, 1, 1, 3, out, sizeof out, &needed), HS_NO_ASSIGNMENT);
     IS(hs_table_grant(table, 0, 1, 3, out, sizeof out, &needed), HS_WRONG_FORM);
     IS(hs_table_grant(table, 65, 1, 3, out, sizeof out, &needed), HS_WRONG_FORM);
+    IS(hs_table_grant(table, 1, 0, 3, out, sizeof out, &needed), HS_WRONG_FORM);
     HOLDS(are_dashes(out, sizeof out));
     IS(hs_table_commit(table, 1, 3, fresh_told()), HS_NOTHING_PENDING);
 }
@@ -186,7 +188,7 @@ static void lists_rows(void) {
     needed = 0;
     IS(hs_table_rows(&table, rows, 4, &needed), HS_DONE);
     HOLDS(needed == 4 && memcmp(rows, wanted, sizeof wanted) == 0);
-    hs_place_free(table);
+    hs_place_free(&table);
 }
 
 /* Half of the keys go from task 1 to task 2. The guard lease of task 1 holds the commit until its note comes. */
@@ -248,7 +250,7 @@ static void loses_rows(void) {
     STAYS(table_state(&table), hs_table_commit(&table, 1, 104, fresh_told()), HS_GRACE);
     HOLDS(tells(UNTOLD, UNTOLD, UNTOLD, UNTOLD, 105));
     IS(hs_table_commit(&table, 1, 105, fresh_told()), HS_DONE);
-    hs_place_free(table);
+    hs_place_free(&table);
 }
 
 /* A table whose policy allows one grant makes one. */
@@ -265,7 +267,7 @@ static void spends_numbers(void) {
     IS(hs_table_commit(&table, 1, 2, fresh_told()), HS_DONE);
     IS(hs_table_grant(&table, 1, 1, 5, out, sizeof out, &needed), HS_DONE);
     STAYS(table_state(&table), hs_table_grant(&table, 1, 1, 6, out, sizeof out, &needed), HS_NUMBERS_SPENT);
-    hs_place_free(table);
+    hs_place_free(&table);
 }
 
 void check_tables(void) {
@@ -283,7 +285,7 @@ void check_tables(void) {
     lists_one_row(&table);
     reads_notes(&table);
     hands_over(&table);
-    hs_place_free(table);
+    hs_place_free(&table);
     lists_rows();
     loses_rows();
     spends_numbers();

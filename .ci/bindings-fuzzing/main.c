@@ -136,7 +136,7 @@ int main(int count, char **words) {
     }
     for (size_t at = 0; at < targets_count; at++) {
         report(&targets[at], &fields[at]);
-        hs_place_free(fields[at].place);
+        hs_place_free(&fields[at].place);
     }
     free(fields);
     printf("%llu inputs, none at fault\n", (unsigned long long)inputs);

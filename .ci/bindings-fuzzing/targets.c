@@ -155,6 +155,18 @@ static int32_t plan(struct hs_place *place, struct input input, struct hs_told *
     return code;
 }
 
+/* Weighs a grant, under a policy that is mostly one. No place and no `told` is passed. */
+static int32_t weigh(struct hs_place *place, struct input input, struct hs_told *told) {
+    struct hs_policy weighed = policy;
+    uint32_t shown = 99;
+    (void)place, (void)told;
+    if (draw(16) == 0)
+        weighed.high = draw(9);
+    int32_t code = hs_clock_evidence(input.bytes, input.length, draw(120), &weighed, &shown);
+    MUST(code == HS_DONE ? shown <= 1 : shown == 99);
+    return code;
+}
+
 static int32_t propose(struct hs_place *place, struct input input, struct hs_told *told) {
     return hs_table_propose(place, 1, input.bytes, input.length, 3 + draw(6), told);
 }
@@ -252,6 +264,7 @@ const struct target targets[] = {
     {"propose", assignments, COUNT(assignments), begin_table, propose, table_state},
     {"free", notes, COUNT(notes), begin_table, free_rows, table_state},
     {"plan", assignments, COUNT(assignments), begin_clerk, plan, clerk_state},
+    {"evidence", grants, COUNT(grants), begin_clerk, weigh, clerk_state},
     {"session", jobs, COUNT(jobs), begin_session, open_session, session_state},
     {"answer", lines, COUNT(lines), begin_session, answer, session_state},
 };

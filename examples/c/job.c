@@ -25,7 +25,7 @@ static void wants(const char *what, int32_t code, int32_t wanted) {
 }
 
 static struct hs_place new_place(void) {
-    struct hs_place place;
+    struct hs_place place = {0};
     if (hs_place_new(&place) != HS_DONE)
         exit(1);
     return place;
@@ -81,7 +81,7 @@ int main(void) {
     wants("propose", propose(&table, first, 1), HS_DONE);
     wants("commit", commit(&table, 2), HS_DONE);
     hand_over(&table, &task);
-    hs_place_free(task);
-    hs_place_free(table);
+    hs_place_free(&task);
+    hs_place_free(&table);
     return 0;
 }

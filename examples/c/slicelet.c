@@ -54,10 +54,10 @@ static int32_t run_task(struct hs_place *task) {
 }
 
 int main(void) {
-    struct hs_place task;
+    struct hs_place task = {0};
     if (hs_place_new(&task) != HS_DONE)
         return 1;
     int32_t code = run_task(&task);
-    hs_place_free(task);
+    hs_place_free(&task);
     return code == HS_DONE ? 0 : 1;
 }

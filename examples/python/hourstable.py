@@ -208,10 +208,13 @@ DECLARED = {
     "slicelet_release": [P(Place), U32, U64, *OUT],
     "slicelet_serve": [P(Place), *BYTES, U64, P(Told)],
     "slicelet_hold": [P(Place), *BYTES, U64, P(KeyHandle), P(Told)],
+    "slicelet_serve_at": [P(Place), U64, U64, P(Told)],
+    "slicelet_hold_at": [P(Place), U64, U64, P(KeyHandle), P(Told)],
     "slicelet_check": [P(Place), P(KeyHandle), U64],
     "clerk_open": [P(Place)],
     "clerk_learn": [P(Place), *BYTES, P(Told)],
     "clerk_look": [P(Place), *BYTES, P(Owners)],
+    "clerk_look_at": [P(Place), U64, P(Owners)],
     "clerk_forget": [P(Place)],
     "table_open": [P(Place), P(Policy)],
     "table_take": [P(Place), U64, U64, P(JobTerm), P(Told)],
@@ -249,7 +252,7 @@ def load(path):
         function.argtypes, function.restype = parameters, ctypes.c_int32
     loaded.hs_library_version.argtypes, loaded.hs_library_version.restype = [P(LibraryVersion)], None
     loaded.hs_slice_key.argtypes, loaded.hs_slice_key.restype = BYTES, ctypes.c_uint64
-    loaded.hs_place_free.argtypes, loaded.hs_place_free.restype = [Place], None
+    loaded.hs_place_free.argtypes, loaded.hs_place_free.restype = [P(Place)], None
     return loaded
 
 
@@ -337,7 +340,7 @@ class Standing:
     def close(self):
         place, self.place = self.place, None
         if place is not None:
-            library.hs_place_free(place)
+            library.hs_place_free(ctypes.byref(place))
 
     def __enter__(self):
         return self
@@ -382,6 +385,17 @@ class Slicelet(Standing):
         self.do("hold", key, len(key), at, ctypes.byref(handle), self.told_by())
         return handle
 
+    def serve_at(self, slice_key, at):
+        """Serves a key by its slice key, which need not be hashed again."""
+        self.do("serve_at", slice_key, at, self.told_by())
+        return Served(KIND_WORDS[self.told.kind], self.told.generation)
+
+    def hold_at(self, slice_key, at):
+        """Takes a handle on a key by its slice key."""
+        handle = KeyHandle()
+        self.do("hold_at", slice_key, at, ctypes.byref(handle), self.told_by())
+        return handle
+
     def check(self, handle, at):
         self.do("check", ctypes.byref(handle), at)
 
@@ -398,6 +412,12 @@ class Clerk(Standing):
     def look(self, key):
         owners = Owners()
         self.do("look", key, len(key), ctypes.byref(owners))
+        return Found(owners.generation, list(owners.tasks[: owners.count]))
+
+    def look_at(self, slice_key):
+        """Looks up the owners of a key by its slice key."""
+        owners = Owners()
+        self.do("look_at", slice_key, ctypes.byref(owners))
         return Found(owners.generation, list(owners.tasks[: owners.count]))
 
     def forget(self):

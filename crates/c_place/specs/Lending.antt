@@ -1,5 +1,6 @@
 -- What a place ends as once its value was lent.
-use Rattle.std.specs.Borrow.{Lends, MutBor, Fml}
+use Rattle.std.specs.Prelude.{Option, Some}
+use Rattle.std.specs.Borrow.{Lends, LendsIf, MutBor, Fml}
 use Rattle.c_place.specs.declared.held.Held.{Held}
 use Rattle.c_place.specs.contracts.held.Held.{the_row as held_row}
 use Rattle.c_place.specs.declared.place.Place.{Place}
@@ -7,8 +8,12 @@ use Rattle.c_place.specs.contracts.place.Place.{the_row}
 
 -- the place with another value at its address
 abbrev pub with_value : Place → Held → Place
-with_value p v = record p { value = v }
+with_value p v = record p { value = Some v }
 
 -- the place ends with the value that its borrower left
 abbrev pub LendsValue : MutBor Place → MutBor Held → Fml
 LendsValue h r = Lends the_row held_row h r (with_value h.now)
+
+-- the same, if there is a value to lend
+abbrev pub LendsIfThere : MutBor Place → Option (MutBor Held) → Fml
+LendsIfThere h r = LendsIf the_row held_row h r (with_value h.now) h.now

@@ -1,3 +1,2 @@
 pub mod Conversing
-pub mod Making
 pub mod Returning

@@ -1,5 +1,5 @@
 -- A call on what stands in a place: what it left there, or that another thing stands there, and then nothing changed.
-use Rattle.std.specs.Prelude.{◌≡◌, ℤ, Option}
+use Rattle.std.specs.Prelude.{◌≡◌, ℤ, Option, Some}
 use Rattle.assignment.specs.Slices.{Slicing}
 use Rattle.slicelet.specs.States.{SliceletState}
 use Rattle.lease_table.specs.Tables.{Standing}
@@ -10,31 +10,31 @@ use Rattle.c_numbers.specs.Numbers.{answer_number}
 use Rattle.c_place.specs.declared.held.Held.{Held}
 use Rattle.c_place.specs.declared.held.Held.TheVariants as held
 
--- nothing of the kind stands there
-abbrev pub IsOtherPlace : Held → Held → Type 0 → ℤ → Type 0
+-- nothing of the kind stands there, or there is no place
+abbrev pub IsOtherPlace : Option Held → Option Held → Type 0 → ℤ → Type 0
 IsOtherPlace was now same number = (number ≡ answer_number OtherPlace) × (now ≡ was) × same
 
-abbrev pub OnSlicelet : Held → Held → Type 0 → ℤ → (SliceletState → SliceletState → Type 0) → Type 0
-OnSlicelet (held.Slicelet old) (held.Slicelet new) same number does = does old new
-OnSlicelet (held.Slicelet old) now same number does = ⊥
+abbrev pub OnSlicelet : Option Held → Option Held → Type 0 → ℤ → (SliceletState → SliceletState → Type 0) → Type 0
+OnSlicelet (Some (held.Slicelet old)) (Some (held.Slicelet new)) same number does = does old new
+OnSlicelet (Some (held.Slicelet old)) now same number does = ⊥
 OnSlicelet was now same number does = IsOtherPlace was now same number
 
-abbrev pub OnClerk : Held → Held → Type 0 → ℤ → (Option Slicing → Option Slicing → Type 0) → Type 0
-OnClerk (held.Clerk old) (held.Clerk new) same number does = does old new
-OnClerk (held.Clerk old) now same number does = ⊥
+abbrev pub OnClerk : Option Held → Option Held → Type 0 → ℤ → (Option Slicing → Option Slicing → Type 0) → Type 0
+OnClerk (Some (held.Clerk old)) (Some (held.Clerk new)) same number does = does old new
+OnClerk (Some (held.Clerk old)) now same number does = ⊥
 OnClerk was now same number does = IsOtherPlace was now same number
 
-abbrev pub OnTable : Held → Held → Type 0 → ℤ → (Standing → Standing → Type 0) → Type 0
-OnTable (held.Table old) (held.Table new) same number does = does old new
-OnTable (held.Table old) now same number does = ⊥
+abbrev pub OnTable : Option Held → Option Held → Type 0 → ℤ → (Standing → Standing → Type 0) → Type 0
+OnTable (Some (held.Table old)) (Some (held.Table new)) same number does = does old new
+OnTable (Some (held.Table old)) now same number does = ⊥
 OnTable was now same number does = IsOtherPlace was now same number
 
-abbrev pub OnAssigner : Held → Held → Type 0 → ℤ → (Keeping → Keeping → Type 0) → Type 0
-OnAssigner (held.Assigner old) (held.Assigner new) same number does = does old new
-OnAssigner (held.Assigner old) now same number does = ⊥
+abbrev pub OnAssigner : Option Held → Option Held → Type 0 → ℤ → (Keeping → Keeping → Type 0) → Type 0
+OnAssigner (Some (held.Assigner old)) (Some (held.Assigner new)) same number does = does old new
+OnAssigner (Some (held.Assigner old)) now same number does = ⊥
 OnAssigner was now same number does = IsOtherPlace was now same number
 
-abbrev pub OnSession : Held → Held → Type 0 → ℤ → (Conversation → Conversation → Type 0) → Type 0
-OnSession (held.Session old) (held.Session new) same number does = does old new
-OnSession (held.Session old) now same number does = ⊥
+abbrev pub OnSession : Option Held → Option Held → Type 0 → ℤ → (Conversation → Conversation → Type 0) → Type 0
+OnSession (Some (held.Session old)) (Some (held.Session new)) same number does = does old new
+OnSession (Some (held.Session old)) now same number does = ⊥
 OnSession was now same number does = IsOtherPlace was now same number

@@ -1,5 +1,5 @@
 -- Sessions in places.
-use Rattle.std.specs.Prelude.{◌≡◌, ◌≢◌, ◌⊎◌, ◌==◌, ℕ, ℤ, List, if◌then◌else◌}
+use Rattle.std.specs.Prelude.{◌≡◌, ◌≢◌, ◌⊎◌, ◌==◌, ℕ, ℤ, List, Option, Some, if◌then◌else◌}
 use Rattle.session.specs.declared.answer.ReplyForm.{ReplyForm}
 use Rattle.session.specs.declared.answer.ReplyForm.TheVariants.{Text, Json}
 use Rattle.c_numbers.specs.declared.answer.Answer.{Answer}
@@ -26,8 +26,8 @@ IsSessionOpened form line was now number =
     ((number ≡ answer_number Done) × IsSessionPut form line now) ⊎ (Returns (IsNotBegun line) number × (now ≡ was))
 
 -- a line of the session that stands there was answered; where memory ran out nothing stands there any more
-abbrev pub IsSessionAnswered : List ℕ → Held → Held → Output ℕ → Output ℕ → Answer → Type 0
-IsSessionAnswered line (Session old) (Session new) was now answer = IsContinued line old new was now answer × (answer ≢ NoMemory)
-IsSessionAnswered line (Session old) Nothing was now answer = (answer ≡ NoMemory) × (now ≡ was)
-IsSessionAnswered line (Session old) new was now answer = ⊥
+abbrev pub IsSessionAnswered : List ℕ → Option Held → Option Held → Output ℕ → Output ℕ → Answer → Type 0
+IsSessionAnswered line (Some (Session old)) (Some (Session new)) was now answer = IsContinued line old new was now answer × (answer ≢ NoMemory)
+IsSessionAnswered line (Some (Session old)) (Some Nothing) was now answer = (answer ≡ NoMemory) × (now ≡ was)
+IsSessionAnswered line (Some (Session old)) new was now answer = ⊥
 IsSessionAnswered line old new was now answer = (answer ≡ OtherPlace) × (new ≡ old) × (now ≡ was)

@@ -2,36 +2,42 @@
 
 ghost use Rattle.std.specs.Prelude.{◌≡◌, codes, None, ⊤};
 ghost use Rattle.wire.specs.Assignments.{assignment_of};
-ghost use Rattle.assigner.specs.Terms.{adopted_term, opening};
+ghost use Rattle.assigner.specs.Terms.{adopted_term};
 ghost use Rattle.c_numbers.specs.declared.answer.Answer.TheVariants.{Done};
 ghost use Rattle.c_numbers.specs.Numbers.{answer_number};
 ghost use Rattle.c_numbers.specs.Outputs.{output};
 ghost use Rattle.c_numbers.specs.Reading.{IsReadFrom};
 ghost use Rattle.c_place.specs.declared.held.Held.TheVariants as held;
-ghost use Rattle.c_table.specs.Assigners.{IsNext, adopt_answer, next_numbers};
+ghost use Rattle.c_table.specs.Assigners.{IsNext, adopt_answer, next_numbers, opened};
 ghost use Rattle.c_table.specs.Plans.{IsPlanned, wanted};
 ghost use Rattle.c_table.specs.PolicyNumbers.{limits_of};
 ghost use Rattle.c_table.specs.Terms.{phase_of, term_of};
 ghost use Rattle.hourstable_c.specs.Kinds.{is_assigner};
-ghost use Rattle.hourstable_c.specs.Opened.{IsClosed};
+ghost use Rattle.hourstable_c.specs.Opened.{AtPlace, IsClosed, IsOpened};
 ghost use Rattle.hourstable_c.specs.Places.{OnAssigner};
 ghost use Rattle.hourstable_c.specs.Returned.{Returns};
 
 use crate::place_exports::close_where;
-use assigner::Assigner;
 use c_numbers::Answer;
 use c_place::{Held, Place};
-use c_table::{PhaseNumbers, PlanPolicyNumbers, TermNumbers, adopt, next, plan};
+use c_table::{PhaseNumbers, PlanPolicyNumbers, TermNumbers, adopt, next, open_assigner, plan};
 use std::alloc::Global;
 
 /// Creates a new assigner in `place`, destroying what was there. It keeps no term.
 #[unsafe(no_mangle)]
 pub extern "C" fn hs_assigner_open(place: &mut Place, id: u64, job: u64) -> i32
-    ensures number { result ≡ answer_number Done }
-    ensures held { place.new.value ≡ held.Assigner (opening id job) }
+    ensures { AtPlace (IsOpened held.Assigner (opened id job)) place.old.value place.new.value result }
 {
-    place.lend().put(Held::Assigner(Assigner::new(id, job)));
-    Answer::Done.number()
+    let Some(held) = place.held() else {
+        return Answer::OtherPlace.number();
+    };
+    match open_assigner(id, job) {
+        Some(assigner) => {
+            held.put(Held::Assigner(assigner));
+            Answer::Done.number()
+        }
+        None => Answer::WrongForm.number(),
+    }
 }
 
 /// Keeps a term that a table gave.
@@ -41,7 +47,10 @@ pub extern "C" fn hs_assigner_adopt(place: &mut Place, term: &TermNumbers) -> i3
         (λ old new. (result ≡ answer_number (adopt_answer old (term_of term.now)))
         × (new ≡ record old { term = adopted_term old.id (term_of term.now) old.term })) }
 {
-    match place.lend() {
+    let Some(held) = place.held() else {
+        return Answer::OtherPlace.number();
+    };
+    match held {
         Held::Assigner(assigner) => adopt(assigner, term).number(),
         _ => Answer::OtherPlace.number(),
     }
@@ -53,7 +62,10 @@ pub extern "C" fn hs_assigner_restart(place: &mut Place) -> i32
     ensures { OnAssigner place.old.value place.new.value ⊤ result
         (λ old new. (result ≡ answer_number Done) × (new ≡ record old { term = None })) }
 {
-    match place.lend() {
+    let Some(held) = place.held() else {
+        return Answer::OtherPlace.number();
+    };
+    match held {
         Held::Assigner(assigner) => {
             assigner.restart();
             Answer::Done.number()
@@ -77,7 +89,10 @@ pub extern "C" fn hs_assigner_next(
         (λ old new. (new ≡ old) × Returns (IsNext (phase_of phase.now) old at wanted (next_numbers action.old number.old)
         (next_numbers action.new number.new)) result) }
 {
-    match place.lend() {
+    let Some(held) = place.held() else {
+        return Answer::OtherPlace.number();
+    };
+    match held {
         Held::Assigner(assigner) => next(assigner, at, phase, wanted, action, number).number(),
         _ => Answer::OtherPlace.number(),
     }
@@ -86,9 +101,11 @@ pub extern "C" fn hs_assigner_next(
 /// Destroys the assigner and leaves `place` empty.
 #[unsafe(no_mangle)]
 pub extern "C" fn hs_assigner_close(place: &mut Place) -> i32
-    ensures { IsClosed (is_assigner place.old.value) place.old.value place.new.value result }
+    ensures { AtPlace (λ was now number. IsClosed (is_assigner was) was now number) place.old.value place.new.value result }
 {
-    let held = place.lend();
+    let Some(held) = place.held() else {
+        return Answer::OtherPlace.number();
+    };
     let is_assigner = matches!(held, Held::Assigner(_));
     close_where(is_assigner, held)
 }

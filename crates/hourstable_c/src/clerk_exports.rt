@@ -7,25 +7,29 @@ ghost use Rattle.c_numbers.specs.declared.answer.Answer.TheVariants.{Done};
 ghost use Rattle.c_numbers.specs.Numbers.{answer_number};
 ghost use Rattle.c_place.specs.declared.held.Held.TheVariants as held;
 ghost use Rattle.c_task.specs.ClerkCalls.{IsAssignmentLearnt, IsLookedUp};
+ghost use Rattle.c_task.specs.Keys.{slice_key_of};
+ghost use Rattle.c_task.specs.SliceKeys.{IsLookedUpAt};
 ghost use Rattle.hourstable_c.specs.Kinds.{is_clerk};
-ghost use Rattle.hourstable_c.specs.Opened.{IsClosed};
+ghost use Rattle.hourstable_c.specs.Opened.{AtPlace, IsClosed};
 ghost use Rattle.hourstable_c.specs.Places.{OnClerk};
 ghost use Rattle.hourstable_c.specs.Returned.{Returns, Tells};
 
 use crate::place_exports::close_where;
 use c_numbers::{Answer, Told};
 use c_place::{Held, Place};
-use c_task::{OwnersNumbers, learn, look};
+use c_task::{OwnersNumbers, learn, look, look_at};
 use clerk::Clerk;
 use std::alloc::Global;
 
 /// Creates a new clerk in `place`, destroying what was there. It keeps no assignment.
 #[unsafe(no_mangle)]
 pub extern "C" fn hs_clerk_open(place: &mut Place) -> i32
-    ensures number { result ≡ answer_number Done }
-    ensures held { place.new.value ≡ held.Clerk None }
+    ensures { AtPlace (λ was now number. (number ≡ answer_number Done) × (now ≡ held.Clerk None)) place.old.value place.new.value result }
 {
-    place.lend().put(Held::Clerk(Clerk::new()));
+    let Some(held) = place.held() else {
+        return Answer::OtherPlace.number();
+    };
+    held.put(Held::Clerk(Clerk::new()));
     Answer::Done.number()
 }
 
@@ -41,7 +45,10 @@ pub extern "C" fn hs_clerk_learn(
     ensures { OnClerk place.old.value place.new.value (told.new ≡ told.old) result
         (λ old new. Tells (IsAssignmentLearnt assignment.now old new) told.old told.new result) }
 {
-    match place.lend() {
+    let Some(held) = place.held() else {
+        return Answer::OtherPlace.number();
+    };
+    match held {
         Held::Clerk(clerk) => learn(alloc, clerk, assignment).tell(told),
         _ => Answer::OtherPlace.number(),
     }
@@ -54,8 +61,31 @@ pub extern "C" fn hs_clerk_look(place: &mut Place, key: &[u8], out: &mut OwnersN
     ensures { OnClerk place.old.value place.new.value (out.new ≡ out.old) result
         (λ old new. (new ≡ old) × Returns (IsLookedUp (look_at old (slice_key key.now)) out.old out.new) result) }
 {
-    match place.lend() {
+    let Some(held) = place.held() else {
+        return Answer::OtherPlace.number();
+    };
+    match held {
         Held::Clerk(clerk) => look(clerk, key, out).number(),
+        _ => Answer::OtherPlace.number(),
+    }
+}
+
+/// Writes the owners of the keys of a slice key in the kept assignment to `out`.
+#[unsafe(no_mangle)]
+#[tactic(auto, using(crate::proofs::Returning::returns))]
+pub extern "C" fn hs_clerk_look_at(
+    place: &mut Place,
+    slice_key: u64,
+    out: &mut OwnersNumbers,
+) -> i32
+    ensures { OnClerk place.old.value place.new.value (out.new ≡ out.old) result
+        (λ old new. (new ≡ old) × Returns (IsLookedUpAt (slice_key_of slice_key) old out.old out.new) result) }
+{
+    let Some(held) = place.held() else {
+        return Answer::OtherPlace.number();
+    };
+    match held {
+        Held::Clerk(clerk) => look_at(clerk, slice_key, out).number(),
         _ => Answer::OtherPlace.number(),
     }
 }
@@ -65,7 +95,10 @@ pub extern "C" fn hs_clerk_look(place: &mut Place, key: &[u8], out: &mut OwnersN
 pub extern "C" fn hs_clerk_forget(place: &mut Place) -> i32
     ensures { OnClerk place.old.value place.new.value ⊤ result (λ old new. (result ≡ answer_number Done) × (new ≡ None)) }
 {
-    match place.lend() {
+    let Some(held) = place.held() else {
+        return Answer::OtherPlace.number();
+    };
+    match held {
         Held::Clerk(clerk) => {
             clerk.forget();
             Answer::Done.number()
@@ -77,9 +110,11 @@ pub extern "C" fn hs_clerk_forget(place: &mut Place) -> i32
 /// Destroys the clerk and leaves `place` empty.
 #[unsafe(no_mangle)]
 pub extern "C" fn hs_clerk_close(place: &mut Place) -> i32
-    ensures { IsClosed (is_clerk place.old.value) place.old.value place.new.value result }
+    ensures { AtPlace (λ was now number. IsClosed (is_clerk was) was now number) place.old.value place.new.value result }
 {
-    let held = place.lend();
+    let Some(held) = place.held() else {
+        return Answer::OtherPlace.number();
+    };
     let is_clerk = matches!(held, Held::Clerk(_));
     close_where(is_clerk, held)
 }

@@ -1,13 +1,14 @@
 //! Exports for keys and places.
 
-ghost use Rattle.std.specs.Prelude.{◌≡◌, IfOk};
+ghost use Rattle.std.specs.Prelude.{◌≡◌, IfOk, None};
 ghost use Rattle.slice_ranges.specs.Hash.{slice_key};
-ghost use Rattle.hourstable_c.specs.Opened.{IsClosed, IsHandedOut, IsMade};
+ghost use Rattle.hourstable_c.specs.Opened.{IsClosed, IsMade};
 
 use c_numbers::Answer;
 use c_place::{Held, Place};
 use slice_ranges::slice_key;
 use std::alloc::{AllocError, Global};
+use std::mem::replace;
 
 /// Returns the slice key of a key.
 #[unsafe(no_mangle)]
@@ -17,18 +18,22 @@ pub extern "C" fn hs_slice_key(key: &[u8]) -> u64
     slice_key(key).value()
 }
 
-/// Creates an empty place, and writes its address to `out`.
+/// Creates an empty place, or empties the one that is there.
 #[unsafe(no_mangle)]
-#[tactic(auto, using(crate::proofs::Making::is_made))]
-pub extern "C" fn hs_place_new(alloc: Global, out: &mut *mut u8) -> i32
-    ensures { IsMade out.old out.new result }
+pub extern "C" fn hs_place_new(alloc: Global, place: &mut Place) -> i32
+    ensures { IsMade place.old.value place.new.value result }
 {
-    hand_out(empty_place(alloc), out)
-}
-
-// Allocates an empty place, and returns its address.
-fn empty_place(alloc: Global) -> Result<*mut u8, AllocError> {
-    Ok(Box::into_raw(boxed_nothing(alloc)?) as *mut u8)
+    if let Some(held) = place.held() {
+        held.put(Held::Nothing);
+        return Answer::Done.number();
+    }
+    match boxed_nothing(alloc) {
+        Ok(held) => {
+            replace(place, Place::of_box(held)).vanish();
+            Answer::Done.number()
+        }
+        Err(_) => Answer::NoMemory.number(),
+    }
 }
 
 fn boxed_nothing(alloc: Global) -> Result<Box<Held>, AllocError>
@@ -37,23 +42,14 @@ fn boxed_nothing(alloc: Global) -> Result<Box<Held>, AllocError>
     Ok(Box::new(alloc, Held::Nothing)?)
 }
 
-// Writes the address of a place to `out`, if there is one.
-fn hand_out(made: Result<*mut u8, AllocError>, out: &mut *mut u8) -> i32
-    ensures { IsHandedOut made out.old out.new result }
-{
-    match made {
-        Ok(address) => {
-            *out = address;
-            Answer::Done.number()
-        }
-        Err(_) => Answer::NoMemory.number(),
-    }
-}
-
-/// Destroys what `place` holds, and frees the place.
+/// Destroys what `place` holds, frees the place, and leaves null.
 #[unsafe(no_mangle)]
-pub extern "C" fn hs_place_free(place: Place) {
-    drop(place.into_box());
+pub extern "C" fn hs_place_free(alloc: Global, place: &mut Place)
+    ensures { place.new.value ≡ None }
+{
+    if !place.is_nowhere() {
+        drop(replace(place, Place::nowhere(alloc)).into_box());
+    }
 }
 
 /// Destroys what a place holds, if it is of the kind that the caller closes.

@@ -1,9 +1,9 @@
 //! Exports for sessions.
 
-ghost use Rattle.std.specs.Prelude.{◌≡◌, string_bytes};
+ghost use Rattle.std.specs.Prelude.{◌≡◌, Some, string_bytes};
 ghost use Rattle.c_numbers.specs.Outputs.{IsGivenWhole, output};
 ghost use Rattle.hourstable_c.specs.Kinds.{is_session};
-ghost use Rattle.hourstable_c.specs.Opened.{IsClosed};
+ghost use Rattle.hourstable_c.specs.Opened.{AtPlace, IsClosed};
 ghost use Rattle.hourstable_c.specs.Places.{OnSession};
 ghost use Rattle.hourstable_c.specs.Returned.{Returns};
 ghost use Rattle.hourstable_c.specs.Sessions.{IsSessionAnswered, IsSessionOpened, form_of};
@@ -30,11 +30,14 @@ fn form_of(json: u32) -> ReplyForm
 #[unsafe(no_mangle)]
 #[tactic(auto, using(crate::proofs::Conversing::puts))]
 pub extern "C" fn hs_session_open(alloc: Global, place: &mut Place, line: &[u8], json: u32) -> i32
-    ensures { IsSessionOpened (form_of json) line.now place.old.value place.new.value result }
+    ensures { AtPlace (IsSessionOpened (form_of json) line.now) place.old.value place.new.value result }
 {
+    let Some(held) = place.held() else {
+        return Answer::OtherPlace.number();
+    };
     match Conversation::begin(alloc, form_of(json), line) {
         Ok(conversation) => {
-            place.lend().put(Held::Session(conversation));
+            held.put(Held::Session(conversation));
             Answer::Done.number()
         }
         Err(why) => why.number(),
@@ -44,7 +47,7 @@ pub extern "C" fn hs_session_open(alloc: Global, place: &mut Place, line: &[u8],
 #[tactic(auto, using(crate::proofs::Conversing::gives_up))]
 // Answers a line. If memory runs out, the session is destroyed.
 fn answer_held(held: &mut Held, line: &[u8], out: &mut [u8], needed: &mut usize) -> Answer
-    ensures { IsSessionAnswered line.now held.old held.new (output out.old needed.old) (output out.new needed.new) result }
+    ensures { IsSessionAnswered line.now (Some held.old) (Some held.new) (output out.old needed.old) (output out.new needed.new) result }
 {
     let Held::Session(conversation) = held else {
         return Answer::OtherPlace;
@@ -67,7 +70,10 @@ pub extern "C" fn hs_session_answer(
 ) -> i32
     ensures { Returns (IsSessionAnswered line.now place.old.value place.new.value (output out.old needed.old) (output out.new needed.new)) result }
 {
-    answer_held(place.lend(), line, out, needed).number()
+    match place.held() {
+        Some(held) => answer_held(held, line, out, needed).number(),
+        None => Answer::OtherPlace.number(),
+    }
 }
 
 /// Writes the last reply line to `out`, also if it did not fit before.
@@ -77,7 +83,10 @@ pub extern "C" fn hs_session_last(place: &mut Place, out: &mut [u8], needed: &mu
     ensures { OnSession place.old.value place.new.value (output out.new needed.new ≡ output out.old needed.old) result
         (λ old new. (new ≡ old) × Returns (IsGivenWhole (string_bytes old.line) (output out.old needed.old) (output out.new needed.new)) result) }
 {
-    match place.lend() {
+    let Some(held) = place.held() else {
+        return Answer::OtherPlace.number();
+    };
+    match held {
         Held::Session(conversation) => conversation.last(out, needed).number(),
         _ => Answer::OtherPlace.number(),
     }
@@ -86,9 +95,11 @@ pub extern "C" fn hs_session_last(place: &mut Place, out: &mut [u8], needed: &mu
 /// Destroys the session and leaves `place` empty.
 #[unsafe(no_mangle)]
 pub extern "C" fn hs_session_close(place: &mut Place) -> i32
-    ensures { IsClosed (is_session place.old.value) place.old.value place.new.value result }
+    ensures { AtPlace (λ was now number. IsClosed (is_session was) was now number) place.old.value place.new.value result }
 {
-    let held = place.lend();
+    let Some(held) = place.held() else {
+        return Answer::OtherPlace.number();
+    };
     let is_session = matches!(held, Held::Session(_));
     close_where(is_session, held)
 }

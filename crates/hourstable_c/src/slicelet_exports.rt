@@ -3,29 +3,35 @@
 ghost use Rattle.std.specs.Prelude.{◌≡◌, ⊤};
 ghost use Rattle.c_numbers.specs.Outputs.{output};
 ghost use Rattle.c_place.specs.declared.held.Held.TheVariants as held;
-ghost use Rattle.c_task.specs.Keys.{rule_for, taken_by};
+ghost use Rattle.c_task.specs.Keys.{rule_for, slice_key_of, taken_by};
 ghost use Rattle.c_task.specs.KeyHandles.{check_answer, handle_of, held_answer, held_numbers};
 ghost use Rattle.c_task.specs.Releases.{IsReleased, kind_of};
+ghost use Rattle.c_task.specs.SliceKeys.{held_at, numbers_at, served_at};
 ghost use Rattle.c_task.specs.SliceletCalls.{IsGrantHeard, IsStarted, opened};
 ghost use Rattle.hourstable_c.specs.Kinds.{is_slicelet};
-ghost use Rattle.hourstable_c.specs.Opened.{IsClosed, IsOpened};
+ghost use Rattle.hourstable_c.specs.Opened.{AtPlace, IsClosed, IsOpened};
 ghost use Rattle.hourstable_c.specs.Places.{OnSlicelet};
 ghost use Rattle.hourstable_c.specs.Returned.{Returns, Tells};
 
 use crate::place_exports::close_where;
 use c_numbers::{Answer, Told};
 use c_place::{Held, Place};
-use c_task::{HandleNumbers, check, hear, hold, open_slicelet, release, serve, start};
+use c_task::{
+    HandleNumbers, check, hear, hold, hold_at, open_slicelet, release, serve, serve_at, start,
+};
 use std::alloc::Global;
 
 /// Creates a new slicelet in `place`, destroying what was there.
 #[unsafe(no_mangle)]
 pub extern "C" fn hs_slicelet_open(alloc: Global, place: &mut Place, task: u64) -> i32
-    ensures { IsOpened held.Slicelet (opened task) place.old.value place.new.value result }
+    ensures { AtPlace (IsOpened held.Slicelet (opened task)) place.old.value place.new.value result }
 {
+    let Some(held) = place.held() else {
+        return Answer::OtherPlace.number();
+    };
     match open_slicelet(alloc, task) {
         Some(slicelet) => {
-            place.lend().put(Held::Slicelet(slicelet));
+            held.put(Held::Slicelet(slicelet));
             Answer::Done.number()
         }
         None => Answer::WrongForm.number(),
@@ -39,7 +45,10 @@ pub extern "C" fn hs_slicelet_start(place: &mut Place, life: u32, at: u64) -> i3
     ensures { OnSlicelet place.old.value place.new.value ⊤ result
         (λ old new. Returns (IsStarted life at old new) result) }
 {
-    match place.lend() {
+    let Some(held) = place.held() else {
+        return Answer::OtherPlace.number();
+    };
+    match held {
         Held::Slicelet(slicelet) => start(slicelet, life, at).number(),
         _ => Answer::OtherPlace.number(),
     }
@@ -58,7 +67,10 @@ pub extern "C" fn hs_slicelet_hear(
     ensures { OnSlicelet place.old.value place.new.value (told.new ≡ told.old) result
         (λ old new. Tells (IsGrantHeard grant.now at old new) told.old told.new result) }
 {
-    match place.lend() {
+    let Some(held) = place.held() else {
+        return Answer::OtherPlace.number();
+    };
+    match held {
         Held::Slicelet(slicelet) => hear(alloc, slicelet, grant, at).tell(told),
         _ => Answer::OtherPlace.number(),
     }
@@ -78,7 +90,10 @@ pub extern "C" fn hs_slicelet_release(
     ensures { OnSlicelet place.old.value place.new.value (output out.new needed.new ≡ output out.old needed.old) result
         (λ old new. Returns (IsReleased (kind_of kind) at old new (output out.old needed.old) (output out.new needed.new)) result) }
 {
-    match place.lend() {
+    let Some(held) = place.held() else {
+        return Answer::OtherPlace.number();
+    };
+    match held {
         Held::Slicelet(slicelet) => release(alloc, slicelet, kind, at, out, needed).number(),
         _ => Answer::OtherPlace.number(),
     }
@@ -92,8 +107,33 @@ pub extern "C" fn hs_slicelet_serve(place: &mut Place, key: &[u8], at: u64, told
         (λ old new. (new ≡ old) × Tells (λ answer. answer ≡ Answer.Judged (rule_for key.now old at))
         told.old told.new result) }
 {
-    match place.lend() {
+    let Some(held) = place.held() else {
+        return Answer::OtherPlace.number();
+    };
+    match held {
         Held::Slicelet(slicelet) => serve(slicelet, key, at).tell(told),
+        _ => Answer::OtherPlace.number(),
+    }
+}
+
+/// Returns whether the task may serve the keys of a slice key.
+#[unsafe(no_mangle)]
+#[tactic(auto, using(crate::proofs::Returning::tells))]
+pub extern "C" fn hs_slicelet_serve_at(
+    place: &mut Place,
+    slice_key: u64,
+    at: u64,
+    told: &mut Told,
+) -> i32
+    ensures { OnSlicelet place.old.value place.new.value (told.new ≡ told.old) result
+        (λ old new. (new ≡ old) × Tells (λ answer. answer ≡ served_at (slice_key_of slice_key) old at)
+        told.old told.new result) }
+{
+    let Some(held) = place.held() else {
+        return Answer::OtherPlace.number();
+    };
+    match held {
+        Held::Slicelet(slicelet) => serve_at(slicelet, slice_key, at).tell(told),
         _ => Answer::OtherPlace.number(),
     }
 }
@@ -113,8 +153,35 @@ pub extern "C" fn hs_slicelet_hold(
         × (out.new ≡ held_numbers (taken_by (rule_for key.now old at) key.now old) out.old)
         × Tells (λ answer. answer ≡ held_answer (taken_by (rule_for key.now old at) key.now old)) told.old told.new result) }
 {
-    match place.lend() {
+    let Some(held) = place.held() else {
+        return Answer::OtherPlace.number();
+    };
+    match held {
         Held::Slicelet(slicelet) => hold(slicelet, key, at, out).tell(told),
+        _ => Answer::OtherPlace.number(),
+    }
+}
+
+/// Takes a handle on the keys of a slice key, if the task may serve them.
+#[unsafe(no_mangle)]
+#[tactic(auto, using(crate::proofs::Returning::tells))]
+pub extern "C" fn hs_slicelet_hold_at(
+    place: &mut Place,
+    slice_key: u64,
+    at: u64,
+    out: &mut HandleNumbers,
+    told: &mut Told,
+) -> i32
+    ensures { OnSlicelet place.old.value place.new.value ((told.new ≡ told.old) × (out.new ≡ out.old)) result
+        (λ old new. (new ≡ old)
+        × (out.new ≡ numbers_at (slice_key_of slice_key) old at out.old)
+        × Tells (λ answer. answer ≡ held_at (slice_key_of slice_key) old at) told.old told.new result) }
+{
+    let Some(held) = place.held() else {
+        return Answer::OtherPlace.number();
+    };
+    match held {
+        Held::Slicelet(slicelet) => hold_at(slicelet, slice_key, at, out).tell(told),
         _ => Answer::OtherPlace.number(),
     }
 }
@@ -126,7 +193,10 @@ pub extern "C" fn hs_slicelet_check(place: &mut Place, handle: &HandleNumbers, a
     ensures { OnSlicelet place.old.value place.new.value ⊤ result
         (λ old new. (new ≡ old) × Returns (λ answer. answer ≡ check_answer (handle_of handle.now) old at) result) }
 {
-    match place.lend() {
+    let Some(held) = place.held() else {
+        return Answer::OtherPlace.number();
+    };
+    match held {
         Held::Slicelet(slicelet) => check(slicelet, handle, at).number(),
         _ => Answer::OtherPlace.number(),
     }
@@ -135,9 +205,11 @@ pub extern "C" fn hs_slicelet_check(place: &mut Place, handle: &HandleNumbers, a
 /// Destroys the slicelet and leaves `place` empty.
 #[unsafe(no_mangle)]
 pub extern "C" fn hs_slicelet_close(place: &mut Place) -> i32
-    ensures { IsClosed (is_slicelet place.old.value) place.old.value place.new.value result }
+    ensures { AtPlace (λ was now number. IsClosed (is_slicelet was) was now number) place.old.value place.new.value result }
 {
-    let held = place.lend();
+    let Some(held) = place.held() else {
+        return Answer::OtherPlace.number();
+    };
     let is_slicelet = matches!(held, Held::Slicelet(_));
     close_where(is_slicelet, held)
 }

@@ -4,20 +4,20 @@ ghost use Rattle.std.specs.Prelude.{◌≡◌, codes, length, map};
 ghost use Rattle.wire.specs.Assignments.{assignment_of};
 ghost use Rattle.wire.specs.Notes.{note_of};
 ghost use Rattle.wire.specs.Refusals.{or_wrong};
-ghost use Rattle.lease_table.specs.Steps.{take_step, renew_step, commit_step, standing_after_restart};
+ghost use Rattle.lease_table.specs.Steps.{renew_step, commit_step, standing_after_restart};
 ghost use Rattle.lease_table.specs.Tables.{phase_of};
 ghost use Rattle.c_numbers.specs.declared.answer.Answer.TheVariants.{Done};
 ghost use Rattle.c_numbers.specs.Numbers.{answer_number};
 ghost use Rattle.c_numbers.specs.Outputs.{IsGivenUnlessMemory, output};
 ghost use Rattle.c_numbers.specs.Reading.{IsReadFrom};
 ghost use Rattle.c_place.specs.declared.held.Held.TheVariants as held;
-ghost use Rattle.c_table.specs.Calls.{IsCommitStep, IsFreed, IsProposed, IsTableStep};
+ghost use Rattle.c_table.specs.Calls.{IsCommitStep, IsFreed, IsProposed, IsTableStep, IsTermTaken, assigner_of};
 ghost use Rattle.c_table.specs.PolicyNumbers.{table_of};
 ghost use Rattle.c_table.specs.Rows.{row_numbers};
 ghost use Rattle.c_table.specs.Terms.{phase_numbers, term_given};
-ghost use Rattle.c_table.specs.Texts.{IsCommittedGiven, IsGranted, task_of};
+ghost use Rattle.c_table.specs.Texts.{IsCommittedGiven, IsGranted, life_of, task_of};
 ghost use Rattle.hourstable_c.specs.Kinds.{is_table};
-ghost use Rattle.hourstable_c.specs.Opened.{IsClosed, IsOpened};
+ghost use Rattle.hourstable_c.specs.Opened.{AtPlace, IsClosed, IsOpened};
 ghost use Rattle.hourstable_c.specs.Places.{OnTable};
 ghost use Rattle.hourstable_c.specs.Returned.{Returns, Tells};
 
@@ -33,11 +33,14 @@ use std::alloc::Global;
 /// Creates a new table in `place`, destroying what was there.
 #[unsafe(no_mangle)]
 pub extern "C" fn hs_table_open(alloc: Global, place: &mut Place, policy: &PolicyNumbers) -> i32
-    ensures { IsOpened held.Table (table_of policy.now) place.old.value place.new.value result }
+    ensures { AtPlace (IsOpened held.Table (table_of policy.now)) place.old.value place.new.value result }
 {
+    let Some(held) = place.held() else {
+        return Answer::OtherPlace.number();
+    };
     match open_table(alloc, policy) {
         Some(table) => {
-            place.lend().put(Held::Table(table));
+            held.put(Held::Table(table));
             Answer::Done.number()
         }
         None => Answer::WrongForm.number(),
@@ -55,10 +58,12 @@ pub extern "C" fn hs_table_take(
     told: &mut Told,
 ) -> i32
     ensures { OnTable place.old.value place.new.value ((told.new ≡ told.old) × (out.new ≡ out.old)) result
-        (λ old new. (out.new ≡ term_given (take_step old assigner at) out.old)
-        × Tells (IsTableStep (take_step old assigner at) old new) told.old told.new result) }
+        (λ old new. Tells (IsTermTaken (assigner_of assigner) at old new out.old out.new) told.old told.new result) }
 {
-    match place.lend() {
+    let Some(held) = place.held() else {
+        return Answer::OtherPlace.number();
+    };
+    match held {
         Held::Table(table) => take(table, assigner, at, out).tell(told),
         _ => Answer::OtherPlace.number(),
     }
@@ -78,7 +83,10 @@ pub extern "C" fn hs_table_renew(
         (λ old new. (out.new ≡ term_given (renew_step old number at) out.old)
         × Tells (IsTableStep (renew_step old number at) old new) told.old told.new result) }
 {
-    match place.lend() {
+    let Some(held) = place.held() else {
+        return Answer::OtherPlace.number();
+    };
+    match held {
         Held::Table(table) => renew(table, number, at, out).tell(told),
         _ => Answer::OtherPlace.number(),
     }
@@ -99,7 +107,10 @@ pub extern "C" fn hs_table_propose(
         (λ old new. Tells (λ answer. IsReadFrom (codes "assignment") assignment_of assignment.now (IsProposed number at old new answer))
         told.old told.new result) }
 {
-    match place.lend() {
+    let Some(held) = place.held() else {
+        return Answer::OtherPlace.number();
+    };
+    match held {
         Held::Table(table) => propose(alloc, table, number, assignment, at).tell(told),
         _ => Answer::OtherPlace.number(),
     }
@@ -112,7 +123,10 @@ pub extern "C" fn hs_table_commit(place: &mut Place, number: u64, at: u64, told:
     ensures { OnTable place.old.value place.new.value (told.new ≡ told.old) result
         (λ old new. Tells (IsCommitStep (commit_step old number at) old new) told.old told.new result) }
 {
-    match place.lend() {
+    let Some(held) = place.held() else {
+        return Answer::OtherPlace.number();
+    };
+    match held {
         Held::Table(table) => commit(table, number, at).tell(told),
         _ => Answer::OtherPlace.number(),
     }
@@ -131,9 +145,12 @@ pub extern "C" fn hs_table_grant(
     needed: &mut usize,
 ) -> i32
     ensures { OnTable place.old.value place.new.value (output out.new needed.new ≡ output out.old needed.old) result
-        (λ old new. Returns (IsGranted (task_of task) life at old new (output out.old needed.old) (output out.new needed.new)) result) }
+        (λ old new. Returns (IsGranted (task_of task) (life_of life) at old new (output out.old needed.old) (output out.new needed.new)) result) }
 {
-    match place.lend() {
+    let Some(held) = place.held() else {
+        return Answer::OtherPlace.number();
+    };
+    match held {
         Held::Table(table) => grant(alloc, table, task, life, at, out, needed).number(),
         _ => Answer::OtherPlace.number(),
     }
@@ -154,7 +171,10 @@ pub extern "C" fn hs_table_free(
         (λ old new. Tells (λ answer. IsReadFrom (codes "note") (λ d. or_wrong (note_of d)) note.now (IsFreed at old new freed.old freed.new answer))
         told.old told.new result) }
 {
-    match place.lend() {
+    let Some(held) = place.held() else {
+        return Answer::OtherPlace.number();
+    };
+    match held {
         Held::Table(table) => free(alloc, table, note, at, freed).tell(told),
         _ => Answer::OtherPlace.number(),
     }
@@ -166,7 +186,10 @@ pub extern "C" fn hs_table_restart(place: &mut Place, lost: &mut u64) -> i32
     ensures { OnTable place.old.value place.new.value (lost.new ≡ lost.old) result
         (λ old new. (result ≡ answer_number Done) × (lost.new ≡ length old.rows) × (new ≡ standing_after_restart old)) }
 {
-    match place.lend() {
+    let Some(held) = place.held() else {
+        return Answer::OtherPlace.number();
+    };
+    match held {
         Held::Table(table) => restart(table, lost).number(),
         _ => Answer::OtherPlace.number(),
     }
@@ -178,7 +201,10 @@ pub extern "C" fn hs_table_phase(place: &mut Place, out: &mut PhaseNumbers) -> i
     ensures { OnTable place.old.value place.new.value (out.new ≡ out.old) result
         (λ old new. (result ≡ answer_number Done) × (new ≡ old) × (out.new ≡ phase_numbers (phase_of old))) }
 {
-    match place.lend() {
+    let Some(held) = place.held() else {
+        return Answer::OtherPlace.number();
+    };
+    match held {
         Held::Table(table) => phase(table, out).number(),
         _ => Answer::OtherPlace.number(),
     }
@@ -196,7 +222,10 @@ pub extern "C" fn hs_table_rows(
     ensures { OnTable place.old.value place.new.value (output out.new needed.new ≡ output out.old needed.old) result
         (λ old new. (new ≡ old) × Returns (IsGivenUnlessMemory (map row_numbers old.rows) (output out.old needed.old) (output out.new needed.new)) result) }
 {
-    match place.lend() {
+    let Some(held) = place.held() else {
+        return Answer::OtherPlace.number();
+    };
+    match held {
         Held::Table(table) => rows(alloc, table, out, needed).number(),
         _ => Answer::OtherPlace.number(),
     }
@@ -214,7 +243,10 @@ pub extern "C" fn hs_table_committed(
     ensures { OnTable place.old.value place.new.value (output out.new needed.new ≡ output out.old needed.old) result
         (λ old new. (new ≡ old) × Returns (IsCommittedGiven old.committed (output out.old needed.old) (output out.new needed.new)) result) }
 {
-    match place.lend() {
+    let Some(held) = place.held() else {
+        return Answer::OtherPlace.number();
+    };
+    match held {
         Held::Table(table) => committed(alloc, table, out, needed).number(),
         _ => Answer::OtherPlace.number(),
     }
@@ -223,9 +255,11 @@ pub extern "C" fn hs_table_committed(
 /// Destroys the table and leaves `place` empty.
 #[unsafe(no_mangle)]
 pub extern "C" fn hs_table_close(place: &mut Place) -> i32
-    ensures { IsClosed (is_table place.old.value) place.old.value place.new.value result }
+    ensures { AtPlace (λ was now number. IsClosed (is_table was) was now number) place.old.value place.new.value result }
 {
-    let held = place.lend();
+    let Some(held) = place.held() else {
+        return Answer::OtherPlace.number();
+    };
     let is_table = matches!(held, Held::Table(_));
     close_where(is_table, held)
 }

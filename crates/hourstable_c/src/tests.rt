@@ -1,11 +1,11 @@
 //! A task from open to close, through the functions that C calls.
 
-use crate::place_exports::hs_place_free;
+use crate::place_exports::{hs_place_free, hs_place_new};
 use crate::slicelet_exports::{
     hs_slicelet_close, hs_slicelet_hear, hs_slicelet_open, hs_slicelet_serve, hs_slicelet_start,
 };
 use c_numbers::Told;
-use c_place::{Held, Place};
+use c_place::Place;
 use std::alloc::Global;
 use std::test::Fail;
 
@@ -34,9 +34,14 @@ fn serves_a_key_until_the_lease_ends(rt: HostRuntime) -> Result<(), Fail> {
         task: 0,
         until: 0,
     };
-    let mut place = Place::of_box(Box::new(rt.alloc(), Held::Nothing)?);
+    let mut place = Place::nowhere(rt.alloc());
+    let nowhere = hs_slicelet_start(&mut place, 1, 3);
+    let made = hs_place_new(rt.alloc(), &mut place);
     let codes = codes_of(rt.alloc(), &mut place, &mut told);
-    hs_place_free(place);
+    hs_place_free(rt.alloc(), &mut place);
+    let freed = hs_slicelet_start(&mut place, 1, 3);
+    place.vanish();
+    assert_eq!(rt; [nowhere, made, freed], [-18, 0, -18]);
     assert_eq!(rt; codes, [0, 0, 0, 0, 3, 0]);
     assert_eq!(rt; (told.kind, told.generation), (1, 3));
     Ok(())
