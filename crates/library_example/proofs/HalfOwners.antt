@@ -40,7 +40,7 @@ module _ (slicing : Slicing) (lower upper : List ℕ) (made : slicing ≡ built 
   slices_are =
       ap (λ (s : Slicing). s.slices) made
       ∙ (ap (λ (owners : List ℕ). with_rising_owners (halves_of owners upper)) one
-        ∙ (ap (λ (owners : List ℕ). with_rising_owners (halves_of (1 ∷ []) owners)) two ∙ rw (single_stays 0 1 (omega arith) (omega arith), single_stays (KEYS / 2) 2 (omega arith) (omega arith)) refl))
+      ∙ (ap (λ (owners : List ℕ). with_rising_owners (halves_of (1 ∷ []) owners)) two ∙ rw (single_stays 0 1 (omega arith) (omega arith), single_stays (KEYS / 2) 2 (omega arith) (omega arith)) refl))
 
   pub owns_lower : (key : ℕ) → owns slicing.slices key 1 ≡ nat_lt key (KEYS / 2)
   owns_lower key = ap (λ (slices : List Slice). owns slices key 1) slices_are ∙ (owns_by_half key 1 ∙ lower_owned key)

@@ -6,7 +6,8 @@ ghost use Rattle.session.specs.Lines.{SaysJob, SaysStep, IsNoJob, IsNoStep};
 
 use crate::answer::LONG_WORDS;
 use diagnosis::{
-    AnswerError, ScriptFault, job_line_mend, job_mend, json_faults, line_mend, repeated_mend, step_mend,
+    AnswerError, ScriptFault, job_line_mend, job_mend, json_faults, line_mend, repeated_mend,
+    step_mend,
 };
 use program_io::{JsonError, Unread, strict_value_of};
 use service::{ScriptError, job_member, job_of, lone_step};
