@@ -140,8 +140,9 @@ enum hs_code {
     HS_VERSION = -4,      /* the message has another version: told.number, if the function has
                              `told` */
     HS_OTHER_TYPE = -5,   /* the message is of another type */
-    HS_WRONG_FORM = -6,   /* the message has other members than its type, or a member or a number
-                             that was passed is outside its limits */
+    HS_WRONG_FORM = -6,   /* the message has other members than its type, a member twice, or more
+                             than 1,048,576 bytes, or a member or a number that was passed is
+                             outside its limits */
     HS_PAST_END = -7,     /* a range ends, or a slice starts, past the last key */
     HS_UNSORTED = -8,     /* a range starts before the end of the one before it */
     HS_EMPTY = -9,        /* a range does not end above its start */
