@@ -1,5 +1,5 @@
 -- Two entries of one ticket.
-use Rattle.std.proofs.Common.{◌≡◌, ◌≢◌, ℕ, ◌+◌, ◌-◌, ◌<◌, ◌≤◌, List, length, get_or, refl, ap, ◌∙◌, arith}
+use Rattle.std.proofs.Common.{◌≡◌, ◌≢◌, ℕ, ◌+◌, ◌-◌, ◌<◌, ◌≤◌, List, length, get_or, refl, sym, subst, ap, ◌∙◌, arith}
 use Rattle.std.specs.Prelude.{slice_get}
 use Rattle.std.specs.List.{AllAdjacentBelow}
 use Rattle.std.specs.List.Sorted.{IsNonDecreasingBy}
@@ -10,8 +10,8 @@ use Rattle.call_log.specs.Audited.{IsDouble}
 use Rattle.call_log.proofs.Places.{at_place}
 
 pub double_here : (entries : List Entry) (i : ℕ) (first second : Entry) → 1 ≤ i → i < length entries → first ≡ get_or entries (i - 1) first → second ≡ get_or entries i second
-    → second.line.ticket ≡ first.line.ticket → IsDouble entries (i - 1) (i - 1 + 1)
-double_here entries i first second one low before here same =
+    → second.line.ticket ≡ first.line.ticket → AllAdjacentBelow (λ (x : Entry) (y : Entry). x.line.ticket < y.line.ticket) entries i → IsDouble entries (i - 1) (i - 1 + 1)
+double_here entries i first second one low before here same rising =
     let next : i - 1 + 1 ≡ i = omega arith in
     record {
       next = refl;
@@ -20,6 +20,7 @@ double_here entries i first second one low before here same =
       here = at_place entries (i - 1) first (omega arith) before;
       there = ap (slice_get entries) next ∙ at_place entries i second low here;
       same = same;
+      earliest = subst (λ (n : ℕ). AllAdjacentBelow (λ (x : Entry) (y : Entry). x.line.ticket < y.line.ticket) entries n) (sym next) rising;
     }
 
 -- neighbours, whatever stands where there is none
@@ -30,8 +31,9 @@ module _ (entries : List Entry) (i : ℕ) (d e : Entry) (one : 1 ≤ i) (low : i
   here : get_or entries i e ≡ get_or entries i (get_or entries i e)
   here = get_or_default entries i e (get_or entries i e) low
 
-  pub double_at : (get_or entries i e).line.ticket ≡ (get_or entries (i - 1) d).line.ticket → IsDouble entries (i - 1) (i - 1 + 1) × (i - 1 + 1 < length entries)
-  double_at same = (double_here entries i (get_or entries (i - 1) d) (get_or entries i e) one low before here same, omega arith)
+  pub double_at : AllAdjacentBelow (λ (x : Entry) (y : Entry). x.line.ticket < y.line.ticket) entries i
+      → (get_or entries i e).line.ticket ≡ (get_or entries (i - 1) d).line.ticket → IsDouble entries (i - 1) (i - 1 + 1) × (i - 1 + 1 < length entries)
+  double_at rising same = (double_here entries i (get_or entries (i - 1) d) (get_or entries i e) one low before here same rising, omega arith)
 
   pub rises_at : IsNonDecreasingBy (λ (x : Entry). x.line.ticket) entries → AllAdjacentBelow (λ (x : Entry) (y : Entry). x.line.ticket < y.line.ticket) entries i
       → (get_or entries i e).line.ticket ≢ (get_or entries (i - 1) d).line.ticket → AllAdjacentBelow (λ (x : Entry) (y : Entry). x.line.ticket < y.line.ticket) entries (i + 1)

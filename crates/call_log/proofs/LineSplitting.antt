@@ -5,7 +5,7 @@ use Rattle.std.proofs.lemmas.List.{drop_all, map_more, map-append, append-nil, l
 use Rattle.memchr.specs.Find.{Nowhere, NoneBefore, Passes, is_byte}
 use denote.Ref.{Bor}
 use Rattle.call_log.specs.declared.lines.LineBytes.{LineBytes}
-use Rattle.call_log.specs.Files.{PlacedLine, place_at, lines_in, lines_from, numbered}
+use Rattle.call_log.specs.Files.{PlacedLine, place_at, line_with, lines_in, lines_from, numbered}
 use Rattle.call_log.specs.internals.Shown.{IsSplit, shown}
 
 not_true : (b : Bool) → (b ≡ true → ⊥) → b ≡ false
@@ -14,7 +14,7 @@ not_true false h = refl
 
 -- the first end of a line ends the first line
 pub first_line : (bytes : List ℕ) (k : ℕ) → k < length bytes → ((j : ℕ) → j < k → (slice_index bytes j == 10) ≡ true → ⊥) → (slice_index bytes k == 10) ≡ true
-    → lines_in bytes ≡ take k bytes ∷ lines_in (drop (k + 1) bytes)
+    → lines_in bytes ≡ line_with (take k bytes) true ∷ lines_in (drop (k + 1) bytes)
 first_line [] k low none here = absurd (omega arith)
 first_line (byte ∷ bytes) zero low none here = rw here refl
 first_line (byte ∷ bytes) (suc k) low none here =
@@ -24,7 +24,7 @@ first_line (byte ∷ bytes) (suc k) low none here =
     rw (other, rest, next) refl
 
 -- bytes without an end of a line are one line
-pub last_line : (byte : ℕ) (bytes : List ℕ) → ((j : ℕ) → j < length (byte ∷ bytes) → (slice_index (byte ∷ bytes) j == 10) ≡ true → ⊥) → lines_in (byte ∷ bytes) ≡ (byte ∷ bytes) ∷ []
+pub last_line : (byte : ℕ) (bytes : List ℕ) → ((j : ℕ) → j < length (byte ∷ bytes) → (slice_index (byte ∷ bytes) j == 10) ≡ true → ⊥) → lines_in (byte ∷ bytes) ≡ line_with (byte ∷ bytes) false ∷ []
 last_line byte [] none = let other : (byte == 10) ≡ false = not_true (byte == 10) (none 0 (omega arith)) in rw other refl
 last_line byte (next ∷ bytes) none =
     let other : (byte == 10) ≡ false = not_true (byte == 10) (none 0 (omega arith)) in
@@ -32,13 +32,13 @@ last_line byte (next ∷ bytes) none =
     rw (other, rest) refl
 
 -- where a search for the end of a line says that it is, or that there is none
-pub split_first : (bytes : List ℕ) (k : ℕ) → NoneBefore (Passes (is_byte 10) bytes) 0 (length bytes) k → Passes (is_byte 10) bytes k → IsSplit bytes (take k bytes) (drop (k + 1) bytes)
+pub split_first : (bytes : List ℕ) (k : ℕ) → NoneBefore (Passes (is_byte 10) bytes) 0 (length bytes) k → Passes (is_byte 10) bytes k → IsSplit bytes (take k bytes) true (drop (k + 1) bytes)
 split_first bytes k here is = record {
   lines = first_line bytes k here.high (λ j below. here.before j (omega arith) below) is;
   fewer = let h = here.high in let l = length-drop (k + 1) bytes in omega (arith, h, l);
 }
 
-pub split_last : (bytes : List ℕ) → 0 < length bytes → Nowhere (Passes (is_byte 10) bytes) 0 (length bytes) → IsSplit bytes bytes (drop (length bytes) bytes)
+pub split_last : (bytes : List ℕ) → 0 < length bytes → Nowhere (Passes (is_byte 10) bytes) 0 (length bytes) → IsSplit bytes bytes false (drop (length bytes) bytes)
 split_last [] some none = absurd (omega arith)
 split_last (byte ∷ bytes) some none =
     let nothing : drop (length (byte ∷ bytes)) (byte ∷ bytes) ≡ [] = drop_all (length (byte ∷ bytes)) (byte ∷ bytes) (omega arith) in
@@ -49,10 +49,10 @@ split_last (byte ∷ bytes) some none =
     }
 
 -- one line more of a file
-pub line_more : (items : List LineBytes) (x : LineBytes) (file number : ℕ) (bytes line after : List ℕ) (total : List PlacedLine) → lines_in bytes ≡ line ∷ lines_in after
-    → shown x ≡ record { place = place_at file number; bytes = line }
+pub line_more : (items : List LineBytes) (x : LineBytes) (file number : ℕ) (bytes line : List ℕ) (ended : Bool) (after : List ℕ) (total : List PlacedLine)
+    → lines_in bytes ≡ line_with line ended ∷ lines_in after → shown x ≡ record { place = place_at file number; bytes = line; ended = ended }
     → map shown items ++ numbered file number (lines_in bytes) ≡ total → map shown (items ++ x ∷ []) ++ numbered file (number + 1) (lines_in after) ≡ total
-line_more items x file number bytes line after total split is so_far =
+line_more items x file number bytes line ended after total split is so_far =
     let front : numbered file number (lines_in bytes) ≡ shown x ∷ numbered file (number + 1) (lines_in after) = rw (split, is) refl in
     ap (λ (ls : List PlacedLine). ls ++ numbered file (number + 1) (lines_in after)) (map-append shown items (x ∷ []))
     ∙ append_assoc (map shown items) (shown x ∷ []) (numbered file (number + 1) (lines_in after))

@@ -6,12 +6,13 @@ use Rattle.world.specs.declared.reply.Reply.{Reply}
 use Rattle.call_log.specs.declared.entry.Entry.{Entry}
 use Rattle.call_log.specs.declared.finding.HeldLeases.{HeldLeases}
 use Rattle.call_log.specs.Calls.{reading_in}
-use Rattle.call_log.specs.Reports.{standing_at, told_text, AreQuoted, IsOtherOf}
+use Rattle.call_log.specs.Reports.{standing_at, told_text, IsOtherOf}
 
 -- the words that were told are those that are written
 pub other_told : {T E : Type 0} (bytes : T → List ℕ) (result : Result T E) (names : List (List ℕ)) (entries : List Entry) (index : ℕ) (wanted : Reply) (held : Option HeldLeases)
-    (found : Option Entry) (entry : Entry) (told : List ℕ) (reading : Reading) → found ≡ Some entry → AreQuoted entry.line.reply told → reading ≡ reading_in entry.line.call
+    (found : Option Entry) (entry : Entry) (told : List ℕ) (reading : Reading) → found ≡ Some entry → told ≡ entry.line.reply → reading ≡ reading_in entry.line.call
     → IfOk result (λ text. bytes text ≡ told_text (standing_at names entries index) told wanted reading held) → IfOk result (λ text. IsOtherOf names entries index wanted held found (bytes text))
-other_told bytes (Ok text) names entries index wanted held found entry told reading is quoted read written =
-    rw is (told, quoted, written ∙ ap (λ (r : Reading). told_text (standing_at names entries index) told wanted r held) read)
-other_told bytes (Err why) names entries index wanted held found entry told reading is quoted read written = tt
+other_told bytes (Ok text) names entries index wanted held found entry told reading is same read written =
+    rw is (written ∙ ap (λ (t : List ℕ). told_text (standing_at names entries index) t wanted reading held) same
+    ∙ ap (λ (r : Reading). told_text (standing_at names entries index) entry.line.reply wanted r held) read)
+other_told bytes (Err why) names entries index wanted held found entry told reading is same read written = tt

@@ -1,5 +1,6 @@
 -- Whether the calls of a log are one run of a job's machines, and else where they are not.
-use Rattle.std.specs.Prelude.{◌≡◌, ℕ, ◌+◌, ⊤, Bool, true, false, List, [], ◌∷◌, length, reverse, take, Option, Some, None, slice_get}
+use Rattle.std.specs.Prelude.{◌≡◌, ℕ, ◌+◌, ◌<◌, ⊤, Bool, true, false, List, [], ◌∷◌, length, reverse, take, Option, Some, None, slice_get}
+use Rattle.std.specs.List.{AllAdjacentBelow}
 use Rattle.cluster.specs.Jobs.{Job}
 use Rattle.cluster.specs.declared.reply.ClusterReply.{ClusterReply}
 use Rattle.cluster.specs.Pasts.{Event, event, Past, readings}
@@ -64,7 +65,7 @@ pub record IsBreak (job : Job) (entries : List Entry) (index : ℕ) (wanted : Re
   pub other : WasToldOther past entry.line answer wanted
   pub leases : held ≡ held_by_asked job (event (call_after past entry.line.call) answer ∷ past) entry.line.call
 
--- the entries at these places, one after the other, have one ticket
+-- the entries at these places, one after the other, have one ticket, and the tickets before them rise
 pub record IsDouble (entries : List Entry) (first second : ℕ) : Type 0 where
   pub next : second ≡ first + 1
   pub entry : Entry
@@ -72,6 +73,7 @@ pub record IsDouble (entries : List Entry) (first second : ℕ) : Type 0 where
   pub here : slice_get entries first ≡ Some entry
   pub there : slice_get entries second ≡ Some other
   pub same : other.line.ticket ≡ entry.line.ticket
+  pub earliest : AllAdjacentBelow (λ x y. x.line.ticket < y.line.ticket) entries second
 
 -- what is found of entries in the order of their tickets
 abbrev pub IsReplayed : Job → List Entry → Finding → Type 0

@@ -1,19 +1,24 @@
 -- What an audit says of the files of a log.
 use Rattle.std.specs.Prelude.{◌≡◌, ℕ, Bool, List}
-use Rattle.std.specs.List.Sorted.{IsPermutation}
+use Rattle.std.specs.Ordering.{nat_cmp}
+use Rattle.std.specs.List.Sorted.{IsPermutation, IsStableByKey}
 use Rattle.call_log.specs.declared.entry.Entry.{Entry}
+use Rattle.call_log.specs.declared.entry.Place.{Place}
 use Rattle.call_log.specs.declared.finding.Finding.{Finding}
 use Rattle.call_log.specs.declared.log.Log.{Log}
 use Rattle.call_log.specs.Audited.{IsFound, is_one}
 use Rattle.call_log.specs.Files.{IsLog, lines_from}
 use Rattle.call_log.specs.Reports.{IsReport}
 
--- the files say a log, this is found of its calls in the order of their tickets, and the text reports it
-pub record IsAudited (names files : List (List ℕ)) (one : Bool) (text : List ℕ) : Type 0 where
+-- the files say a log, but for the last lines at these places; this is found of its calls in the order of their tickets, where
+-- equal tickets stay in the order of their lines, and the text reports it
+pub record IsAudited (names files : List (List ℕ)) (one : Bool) (text : List ℕ) (torn : List Place) : Type 0 where
   pub log : Log
+  pub left_out : torn ≡ log.torn.items
   pub reads : IsLog (lines_from 0 files) log
   pub ordered : List Entry
   pub same : IsPermutation log.entries.items ordered
+  pub stable : IsStableByKey (λ e. e.line.ticket) nat_cmp log.entries.items ordered
   pub finding : Finding
   pub found : IsFound log.job ordered finding
   pub told : one ≡ is_one finding

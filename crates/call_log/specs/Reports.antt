@@ -1,6 +1,6 @@
 -- What is written of a log.
-use Rattle.std.specs.Prelude.{◌≡◌, ℕ, nat_lt, List, [], ◌++◌, codes, decimal, Option, Some, None, IfSome, slice_get, if◌then◌else◌}
-use Rattle.std.specs.Fmt.{debug_str}
+use Rattle.std.specs.Prelude.{◌≡◌, ℕ, nat_lt, List, [], ◌++◌, codes, decimal, Option, Some, None, slice_get, if◌then◌else◌}
+use Rattle.session.specs.Quoted.{escaped}
 use Rattle.slicelet.specs.declared.heard.HeldLease.{HeldLease}
 use Rattle.policy_rules.specs.declared.answer.Verdict.TheVariants.{Deny}
 use Rattle.policy_rules.specs.declared.answer.Ground.TheVariants.{Ended}
@@ -16,13 +16,13 @@ use Rattle.call_log.specs.declared.late.Late.{Late}
 use Rattle.call_log.specs.Calls.{reading_in}
 use Rattle.call_log.specs.Told.{plain_text}
 
--- where an entry stands: the name of its file and the number of its line
+-- where an entry stands: the name of its file, with escapes, and the number of its line
 abbrev pub name_text : Option (List ℕ) → List ℕ
 name_text (Some name) = name
 name_text None = []
 
 abbrev pub standing_text : List (List ℕ) → Option Entry → List ℕ
-standing_text names (Some entry) = name_text (slice_get names entry.place.file) ++ (codes ":" ++ decimal entry.place.line)
+standing_text names (Some entry) = escaped (name_text (slice_get names entry.place.file)) ++ (codes ":" ++ decimal entry.place.line)
 standing_text names None = []
 
 abbrev pub standing_at : List (List ℕ) → List Entry → ℕ → List ℕ
@@ -63,21 +63,16 @@ double_text names entries first second =
     standing_at names entries second ++ (codes ": ticket " ++ (decimal (ticket_of (slice_get entries first))
     ++ (codes " is also at " ++ (standing_at names entries first ++ codes "\n"))))
 
--- words in quotes, as `{:?}` writes them; of words past ASCII this says nothing
-abbrev pub AreQuoted : List ℕ → List ℕ → Type 0
-AreQuoted words quoted = IfSome (debug_str words) (λ text. quoted ≡ text)
-
--- a call whose caller was told otherwise: where it stands, what was told, and what should have been
+-- a call whose caller was told otherwise: where it stands, what was told, with escapes, and what should have been
 abbrev pub told_text : List ℕ → List ℕ → Reply → Reading → Option HeldLeases → List ℕ
 told_text standing told wanted reading held =
-    standing ++ (codes ": told " ++ (told ++ (codes "; should be \"" ++ (plain_text wanted
+    standing ++ (codes ": told \"" ++ (escaped told ++ (codes "\"; should be \"" ++ (plain_text wanted
     ++ (codes "\"" ++ (reason_text wanted reading held ++ codes "\n"))))))
 
 -- it names the words that the line says were told
 abbrev pub IsOtherOf : List (List ℕ) → List Entry → ℕ → Reply → Option HeldLeases → Option Entry → List ℕ → Type 0
 IsOtherOf names entries index wanted held (Some entry) text =
-    (told : List ℕ) × AreQuoted entry.line.reply told
-    × (text ≡ told_text (standing_at names entries index) told wanted (reading_in entry.line.call) held)
+    text ≡ told_text (standing_at names entries index) entry.line.reply wanted (reading_in entry.line.call) held
 IsOtherOf names entries index wanted held None text = text ≡ []
 
 -- the lines for what was found

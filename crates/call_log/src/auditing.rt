@@ -5,6 +5,7 @@ ghost use Rattle.call_log.specs.Audited.{is_one};
 ghost use Rattle.call_log.specs.Audits.{IsAudited};
 ghost use Rattle.call_log.specs.Files.{IsUnread, lines_from};
 
+use crate::entry::Place;
 use crate::finding::Finding;
 use crate::judging::audit_calls;
 use crate::log::LogError;
@@ -20,6 +21,8 @@ pub struct LogReport {
     pub is_one: bool,
     /// The lines of the report.
     pub text: String,
+    /// The positions of last lines that were left out: they lack their end, and are not calls.
+    pub torn: Vec<Place>,
 }
 
 fn is_one(finding: &Finding) -> bool
@@ -30,8 +33,7 @@ fn is_one(finding: &Finding) -> bool
 
 /// Reads the log in the files, and judges its calls in the order of their tickets.
 ///
-/// `names` are the names of the files. An error names the first line that is not valid, or says
-/// that memory ran out.
+/// `names` are the names of the files. Errors are those of [`read_log`].
 pub fn audit_logs<P: Progress>(
     alloc: Global,
     names: &[&str],
@@ -39,7 +41,7 @@ pub fn audit_logs<P: Progress>(
     progress: &mut P,
 ) -> Result<LogReport, LogError>
     ensures ok { IfOk result (λ report.
-        IsAudited (map (λ n. n.now) names.now) (map (λ f. f.now) files.now) report.is_one (string_bytes report.text)) }
+        IsAudited (map (λ n. n.now) names.now) (map (λ f. f.now) files.now) report.is_one (string_bytes report.text) report.torn.items) }
     ensures err { IfErr result (IsUnread (lines_from 0 (map (λ f. f.now) files.now))) }
 {
     let mut log = read_log(alloc, files, progress)?;
@@ -50,5 +52,6 @@ pub fn audit_logs<P: Progress>(
     Ok(LogReport {
         is_one: is_one(&finding),
         text,
+        torn: log.torn,
     })
 }

@@ -1,7 +1,8 @@
 //! Whether the calls of a log are one run.
 
 ghost use Rattle.std.specs.Prelude.{◌≡◌, ◌+◌, ◌<◌, length, IfOk, OnOk, MatchOption};
-ghost use Rattle.std.specs.List.Sorted.{IsPermutation, IsNonDecreasingBy};
+ghost use Rattle.std.specs.Ordering.{nat_cmp};
+ghost use Rattle.std.specs.List.Sorted.{IsPermutation, IsNonDecreasingBy, IsStableByKey};
 ghost use Rattle.cluster.specs.Jobs.{Job};
 ghost use Rattle.call_log.specs.Audited.{IsDouble, IsFound, IsReplayed, TicketsRise};
 
@@ -17,6 +18,7 @@ use std::alloc::{AllocError, Global};
 fn sort(entries: &mut Vec<Entry>) -> Result<(), AllocError>
     ensures same { IsPermutation entries.old.items entries.new.items }
     ensures order { OnOk result (IsNonDecreasingBy (λ e. e.line.ticket) entries.new.items) }
+    ensures stable { IsStableByKey (λ e. e.line.ticket) nat_cmp entries.old.items entries.new.items }
 {
     entries.sort_by_key(|entry| entry.line.ticket)
 }
@@ -74,8 +76,10 @@ fn replay<P: Progress>(
 /// They are one run if each caller got, in the same words, the reply that the machines give after
 /// the calls before.
 ///
-/// [`Finding::Double`] comes first: two entries have the same ticket. Otherwise [`Finding::Other`]
-/// names the first call whose caller got another reply. If memory runs out, nothing is found.
+/// [`Finding::Double`] comes first: two entries have the same ticket. It names the lowest such
+/// ticket, and the first two entries that have it, in the order in which they were given. Otherwise
+/// [`Finding::Other`] names the first call whose caller got another reply. If memory runs out,
+/// nothing is found.
 pub fn audit_calls<P: Progress>(
     alloc: Global,
     job: Job,
@@ -83,6 +87,7 @@ pub fn audit_calls<P: Progress>(
     progress: &mut P,
 ) -> Result<Finding, AllocError>
     ensures same { IsPermutation entries.old.items entries.new.items }
+    ensures stable { IsStableByKey (λ e. e.line.ticket) nat_cmp entries.old.items entries.new.items }
     ensures found { IfOk result (IsFound job entries.new.items) }
 {
     sort(entries)?;

@@ -15,18 +15,36 @@ pub struct LineBytes<'a> {
     pub place: Place,
     /// Its bytes.
     pub bytes: &'a [u8],
+    /// Whether its end stands after it, which the last line of a file may lack.
+    pub ended: bool,
+}
+
+// The first line of bytes, without its end, and the bytes after it.
+#[derive(Clone, Copy)]
+struct Split<'a> {
+    line: &'a [u8],
+    ended: bool,
+    rest: &'a [u8],
 }
 
 // Splits bytes into the first line and the rest.
-fn next_line(bytes: &[u8]) -> Option<(&[u8], &[u8])>
+fn next_line(bytes: &[u8]) -> Option<Split<'_>>
     ensures { IsNextLine bytes.now result }
 {
     if bytes.is_empty() {
         return None;
     }
     match memchr(b'\n', bytes) {
-        Some(end) => Some((&bytes[..end], &bytes[end + 1..])),
-        None => Some((bytes, &bytes[bytes.len()..])),
+        Some(end) => Some(Split {
+            line: &bytes[..end],
+            ended: true,
+            rest: &bytes[end + 1..],
+        }),
+        None => Some(Split {
+            line: bytes,
+            ended: false,
+            rest: &bytes[bytes.len()..],
+        }),
     }
 }
 
@@ -41,10 +59,13 @@ fn add_lines<'a>(
 {
     let mut rest = bytes;
     let mut number = 1;
-    'splits: while let Some((line, after)) = next_line(rest) {
-        let place = Place { file, line: number };
-        lines.push(LineBytes { place, bytes: line })?;
-        rest = after;
+    'splits: while let Some(split) = next_line(rest) {
+        lines.push(LineBytes {
+            place: Place { file, line: number },
+            bytes: split.line,
+            ended: split.ended,
+        })?;
+        rest = split.rest;
         number += 1;
     }
     Ok(())

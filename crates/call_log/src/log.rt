@@ -16,13 +16,18 @@ pub struct Log {
     pub job: Job,
     /// The calls.
     pub entries: Vec<Entry>,
+    /// The positions of last lines that were left out: they lack their end, and are not calls.
+    pub torn: Vec<Place>,
 }
 
-/// Why a log cannot be read: its first line that is not valid.
+/// Why a log cannot be read: its first line that is too long, or else its first line that is not
+/// valid.
 #[derive(Debug, Drop)]
 pub enum LogError {
-    /// There are no lines.
+    /// There are no lines that count.
     Empty,
+    /// A line is longer than [`session::MOST_LINE_BYTES`].
+    LongLine(Place),
     /// The first line is not a job.
     NoJob {
         place: Place,

@@ -1,19 +1,19 @@
 //! Reading a log from the bytes of its files.
 
-ghost use Rattle.std.specs.Prelude.{map, IfErr, IfOk};
+ghost use Rattle.std.specs.Prelude.{◌≡◌, map, IfErr, IfOk};
 ghost use Rattle.session.specs.Lines.{SaysJob};
-ghost use Rattle.call_log.specs.Files.{AreSaid, IsLog, IsUnread, lines_from};
-ghost use Rattle.call_log.specs.internals.Reading.{IsNoJobFor, IsNotRead};
+ghost use Rattle.call_log.specs.Files.{AreSaid, AreShort, IsLog, IsUnread, counted, lines_from};
+ghost use Rattle.call_log.specs.internals.Reading.{IsNoJobFor, IsNotCounted, IsNotRead};
 ghost use Rattle.call_log.specs.internals.Shown.{shown};
 
-use crate::entry::Entry;
+use crate::entry::{Entry, Place};
 use crate::lines::{LineBytes, lines_of};
 use crate::log::{Log, LogError};
 use crate::progress::Progress;
 use crate::reading::{NoLine, line_said};
 use cluster::Job;
 use diagnosis::AnswerError;
-use session::job_said;
+use session::{is_blank, is_long, job_said};
 use std::alloc::Global;
 
 // Parses the first line, which is the job.
@@ -31,33 +31,69 @@ fn head_of(alloc: Global, line: &LineBytes) -> Result<Job, LogError>
     }
 }
 
-// Parses each line, up to the first that is not a call.
-fn entries_of<P: Progress>(
+// The calls on lines, and the positions of the lines that were left out.
+#[derive(Debug, Drop)]
+struct Calls {
+    entries: Vec<Entry>,
+    torn: Vec<Place>,
+}
+
+// Parses each line, up to the first that is not a call. A last line of a file that is not one, and
+// lacks its end, is left out.
+fn calls_of<P: Progress>(
     alloc: Global,
     lines: &[LineBytes],
     progress: &mut P,
-) -> Result<Vec<Entry>, LogError>
-    ensures ok { IfOk result (λ entries. AreSaid (map shown lines.now) entries.items) }
+) -> Result<Calls, LogError>
+    ensures ok { IfOk result (λ calls. AreSaid (map shown lines.now) calls.entries.items calls.torn.items) }
     ensures err { IfErr result (IsNotRead (map shown lines.now)) }
 {
     let mut entries = Vec::new(alloc);
+    let mut torn = Vec::new(alloc);
     for line in lines {
         let place = line.place;
         match line_said(alloc, line.bytes) {
-            Ok(line) => entries.push(Entry { place, line })?,
+            Ok(line) => {
+                entries.push(Entry { place, line })?;
+                progress.lines_read(entries.len() as u64);
+            }
             Err(NoLine::Refused { why, mend }) => {
-                return Err(LogError::BadLine { place, why, mend });
+                if line.ended {
+                    return Err(LogError::BadLine { place, why, mend });
+                }
+                torn.push(place)?;
             }
             Err(NoLine::Memory) => return Err(LogError::Memory),
         }
-        progress.lines_read(entries.len() as u64);
     }
-    Ok(entries)
+    Ok(Calls { entries, torn })
 }
 
-/// Reads a log: the first line of all is a job, and each later line a call.
+// Returns the lines that are not blank. Fails at the first that is too long.
+fn counted<'a>(alloc: Global, lines: &[LineBytes<'a>]) -> Result<Vec<LineBytes<'a>>, LogError>
+    ensures ok { IfOk result (λ those.
+        (map shown those.items ≡ counted (map shown lines.now)) × AreShort (map shown lines.now)) }
+    ensures err { IfErr result (IsNotCounted (map shown lines.now)) }
+{
+    let mut those = Vec::new(alloc);
+    for line in lines {
+        if is_long(line.bytes) {
+            return Err(LogError::LongLine(line.place));
+        }
+        if !is_blank(line.bytes) {
+            those.push(*line)?;
+        }
+    }
+    Ok(those)
+}
+
+/// Reads a log: the first line is a job, and each later line a call.
 ///
-/// An error names the first line that is not valid, or says that memory ran out.
+/// Blank lines do not count. A last line of a file without its end counts if it is a call, and is
+/// left out if it is not.
+///
+/// An error names the first line that is longer than [`session::MOST_LINE_BYTES`], or else the
+/// first one that is not valid, or says that memory ran out.
 pub fn read_log<P: Progress>(
     alloc: Global,
     files: &[&[u8]],
@@ -67,10 +103,11 @@ pub fn read_log<P: Progress>(
     ensures err { IfErr result (IsUnread (lines_from 0 (map (λ f. f.now) files.now))) }
 {
     let lines = lines_of(alloc, files)?;
+    let lines = counted(alloc, lines.as_slice())?;
     let [first, others @ ..] = lines.as_slice() else {
         return Err(LogError::Empty);
     };
     let job = head_of(alloc, first)?;
-    let entries = entries_of(alloc, others, progress)?;
-    Ok(Log { job, entries })
+    let Calls { entries, torn } = calls_of(alloc, others, progress)?;
+    Ok(Log { job, entries, torn })
 }

@@ -3,6 +3,7 @@
 use crate::task_lines::bare_grant_of;
 use diagnosis::{Found, Members, Wanted, WrongMember, missing_member, unknown_member};
 use serde_json::Value;
+use session::Quoted;
 use std::alloc::{AllocError, Global};
 use std::fmt;
 use wire::{DecodeError, grant_of, handle_of, note_of};
@@ -138,7 +139,8 @@ fn members_mend(alloc: Global, members: Members, line: &Value) -> Result<String,
     let call = members.kind;
     if let Some(object) = line.as_object() {
         if let Some(unknown) = unknown_member(object, members, "do") {
-            return format!(in alloc; "{call}: unknown member {unknown:?}; {members}");
+            let unknown = Quoted(unknown);
+            return format!(in alloc; "{call}: unknown member {unknown}; {members}");
         }
     }
     if let Some(missing) = missing_member(line, members) {
@@ -170,5 +172,5 @@ pub fn call_mend(alloc: Global, line: &Value) -> Result<String, AllocError> {
             return members_mend(alloc, Members { kind, names }, line);
         }
     }
-    format!(in alloc; "unknown call {name:?}")
+    format!(in alloc; "unknown call {}", Quoted(name))
 }

@@ -1,7 +1,7 @@
 //! The report of an audit.
 
 ghost use Rattle.std.specs.Prelude.{◌≡◌, IfOk, Some, map, slice_get, string_bytes};
-ghost use Rattle.call_log.specs.Reports.{AreQuoted, IsOtherOf, IsReport, clocks_text, double_text, ended_text, name_text, reason_text, standing_at, ticket_of, told_text};
+ghost use Rattle.call_log.specs.Reports.{IsOtherOf, IsReport, clocks_text, double_text, ended_text, name_text, reason_text, standing_at, ticket_of, told_text};
 
 use crate::entry::Entry;
 use crate::finding::{Finding, HeldLeases};
@@ -9,6 +9,7 @@ use crate::late::Late;
 use crate::told::PlainLine;
 use cluster::Reading;
 use policy_rules::{Ground, Verdict};
+use session::Escaped;
 use slicelet::HeldLease;
 use std::alloc::{AllocError, Global};
 use std::fmt;
@@ -48,7 +49,7 @@ impl fmt::Display for Standing<'_> {
             return Ok(());
         };
         let name = name_of(self.log.names, entry.place.file);
-        write!(f, "{name}:{}", entry.place.line)
+        write!(f, "{}:{}", Escaped(name), entry.place.line)
     }
 }
 
@@ -179,15 +180,9 @@ fn told_text(
         (standing_at (map (λ n. n.now) standing.entry.log.names.now) standing.entry.log.entries.now standing.entry.index)
         told.now reason.entry.wanted.now reason.entry.reading reason.entry.held) }
 {
+    let told = Escaped(told);
     let words = PlainLine(reason.wanted);
-    format!(in alloc; "{standing}: told {told}; should be \"{words}\"{reason}\n")
-}
-
-// Quotes words.
-fn quoted(alloc: Global, words: &str) -> Result<String, AllocError>
-    ensures { IfOk result (λ text. AreQuoted words.now (string_bytes text)) }
-{
-    format!(in alloc; "{words:?}")
+    format!(in alloc; "{standing}: told \"{told}\"; should be \"{words}\"{reason}\n")
 }
 
 // Returns the line for a call whose caller got a wrong reply.
@@ -205,13 +200,13 @@ fn other_text(
     let Some(entry) = log.entries.get(index) else {
         return Ok(String::new(alloc));
     };
-    let told = quoted(alloc, entry.line.reply.as_str())?;
+    let told = entry.line.reply.as_str();
     let reason = Reason {
         wanted,
         reading: entry.line.call.reading(),
         held,
     };
-    told_text(alloc, Standing { log, index }, told.as_str(), reason)
+    told_text(alloc, Standing { log, index }, told, reason)
 }
 
 /// Returns the report on what an audit found. `skew` is in ticks.

@@ -2,3 +2,4 @@ pub mod Numbering
 pub mod Outputs
 pub mod Ending
 pub mod Logs
+pub mod Runs

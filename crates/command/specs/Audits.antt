@@ -1,11 +1,13 @@
 -- What `hourstable audit` writes, and the status that it exits with.
-use Rattle.std.specs.Prelude.{◌≡◌, ◌≢◌, ℕ, Bool, List, [], ◌∷◌, map, take, codes, Option, Result, Ok, Err, ⊤, if◌then◌else◌}
+use Rattle.std.specs.Prelude.{◌≡◌, ◌≢◌, ◌⊎◌, ◌+◌, ◌<◌, ◌==◌, ℕ, Bool, List, [], ◌∷◌, map, take, codes, Option, Result, Ok, Err, ⊤, if◌then◌else◌}
 use Rattle.std.specs.Option.{option_map_or}
-use Rattle.std.specs.Io.KnownBytes.{Appends, Keeps}
+use Rattle.std.specs.Io.KnownBytes.{Appends, Consumes, Keeps}
 use Rattle.clap.specs.Words.{found_of, matched_of, raw_values}
 use Rattle.clap.specs.declared.parser.matches.ArgMatches.{ArgMatches}
 use Rattle.program_io.specs.Streams.{ReadsAll}
+use Rattle.session.specs.declared.line_reading.TheConstants.{MOST_LINE_BYTES}
 use Rattle.call_log.specs.Audits.{IsAudited}
+use Rattle.call_log.specs.declared.entry.Place.{Place}
 use Rattle.call_log.specs.Files.{IsUnread, lines_from}
 use Rattle.call_log.specs.declared.log.LogError.{LogError}
 use Rattle.command.specs.declared.arguments.Asked.{Asked}
@@ -32,17 +34,39 @@ abbrev pub AsksAudit : List (List ℕ) → Asked → Type 0
 AsksAudit given (asked.Audit names progress) = map (λ n. n.now) names.items ≡ given
 AsksAudit given (asked.Answer request) = ⊥
 
--- the log of this name has these bytes: `-` is all that the input had left, and another one takes nothing of the input
-pub record IsLogRead (name : List ℕ) (before after : Option (List ℕ)) (bytes : List ℕ) : Type 0 where
-  pub input : name ≡ codes "-" → ReadsAll before after bytes
-  pub other : name ≢ codes "-" → after ≡ before
+-- how many bytes there are since the last end of a line, where there were so many before this byte, or before these bytes
+abbrev pub longer : ℕ → ℕ → ℕ
+longer run byte = if byte == 10 then 0 else run + 1
 
--- the logs of these names have these bytes, read one after another
-abbrev pub AreLogsRead : (names : List (List ℕ)) → (before after : Option (List ℕ)) → (files : List (List ℕ)) → Type 0
-AreLogsRead [] before after [] = after ≡ before
-AreLogsRead (name ∷ names) before after (bytes ∷ files) =
-    (between : Option (List ℕ)) × IsLogRead name before between bytes × AreLogsRead names between after files
-AreLogsRead _ before after _ = ⊥
+abbrev pub run_after : ℕ → List ℕ → ℕ
+run_after run [] = run
+run_after run (byte ∷ bytes) = run_after (longer run byte) bytes
+
+-- a log was read up to a line that is too long: these are its first bytes, which end in more bytes without the end of a line than a line may have
+pub record IsLogCut (before after : Option (List ℕ)) (bytes : List ℕ) : Type 0 where
+  pub gave : Consumes before after bytes
+  pub long : MOST_LINE_BYTES + 1 < run_after 0 bytes
+
+-- a log has these bytes, all of them, or up to a line that is too long
+abbrev pub IsLogBytes : Option (List ℕ) → Option (List ℕ) → List ℕ → Type 0
+IsLogBytes before after bytes = ReadsAll before after bytes ⊎ IsLogCut before after bytes
+
+-- how much of a log was read: all of it, or what `IsLogBytes` says
+abbrev pub Reading : Type 1
+Reading = (before after : Option (List ℕ)) → List ℕ → Type 0
+
+module _ (Reads : Reading) where
+  -- the log of this name has these bytes: `-` is what the input had left, and another one takes nothing of the input
+  pub record IsLogRead (name : List ℕ) (before after : Option (List ℕ)) (bytes : List ℕ) : Type 0 where
+    pub input : name ≡ codes "-" → Reads before after bytes
+    pub other : name ≢ codes "-" → after ≡ before
+
+  -- the logs of these names have these bytes, read one after another
+  abbrev pub AreLogsRead : (names : List (List ℕ)) → (before after : Option (List ℕ)) → (files : List (List ℕ)) → Type 0
+  AreLogsRead [] before after [] = after ≡ before
+  AreLogsRead (name ∷ names) before after (bytes ∷ files) =
+      (between : Option (List ℕ)) × IsLogRead name before between bytes × AreLogsRead names between after files
+  AreLogsRead _ before after _ = ⊥
 
 -- a log was not read: no log was refused, and nothing was to be written
 abbrev pub IsNotRead : AuditError → Type 0
@@ -57,28 +81,30 @@ IsNotAudited files audit.Memory = ⊤
 IsNotAudited files _ = ⊥
 
 module _ (names : List (List ℕ)) (before after held holds : Option (List ℕ)) where
-  -- the logs of these names were read, and the report on them all was written
+  -- the logs of these names were read to their ends, and the report on them all was written
   pub record IsJudged (one : Bool) : Type 0 where
     pub files : List (List ℕ)
-    pub read : AreLogsRead names before after files
+    pub read : AreLogsRead ReadsAll names before after files
     pub text : List ℕ
-    pub audited : IsAudited names files one text
+    pub torn : List Place
+    pub audited : IsAudited names files one text torn
     pub written : Appends held holds text
 
   -- they were read, and a first part of the report was written
   pub record IsCutReport : Type 0 where
     pub files : List (List ℕ)
-    pub read : AreLogsRead names before after files
+    pub read : AreLogsRead ReadsAll names before after files
     pub one : Bool
     pub text : List ℕ
-    pub audited : IsAudited names files one text
+    pub torn : List Place
+    pub audited : IsAudited names files one text torn
     pub len : ℕ
     pub written : Appends held holds (take len text)
 
-  -- they were read and say no calls, for this reason, and nothing was written
+  -- they were read, up to a line that is too long where there is one, and say no calls, for this reason, and nothing was written
   pub record IsRefused (why : LogError) : Type 0 where
     pub files : List (List ℕ)
-    pub read : AreLogsRead names before after files
+    pub read : AreLogsRead IsLogBytes names before after files
     pub unread : IsUnread (lines_from 0 files) why
     pub kept : Keeps held holds
 

@@ -49,7 +49,7 @@ pub record EndsWithInput (request : Request) (before after held holds : Option (
 abbrev pub IsHelped : (held holds : Option (List ℕ)) → ℕ → Type 0
 IsHelped held holds code = (code ≡ 0) × (text : List ℕ) × Appends held holds text
 
--- the words are refused, or the file was not opened
+-- the words are refused, or a file was not opened
 abbrev pub IsTurnedAway : (held holds : Option (List ℕ)) → ℕ → Type 0
 IsTurnedAway held holds code = (code ≡ 2) × Keeps held holds
 
@@ -61,10 +61,15 @@ IsCutOff held holds code = (code ≡ 3) × (Keeps held holds ⊎ ((text : List �
 abbrev pub IsWithoutInput : (held holds : Option (List ℕ)) → ℕ → Type 0
 IsWithoutInput held holds code = IsHelped held holds code ⊎ IsTurnedAway held holds code ⊎ IsCutOff held holds code
 
--- how the command ends, for this request: it reads its input, or nothing
+-- the file of a request was not opened, and nothing was read or written
+abbrev pub IsUnopened : Source → (before after held holds : Option (List ℕ)) → ℕ → Type 0
+IsUnopened source.Input before after held holds code = ⊥
+IsUnopened (source.File name) before after held holds code = (code ≡ 2) × Keeps before after × Keeps held holds
+
+-- how the command ends, for this request: it reads its input, or its file cannot be opened
 abbrev pub EndsBy : Request → (before after held holds : Option (List ℕ)) → ℕ → Type 0
 EndsBy request before after held holds code =
-    EndsWithInput request before after held holds code ⊎ (Keeps before after × IsWithoutInput held holds code)
+    EndsWithInput request before after held holds code ⊎ IsUnopened request.source before after held holds code
 
 -- how the command ends, for what was asked: a request, or an audit of the logs of these names, all of them
 abbrev pub EndsFor : Asked → (before after held holds : Option (List ℕ)) → ℕ → Type 0

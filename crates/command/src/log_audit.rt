@@ -1,13 +1,13 @@
 //! `hourstable audit`: reads logs, and writes a report.
 
-ghost use Rattle.std.specs.Prelude.{◌≡◌, IfErr, IfOk, map, string_bytes};
+ghost use Rattle.std.specs.Prelude.{◌≡◌, ◌+◌, ◌<◌, ◌^◌, length, IfErr, IfOk, map, string_bytes};
 ghost use Rattle.call_log.specs.Audits.{IsAudited};
-ghost use Rattle.program_io.specs.Streams.{ReadsAll};
 ghost use Rattle.command.specs.declared.log_audit.AuditError.TheVariants as fault;
-ghost use Rattle.command.specs.Audits.{AreLogsRead, IsJudged, IsLogRead, IsNotAudited, IsNotRead, IsUnjudged, status_of};
+ghost use Rattle.command.specs.Audits.{AreLogsRead, IsJudged, IsLogBytes, IsLogRead, IsNotAudited, IsNotRead, IsUnjudged, longer, run_after, status_of};
 
 use call_log::{LogError, LogReport, Place, Progress, audit_logs};
-use program_io::{ReadError, WriteError, read_all, write_all};
+use program_io::{ReadError, WriteError, write_all};
+use session::{Escaped, LONG_WORDS, MOST_LINE_BYTES};
 use std::alloc::{AllocError, AllocFailed, Global};
 use std::fs::File;
 use std::io::{Error, Read, Write};
@@ -71,6 +71,12 @@ struct Counting<'a, E: Write> {
     is_wanted: bool,
 }
 
+/// How many bytes are read at a time.
+const PIECE: usize = 4096;
+
+/// How many reads a log may take.
+const MOST_READS: u32 = 16_777_216;
+
 /// How many lines there are between two reports of progress.
 const EACH: u64 = 100_000;
 
@@ -92,6 +98,9 @@ impl<E: Write> Progress for Counting<'_, E> {
     }
 }
 
+/// What is reported of a last line that is left out.
+const TORN_WORDS: &str = "a last line without its end was left out";
+
 /// An audit to do.
 #[derive(Clone, Copy, Debug)]
 pub struct Audit<'n, 'a> {
@@ -101,17 +110,63 @@ pub struct Audit<'n, 'a> {
     pub progress: bool,
 }
 
-// Reads the log with this name to its end.
+// Returns how many bytes there are since the last end of a line, after one more byte.
+fn longer(run: usize, byte: u8) -> usize
+    requires { run + 1 < 2 ^ 64 }
+    ensures { result ≡ longer run byte }
+{
+    if byte == b'\n' { 0 } else { run + 1 }
+}
+
+// Returns how many bytes there are since the last end of a line, where there were so many before
+// the piece.
+fn run_after(before: usize, piece: &[u8]) -> usize
+    requires { before + length piece.now < 2 ^ 64 }
+    ensures { result ≡ run_after before piece.now }
+{
+    let mut run = before;
+    for byte in piece {
+        run = longer(run, *byte);
+    }
+    run
+}
+
+// Reads a log to its end, or up to a line that is too long, which is not read to its end.
+fn read_log<R: Read>(alloc: Global, reader: &mut R) -> Result<Vec<u8>, ReadError>
+    ensures { IfOk result (λ bytes.
+        IsLogBytes (R.remaining reader.old) (R.remaining reader.new) bytes.items) }
+{
+    let mut bytes = Vec::new(alloc);
+    let mut run = 0;
+    let mut piece = [0u8; PIECE];
+    'reads: for _ in 0..MOST_READS {
+        match reader.read(&mut piece) {
+            Ok(0) => return Ok(bytes),
+            Ok(n) => {
+                let read = &piece[..n];
+                bytes.extend_from_slice(read)?;
+                run = run_after(run, read);
+                if run > MOST_LINE_BYTES + 1 {
+                    return Ok(bytes);
+                }
+            }
+            Err(_) => return Err(ReadError::Failed),
+        }
+    }
+    Err(ReadError::Failed)
+}
+
+// Reads the log with this name.
 fn read_named<'a, R: Read>(
     alloc: Global,
     name: &'a str,
     reader: &mut R,
 ) -> Result<Vec<u8>, AuditError<'a>>
     ensures ok { IfOk result (λ bytes.
-        ReadsAll (R.remaining reader.old) (R.remaining reader.new) bytes.items) }
+        IsLogBytes (R.remaining reader.old) (R.remaining reader.new) bytes.items) }
     ensures err { IfErr result IsNotRead }
 {
-    match read_all(alloc, reader) {
+    match read_log(alloc, reader) {
         Ok(bytes) => Ok(bytes),
         Err(ReadError::Failed) => Err(AuditError::Read { name }),
         Err(ReadError::Memory) => Err(AuditError::Memory),
@@ -125,7 +180,7 @@ fn log_bytes<'a, R: Read>(
     input: &mut R,
 ) -> Result<Vec<u8>, AuditError<'a>>
     ensures ok { IfOk result (λ bytes.
-        IsLogRead name.now (R.remaining input.old) (R.remaining input.new) bytes.items) }
+        IsLogRead IsLogBytes name.now (R.remaining input.old) (R.remaining input.new) bytes.items) }
     ensures err { IfErr result IsNotRead }
 {
     if name == "-" {
@@ -143,7 +198,7 @@ fn contents_of<'a, R: Read>(
     names: &[&'a str],
     input: &mut R,
 ) -> Result<Vec<Vec<u8>>, AuditError<'a>>
-    ensures ok { IfOk result (λ contents. AreLogsRead (map (λ n. n.now) names.now)
+    ensures ok { IfOk result (λ contents. AreLogsRead IsLogBytes (map (λ n. n.now) names.now)
         (R.remaining input.old) (R.remaining input.new) (map (λ v. v.items) contents.items)) }
     ensures err { IfErr result IsNotRead }
 {
@@ -173,7 +228,7 @@ fn report_on<'a, E: Write>(
     errors: &mut E,
 ) -> Result<LogReport, AuditError<'a>>
     ensures ok { IfOk result (λ report. IsAudited (map (λ n. n.now) audit.entry.names.now)
-        (map (λ f. f.now) files.now) report.is_one (string_bytes report.text)) }
+        (map (λ f. f.now) files.now) report.is_one (string_bytes report.text) report.torn.items) }
     ensures err { IfErr result (IsNotAudited (map (λ f. f.now) files.now)) }
 {
     let mut progress = Counting {
@@ -189,8 +244,10 @@ fn report_on<'a, E: Write>(
 
 /// Audits the logs with these names, writes a report, and returns whether their calls are one run.
 ///
-/// The logs are read to their ends, in their order, and judged as one log. Each `-` is what is left
-/// of the input. Nothing is written to `output` before all logs were read and judged.
+/// The logs are read in their order, and judged as one log. A log is read to its end, or up to a
+/// line of more than [`MOST_LINE_BYTES`], for which it is refused. Each `-` is what is left of the
+/// input. Nothing is written to `output` before all logs were read and judged. Last lines that are
+/// left out are reported first.
 pub fn audit_named<'a, R: Read, W: Write, E: Write>(
     rt: &(impl Files + AllocGlobal),
     audit: Audit<'_, 'a>,
@@ -206,30 +263,48 @@ pub fn audit_named<'a, R: Read, W: Write, E: Write>(
     let contents = contents_of(rt, audit.names, input)?;
     let files = slices_of(rt.alloc(), contents.as_slice())?;
     let report = report_on(rt.alloc(), audit, files.as_slice(), errors)?;
+    say_torn(errors, audit.names, report.torn.as_slice());
     write_all(output, report.text.as_str().as_bytes())?;
     Ok(report.is_one)
 }
 
+// Returns the name of the log at this index, as it is told.
+fn told_name<'a>(names: &[&'a str], file: usize) -> Escaped<'a> {
+    Escaped(names.get(file).copied().unwrap_or("-"))
+}
+
 // Reports what is wrong with the line at a position.
 fn say_line<E: Write>(errors: &mut E, names: &[&str], place: Place, words: &str) {
-    let name = names.get(place.file).copied().unwrap_or("-");
+    let name = told_name(names, place.file);
     let _ = writeln!(errors, "hourstable: {name}:{}: {words}", place.line);
+}
+
+// Reports the last lines that are left out.
+fn say_torn<E: Write>(errors: &mut E, names: &[&str], torn: &[Place]) {
+    for place in torn {
+        say_line(errors, names, *place, TORN_WORDS);
+    }
 }
 
 /// Reports why logs are not audited.
 pub fn say_error<E: Write>(errors: &mut E, names: &[&str], error: &AuditError) {
     match error {
         AuditError::Unopened { name, error } => {
+            let name = Escaped(name);
             let _ = writeln!(errors, "hourstable: {name}: {error}");
         }
         AuditError::Read { name } => {
+            let name = Escaped(name);
             let _ = writeln!(errors, "hourstable: {name}: read fault");
         }
         AuditError::Refused(LogError::NoJob { place, faults }) => {
             for fault in faults {
-                let name = names.get(place.file).copied().unwrap_or("-");
+                let name = told_name(names, place.file);
                 let _ = writeln!(errors, "hourstable: {name}:{}: {fault}", place.line);
             }
+        }
+        AuditError::Refused(LogError::LongLine(place)) => {
+            say_line(errors, names, *place, LONG_WORDS);
         }
         AuditError::Refused(LogError::BadLine { place, mend, .. }) => {
             say_line(errors, names, *place, mend.as_str());

@@ -13,7 +13,7 @@ use clap::Error;
 use clap::error::ErrorKind;
 use diagnosis::AnswerError;
 use program_io::write_all;
-use session::run_session;
+use session::{Escaped, run_session};
 use std::alloc::Global;
 use std::env::{self, Env};
 use std::fs::File;
@@ -35,6 +35,7 @@ const FAILED: u8 = 3;
 
 // Reports why the input with this name cannot be answered.
 fn say<E: Write>(errors: &mut E, name: &str, error: &AnswerError) {
+    let name = Escaped(name);
     match error {
         AnswerError::Refused(faults) => {
             for fault in faults {
@@ -120,6 +121,7 @@ fn run<R: BufRead, W: Write, E: Write>(
                 ended(errors, name, &answer)
             }
             Err(error) => {
+                let name = Escaped(name);
                 let _ = writeln!(errors, "hourstable: {name}: {error}");
                 REFUSED
             }

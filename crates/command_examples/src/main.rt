@@ -12,7 +12,7 @@ use std::alloc::Global;
 use std::fs;
 use std::rt::Files;
 
-const NAMES: [&str; 77] = [
+const NAMES: [&str; 86] = [
     "help",
     "help-of-run",
     "help-of-session",
@@ -76,6 +76,15 @@ const NAMES: [&str; 77] = [
     "audit-hear-without-life",
     "audit-note-is-a-number",
     "audit-without-logs",
+    "audit-torn-last-line",
+    "audit-last-line-without-its-end",
+    "audit-blank-lines",
+    "audit-fault-after-blank-lines",
+    "audit-torn-job-line",
+    "audit-name-with-escapes",
+    "audit-words-with-escapes",
+    "audit-call-of-201-characters",
+    "audit-member-with-escapes",
     "help-of-audit",
     "explain-a-commit-that-is-held-up",
     "explain-broken-handles",

@@ -4,12 +4,13 @@ use Rattle.diagnosis.specs.declared.error.AnswerError.TheVariants as answer
 use Rattle.session.specs.Lines.{IsNoJob}
 use Rattle.call_log.specs.declared.log.LogError.{LogError}
 use Rattle.call_log.specs.declared.log.LogError.TheVariants as unread
-use Rattle.call_log.specs.Files.{PlacedLine, IsBadLine}
+use Rattle.call_log.specs.Files.{PlacedLine, IsBadLine, HasLongLine}
 
 -- a line says no job, or memory ran out
 abbrev pub IsNoJobFor : PlacedLine → LogError → Type 0
 IsNoJobFor line (unread.NoJob place faults) = (line.place ≡ place) × IsNoJob line.bytes (answer.Refused faults)
 IsNoJobFor line unread.Empty = ⊥
+IsNoJobFor line (unread.LongLine place) = ⊥
 IsNoJobFor line (unread.BadLine place why mend) = ⊥
 IsNoJobFor line unread.Memory = ⊤
 
@@ -17,5 +18,12 @@ IsNoJobFor line unread.Memory = ⊤
 abbrev pub IsNotRead : List PlacedLine → LogError → Type 0
 IsNotRead lines (unread.BadLine place why mend) = IsBadLine lines place why
 IsNotRead lines unread.Empty = ⊥
+IsNotRead lines (unread.LongLine place) = ⊥
 IsNotRead lines (unread.NoJob place faults) = ⊥
 IsNotRead lines unread.Memory = ⊤
+
+-- one of some lines is too long, or memory ran out
+abbrev pub IsNotCounted : List PlacedLine → LogError → Type 0
+IsNotCounted lines (unread.LongLine place) = HasLongLine lines place
+IsNotCounted lines unread.Memory = ⊤
+IsNotCounted lines _ = ⊥

@@ -1,3 +1,4 @@
+use Rattle.std.proofs.Common.{refl}
 use Rattle.call_log.proofs.auditing.audit_logs.Goals as goal
 
 pub returns-clause-ok : goal.returns-clause-ok
@@ -5,7 +6,9 @@ returns-clause-ok g c = record {
   log = c.in_ok-log.log;
   reads = c.in_ok-log.ensures.ok;
   ordered = c.audit_calls.new.entries.items;
+  left_out = refl;
   same = c.audit_calls.ensures.same;
+  stable = c.audit_calls.ensures.stable;
   finding = c.in_ok-finding.finding;
   found = c.in_ok-finding.ensures.found;
   told = c.is_one.ensures;

@@ -12,3 +12,6 @@ where_ok (Err e) f h = tt
 pub returns-clause-order : goal.returns-clause-order
 returns-clause-order c =
     where_ok c.sort_by_key.result (λ h. IsNonDecreasingBy-from_sort_by_key (λ (e : Entry). e.line.ticket) c.sort_by_key.new.self.items h (λ a r q k. search rules)) c.sort_by_key.ensures.sorted
+
+pub returns-clause-stable : goal.returns-clause-stable
+returns-clause-stable c = c.sort_by_key.ensures.stable (λ (e : Entry). e.line.ticket) (λ a r q k. search rules)

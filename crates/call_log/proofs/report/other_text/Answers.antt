@@ -1,7 +1,6 @@
-use Rattle.std.proofs.Common.{ℕ, List, map, sym}
+use Rattle.std.proofs.Common.{ℕ, List, map}
 use Rattle.std.specs.Prelude.{string_bytes, slice_get}
 use denote.Ref.{Bor}
-use Rattle.call_log.specs.Reports.{AreQuoted}
 use Rattle.call_log.proofs.Places.{at_place}
 use Rattle.call_log.proofs.Reporting.{other_told}
 use Rattle.call_log.proofs.report.other_text.Goals as goal
@@ -10,6 +9,5 @@ pub returns : goal.returns
 returns c =
     let entries = c.args.log.entries.now in
     let here = at_place entries c.args.index c.in-Some.entry.now c.in-Some.ensures.lookup.3.0 c.in-Some.ensures.lookup.1 in
-    let told : AreQuoted c.in-Some.entry.now.line.reply c.as_str-2.result.now = rw (c.as_str-2.ensures.value, sym c.as_str.ensures) c.in_ok-told.ensures in
     other_told string_bytes c.told_text.result (map (λ (n : Bor (List ℕ)). n.now) c.args.log.names.now) entries c.args.index c.args.wanted.now c.args.held (slice_get entries c.args.index)
-    c.in-Some.entry.now c.as_str-2.result.now c.reading.result here told c.reading.ensures c.told_text.ensures
+    c.in-Some.entry.now c.as_str-told.result.now c.reading.result here c.as_str-told.ensures c.reading.ensures c.told_text.ensures
