@@ -48,9 +48,9 @@ module _ (lines : List LineBytes) (i : ℕ) (line d : LineBytes) (low : i < leng
 
   pub torn_more : (entries : List Entry) (torn : List Place) (why : Refusal) → AreSaid (map shown (take i lines)) entries torn → line.ended ≡ false → SaysNoLine line.bytes.now why
       → AreSaid (map shown (take (i + 1) lines)) entries (torn ++ line.place ∷ [])
-  torn_more entries torn why are open says =
+  torn_more entries torn why are unended says =
       subst (λ (ls : List PlacedLine). AreSaid ls entries (torn ++ line.place ∷ [])) (sym one_more)
-      (torn_after (map shown (take i lines)) entries torn (shown line) are (record { open = open; why = why; says = says }))
+      (torn_after (map shown (take i lines)) entries torn (shown line) are (record { unended = unended; why = why; says = says }))
 
   whole_with : map shown lines ≡ map shown (take i lines) ++ shown line ∷ map shown (drop (i + 1) lines)
   whole_with = ap (map shown) (sym (take-append-drop (i + 1) lines)) ∙ map-append shown (take (i + 1) lines) (drop (i + 1) lines)

@@ -71,7 +71,7 @@ pub record IsSaid (line : PlacedLine) (entry : Entry) : Type 0 where
 
 -- a last line without its end says no call: its writer may have stopped in the middle of it
 pub record IsTorn (line : PlacedLine) : Type 0 where
-  pub open : line.ended ≡ false
+  pub unended : line.ended ≡ false
   pub why : Refusal
   pub says : SaysNoLine line.bytes why
 
