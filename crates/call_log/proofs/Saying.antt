@@ -1,14 +1,15 @@
 -- Lines that are read one after another.
-use Rattle.std.proofs.Common.{◌≡◌, ℕ, ◌+◌, ◌<◌, true, false, not, inl, inr, List, [], ◌∷◌, ◌++◌, map, length, get_or, take, drop, refl, sym, ap, ◌∙◌, subst, append_assoc}
-use Rattle.std.proofs.lemmas.List.{map_more, map-append, take-append-drop, append-nil}
+use Rattle.std.proofs.Common.{◌≡◌, ℕ, ◌+◌, ◌-◌, ◌<◌, ◌≤◌, true, false, not, inl, inr, List, [], ◌∷◌, ◌++◌, map, length, get_or, take, drop, refl, sym, ap, ◌∙◌, subst, append_assoc, arith}
+use Rattle.std.proofs.lemmas.List.{map_more, map-append, take-append-drop, take_all, append-nil}
 use Rattle.std.proofs.lemmas.List.Elements.{filter-append}
 use Rattle.wire.specs.declared.fault.Refusal.{Refusal}
-use Rattle.session.specs.Lines.{is_blank, is_long}
+use Rattle.session.specs.Lines.{SaysJob, is_blank, is_long}
 use Rattle.call_log.specs.declared.entry.Entry.{Entry}
 use Rattle.call_log.specs.declared.entry.Place.{Place}
 use Rattle.call_log.specs.declared.lines.LineBytes.{LineBytes}
+use Rattle.call_log.specs.declared.log.Log.{Log}
 use Rattle.call_log.specs.Lines.{SaysNoLine}
-use Rattle.call_log.specs.Files.{PlacedLine, IsSaid, IsTorn, AreSaid, IsBadLine, AreShort, counted, HasLongLine}
+use Rattle.call_log.specs.Files.{PlacedLine, IsSaid, IsTorn, AreSaid, IsBadLine, AreShort, IsLog, counted, HasLongLine}
 use Rattle.call_log.specs.internals.Shown.{shown}
 
 -- one line more, which says a call
@@ -102,3 +103,22 @@ module _ (lines : List LineBytes) (i : ℕ) (line d : LineBytes) (low : i < leng
   counts_none those so_far blank =
       let this : counted (shown line ∷ []) ≡ [] = rw blank refl in
       so_far ∙ sym (append-nil (counted (map shown (take i lines)))) ∙ ap (λ (ls : List PlacedLine). counted (map shown (take i lines)) ++ ls) (sym this) ∙ sym counted_more
+
+-- a job and the calls after it are a log
+head_and_rest : (lines : List LineBytes) (d : LineBytes) → 1 ≤ length lines
+    → map shown lines ≡ shown (get_or lines 0 d) ∷ map shown (take (length lines - 1) (drop 1 lines))
+head_and_rest [] d some = absurd (omega (arith, some))
+head_and_rest (line ∷ lines) d some =
+    ap (λ (ls : List LineBytes). shown line ∷ map shown ls) (sym (take_all (length (line ∷ lines) - 1) lines (omega arith)))
+
+pub is_log : (lines : List PlacedLine) (all those : List LineBytes) (d : LineBytes) (log : Log) → map shown all ≡ lines
+    → (map shown those ≡ counted (map shown all)) × AreShort (map shown all) → 1 ≤ length those
+    → SaysJob (get_or those 0 d).bytes.now log.job → AreSaid (map shown (take (length those - 1) (drop 1 those))) log.entries.items log.torn.items → IsLog lines log
+is_log lines all those d log same counts some job calls = record {
+  short = subst AreShort same counts.1;
+  first = shown (get_or those 0 d);
+  others = map shown (take (length those - 1) (drop 1 those));
+  whole = ap counted (sym same) ∙ sym counts.0 ∙ head_and_rest those d some;
+  job = job;
+  calls = calls;
+}

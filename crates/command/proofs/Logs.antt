@@ -1,8 +1,10 @@
 -- The logs that a loop over their names has read.
-use Rattle.std.proofs.Common.{ℕ, ◌+◌, ◌<◌, List, [], ◌∷◌, ◌++◌, map, length, take, get_or, Option, inl, inr, refl, subst}
+use Rattle.std.proofs.Common.{Bool, ℕ, ◌+◌, ◌<◌, List, [], ◌∷◌, ◌++◌, map, length, take, get_or, Option, inl, inr, refl, subst}
 use Rattle.std.proofs.lemmas.List.{map-append, take_more}
 use Rattle.std.specs.Prelude.{codes, ◌≡◌}
 use Rattle.program_io.specs.Streams.{ReadsAll}
+use Rattle.call_log.specs.Audits.{IsAudited}
+use Rattle.call_log.specs.declared.entry.Place.{Place}
 use Rattle.call_log.specs.Files.{PlacedLine, AreShort, numbered, lines_in, lines_from}
 use Rattle.command.specs.Audits.{AreLogsRead, IsLogBytes, IsLogRead}
 use Rattle.command.proofs.Runs.{never_cut}
@@ -50,3 +52,8 @@ to_their_ends (name ∷ names) file before after (bytes ∷ files) short read =
     let lines = numbered file 1 (lines_in bytes) in
     let rest = lines_from (file + 1) files in
     (read.0, to_its_end name file before read.0 bytes (short_front lines rest short) read.1, to_their_ends names (file + 1) read.0 after files (short_back lines rest short) read.2)
+
+-- logs that are judged were read to their ends
+pub judged_whole : (names : List (List ℕ)) (before after : Option (List ℕ)) (files : List (List ℕ)) (one : Bool) (text : List ℕ) (torn : List Place)
+    → IsAudited names files one text torn → AreLogsRead IsLogBytes names before after files → AreLogsRead ReadsAll names before after files
+judged_whole names before after files one text torn audited read = to_their_ends names 0 before after files audited.reads.short read

@@ -1,7 +1,7 @@
 use Rattle.std.proofs.Common.{rules}
 use Rattle.std.specs.Prelude.{Result, Ok, Err, OnOk, ⊤}
 use Rattle.std.specs.declared.alloc.AllocError.{AllocError}
-use Rattle.std.proofs.lemmas.List.Sorted.{IsNonDecreasingBy-from_sort_by_key}
+use Rattle.std.proofs.lemmas.List.Sorted.{IsNonDecreasingBy-from_sort_by_key, answers_always}
 use Rattle.call_log.specs.declared.entry.Entry.{Entry}
 use Rattle.call_log.proofs.judging.sort.Goals as goal
 
@@ -14,4 +14,4 @@ returns-clause-order c =
     where_ok c.sort_by_key.result (λ h. IsNonDecreasingBy-from_sort_by_key (λ (e : Entry). e.line.ticket) c.sort_by_key.new.self.items h (λ a r q k. search rules)) c.sort_by_key.ensures.sorted
 
 pub returns-clause-stable : goal.returns-clause-stable
-returns-clause-stable c = c.sort_by_key.ensures.stable (λ (e : Entry). e.line.ticket) (λ a r q k. search rules)
+returns-clause-stable c = c.sort_by_key.ensures.stable (λ (e : Entry). e.line.ticket) (answers_always _ _ _ (λ f a r q k. search rules))
