@@ -2,11 +2,12 @@
 use Rattle.std.proofs.Common.{Bool, ℕ, ◌+◌, ◌<◌, List, [], ◌∷◌, ◌++◌, map, length, take, get_or, Option, inl, inr, refl, subst}
 use Rattle.std.proofs.lemmas.List.{map-append, take_more}
 use Rattle.std.specs.Prelude.{codes, ◌≡◌}
+use Rattle.std.specs.Io.KnownBytes.{Appends}
 use Rattle.program_io.specs.Streams.{ReadsAll}
 use Rattle.call_log.specs.Audits.{IsAudited}
 use Rattle.call_log.specs.declared.entry.Place.{Place}
 use Rattle.call_log.specs.Files.{PlacedLine, AreShort, numbered, lines_in, lines_from}
-use Rattle.command.specs.Audits.{AreLogsRead, IsLogBytes, IsLogRead}
+use Rattle.command.specs.Audits.{AreLogsRead, IsCutReport, IsJudged, IsLogBytes, IsLogRead}
 use Rattle.command.proofs.Runs.{never_cut}
 
 -- a further log is read after these
@@ -53,7 +54,15 @@ to_their_ends (name ∷ names) file before after (bytes ∷ files) short read =
     let rest = lines_from (file + 1) files in
     (read.0, to_its_end name file before read.0 bytes (short_front lines rest short) read.1, to_their_ends names (file + 1) read.0 after files (short_back lines rest short) read.2)
 
--- logs that are judged were read to their ends
-pub judged_whole : (names : List (List ℕ)) (before after : Option (List ℕ)) (files : List (List ℕ)) (one : Bool) (text : List ℕ) (torn : List Place)
-    → IsAudited names files one text torn → AreLogsRead IsLogBytes names before after files → AreLogsRead ReadsAll names before after files
-judged_whole names before after files one text torn audited read = to_their_ends names 0 before after files audited.reads.short read
+-- logs that are judged were read to their ends, and their report is written, or a first part of it
+module _ (names : List (List ℕ)) (before after held holds : Option (List ℕ)) (files : List (List ℕ)) (one : Bool) (text : List ℕ) (torn : List Place)
+    (audited : IsAudited names files one text torn) (read : AreLogsRead IsLogBytes names before after files) where
+  whole : AreLogsRead ReadsAll names before after files
+  whole = to_their_ends names 0 before after files audited.reads.short read
+
+  pub judged : Appends held holds text → IsJudged names before after held holds one
+  judged written = record { files = files; read = whole; text = text; torn = torn; audited = audited; written = written }
+
+  pub cut_report : (len : ℕ) → Appends held holds (take len text) → IsCutReport names before after held holds
+  cut_report len written =
+      record { files = files; read = whole; one = one; text = text; torn = torn; audited = audited; len = len; written = written }

@@ -21,6 +21,11 @@ one_longer run now byte xs i d within so_far this =
     ap (λ n. longer n byte) so_far ∙ ap (longer (run_after run (take i xs))) this
     ∙ sym (run_append run (take i xs) (get_or xs i d ∷ [])) ∙ ap (run_after run) (sym (take_more xs i d within))
 
+-- one piece more
+pub piece_longer : (run now : ℕ) (bytes piece all : List ℕ) → run ≡ run_after 0 bytes → now ≡ run_after run piece → all ≡ bytes ++ piece → now ≡ run_after 0 all
+piece_longer run now bytes piece all so_far this whole =
+    this ∙ ap (λ n. run_after n piece) so_far ∙ sym (run_append 0 bytes piece) ∙ ap (run_after 0) (sym whole)
+
 pub at_most_one : (run byte : ℕ) → longer run byte ≤ run + 1
 at_most_one run byte = by_end (byte == 10)
   where
