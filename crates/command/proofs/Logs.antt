@@ -1,7 +1,7 @@
 -- The logs that a loop over their names has read.
 use Rattle.std.proofs.Common.{Bool, ℕ, ◌+◌, ◌<◌, List, [], ◌∷◌, ◌++◌, map, length, take, get_or, Option, inl, inr, refl, subst}
 use Rattle.std.proofs.lemmas.List.{map-append, take_more}
-use Rattle.std.specs.Prelude.{codes, ◌≡◌}
+use Rattle.std.specs.Prelude.{◌≡◌}
 use Rattle.std.specs.Io.KnownBytes.{Appends}
 use Rattle.program_io.specs.Streams.{ReadsAll}
 use Rattle.call_log.specs.Audits.{IsAudited}
@@ -55,14 +55,23 @@ to_their_ends (name ∷ names) file before after (bytes ∷ files) short read =
     (read.0, to_its_end name file before read.0 bytes (short_front lines rest short) read.1, to_their_ends names (file + 1) read.0 after files (short_back lines rest short) read.2)
 
 -- logs that are judged were read to their ends, and their report is written, or a first part of it
-module _ (names : List (List ℕ)) (before after held holds : Option (List ℕ)) (files : List (List ℕ)) (one : Bool) (text : List ℕ) (torn : List Place)
-    (audited : IsAudited names files one text torn) (read : AreLogsRead IsLogBytes names before after files) where
+module _ (names : List (List ℕ)) (before after held holds : Option (List ℕ)) (files contents : List (List ℕ)) (one : Bool) (text told : List ℕ) (torn : List Place)
+    (same : files ≡ contents) (is : told ≡ text) (audited : IsAudited names files one text torn)
+    (read : AreLogsRead IsLogBytes names before after contents) where
   whole : AreLogsRead ReadsAll names before after files
-  whole = to_their_ends names 0 before after files audited.reads.short read
+  whole = to_their_ends names 0 before after files audited.reads.short (rw same read)
 
-  pub judged : Appends held holds text → IsJudged names before after held holds one
-  judged written = record { files = files; read = whole; text = text; torn = torn; audited = audited; written = written }
+  pub judged : Appends held holds told → IsJudged names before after held holds one
+  judged written = record { files = files; read = whole; text = text; torn = torn; audited = audited; written = subst (Appends held holds) is written }
 
-  pub cut_report : (len : ℕ) → Appends held holds (take len text) → IsCutReport names before after held holds
-  cut_report len written =
-      record { files = files; read = whole; one = one; text = text; torn = torn; audited = audited; len = len; written = written }
+  pub cut_report : (len : ℕ) → Appends held holds (take len told) → IsCutReport names before after held holds
+  cut_report len written = record {
+    files = files;
+    read = whole;
+    one = one;
+    text = text;
+    torn = torn;
+    audited = audited;
+    len = len;
+    written = subst (λ (t : List ℕ). Appends held holds (take len t)) is written;
+  }

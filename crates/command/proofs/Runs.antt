@@ -26,8 +26,8 @@ pub piece_longer : (run now : ℕ) (bytes piece all : List ℕ) → run ≡ run_
 piece_longer run now bytes piece all so_far this whole =
     this ∙ ap (λ n. run_after n piece) so_far ∙ sym (run_append 0 bytes piece) ∙ ap (run_after 0) (sym whole)
 
-pub at_most_one : (run byte : ℕ) → longer run byte ≤ run + 1
-at_most_one run byte = by_end (byte == 10)
+pub at_most_one : (run next byte : ℕ) → next ≡ longer run byte → next ≤ run + 1
+at_most_one run next byte is = let more = by_end (byte == 10) in omega (arith, is, more)
   where
     by_end : (b : Bool) → (if b then 0 else run + 1) ≤ run + 1
     by_end true = omega arith
@@ -62,12 +62,13 @@ in_line run byte (line ∷ lines) fits = let first = fits.0 in (omega (arith, fi
 
 run_fits : (run : ℕ) (bytes : List ℕ) → FitsAfter run (lines_in bytes) → run_after run bytes ≤ MOST_LINE_BYTES + 1
 run_fits run [] fits = fits
-run_fits run (byte ∷ bytes) fits = by_end (byte == 10) fits
+run_fits run (byte ∷ bytes) fits = by_end (byte == 10) (λ n. run_fits n bytes) fits
   where
-    by_end : (b : Bool) → FitsAfter run (if b then line_with [] true ∷ lines_in bytes else in_front byte (lines_in bytes))
+    by_end : (b : Bool) → ((n : ℕ) → FitsAfter n (lines_in bytes) → run_after n bytes ≤ MOST_LINE_BYTES + 1)
+        → FitsAfter run (if b then line_with [] true ∷ lines_in bytes else in_front byte (lines_in bytes))
         → run_after (if b then 0 else run + 1) bytes ≤ MOST_LINE_BYTES + 1
-    by_end true fit = run_fits 0 bytes (fits_at_first (lines_in bytes) fit.1)
-    by_end false fit = run_fits (run + 1) bytes (in_line run byte (lines_in bytes) fit)
+    by_end true later fit = later 0 (fits_at_first (lines_in bytes) fit.1)
+    by_end false later fit = later (run + 1) (in_line run byte (lines_in bytes) fit)
 
 lines_fit : (file number : ℕ) (lines : List FileLine) → AreShort (numbered file number lines) → Fits lines
 lines_fit file number [] short = tt
