@@ -61,7 +61,7 @@ fn answer_held(held: &mut Held, line: &[u8], out: &mut [u8], needed: &mut usize)
 
 /// Answers a line, and writes the line of its reply to `out`.
 #[unsafe(no_mangle)]
-#[tactic(auto, using(crate::proofs::Returning::returns, crate::proofs::Conversing::answers_nowhere))]
+#[tactic(auto, using(crate::proofs::Returning::returns))]
 pub extern "C" fn hs_session_answer(
     place: &mut Place,
     line: &[u8],
