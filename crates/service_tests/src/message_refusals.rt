@@ -111,7 +111,7 @@ fn padded(alloc: Global, bytes: usize) -> Result<String, Fail> {
     let note =
         r#"{"type":"note","value":{"kind":"guard","life":1,"number":7,"task":2},"version":1}"#;
     let mut text = String::with_capacity(alloc, bytes)?;
-    while text.len() + note.len() < bytes {
+    for _ in note.len()..bytes {
         text.push_str(" ")?;
     }
     text.push_str(note)?;
