@@ -293,7 +293,7 @@ impl LeaseTable {
     {
         let count = self.check_free(note, at)?;
         self.advance(at);
-        self.rows.keep_open(note);
+        self.rows.free(note);
         Ok(count)
     }
 

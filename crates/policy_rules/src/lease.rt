@@ -9,7 +9,7 @@ use slice_ranges::{Ranges, SliceKey};
 use std::alloc::AllocError;
 
 /// The kind of a lease: for a committed assignment, or across a change of assignment.
-#[derive(Clone, Copy, Debug, PartialEq, Eq)]
+#[derive(Clone, Copy, Debug, PartialEq, Eq, Hash)]
 pub enum Kind {
     /// A guard lease: its task serves the keys that it owns in a committed assignment.
     Guard,

@@ -13,6 +13,8 @@ mod hashes;
 #[cfg(test)]
 mod jobs;
 #[cfg(test)]
+mod kept;
+#[cfg(test)]
 mod loads;
 #[cfg(test)]
 mod memory;
