@@ -1,5 +1,5 @@
 -- What holds where a call is accepted: none of its refusals does.
-use Rattle.std.proofs.Common.{◌≡◌, ℕ, ◌+◌, ◌^◌, ◌<◌, ◌≤◌, true, false, arith}
+use Rattle.std.proofs.Common.{◌≡◌, ℕ, ◌+◌, ◌^◌, ◌<◌, ◌≤◌, true, false, refl, arith}
 use Rattle.std.proofs.lemmas.Bool.Decides.{nat_tests}
 use Rattle.std.specs.Prelude.{None, ◌==◌, Bool, not, nat_lt, nat_le, is_none}
 use Rattle.machines.specs.Refusals.{first_of}
@@ -8,7 +8,7 @@ use Rattle.policy_rules.specs.declared.lease.Kind.{Kind}
 use Rattle.lease_table.specs.declared.values.Grant.{Grant}
 use Rattle.slicelet.specs.declared.slicelet.TheConstants.{CALLS}
 use Rattle.slicelet.specs.States.{SliceletState, held_in, greatest_in}
-use Rattle.slicelet.specs.Steps.{start_checks, hear_checks, release_checks, old_number}
+use Rattle.slicelet.specs.Steps.{start_checks, hear_checks, release_checks, resume_checks, old_number}
 
 pub record IsStartAccepted (s : SliceletState) (life at : ℕ) : Type 0 where
   pub newer : s.life < life
@@ -75,6 +75,12 @@ release_accepted s kind at e =
       is_held = not_when _ _ none.1.1.0;
       room = below _ _ (not_when _ _ none.1.1.1.0);
     }
+
+pub resume_accepted : (s : SliceletState) (life : ℕ) → first_of (resume_checks s life) ≡ None → s.life ≤ life
+resume_accepted s life e = at_most _ _ (not_when _ _ (all_none (resume_checks s life) e).0)
+
+pub resume_allowed : (s : SliceletState) (life : ℕ) → s.life ≤ life → first_of (resume_checks s life) ≡ None
+resume_allowed s life l = let none : nat_lt life s.life ≡ false = grind (arith, nat_tests) in rw none refl
 
 -- one call more is counted in 64 bits
 pub hear_counts : (s : SliceletState) (grant : Grant) (at : ℕ) → first_of (hear_checks s grant at) ≡ None → s.count + 1 < 2 ^ 64

@@ -10,8 +10,8 @@ use Rattle.policy_rules.specs.Rule.{SeenHolding, rule}
 use Rattle.lease_table.specs.declared.values.Grant.{Grant}
 use Rattle.slicelet.specs.declared.handle.KeyHandle.{KeyHandle}
 use Rattle.slicelet.specs.declared.call.SliceletCall.{SliceletCall}
-use Rattle.slicelet.specs.declared.call.SliceletCall.TheVariants.{Start, Hear, Release}
-use Rattle.slicelet.specs.Calls.{this_life, is_about, heard_by, held_grant, is_started, last_reading, reading_of}
+use Rattle.slicelet.specs.declared.call.SliceletCall.TheVariants.{Start, Hear, Release, Resume}
+use Rattle.slicelet.specs.Calls.{this_process, this_life, is_about, heard_by, held_grant, is_started, last_reading, reading_of}
 use Rattle.slicelet.specs.Rules.{seen_by, rule_after, is_allowed, is_permitted}
 use Rattle.slicelet.specs.Continuity.{IsContinuous}
 use Rattle.slicelet.specs.Laws.{WasHeard, AgreeOnCall, AgreeOnHeard}
@@ -24,6 +24,7 @@ heard_longer c h grant w = record { at = w.at; later = c ∷ w.later; before = w
 pub held_heard : (kind : Kind) (h : List SliceletCall) (grant : Grant) → heard_by (find (is_about kind) (this_life h)) ≡ Some grant → WasHeard h grant
 held_heard kind [] grant e = absurd (cc)
 held_heard kind (Start life at ∷ h) grant e = absurd (cc)
+held_heard kind (Resume life ∷ h) grant e = absurd (cc)
 held_heard kind (Hear other at ∷ h) grant e = by_test (same_kind other.lease.kind kind) e (held_heard kind h grant)
   where
     by_test : (b : Bool) → heard_by (if b then Some (Hear other at) else find (is_about kind) (this_life h)) ≡ Some grant
@@ -55,6 +56,13 @@ module _ (covers other : Grant → Bool) where
   agree_before [] h a = a
   agree_before (c ∷ later) h a = agree_before later h a.1
 
+  agree_in_process : (h : List SliceletCall) → AgreeOnHeard covers other h → AgreeOnHeard covers other (this_process h)
+  agree_in_process [] a = tt
+  agree_in_process (Start life at ∷ h) a = (a.0, agree_in_process h a.1)
+  agree_in_process (Hear grant at ∷ h) a = (a.0, agree_in_process h a.1)
+  agree_in_process (Release kind at ∷ h) a = (a.0, agree_in_process h a.1)
+  agree_in_process (Resume life ∷ h) a = tt
+
   seen_same : (kind : Kind) (h : List SliceletCall) → AgreeOnHeard covers other h → (o : Option Grant) → held_grant kind h ≡ o
       → option_map (seen_by covers) o ≡ option_map (seen_by other) o
   seen_same kind h a None e = refl
@@ -80,7 +88,7 @@ module _ (covers other : Grant → Bool) where
   same_continuous h handle at a k = record {
     life = k.life;
     kept = λ later before c e l.
-        let all : AgreeOnHeard covers other (c ∷ before) = agree_before later (c ∷ before) (subst (AgreeOnHeard covers other) e a) in
+        let all : AgreeOnHeard covers other (c ∷ before) = agree_before later (c ∷ before) (subst (AgreeOnHeard covers other) e (agree_in_process h a)) in
         let both = k.kept later before c e l in
         (permitted_by_other before (reading_of c) all.1 both.0, permitted_by_other (c ∷ before) (reading_of c) all both.1);
     now = permitted_by_other h at a k.now;
@@ -92,3 +100,4 @@ agree_other_way covers other [] a = tt
 agree_other_way covers other (Start life at ∷ h) a = (tt, agree_other_way covers other h a.1)
 agree_other_way covers other (Hear grant at ∷ h) a = (sym a.0, agree_other_way covers other h a.1)
 agree_other_way covers other (Release kind at ∷ h) a = (tt, agree_other_way covers other h a.1)
+agree_other_way covers other (Resume life ∷ h) a = (tt, agree_other_way covers other h a.1)

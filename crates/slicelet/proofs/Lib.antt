@@ -1,6 +1,7 @@
 pub mod Accepting
 pub mod States
 pub mod OwnLeases
+pub mod Processes
 pub mod Stamping
 pub mod Between
 pub mod Allowing

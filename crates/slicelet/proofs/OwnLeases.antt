@@ -13,13 +13,13 @@ use Rattle.lease_table.specs.declared.values.Grant.{Grant}
 use Rattle.lease_table.specs.declared.values.ReleaseNote.{ReleaseNote}
 use Rattle.slicelet.specs.declared.error.SliceletError.TheVariants.{Old}
 use Rattle.slicelet.specs.declared.call.SliceletCall.{SliceletCall}
-use Rattle.slicelet.specs.declared.call.SliceletCall.TheVariants.{Start, Hear, Release}
+use Rattle.slicelet.specs.declared.call.SliceletCall.TheVariants.{Start, Hear, Release, Resume}
 use Rattle.slicelet.specs.Calls.{this_life, life_of, is_about, heard_by, held_grant, greatest_heard}
 use Rattle.slicelet.specs.States.{state_after}
-use Rattle.slicelet.specs.Steps.{start_checks, hear_checks, release_checks, old_number, number_of, note_of}
+use Rattle.slicelet.specs.Steps.{start_checks, hear_checks, release_checks, resume_checks, old_number, number_of, note_of, ended_note}
 use Rattle.slicelet.specs.Accepted.{AreAccepted, notes_sent}
 use Rattle.slicelet.proofs.States.{held_after, greatest_after}
-use Rattle.slicelet.proofs.Accepting.{IsHearAccepted, start_accepted, hear_accepted, release_accepted}
+use Rattle.slicelet.proofs.Accepting.{IsHearAccepted, start_accepted, hear_accepted, release_accepted, resume_accepted}
 use Rattle.slicelet.specs.Laws.{IsOwn, IsUpTo, IsSpent, HoldsOwnLeases, IsAbove}
 
 -- kinds that are the same are equal
@@ -48,7 +48,7 @@ up_to_greater number None second h = h
 up_to_greater number (Some m) None h = absurd h
 up_to_greater number (Some m) (Some n) h = omega (arith, h)
 
-same_itself : (kind : Kind) → same_kind kind kind ≡ true
+pub same_itself : (kind : Kind) → same_kind kind kind ≡ true
 same_itself Guard = refl
 same_itself Bridge = refl
 
@@ -71,6 +71,18 @@ module _ (task : ℕ) (h : List SliceletCall) (s : HoldsOwnLeases task h) where
         spent = all_weaker (IsSpent h) (IsSpent (Start life at ∷ h)) (notes_sent task h)
             (λ note n. let l : note.life ≤ life_of h = n.of_life in record { of_life = omega arith; heard = λ q. absurd (omega (arith, q)); newer = λ q. absurd (omega (arith, q)) }) s.spent;
       }
+
+  own_after_resume : (life : ℕ) → first_of (resume_checks (state_after task h) life) ≡ None → HoldsOwnLeases task (Resume life ∷ h)
+  own_after_resume life e = record { own = λ kind grant q. absurd (cc); spent = (ended Bridge, (ended Guard, all_weaker (IsSpent h) (IsSpent (Resume life ∷ h)) (notes_sent task h) spent s.spent)) }
+    where
+      ended : (kind : Kind) → IsSpent (Resume life ∷ h) (ended_note task life kind)
+      ended kind = record { of_life = omega arith; heard = λ q started. absurd (cc); newer = λ q grant p. absurd (cc) }
+
+      spent : (note : ReleaseNote) → IsSpent h note → IsSpent (Resume life ∷ h) note
+      spent note n =
+          let l : note.life ≤ life_of h = n.of_life in
+          let up : life_of h ≤ life = resume_accepted (state_after task h) life e in
+          record { of_life = omega (arith, l, up); heard = λ q started. absurd (cc); newer = λ q grant p. absurd (cc) }
 
   own_after_hear : (grant : Grant) (at : ℕ) → first_of (hear_checks (state_after task h) grant at) ≡ None → HoldsOwnLeases task (Hear grant at ∷ h)
   own_after_hear grant at e = record { own = λ kind other. own kind other (same_kind grant.lease.kind kind) refl; spent = all_weaker (IsSpent h) (IsSpent (Hear grant at ∷ h)) (notes_sent task h) spent s.spent }
@@ -101,7 +113,7 @@ module _ (task : ℕ) (h : List SliceletCall) (s : HoldsOwnLeases task h) where
       spent : (note : ReleaseNote) → IsSpent h note → IsSpent (Hear grant at ∷ h) note
       spent note n = record {
         of_life = n.of_life;
-        heard = λ q. up_to_greater note.number (if same_kind grant.lease.kind note.kind then Some grant.number else None) (greatest_heard note.kind h) (n.heard q);
+        heard = λ q started. up_to_greater note.number (if same_kind grant.lease.kind note.kind then Some grant.number else None) (greatest_heard note.kind h) (n.heard q started);
         newer = λ q other. by_test (same_kind grant.lease.kind note.kind) refl q other;
       }
         where
@@ -110,7 +122,7 @@ module _ (task : ℕ) (h : List SliceletCall) (s : HoldsOwnLeases task h) where
           by_test true t q other p =
               let same : grant ≡ other = cc in
               let kinds : grant.lease.kind ≡ note.kind = equal_kinds grant.lease.kind note.kind (sym t) in
-              subst (λ (g : Grant). note.number < g.number) same (below (greatest_heard note.kind h) refl (n.heard q) (rw (sym kinds) newer))
+              subst (λ (g : Grant). note.number < g.number) same (below (greatest_heard note.kind h) refl (n.heard q accepted.started) (rw (sym kinds) newer))
             where
               below : (o : Option ℕ) → greatest_heard note.kind h ≡ o → IsUpTo note.number o → old_number grant.number (greatest_heard note.kind h) ≡ None → note.number < grant.number
               below None r u w = absurd u
@@ -136,7 +148,7 @@ module _ (task : ℕ) (h : List SliceletCall) (s : HoldsOwnLeases task h) where
       its_note : IsSpent (Release kind at ∷ h) (note_of (state_after task h) kind)
       its_note = record {
         of_life = omega arith;
-        heard = λ q. rw (held_after task h kind) (held_number_heard task h kind (held_grant kind h) refl (rw (held_after task h kind) at (release_accepted (state_after task h) kind at e).is_held) (s.own kind));
+        heard = λ q started. rw (held_after task h kind) (held_number_heard task h kind (held_grant kind h) refl (rw (held_after task h kind) at (release_accepted (state_after task h) kind at e).is_held) (s.own kind));
         newer = λ q grant p. absurd (let f : same_kind kind kind ≡ false = (not_held kind grant (same_kind kind kind) p).0 in let t = same_itself kind in cc);
       }
 
@@ -148,6 +160,7 @@ own_leases task [] a = record { own = λ kind grant q. absurd (cc); spent = tt }
 own_leases task (Start life at ∷ h) a = own_after_start task h (own_leases task h a.1) life at a.0
 own_leases task (Hear grant at ∷ h) a = own_after_hear task h (own_leases task h a.1) grant at a.0
 own_leases task (Release kind at ∷ h) a = own_after_release task h (own_leases task h a.1) kind at a.0
+own_leases task (Resume life ∷ h) a = own_after_resume task h (own_leases task h a.1) life a.0
 
 pub lives_rise : (task : ℕ) (later h : List SliceletCall) → AreAccepted task (later ++ h) → life_of h ≤ life_of (later ++ h)
 lives_rise task [] h a = omega arith
@@ -157,6 +170,10 @@ lives_rise task (Start life at ∷ later) h a =
     omega arith
 lives_rise task (Hear grant at ∷ later) h a = lives_rise task later h a.1
 lives_rise task (Release kind at ∷ later) h a = lives_rise task later h a.1
+lives_rise task (Resume life ∷ later) h a =
+    let before = lives_rise task later h a.1 in
+    let rise : life_of (later ++ h) ≤ life = resume_accepted (state_after task (later ++ h)) life a.0 in
+    omega (arith, before, rise)
 
 -- a released number is not heard again
 pub above_released : (task : ℕ) (grant : Grant) (at : ℕ) (h : List SliceletCall) → AreAccepted task (Hear grant at ∷ h) → AllByRecursion (IsAbove grant) (notes_sent task h)
@@ -170,7 +187,7 @@ above_released task grant at h a = all_weaker (IsSpent h) (IsAbove grant) (notes
 
     over : (note : ReleaseNote) → IsSpent h note → IsAbove grant note
     over note n kinds lives =
-        below (greatest_heard grant.lease.kind h) refl (rw kinds at (n.heard (lives ∙ accepted.of_life)))
+        below (greatest_heard grant.lease.kind h) refl (rw kinds at (n.heard (lives ∙ accepted.of_life) accepted.started))
       where
         below : (o : Option ℕ) → greatest_heard grant.lease.kind h ≡ o → IsUpTo note.number o → note.number < grant.number
         below None r u = absurd u

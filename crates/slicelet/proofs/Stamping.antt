@@ -9,10 +9,11 @@ use Rattle.slicelet.specs.declared.handle.KeyHandle.{KeyHandle}
 use Rattle.slicelet.specs.Stamps.{stamp_after_change}
 use Rattle.slicelet.specs.Handles.{is_up_to}
 use Rattle.slicelet.specs.declared.call.SliceletCall.{SliceletCall}
-use Rattle.slicelet.specs.Calls.{reading_of, life_of}
+use Rattle.slicelet.specs.Calls.{reading_of, life_of, this_process}
 use Rattle.slicelet.specs.Rules.{holding_after, is_permitted}
 use Rattle.slicelet.specs.Continuity.{IsKeptSince, IsContinuous}
 use Rattle.slicelet.specs.Stamping.{turns, stamp_after, stamp_of}
+use Rattle.slicelet.proofs.Processes.{permitted_in_process}
 
 -- each call after the first n found the key permitted just before it and just after it
 abbrev kept : ℕ → List (Bool × Bool) → Bool
@@ -154,15 +155,17 @@ pub continuous_as_stamped : (covers : Grant → Bool) (h : List SliceletCall) (h
 continuous_as_stamped covers h handle at life stamp is_kept permitted lives stamped keeps permits =
     rw (keeps, permits) (by_tests (handle.life == life) (is_up_to handle.position stamp) (is_permitted covers h at) refl refl refl)
   where
-    same : is_permitted covers h at ≡ true → is_up_to handle.position stamp ≡ kept handle.position (turns covers h)
-    same e = rw stamped (kept_as_stamped handle.position (turns covers h) (fades covers h) (permitted_after_last covers h at e))
+    same : is_permitted covers h at ≡ true → is_up_to handle.position stamp ≡ kept handle.position (turns covers (this_process h))
+    same e =
+        let now = permitted_after_last covers (this_process h) at (permitted_in_process covers h at ∙ e) in
+        rw stamped (kept_as_stamped handle.position (turns covers (this_process h)) (fades covers (this_process h)) now)
 
     by_tests : (a b c : Bool) → (handle.life == life) ≡ a → is_up_to handle.position stamp ≡ b → is_permitted covers h at ≡ c
         → MatchBool ((a && b) && c) (IsContinuous covers h handle at) (IsContinuous covers h handle at → ⊥)
     by_tests true true true p q r =
         let lives_alike : handle.life ≡ life = grind (arith, nat_tests) in
-        record { life = lives_alike ∙ lives; kept = kept_calls handle.position covers h (sym (same r) ∙ q); now = r }
+        record { life = lives_alike ∙ lives; kept = kept_calls handle.position covers (this_process h) (sym (same r) ∙ q); now = r }
     by_tests true true false p q r = λ k. absurd (true≢false (sym k.now ∙ r))
-    by_tests true false c p q r = λ k. absurd (true≢false (sym (same k.now ∙ calls_kept handle.position covers h k.kept) ∙ q))
+    by_tests true false c p q r = λ k. absurd (true≢false (sym (same k.now ∙ calls_kept handle.position covers (this_process h) k.kept) ∙ q))
     by_tests false b c p q r = λ k.
         absurd (let e : handle.life ≡ life = k.life ∙ sym lives in let f : (handle.life == life) ≡ true = grind (arith, nat_tests) in true≢false (sym f ∙ p))

@@ -1,5 +1,5 @@
 -- Handles: was a key held without a break since then?
-use Rattle.std.specs.Prelude.{◌≡◌, ℕ, ◌≤◌, ◌==◌, Bool, true, false, not, ◌&&◌, ◌||◌, nat_lt, IsTrue, List, [], ◌∷◌, ◌++◌, length, Result, Ok, Err, if◌then◌else◌}
+use Rattle.std.specs.Prelude.{◌≡◌, ℕ, ◌≤◌, ◌==◌, Bool, true, false, not, ◌&&◌, ◌||◌, nat_lt, nat_le, IsTrue, List, [], ◌∷◌, ◌++◌, length, Result, Ok, Err, if◌then◌else◌}
 use Rattle.policy_rules.specs.declared.answer.Ground.{Ground}
 use Rattle.policy_rules.specs.declared.answer.Verdict.{Verdict}
 use Rattle.policy_rules.specs.declared.answer.Verdict.TheVariants.{Allow, Deny}
@@ -8,11 +8,11 @@ use Rattle.slicelet.specs.declared.handle.KeyHandle.{KeyHandle}
 use Rattle.slicelet.specs.Handles.{is_up_to}
 use Rattle.slicelet.specs.declared.error.Stranger.{Stranger}
 use Rattle.slicelet.specs.declared.call.SliceletCall.{SliceletCall}
-use Rattle.slicelet.specs.Calls.{reading_of, life_of}
+use Rattle.slicelet.specs.Calls.{reading_of, life_of, this_process}
 use Rattle.slicelet.specs.Rules.{is_permitted, covers_key}
 use Rattle.slicelet.specs.States.{SliceletState, state_after, stamp_in, permits}
 
--- the handle that a task takes on a key: its position is the number of calls so far
+-- the handle that a task takes on a key: its position is the number of calls of this process so far
 abbrev pub handle_on : ℕ → SliceletState → KeyHandle
 handle_on key s = record { task = s.task; life = s.life; key = key; position = s.count }
 
@@ -21,9 +21,10 @@ abbrev pub held_by : Verdict → KeyHandle → Result KeyHandle Ground
 held_by (Allow kind generation) handle = Ok handle
 held_by (Deny why) handle = Err why
 
--- a handle that the slicelet cannot have given: of another task, of a life to come, or of the current life after more calls than there were
+-- a handle that the slicelet cannot have given: of another task, of an earlier process, of a life to come, or of the current life after
+-- more calls than there were
 abbrev pub is_strange : SliceletState → KeyHandle → Bool
-is_strange s handle = not (handle.task == s.task) || nat_lt s.life handle.life || (handle.life == s.life && nat_lt s.count handle.position)
+is_strange s handle = not (handle.task == s.task) || nat_le handle.life s.resumed || nat_lt s.life handle.life || (handle.life == s.life && nat_lt s.count handle.position)
 
 -- a handle is of the current life, its key has a stamp that is not above its position, and the key is permitted at the reading
 abbrev pub is_kept : SliceletState → KeyHandle → ℕ → Bool
@@ -38,10 +39,11 @@ abbrev pub IsKeptSince : ℕ → (Grant → Bool) → List SliceletCall → Type
 IsKeptSince position covers h = (later before : List SliceletCall) (c : SliceletCall) → h ≡ later ++ c ∷ before → position ≤ length before
     → IsTrue (is_permitted covers before (reading_of c)) × IsTrue (is_permitted covers (c ∷ before) (reading_of c))
 
--- a handle is continuous at a reading: it is of the current life, no call since took its key away, and the key is permitted at the reading
+-- a handle is continuous at a reading: it is of the current life, no call of this process since took its key away, and the key is permitted
+-- at the reading
 pub record IsContinuous (covers : Grant → Bool) (h : List SliceletCall) (handle : KeyHandle) (at : ℕ) : Type 0 where
   pub life : handle.life ≡ life_of h
-  pub kept : IsKeptSince handle.position covers h
+  pub kept : IsKeptSince handle.position covers (this_process h)
   pub now : IsTrue (is_permitted covers h at)
 
 -- what a check answers, by the calls

@@ -5,8 +5,8 @@ use Rattle.policy_rules.specs.declared.lease.Kind.{Kind}
 use Rattle.lease_table.specs.declared.values.Grant.{Grant}
 use Rattle.lease_table.specs.declared.values.ReleaseNote.{ReleaseNote}
 use Rattle.slicelet.specs.declared.call.SliceletCall.{SliceletCall}
-use Rattle.slicelet.specs.declared.call.SliceletCall.TheVariants.{Start, Hear, Release}
-use Rattle.slicelet.specs.Calls.{life_of, held_grant, greatest_heard}
+use Rattle.slicelet.specs.declared.call.SliceletCall.TheVariants.{Start, Hear, Release, Resume}
+use Rattle.slicelet.specs.Calls.{life_of, is_started, held_grant, greatest_heard}
 use Rattle.slicelet.specs.Accepted.{notes_sent}
 
 -- a held lease was granted to this task in its current life, is of its kind, and its number is the greatest heard
@@ -21,10 +21,11 @@ abbrev pub IsUpTo : ℕ → Option ℕ → Type 0
 IsUpTo number None = ⊥
 IsUpTo number (Some greatest) = number ≤ greatest
 
--- a note is of the current life or an earlier one; in the current life its number was heard, and a lease that is held of its kind has a greater one
+-- a note is of the current life or an earlier one; while the current life runs, its number was heard, and a lease that is held of its kind has a
+-- greater one
 pub record IsSpent (h : List SliceletCall) (note : ReleaseNote) : Type 0 where
   pub of_life : note.life ≤ life_of h
-  pub heard : note.life ≡ life_of h → IsUpTo note.number (greatest_heard note.kind h)
+  pub heard : note.life ≡ life_of h → is_started h ≡ true → IsUpTo note.number (greatest_heard note.kind h)
   pub newer : note.life ≡ life_of h → (grant : Grant) → held_grant note.kind h ≡ Some grant → note.number < grant.number
 
 -- each held lease is the task's own, and each note that it sent is spent
@@ -56,6 +57,7 @@ abbrev pub AgreeOnCall : (Grant → Bool) → (Grant → Bool) → SliceletCall 
 AgreeOnCall covers other (Start life at) = ⊤
 AgreeOnCall covers other (Hear grant at) = covers grant ≡ other grant
 AgreeOnCall covers other (Release kind at) = ⊤
+AgreeOnCall covers other (Resume life) = ⊤
 
 -- two tests agree on every grant that these calls heard
 abbrev pub AgreeOnHeard : (Grant → Bool) → (Grant → Bool) → List SliceletCall → Type 0

@@ -8,6 +8,7 @@ pub mod States
 pub mod Steps
 pub mod Accepted
 pub mod Laws
+pub mod NextActions
 pub mod Continuity
 pub mod internals
 pub use Rattle.machines.specs.Refusals

@@ -4,7 +4,7 @@ use Rattle.slice_ranges.specs.declared.key.TheConstants.{KEYS}
 use Rattle.lease_table.specs.declared.values.Grant.{Grant}
 use Rattle.slicelet.specs.Stamps.{stamp_after_change}
 use Rattle.slicelet.specs.declared.call.SliceletCall.{SliceletCall}
-use Rattle.slicelet.specs.Calls.{reading_of}
+use Rattle.slicelet.specs.Calls.{reading_of, this_process}
 use Rattle.slicelet.specs.Rules.{is_permitted}
 
 -- of each call, whether the key was permitted at its reading just before it, and whether just after it
@@ -17,9 +17,9 @@ abbrev pub stamp_after : List (Bool × Bool) → Option ℕ
 stamp_after [] = None
 stamp_after (t ∷ h) = stamp_after_change (stamp_after h) t.0 t.1 (length h + 1)
 
--- the stamp of a key after these calls
+-- the stamp of a key, by the calls of this process
 abbrev pub stamp_of : (Grant → Bool) → List SliceletCall → Option ℕ
-stamp_of covers h = stamp_after (turns covers h)
+stamp_of covers h = stamp_after (turns covers (this_process h))
 
 -- the stamps of the next so many keys, from `low` on
 unfoldable pub stamps_from : (ℕ → Option ℕ) → ℕ → ℕ → List (Option ℕ)

@@ -1,5 +1,5 @@
 -- What a slicelet knows: all that its answers rest on.
-use Rattle.std.specs.Prelude.{ℕ, Bool, false, List, length, Option, None, option_map}
+use Rattle.std.specs.Prelude.{ℕ, Bool, false, List, Option, None, option_map}
 use Rattle.policy_rules.specs.declared.lease.Kind.{Kind}
 use Rattle.policy_rules.specs.declared.lease.Kind.TheVariants.{Guard, Bridge}
 use Rattle.policy_rules.specs.declared.answer.Verdict.{Verdict}
@@ -7,16 +7,18 @@ use Rattle.policy_rules.specs.Rule.{SeenHolding, rule, is_allowed}
 use Rattle.lease_table.specs.declared.values.Grant.{Grant}
 use Rattle.slicelet.specs.declared.call.SliceletCall.{SliceletCall}
 use Rattle.slicelet.specs.declared.heard.HeldLease.{HeldLease}
-use Rattle.slicelet.specs.Calls.{is_started, life_of, last_reading, held_grant, greatest_heard}
+use Rattle.slicelet.specs.Calls.{count_of, is_started, life_of, resumed_of, last_reading, held_grant, greatest_heard}
 use Rattle.slicelet.specs.Rules.{seen_by, covers_key}
 use Rattle.slicelet.specs.Stamping.{stamp_of, stamps_where, stamp_among}
 
--- a slicelet: its task, how many calls it accepted, its life (0 before the first), whether it was started, its last reading,
--- the grants of the leases that it holds, the greatest numbers that it heard in this life, and the stamp of each key
+-- a slicelet: its task, how many calls it accepted, its life (0 before the first), the greatest life of earlier processes of its
+-- task (0 where there was none), whether it was started, its last reading, the grants of the leases that it holds, the greatest
+-- numbers that it heard in this life, and the stamp of each key
 pub record SliceletState : Type 0 where
   pub task : ℕ
   pub count : ℕ
   pub life : ℕ
+  pub resumed : ℕ
   pub up : Bool
   pub last : ℕ
   pub guard : Option Grant
@@ -31,6 +33,7 @@ opening task = record {
   task = task;
   count = 0;
   life = 0;
+  resumed = 0;
   up = false;
   last = 0;
   guard = None;
@@ -40,12 +43,17 @@ opening task = record {
   stamps = stamps_where (λ _. None);
 }
 
--- a slicelet after these calls
+-- a slicelet of a new process, before its first call, where no earlier process of its task started a life above this one
+abbrev pub resumed : ℕ → ℕ → SliceletState
+resumed task life = record (opening task) { life = life; resumed = life }
+
+-- a slicelet after these calls, which are those of all processes of its task
 abbrev pub state_after : ℕ → List SliceletCall → SliceletState
 state_after task h = record {
   task = task;
-  count = length h;
+  count = count_of h;
   life = life_of h;
+  resumed = resumed_of h;
   up = is_started h;
   last = last_reading h;
   guard = held_grant Guard h;

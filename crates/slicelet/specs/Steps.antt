@@ -5,20 +5,21 @@ use Rattle.policy_rules.specs.declared.lease.Kind.{Kind}
 use Rattle.policy_rules.specs.declared.lease.Kind.TheVariants.{Guard, Bridge}
 use Rattle.lease_table.specs.declared.values.Grant.{Grant}
 use Rattle.lease_table.specs.declared.values.ReleaseNote.{ReleaseNote}
+use Rattle.lease_table.specs.declared.policy.TheConstants.{MOST_GRANTS}
 use Rattle.slicelet.specs.Stamps.{stamp_after_change}
 use Rattle.slicelet.specs.declared.error.SliceletError.{SliceletError}
 use Rattle.slicelet.specs.declared.error.SliceletError.TheVariants.{NotStarted, OldLife, ClockBack, OtherTask, OtherLife, Old, TooLate, NothingHeld, HistoryFull}
 use Rattle.machines.specs.Answers.{with_named_reply}
 use Rattle.machines.specs.declared.event.Event.{Event}
 use Rattle.slicelet.specs.declared.call.SliceletReply.{SliceletReply}
-use Rattle.slicelet.specs.declared.call.SliceletReply.TheVariants.{Started, Heard, Released}
+use Rattle.slicelet.specs.declared.call.SliceletReply.TheVariants.{Started, Heard, Released, Resumed}
+use Rattle.slicelet.specs.declared.call.EndedNotes.{EndedNotes}
 use Rattle.slicelet.specs.declared.call.SliceletCall.{SliceletCall}
-use Rattle.slicelet.specs.declared.call.SliceletCall.TheVariants.{Start, Hear, Release}
+use Rattle.slicelet.specs.declared.call.SliceletCall.TheVariants.{Start, Hear, Release, Resume}
 use Rattle.slicelet.specs.declared.slicelet.TheConstants.{CALLS}
-use Rattle.slicelet.specs.Calls.{reading_of}
 use Rattle.slicelet.specs.Stamping.{stamps_where}
 use Rattle.slicelet.specs.States.{SliceletState, held_in, greatest_in, stamp_in, permits}
-pub use Rattle.slicelet.specs.States.{opening}
+pub use Rattle.slicelet.specs.States.{opening, resumed}
 
 -- REFUSALS, IN THEIR ORDER
 
@@ -50,6 +51,9 @@ hear_checks s grant at =
 abbrev pub release_checks : SliceletState → Kind → ℕ → List (Option SliceletError)
 release_checks s kind at = not_started s ∷ clock_back s at ∷ when (is_none (held_in s kind)) NothingHeld ∷ history_full s ∷ []
 
+abbrev pub resume_checks : SliceletState → ℕ → List (Option SliceletError)
+resume_checks s life = when (nat_lt life s.life) OldLife ∷ []
+
 -- WHAT A CALL LEAVES
 
 -- a state with another grant, or none, in the place of that of a kind
@@ -67,6 +71,7 @@ abbrev pub moved_by : SliceletState → SliceletCall → SliceletState
 moved_by s (Start life at) = record s { life = life; up = true; guard = None; bridge = None; guard_number = None; bridge_number = None }
 moved_by s (Hear grant at) = with_greatest grant.lease.kind grant.number (with_grant grant.lease.kind (Some grant) s)
 moved_by s (Release kind at) = with_grant kind None s
+moved_by s (Resume life) = resumed s.task life
 
 -- the state as it was read at a call
 abbrev pub read_at : ℕ → SliceletState → SliceletState
@@ -79,9 +84,12 @@ state_with_count before after at = record after {
   stamps = stamps_where (λ key. stamp_after_change (stamp_in before key) (permits before key at) (permits after key at) (before.count + 1));
 }
 
--- the state after an accepted call
+-- the state after an accepted call; with a new process the count begins again
 abbrev pub next_state : SliceletState → SliceletCall → SliceletState
-next_state s c = state_with_count s (read_at (reading_of c) (moved_by s c)) (reading_of c)
+next_state s (Start life at) = state_with_count s (read_at at (moved_by s (Start life at))) at
+next_state s (Hear grant at) = state_with_count s (read_at at (moved_by s (Hear grant at))) at
+next_state s (Release kind at) = state_with_count s (read_at at (moved_by s (Release kind at))) at
+next_state s (Resume life) = resumed s.task life
 
 -- STEPS
 
@@ -102,11 +110,22 @@ note_of s kind = record { task = s.task; life = s.life; kind = kind; number = nu
 abbrev pub release_step : SliceletState → Kind → ℕ → Result (SliceletState × ReleaseNote) SliceletError
 release_step s kind at = answer (release_checks s kind at) (next_state s (Release kind at), note_of s kind)
 
+-- the notes of a life that ended with its process: the greatest number that a grant can have closes every row
+abbrev pub ended_note : ℕ → ℕ → Kind → ReleaseNote
+ended_note task life kind = record { task = task; life = life; kind = kind; number = MOST_GRANTS }
+
+abbrev pub ended_notes : ℕ → ℕ → EndedNotes
+ended_notes task life = record { guard = ended_note task life Guard; bridge = ended_note task life Bridge }
+
+abbrev pub resume_step : SliceletState → ℕ → Result (SliceletState × EndedNotes) SliceletError
+resume_step s life = answer (resume_checks s life) (next_state s (Resume life), ended_notes s.task life)
+
 -- an event is its call, whatever its ticket
 abbrev pub slicelet_step : SliceletState → SliceletCall → Result (SliceletState × SliceletReply) SliceletError
 slicelet_step s (Start life at) = with_named_reply (λ _. Started) (start_step s life at)
 slicelet_step s (Hear grant at) = with_named_reply (λ _. Heard) (hear_step s grant at)
 slicelet_step s (Release kind at) = with_named_reply Released (release_step s kind at)
+slicelet_step s (Resume life) = with_named_reply Resumed (resume_step s life)
 
 abbrev pub event_step : SliceletState → Event SliceletCall → Result (SliceletState × SliceletReply) SliceletError
 event_step s event = slicelet_step s event.call

@@ -5,7 +5,7 @@
 pub enum SliceletError {
     /// The task has not started a life.
     NotStarted,
-    /// The life is not above the current one.
+    /// The life is not above the current one; for a `Resume`, it is below the current one.
     OldLife,
     /// The reading is below the last accepted one.
     ClockBack,
@@ -22,14 +22,15 @@ pub enum SliceletError {
     TooLate,
     /// The task holds no lease of this kind.
     NothingHeld,
-    /// The slicelet has accepted [`CALLS`](crate::CALLS) calls and accepts no more, not even a
-    /// release.
+    /// The slicelet has accepted [`CALLS`](crate::CALLS) calls in this process and accepts no more,
+    /// not even a release.
     HistoryFull,
 }
 
 /// The error for a handle that the slicelet cannot have given.
 ///
-/// The handle is of another task, of a life above the current one, or of the current life at a
-/// position above the number of accepted calls.
+/// The handle is of another task, of a life of an earlier process of the task, of a life above the
+/// current one, or of the current life at a position above the number of calls that this process
+/// accepted. A handle of life 0 is always strange.
 #[derive(Clone, Copy, Debug, PartialEq, Eq)]
 pub struct Stranger;

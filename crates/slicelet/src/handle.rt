@@ -18,7 +18,8 @@ pub struct KeyHandle {
     pub life: u32,
     /// The key.
     pub key: SliceKey,
-    /// How many calls the slicelet of the task had accepted when the handle was taken.
+    /// How many calls the slicelet of the task had accepted in its process when the handle was
+    /// taken.
     pub position: u64,
 }
 

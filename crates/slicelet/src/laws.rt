@@ -1,20 +1,23 @@
 //! Laws that hold after every list of calls that a slicelet accepted, and laws of its rule.
 
-ghost use Rattle.std.specs.Prelude.{◌≡◌, ℕ, ◌<◌, ◌≤◌, ◌↔◌, Bool, IsTrue, List, [], ◌∷◌, ◌++◌, length, Some, Ok, Contains};
+ghost use Rattle.std.specs.Prelude.{◌≡◌, ℕ, ◌<◌, ◌≤◌, ◌↔◌, Bool, IsTrue, List, [], ◌∷◌, ◌++◌, true, Some, Ok, Contains};
 ghost use Rattle.std.specs.List.{AllByRecursion};
 ghost use Rattle.policy_rules.specs.declared.lease.Kind.{Kind};
 ghost use Rattle.policy_rules.specs.declared.answer.Verdict.TheVariants.{Allow};
 ghost use Rattle.lease_table.specs.declared.values.Grant.{Grant};
 ghost use Rattle.slicelet.specs.declared.call.SliceletCall.{SliceletCall};
-ghost use Rattle.slicelet.specs.declared.call.SliceletCall.TheVariants.{Start, Hear};
+ghost use Rattle.slicelet.specs.declared.call.SliceletCall.TheVariants.{Start, Hear, Resume};
 ghost use Rattle.slicelet.specs.declared.call.SliceletReply.{SliceletReply};
-ghost use Rattle.slicelet.specs.Calls.{life_of, held_grant, greatest_heard};
-ghost use Rattle.slicelet.specs.States.{SliceletState, opening, held_in, greatest_in, rule_in_state};
-ghost use Rattle.slicelet.specs.Steps.{slicelet_step};
+ghost use Rattle.lease_table.specs.declared.policy.TheConstants.{MOST_GRANTS};
+ghost use Rattle.lease_table.specs.declared.values.Row.{Row};
+ghost use Rattle.lease_table.specs.Rows.{closes};
+ghost use Rattle.slicelet.specs.Calls.{life_of, resumed_of, count_of, held_grant, greatest_heard};
+ghost use Rattle.slicelet.specs.States.{SliceletState, opening, state_after, held_in, greatest_in, rule_in_state};
+ghost use Rattle.slicelet.specs.Steps.{slicelet_step, ended_note};
 ghost use Rattle.slice_ranges.specs.declared.key.TheConstants.{KEYS};
 ghost use Rattle.slicelet.specs.declared.handle.KeyHandle.{KeyHandle};
 ghost use Rattle.slicelet.specs.Rules.{rule_after, is_permitted};
-ghost use Rattle.slicelet.specs.Continuity.{IsContinuous, IsChecked, checked_in, next_reading};
+ghost use Rattle.slicelet.specs.Continuity.{IsContinuous, IsChecked, checked_in, is_strange, next_reading};
 ghost use Rattle.slicelet.specs.Accepted.{AreAccepted, StandsAfter, notes_sent};
 ghost use Rattle.slicelet.specs.Laws.{HoldsOwnLeases, IsAbove, HasCoveringLease, WasHeard, AgreeOnHeard};
 
@@ -39,16 +42,31 @@ pub fn state_law()
 /// States that a slicelet holds only leases that it heard in its current life.
 ///
 /// A held lease is of its kind and has the greatest number that was heard of this kind. A note that
-/// was sent is of the current life or an earlier one. If it is of the current life, its number was
-/// heard, and is below the number of any lease of its kind that is held now.
+/// was sent is of the current life or an earlier one. If it is of the current life, its number is
+/// below the number of any lease of its kind that is held now, and was heard if the task has
+/// started this life in its current process.
 pub fn held_law()
     ensures { (task : ℕ) (h : List SliceletCall) → AreAccepted task h → HoldsOwnLeases task h }
 {}
 
-/// States that the lives of accepted starts rise.
+/// States that the lives of accepted starts rise, and never fall at a new process.
 pub fn lives_law()
     ensures start { (task life at : ℕ) (h : List SliceletCall) → AreAccepted task (Start life at ∷ h) → life_of h < life }
+    ensures resume { (task life : ℕ) (h : List SliceletCall) → AreAccepted task (Resume life ∷ h) → life_of h ≤ life }
     ensures later { (task : ℕ) (later h : List SliceletCall) → AreAccepted task (later ++ h) → life_of h ≤ life_of (later ++ h) }
+{}
+
+/// States what a new process of a task has left of those before it.
+///
+/// It starts only lives above those that they started. A handle of theirs is of a life that the new
+/// process cannot have given a handle of: it is strange, at every later point. The notes for a life
+/// that ended close every row of this life.
+pub fn processes_law()
+    ensures start { (task life at : ℕ) (h : List SliceletCall) → AreAccepted task (Start life at ∷ h) → resumed_of h < life }
+    ensures strange { (task life : ℕ) (later h : List SliceletCall) (handle : KeyHandle) → AreAccepted task (later ++ Resume life ∷ h)
+        → handle.life ≤ life → is_strange (state_after task (later ++ Resume life ∷ h)) handle ≡ true }
+    ensures notes { (task life : ℕ) (row : Row) → row.task ≡ task → row.life ≡ life → row.number ≤ MOST_GRANTS
+        → closes (ended_note task life row.kind) row ≡ true }
 {}
 
 /// States that a number that was released is never heard again in the same life.
@@ -89,10 +107,12 @@ pub fn agreement_law()
 
 /// States that the key of a continuous handle was permitted at every point since it was taken.
 ///
-/// The handle was taken after some calls. At each point since then, the key was permitted at the
-/// reading of the next call, or at the reading of the check after the last call.
+/// The handle was taken after some calls, of which each was accepted. At each point since then, the
+/// key was permitted at the reading of the next call, or at the reading of the check after the last
+/// call.
 pub fn between_law()
-    ensures { (covers : Grant → Bool) (later before h : List SliceletCall) (handle : KeyHandle) (at : ℕ)
-        → handle.position ≡ length h → IsContinuous covers (later ++ (before ++ h)) handle at
+    ensures { (task : ℕ) (covers : Grant → Bool) (later before h : List SliceletCall) (handle : KeyHandle) (at : ℕ)
+        → AreAccepted task (later ++ (before ++ h)) → handle.life ≡ life_of h → handle.position ≡ count_of h
+        → IsContinuous covers (later ++ (before ++ h)) handle at
         → IsTrue (is_permitted covers (before ++ h) (next_reading later at)) }
 {}

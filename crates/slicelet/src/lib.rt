@@ -9,18 +9,20 @@ mod heard;
 mod laws;
 mod life_stamps;
 mod machine;
+mod next_action;
 mod slicelet;
 mod stamped;
 mod sweep;
 
-pub use call::{SliceletCall, SliceletReply};
+pub use call::{EndedNotes, SliceletCall, SliceletReply};
 pub use error::{SliceletError, Stranger};
 pub use handle::KeyHandle;
 pub use heard::HeldLease;
 pub use laws::{
-    agreement_law, between_law, covering_lease_law, heard_law, held_law, lives_law, released_law,
-    state_law,
+    agreement_law, between_law, covering_lease_law, heard_law, held_law, lives_law, processes_law,
+    released_law, state_law,
 };
 pub use machine::SliceletEvent;
+pub use next_action::TaskAction;
 pub use slicelet::{CALLS, Slicelet};
 pub use stamped::Stamped;

@@ -36,6 +36,9 @@ impl Slicelet {
             SliceletCall::Release { kind, at } => {
                 Ok(SliceletReply::Released(self.release(*kind, *at)?))
             }
+            SliceletCall::Resume { life } => Ok(SliceletReply::Resumed(
+                self.begin_anew(*life).map_err(Trouble::Refused)?,
+            )),
         }
     }
 }

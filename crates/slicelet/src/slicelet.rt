@@ -1,19 +1,23 @@
 //! Slicelets.
 
-ghost use Rattle.std.specs.Prelude.{◌≡◌, ◌+◌, ◌^◌, ◌<◌, ℕ, List, None, length, option_map, IfOk, OnOk};
+ghost use Rattle.std.specs.Prelude.{◌≡◌, ◌+◌, ◌-◌, ◌^◌, ◌<◌, ◌≤◌, ◌∷◌, ℕ, List, None, option_map, IfOk, OnOk};
 ghost use Rattle.std.specs.Result.{result_err};
 ghost use Rattle.machines.specs.Refusals.{first_of};
 ghost use Rattle.machines.specs.Answers.{Answers, Takes};
 ghost use Rattle.slicelet.specs.declared.call.SliceletCall.{SliceletCall};
-ghost use Rattle.slicelet.specs.Calls.{life_of};
+ghost use Rattle.slicelet.specs.declared.call.SliceletCall.TheVariants as call;
+ghost use Rattle.slicelet.specs.declared.slicelet.TheConstants.{CALLS};
+ghost use Rattle.slice_ranges.specs.Sets.{has};
+ghost use Rattle.slicelet.specs.Calls.{life_of, count_of};
 ghost use Rattle.slicelet.specs.Rules.{rule_after, covers_key};
-ghost use Rattle.slicelet.specs.States.{opening, held_in, held_lease, greatest_in, rule_in_state, permits};
-ghost use Rattle.slicelet.specs.Steps.{not_started, clock_back, history_full, number_of, start_checks, hear_checks, release_checks, start_step, hear_step, release_step};
-ghost use Rattle.slicelet.specs.Accepted.{StandsAfter};
+ghost use Rattle.slicelet.specs.States.{opening, resumed, held_in, held_lease, greatest_in, rule_in_state, permits};
+ghost use Rattle.slicelet.specs.Steps.{not_started, clock_back, history_full, number_of, start_checks, hear_checks, release_checks, resume_checks, start_step, hear_step, release_step, resume_step};
+ghost use Rattle.slicelet.specs.Accepted.{AreAccepted, StandsAfter};
 ghost use Rattle.slicelet.specs.Continuity.{handle_on, held_by, is_strange, is_kept, checked_in, IsChecked};
 ghost use Rattle.slicelet.specs.internals.State.{leases_of, with_lease};
 ghost use Rattle.slicelet.specs.internals.Stamping.{IsRestamped};
 
+use crate::call::EndedNotes;
 use crate::error::{SliceletError, Stranger};
 use crate::handle::KeyHandle;
 use crate::heard::{
@@ -25,11 +29,11 @@ use assignment::TaskId;
 use lease_table::{Grant, ReleaseNote};
 use machines::Trouble;
 use policy_rules::{Ground, Holding, Kind, Lease, Verdict, permitted, verdict};
-use slice_ranges::SliceKey;
+use slice_ranges::{Ranges, SliceKey};
 use std::alloc::{AllocError, Global};
 use std::marker::Model;
 
-/// The greatest number of calls that a slicelet accepts, over all lives of its task.
+/// The greatest number of calls that a slicelet accepts in one process, over all lives of its task.
 pub const CALLS: u64 = 65_536;
 
 /// A slicelet: the leases that one server task has heard of, which decide the keys it may serve.
@@ -50,6 +54,8 @@ pub struct Slicelet {
     task: TaskId,
     count: u64,
     life: u32,
+    // The greatest life of earlier processes of the task.
+    resumed: u32,
     holding: Holding,
     heard: HeardGrants,
     // `None` if no call of this life made stamps.
@@ -66,30 +72,62 @@ impl Model for Slicelet {
     ghost use Rattle.slicelet.specs.Accepted.{StandsAfter};
     ghost use Rattle.slicelet.specs.internals.State.{state_of, stamps_in};
 
-    ghost view = { λ s. state_of s.task s.count s.life s.holding s.heard (stamps_in s.stamps) };
+    ghost view = { λ s. state_of s.task s.count s.life s.resumed s.holding s.heard (stamps_in s.stamps) };
 
     ghost invariant = { λ s. (calls : List SliceletCall)
-        × StandsAfter calls (state_of s.task s.count s.life s.holding s.heard (stamps_in s.stamps)) };
+        × StandsAfter calls (state_of s.task s.count s.life s.resumed s.holding s.heard (stamps_in s.stamps)) };
 }
 
 impl Slicelet {
-    /// Creates the slicelet of a task, before its first call.
+    /// Creates the slicelet of a task that never had another one, before its first call.
     ///
-    /// A slicelet's knowledge is lost when it is destroyed. A slicelet that replaces another one of
-    /// the same task must start a life above every life that the other one started. Otherwise it
-    /// may hear again a grant that the other one released.
+    /// A slicelet's knowledge is lost when it is destroyed. The next slicelet of the same task must
+    /// be made by [`resume`](Self::resume): otherwise it may start a life again, and hear again a
+    /// grant that the other one released.
     pub fn new(alloc: Global, task: TaskId) -> Self
         ensures { result ≡ opening task }
+    {
+        Slicelet::resume(alloc, task, 0)
+    }
+
+    /// Creates the slicelet of a task's new process, before its first call.
+    ///
+    /// `life` must be the greatest life that the task ever started, or a greater one, and no
+    /// process of the task may still run. The new process starts only lives above `life`, its clock
+    /// counts from 0, and every handle of an earlier process is [`Stranger`]. The notes for the life
+    /// that ended are [`EndedNotes::new`]. The call takes no memory.
+    pub fn resume(alloc: Global, task: TaskId, life: u32) -> Self
+        ensures state { result ≡ resumed task life }
+        ensures calls { (calls : List SliceletCall) → AreAccepted task calls → life_of calls ≤ life
+            → StandsAfter (call.Resume life ∷ calls) result }
     {
         Slicelet {
             alloc,
             task,
             count: 0,
-            life: 0,
+            life,
+            resumed: life,
             holding: no_leases(false, 0),
             heard: HeardGrants::no_grants(),
             stamps: None,
         }
+    }
+
+    /// Begins a new process of the task, and returns the notes for the life that ended.
+    ///
+    /// This slicelet becomes the one of the new process, as [`resume`](Self::resume) makes it:
+    /// `life` must be the greatest life that the task ever started, or a greater one, and no earlier
+    /// process of the task may still run. A program that plays the calls of a task's processes in
+    /// their order uses it; the new process itself uses `resume`. The call takes no memory.
+    ///
+    /// The only error is `OldLife`, if `life` is below the current life. An error leaves the
+    /// slicelet unchanged.
+    pub fn begin_anew(&mut self, life: u32) -> Result<EndedNotes, SliceletError>
+        ensures { Answers (resume_step self.old life) self.old result self.new }
+    {
+        self.check_resume(life)?;
+        *self = Slicelet::resume(self.alloc, self.task, life);
+        Ok(EndedNotes::new(self.task, life))
     }
 
     /// Starts a life of the task at the reading `at`, in ticks.
@@ -174,6 +212,15 @@ impl Slicelet {
         self.check_release(kind, at).err()
     }
 
+    /// Returns why a new process with this life would be refused, if it would.
+    ///
+    /// The refusal is that of [`begin_anew`](Self::begin_anew).
+    pub fn resume_refusal(&self, life: u32) -> Option<SliceletError>
+        ensures { result ≡ first_of (resume_checks self.now life) }
+    {
+        self.check_resume(life).err()
+    }
+
     /// Whether the task may serve a key at the reading `at`, in ticks, by the written rule.
     ///
     /// The verdict depends only on what the slicelet knows, and is the same for every list of
@@ -193,7 +240,7 @@ impl Slicelet {
         ensures state { result ≡ held_by (rule_in_state (covers_key key) self.now at) (handle_on key self.now) }
         ensures calls { (calls : List SliceletCall) → StandsAfter calls self.now
             → result ≡ held_by (rule_after (covers_key key) calls at)
-            (record { task = self.now.task; life = life_of calls; key = key; position = length calls }) }
+            (record { task = self.now.task; life = life_of calls; key = key; position = count_of calls }) }
     {
         match self.serve(key, at) {
             Verdict::Allow { .. } => Ok(KeyHandle::new(self.task, self.life, key, self.count)),
@@ -222,6 +269,24 @@ impl Slicelet {
         Ok(self.is_continuous(handle, at))
     }
 
+    /// Returns the keys that the task may serve at the reading `at`, in ticks, by the written rule.
+    ///
+    /// They are the keys that [`serve`](Self::serve) allows. The only error is out of memory. The
+    /// slicelet is unchanged.
+    pub fn permitted(&self, at: u64) -> Result<Ranges, AllocError>
+        ensures { IfOk result (λ r. (key : ℕ) → has r key ≡ permits self.now key at) }
+    {
+        permitted(self.alloc, &self.holding, at)
+    }
+
+    /// Returns how many more calls this process accepts before `HistoryFull`; [`CALLS`] before its
+    /// first.
+    pub fn calls_left(&self) -> u64
+        ensures { result ≡ CALLS - self.now.count }
+    {
+        CALLS.saturating_sub(self.count)
+    }
+
     /// Returns the lease of a kind that the task holds, if any; it may have ended.
     pub fn held(&self, kind: Kind) -> Option<HeldLease>
         ensures { result ≡ option_map held_lease (held_in self.now kind) }
@@ -232,7 +297,22 @@ impl Slicelet {
         }
     }
 
-    /// Returns the current life of the task; 0 before the first.
+    /// Returns the task.
+    pub fn task(&self) -> TaskId
+        ensures { result ≡ self.now.task }
+    {
+        self.task
+    }
+
+    /// Returns whether the task has started a life in its current process.
+    pub fn is_up(&self) -> bool
+        ensures { result ≡ self.now.up }
+    {
+        self.holding.up
+    }
+
+    /// Returns the current life of the task; 0 before the first. In a new process, before its first
+    /// call, this is the life that it was made with.
     pub fn life(&self) -> u32
         ensures { result ≡ self.now.life }
     {
@@ -264,6 +344,7 @@ impl Slicelet {
             task: self.task,
             count: self.count,
             life: self.life,
+            resumed: self.resumed,
             holding: self.holding.copy()?,
             heard: self.heard,
             stamps: copy_of(&self.stamps)?,
@@ -274,6 +355,7 @@ impl Slicelet {
         ensures { result ≡ is_strange self.now handle.now }
     {
         handle.task != self.task
+            || handle.life <= self.resumed
             || handle.life > self.life
             || handle.life == self.life && handle.position > self.count
     }
@@ -361,6 +443,17 @@ impl Slicelet {
         }
         self.check_reading(at)?;
         self.check_room()
+    }
+
+    fn check_resume(&self, life: u32) -> Result<(), SliceletError>
+        ensures refusal { result_err result ≡ first_of (resume_checks self.now life) }
+        ensures accepted { OnOk result (first_of (resume_checks self.now life) ≡ None) }
+    {
+        if life < self.life {
+            Err(SliceletError::OldLife)
+        } else {
+            Ok(())
+        }
     }
 
     fn check_hear(&self, grant: &Grant, at: u64) -> Result<(), SliceletError>

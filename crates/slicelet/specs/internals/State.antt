@@ -60,11 +60,12 @@ stamps_in None = []
 stamps_in (Some stamps) = stamps
 
 -- the state that a slicelet stands for
-abbrev pub state_of : ℕ → ℕ → ℕ → Holding → HeardGrants → Stamps → SliceletState
-state_of task count life holding heard stamps = record {
+abbrev pub state_of : ℕ → ℕ → ℕ → ℕ → Holding → HeardGrants → Stamps → SliceletState
+state_of task count life resumed holding heard stamps = record {
   task = task;
   count = count;
   life = life;
+  resumed = resumed;
   up = holding.up;
   last = holding.last;
   guard = option_map (granted_as task life heard.guard) holding.guard;

@@ -4,4 +4,4 @@ use Rattle.slicelet.proofs.Keeping.{greatest_kept}
 use Rattle.slicelet.proofs.slicelet.Slicelet.greatest_number.Goals as goal
 
 pub returns : goal.returns
-returns c = rw (sym c.self.view_is) (c.number.ensures ∙ sym (greatest_kept c.self.inside.task c.self.inside.count c.self.inside.life c.self.inside.holding c.self.inside.heard (stamps_in c.self.inside.stamps) c.args.kind))
+returns c = rw (sym c.self.view_is) (c.number.ensures ∙ sym (greatest_kept c.self.inside.task c.self.inside.count c.self.inside.life c.self.inside.resumed c.self.inside.holding c.self.inside.heard (stamps_in c.self.inside.stamps) c.args.kind))

@@ -27,7 +27,7 @@ invariant_of-self c = elim c.if-renews.branch [
       let same : w.in_ok-restamped.field-0 ≡ c.in-Some.stamps = (let both = sym w.stamps-is ∙ c.in-Some.is in cc) in
       let accepted : first_of (hear_checks c.args.self.now c.args.grant.now c.args.at) ≡ None = search rules in
       let restamps = rw (← c.self.view_is, c.in_ok-copy.ensures, same) at w.in_ok-restamped.ensures in
-      let stands = heard_stands c.self.inside.task c.self.inside.count c.self.inside.life c.self.inside.holding c.self.inside.heard (stamps_in c.self.inside.stamps) c.self.invariant.0 c.args.grant.now c.args.at _ c.self.invariant.1 (rw (← c.self.view_is) at accepted) restamps in
+      let stands = heard_stands c.self.inside.task c.self.inside.count c.self.inside.life c.self.inside.resumed c.self.inside.holding c.self.inside.heard (stamps_in c.self.inside.stamps) c.self.invariant.0 c.args.grant.now c.args.at _ c.self.invariant.1 (rw (← c.self.view_is) at accepted) restamps in
       (Hear c.args.grant.now c.args.at ∷ c.self.invariant.0, rw (c.put_stamps.ensures, c.put_lease.ensures, c.with-self-inside.ensures, c.in_ok-copy.ensures) stands.0))
 ]
 
@@ -38,8 +38,8 @@ returns-in-Some c = elim c.if-renews.branch [
       let same : w.in_ok-restamped.field-0 ≡ c.in-Some.stamps = (let both = sym w.stamps-is ∙ c.in-Some.is in cc) in
       let accepted : first_of (hear_checks c.args.self.now c.args.grant.now c.args.at) ≡ None = search rules in
       let restamps = rw (← c.self.view_is, c.in_ok-copy.ensures, same) at w.in_ok-restamped.ensures in
-      let stands = heard_stands c.self.inside.task c.self.inside.count c.self.inside.life c.self.inside.holding c.self.inside.heard (stamps_in c.self.inside.stamps) c.self.invariant.0 c.args.grant.now c.args.at _ c.self.invariant.1 (rw (← c.self.view_is) at accepted) restamps in
-      subst (λ (s : SliceletState). hear_step s c.args.grant.now c.args.at ≡ Ok (state_of c.self.inside.task (c.self.inside.count + 1) c.self.inside.life c.put_lease.new.holding c.with-self-inside.result (stamps_in c.put_stamps.new.stamps), tt)) c.self.view_is
+      let stands = heard_stands c.self.inside.task c.self.inside.count c.self.inside.life c.self.inside.resumed c.self.inside.holding c.self.inside.heard (stamps_in c.self.inside.stamps) c.self.invariant.0 c.args.grant.now c.args.at _ c.self.invariant.1 (rw (← c.self.view_is) at accepted) restamps in
+      subst (λ (s : SliceletState). hear_step s c.args.grant.now c.args.at ≡ Ok (state_of c.self.inside.task (c.self.inside.count + 1) c.self.inside.life c.self.inside.resumed c.put_lease.new.holding c.with-self-inside.result (stamps_in c.put_stamps.new.stamps), tt)) c.self.view_is
       (rw (c.put_stamps.ensures, c.put_lease.ensures, c.with-self-inside.ensures, c.in_ok-copy.ensures) stands.1))
 ]
 
@@ -49,8 +49,8 @@ invariant_of-self-in_default c = elim c.if-renews.branch [
       let accepted : first_of (hear_checks c.args.self.now c.args.grant.now c.args.at) ≡ None = search rules in
       let here = rw (← c.self.view_is) at accepted in
       let hears = hear_accepted c.args.self.now c.args.grant.now c.args.at accepted in
-      let restamps = renewed_is c.self.inside.task c.self.inside.count c.self.inside.life c.self.inside.holding c.self.inside.heard (stamps_in c.self.inside.stamps) c.self.invariant.0 c.args.grant.now.lease.kind (Some c.args.grant.now.lease) c.args.at c.self.invariant.1 (rw (← c.self.view_is) at hears.started) (rw (← c.self.view_is) at hears.in_order) (rw c.in_ok-copy.ensures at (c.renews.ensures w.if-renews.true)) in
-      let stands = heard_stands c.self.inside.task c.self.inside.count c.self.inside.life c.self.inside.holding c.self.inside.heard (stamps_in c.self.inside.stamps) c.self.invariant.0 c.args.grant.now c.args.at (stamps_in c.self.inside.stamps) c.self.invariant.1 here restamps in
+      let restamps = renewed_is c.self.inside.task c.self.inside.count c.self.inside.life c.self.inside.resumed c.self.inside.holding c.self.inside.heard (stamps_in c.self.inside.stamps) c.self.invariant.0 c.args.grant.now.lease.kind (Some c.args.grant.now.lease) c.args.at c.self.invariant.1 (rw (← c.self.view_is) at hears.started) (rw (← c.self.view_is) at hears.in_order) (rw c.in_ok-copy.ensures at (c.renews.ensures w.if-renews.true)) in
+      let stands = heard_stands c.self.inside.task c.self.inside.count c.self.inside.life c.self.inside.resumed c.self.inside.holding c.self.inside.heard (stamps_in c.self.inside.stamps) c.self.invariant.0 c.args.grant.now c.args.at (stamps_in c.self.inside.stamps) c.self.invariant.1 here restamps in
       (Hear c.args.grant.now c.args.at ∷ c.self.invariant.0, rw (c.put_lease.ensures, c.with-self-inside.ensures, c.in_ok-copy.ensures) stands.0))
   | else-renews+in_ok-restamped w ↦ absurd (let e = sym w.stamps-is ∙ c.in_default.is in cc)
 ]
@@ -61,9 +61,9 @@ returns-in_default c = elim c.if-renews.branch [
       let accepted : first_of (hear_checks c.args.self.now c.args.grant.now c.args.at) ≡ None = search rules in
       let here = rw (← c.self.view_is) at accepted in
       let hears = hear_accepted c.args.self.now c.args.grant.now c.args.at accepted in
-      let restamps = renewed_is c.self.inside.task c.self.inside.count c.self.inside.life c.self.inside.holding c.self.inside.heard (stamps_in c.self.inside.stamps) c.self.invariant.0 c.args.grant.now.lease.kind (Some c.args.grant.now.lease) c.args.at c.self.invariant.1 (rw (← c.self.view_is) at hears.started) (rw (← c.self.view_is) at hears.in_order) (rw c.in_ok-copy.ensures at (c.renews.ensures w.if-renews.true)) in
-      let stands = heard_stands c.self.inside.task c.self.inside.count c.self.inside.life c.self.inside.holding c.self.inside.heard (stamps_in c.self.inside.stamps) c.self.invariant.0 c.args.grant.now c.args.at (stamps_in c.self.inside.stamps) c.self.invariant.1 here restamps in
-      subst (λ (s : SliceletState). hear_step s c.args.grant.now c.args.at ≡ Ok (state_of c.self.inside.task (c.self.inside.count + 1) c.self.inside.life c.put_lease.new.holding c.with-self-inside.result (stamps_in c.self.inside.stamps), tt)) c.self.view_is
+      let restamps = renewed_is c.self.inside.task c.self.inside.count c.self.inside.life c.self.inside.resumed c.self.inside.holding c.self.inside.heard (stamps_in c.self.inside.stamps) c.self.invariant.0 c.args.grant.now.lease.kind (Some c.args.grant.now.lease) c.args.at c.self.invariant.1 (rw (← c.self.view_is) at hears.started) (rw (← c.self.view_is) at hears.in_order) (rw c.in_ok-copy.ensures at (c.renews.ensures w.if-renews.true)) in
+      let stands = heard_stands c.self.inside.task c.self.inside.count c.self.inside.life c.self.inside.resumed c.self.inside.holding c.self.inside.heard (stamps_in c.self.inside.stamps) c.self.invariant.0 c.args.grant.now c.args.at (stamps_in c.self.inside.stamps) c.self.invariant.1 here restamps in
+      subst (λ (s : SliceletState). hear_step s c.args.grant.now c.args.at ≡ Ok (state_of c.self.inside.task (c.self.inside.count + 1) c.self.inside.life c.self.inside.resumed c.put_lease.new.holding c.with-self-inside.result (stamps_in c.self.inside.stamps), tt)) c.self.view_is
       (rw (c.put_lease.ensures, c.with-self-inside.ensures, c.in_ok-copy.ensures) stands.1))
   | else-renews+in_ok-restamped w ↦ absurd (let e = sym w.stamps-is ∙ c.in_default.is in cc)
 ]

@@ -12,11 +12,11 @@ none_held (Some grant) e = absurd (cc)
 
 pub returns-then-holds : goal.returns-then-holds
 returns-then-holds c =
-    let held = sym (holds_kept c.self.inside.task c.self.inside.count c.self.inside.life c.self.inside.holding c.self.inside.heard (stamps_in c.self.inside.stamps) c.args.kind) ∙ sym c.holds.ensures ∙ c.if-holds.true in
+    let held = sym (holds_kept c.self.inside.task c.self.inside.count c.self.inside.life c.self.inside.resumed c.self.inside.holding c.self.inside.heard (stamps_in c.self.inside.stamps) c.args.kind) ∙ sym c.holds.ensures ∙ c.if-holds.true in
     let number = number_held c.self.invariant.0 _ c.self.invariant.1 c.args.kind held in
     c.greatest_number.ensures ∙ (rw c.self.view_is at number)
 
 pub returns-else-holds : goal.returns-else-holds
 returns-else-holds c =
-    let held = sym (holds_kept c.self.inside.task c.self.inside.count c.self.inside.life c.self.inside.holding c.self.inside.heard (stamps_in c.self.inside.stamps) c.args.kind) ∙ sym c.holds.ensures ∙ c.if-holds.false in
+    let held = sym (holds_kept c.self.inside.task c.self.inside.count c.self.inside.life c.self.inside.resumed c.self.inside.holding c.self.inside.heard (stamps_in c.self.inside.stamps) c.args.kind) ∙ sym c.holds.ensures ∙ c.if-holds.false in
     rw (sym c.self.view_is) (none_held _ held)

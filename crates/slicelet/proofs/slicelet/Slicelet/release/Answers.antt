@@ -28,7 +28,7 @@ invariant_of-self c = elim c.if-renews.branch [
       let accepted : first_of (release_checks c.args.self.now c.args.kind c.args.at) ≡ None = search rules in
       let number : c.in_ok-number.number ≡ number_of (held_in c.args.self.now c.args.kind) = search rules in
       let restamps = rw (← c.self.view_is, same) at w.in_ok-restamped.ensures in
-      let stands = released_stands c.self.inside.task c.self.inside.count c.self.inside.life c.self.inside.holding c.self.inside.heard (stamps_in c.self.inside.stamps) c.self.invariant.0 c.args.kind c.args.at _ c.in_ok-number.number c.self.invariant.1 (rw (← c.self.view_is) at accepted) (rw (← c.self.view_is) at number) restamps in
+      let stands = released_stands c.self.inside.task c.self.inside.count c.self.inside.life c.self.inside.resumed c.self.inside.holding c.self.inside.heard (stamps_in c.self.inside.stamps) c.self.invariant.0 c.args.kind c.args.at _ c.in_ok-number.number c.self.invariant.1 (rw (← c.self.view_is) at accepted) (rw (← c.self.view_is) at number) restamps in
       (Release c.args.kind c.args.at ∷ c.self.invariant.0, rw (c.put_stamps.ensures, c.put_lease.ensures) stands.0))
 ]
 
@@ -38,8 +38,8 @@ invariant_of-self-in_default c = elim c.if-renews.branch [
       let accepted : first_of (release_checks c.args.self.now c.args.kind c.args.at) ≡ None = search rules in
       let number : c.in_ok-number.number ≡ number_of (held_in c.args.self.now c.args.kind) = search rules in
       let releases = release_accepted c.args.self.now c.args.kind c.args.at accepted in
-      let restamps = renewed_is c.self.inside.task c.self.inside.count c.self.inside.life c.self.inside.holding c.self.inside.heard (stamps_in c.self.inside.stamps) c.self.invariant.0 c.args.kind None c.args.at c.self.invariant.1 (rw (← c.self.view_is) at releases.started) (rw (← c.self.view_is) at releases.in_order) (c.renews.ensures w.if-renews.true) in
-      let stands = released_stands c.self.inside.task c.self.inside.count c.self.inside.life c.self.inside.holding c.self.inside.heard (stamps_in c.self.inside.stamps) c.self.invariant.0 c.args.kind c.args.at (stamps_in c.self.inside.stamps) c.in_ok-number.number c.self.invariant.1 (rw (← c.self.view_is) at accepted) (rw (← c.self.view_is) at number) restamps in
+      let restamps = renewed_is c.self.inside.task c.self.inside.count c.self.inside.life c.self.inside.resumed c.self.inside.holding c.self.inside.heard (stamps_in c.self.inside.stamps) c.self.invariant.0 c.args.kind None c.args.at c.self.invariant.1 (rw (← c.self.view_is) at releases.started) (rw (← c.self.view_is) at releases.in_order) (c.renews.ensures w.if-renews.true) in
+      let stands = released_stands c.self.inside.task c.self.inside.count c.self.inside.life c.self.inside.resumed c.self.inside.holding c.self.inside.heard (stamps_in c.self.inside.stamps) c.self.invariant.0 c.args.kind c.args.at (stamps_in c.self.inside.stamps) c.in_ok-number.number c.self.invariant.1 (rw (← c.self.view_is) at accepted) (rw (← c.self.view_is) at number) restamps in
       (Release c.args.kind c.args.at ∷ c.self.invariant.0, rw c.put_lease.ensures stands.0))
   | else-renews+in_ok-restamped w ↦ absurd (let e = sym w.stamps-is ∙ c.in_default.is in cc)
 ]
@@ -53,9 +53,9 @@ returns c = elim c.match-stamps.branch [
         let accepted : first_of (release_checks c.args.self.now c.args.kind c.args.at) ≡ None = search rules in
         let number : c.in_ok-number.number ≡ number_of (held_in c.args.self.now c.args.kind) = search rules in
         let restamps = rw (← c.self.view_is, same) at w.in_ok-restamped.ensures in
-        let stands = released_stands c.self.inside.task c.self.inside.count c.self.inside.life c.self.inside.holding c.self.inside.heard (stamps_in c.self.inside.stamps) c.self.invariant.0 c.args.kind c.args.at _ c.in_ok-number.number c.self.invariant.1 (rw (← c.self.view_is) at accepted) (rw (← c.self.view_is) at number) restamps in
+        let stands = released_stands c.self.inside.task c.self.inside.count c.self.inside.life c.self.inside.resumed c.self.inside.holding c.self.inside.heard (stamps_in c.self.inside.stamps) c.self.invariant.0 c.args.kind c.args.at _ c.in_ok-number.number c.self.invariant.1 (rw (← c.self.view_is) at accepted) (rw (← c.self.view_is) at number) restamps in
         subst (λ (s : SliceletState). release_step s c.args.kind c.args.at ≡ Ok (
-          state_of c.self.inside.task (c.self.inside.count + 1) c.self.inside.life c.put_lease.new.holding c.self.inside.heard (stamps_in v.put_stamps.new.stamps),
+          state_of c.self.inside.task (c.self.inside.count + 1) c.self.inside.life c.self.inside.resumed c.put_lease.new.holding c.self.inside.heard (stamps_in v.put_stamps.new.stamps),
           record { task = c.self.inside.task; life = c.self.inside.life; kind = c.args.kind; number = c.in_ok-number.number },
         )) c.self.view_is
         (rw (v.put_stamps.ensures, c.put_lease.ensures) stands.1))
@@ -65,10 +65,10 @@ returns c = elim c.match-stamps.branch [
         let accepted : first_of (release_checks c.args.self.now c.args.kind c.args.at) ≡ None = search rules in
         let number : c.in_ok-number.number ≡ number_of (held_in c.args.self.now c.args.kind) = search rules in
         let releases = release_accepted c.args.self.now c.args.kind c.args.at accepted in
-        let restamps = renewed_is c.self.inside.task c.self.inside.count c.self.inside.life c.self.inside.holding c.self.inside.heard (stamps_in c.self.inside.stamps) c.self.invariant.0 c.args.kind None c.args.at c.self.invariant.1 (rw (← c.self.view_is) at releases.started) (rw (← c.self.view_is) at releases.in_order) (c.renews.ensures w.if-renews.true) in
-        let stands = released_stands c.self.inside.task c.self.inside.count c.self.inside.life c.self.inside.holding c.self.inside.heard (stamps_in c.self.inside.stamps) c.self.invariant.0 c.args.kind c.args.at (stamps_in c.self.inside.stamps) c.in_ok-number.number c.self.invariant.1 (rw (← c.self.view_is) at accepted) (rw (← c.self.view_is) at number) restamps in
+        let restamps = renewed_is c.self.inside.task c.self.inside.count c.self.inside.life c.self.inside.resumed c.self.inside.holding c.self.inside.heard (stamps_in c.self.inside.stamps) c.self.invariant.0 c.args.kind None c.args.at c.self.invariant.1 (rw (← c.self.view_is) at releases.started) (rw (← c.self.view_is) at releases.in_order) (c.renews.ensures w.if-renews.true) in
+        let stands = released_stands c.self.inside.task c.self.inside.count c.self.inside.life c.self.inside.resumed c.self.inside.holding c.self.inside.heard (stamps_in c.self.inside.stamps) c.self.invariant.0 c.args.kind c.args.at (stamps_in c.self.inside.stamps) c.in_ok-number.number c.self.invariant.1 (rw (← c.self.view_is) at accepted) (rw (← c.self.view_is) at number) restamps in
         subst (λ (s : SliceletState). release_step s c.args.kind c.args.at ≡ Ok (
-          state_of c.self.inside.task (c.self.inside.count + 1) c.self.inside.life c.put_lease.new.holding c.self.inside.heard (stamps_in c.self.inside.stamps),
+          state_of c.self.inside.task (c.self.inside.count + 1) c.self.inside.life c.self.inside.resumed c.put_lease.new.holding c.self.inside.heard (stamps_in c.self.inside.stamps),
           record { task = c.self.inside.task; life = c.self.inside.life; kind = c.args.kind; number = c.in_ok-number.number },
         )) c.self.view_is
         (rw c.put_lease.ensures stands.1))

@@ -5,4 +5,4 @@ use Rattle.slicelet.proofs.slicelet.Slicelet.restamped.Goals as goal
 
 pub returns : goal.returns
 returns c =
-    rw (sym c.self.view_is) (restamped_is c.self.inside.task c.self.inside.count c.self.inside.life c.self.inside.holding c.self.inside.heard (stamps_in c.self.inside.stamps) c.args.kind c.args.lease.now c.args.at _ _ _ _ c.in_ok-before.ensures c.in_ok-after.ensures refl c.restamp.ensures)
+    rw (sym c.self.view_is) (restamped_is c.self.inside.task c.self.inside.count c.self.inside.life c.self.inside.resumed c.self.inside.holding c.self.inside.heard (stamps_in c.self.inside.stamps) c.args.kind c.args.lease.now c.args.at _ _ _ _ c.in_ok-before.ensures c.in_ok-after.ensures refl c.restamp.ensures)

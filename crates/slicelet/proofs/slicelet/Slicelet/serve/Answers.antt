@@ -8,10 +8,10 @@ use Rattle.slicelet.proofs.slicelet.Slicelet.serve.Goals as goal
 
 pub returns-clause-state : goal.returns-clause-state
 returns-clause-state c =
-    let seen = seen_kept c.self.inside.task c.self.inside.count c.self.inside.life c.self.inside.holding c.self.inside.heard (stamps_in c.self.inside.stamps) c.args.key in
+    let seen = seen_kept c.self.inside.task c.self.inside.count c.self.inside.life c.self.inside.resumed c.self.inside.holding c.self.inside.heard (stamps_in c.self.inside.stamps) c.args.key in
     rw (sym c.self.view_is) (c.verdict.ensures ∙ ap (λ (h : SeenHolding). rule h c.args.at) seen)
 
 pub returns-clause-calls : goal.returns-clause-calls
 returns-clause-calls c = λ calls stands.
-    let seen = seen_kept c.self.inside.task c.self.inside.count c.self.inside.life c.self.inside.holding c.self.inside.heard (stamps_in c.self.inside.stamps) c.args.key in
+    let seen = seen_kept c.self.inside.task c.self.inside.count c.self.inside.life c.self.inside.resumed c.self.inside.holding c.self.inside.heard (stamps_in c.self.inside.stamps) c.args.key in
     c.verdict.ensures ∙ ap (λ (h : SeenHolding). rule h c.args.at) seen ∙ rule_by_calls (covers_key c.args.key) calls _ c.args.at (rw (← c.self.view_is) at stands)
