@@ -60,7 +60,7 @@ impl<'a> Point<'a> {
     {
         match self {
             Point::Table(event) => Reading::of_table(&event.call),
-            Point::Task(_, event) => Reading::TaskClock(event.call.reading()),
+            Point::Task(_, event) => Reading::of_task(&event.call),
             Point::Clerk(..) => Reading::NoClock,
             Point::Record(record) => record.step.reading(),
         }

@@ -1,12 +1,12 @@
 -- What one more event adds to what each actor accepted, and to the notes.
-use Rattle.std.proofs.Common.{◌≡◌, ℕ, Bool, true, false, List, ◌∷◌, refl, sym, ◌∙◌, ap, inl, inr, ◌⊎◌, eqb-true}
+use Rattle.std.proofs.Common.{◌≡◌, ℕ, Bool, true, false, List, ◌∷◌, ◌++◌, refl, sym, ◌∙◌, ap, inl, inr, ◌⊎◌, eqb-true}
 use Rattle.std.specs.Prelude.{◌==◌, Ok, if◌then◌else◌}
 use Rattle.machines.specs.Calls.{answered_call}
 use Rattle.lease_table.specs.declared.call.TableCall.{TableCall}
 use Rattle.lease_table.specs.declared.call.TableReply.{TableReply}
-use Rattle.lease_table.specs.declared.values.ReleaseNote.{ReleaseNote}
 use Rattle.slicelet.specs.declared.call.SliceletCall.{SliceletCall}
-use Rattle.slicelet.specs.declared.call.SliceletReply.TheVariants.{Released}
+use Rattle.slicelet.specs.declared.call.SliceletReply.{SliceletReply}
+use Rattle.slicelet.specs.Accepted.{notes_of}
 use Rattle.cluster.specs.declared.call.ClusterCall.{ClusterCall}
 use Rattle.cluster.specs.declared.call.ClusterCall.TheVariants as call
 use Rattle.cluster.specs.declared.reply.ClusterReply.{ClusterReply}
@@ -71,24 +71,24 @@ called_task task past _ told = inl refl
 pub adds_to_task : (task : ℕ) (past : Past) (e : Event) → (task_calls task (e ∷ past) ≡ task_calls task past) ⊎ AddsTaskCall task past e
 adds_to_task task past e = called_task task past e.call e.reply
 
--- an event made a note
-pub record AddsNote (past : Past) (e : Event) : Type 0 where
+-- an event made what notes its reply has
+pub record AddsNotes (past : Past) (e : Event) : Type 0 where
   pub task : ℕ
   pub made : SliceletCall
-  pub note : ReleaseNote
-  pub is : e ≡ event (call.Task task made) (reply.Task (Released note))
-  pub added : notes_made (e ∷ past) ≡ note ∷ notes_made past
+  pub told : SliceletReply
+  pub is : e ≡ event (call.Task task made) (reply.Task told)
+  pub added : notes_made (e ∷ past) ≡ notes_of told ++ notes_made past
 
 abbrev AddsToNotes : Past → Event → Type 0
-AddsToNotes past e = (notes_made (e ∷ past) ≡ notes_made past) ⊎ AddsNote past e
+AddsToNotes past e = (notes_made (e ∷ past) ≡ notes_made past) ⊎ AddsNotes past e
 
-told_note : (past : Past) (task : ℕ) (c : SliceletCall) (told : ClusterReply) → AddsToNotes past (event (call.Task task c) told)
-told_note past task c (reply.Task (Released note)) = inr record { task = task; made = c; note = note; is = refl; added = refl }
-told_note past task c _ = inl refl
+told_notes : (past : Past) (task : ℕ) (c : SliceletCall) (told : ClusterReply) → AddsToNotes past (event (call.Task task c) told)
+told_notes past task c (reply.Task told) = inr record { task = task; made = c; told = told; is = refl; added = refl }
+told_notes past task c _ = inl refl
 
-called_note : (past : Past) (c : ClusterCall) (told : ClusterReply) → AddsToNotes past (event c told)
-called_note past (call.Task task c) told = told_note past task c told
-called_note past _ told = inl refl
+called_notes : (past : Past) (c : ClusterCall) (told : ClusterReply) → AddsToNotes past (event c told)
+called_notes past (call.Task task c) told = told_notes past task c told
+called_notes past _ told = inl refl
 
-pub adds_to_notes : (past : Past) (e : Event) → (notes_made (e ∷ past) ≡ notes_made past) ⊎ AddsNote past e
-adds_to_notes past e = called_note past e.call e.reply
+pub adds_to_notes : (past : Past) (e : Event) → (notes_made (e ∷ past) ≡ notes_made past) ⊎ AddsNotes past e
+adds_to_notes past e = called_notes past e.call e.reply

@@ -6,7 +6,7 @@ use Rattle.lease_table.specs.declared.values.Grant.{Grant}
 use Rattle.lease_table.specs.OpenRows.{IsSent}
 use Rattle.lease_table.specs.Generations.{covers_by_owners}
 use Rattle.slicelet.specs.declared.call.SliceletCall.{SliceletCall}
-use Rattle.slicelet.specs.declared.call.SliceletCall.TheVariants.{Start, Hear, Release}
+use Rattle.slicelet.specs.declared.call.SliceletCall.TheVariants.{Start, Hear, Release, Resume}
 use Rattle.slicelet.specs.Rules.{covers_key}
 use Rattle.slicelet.specs.Laws.{AgreeOnCall, AgreeOnHeard}
 use Rattle.cluster.specs.Jobs.{Job}
@@ -25,3 +25,4 @@ agree job past task key run same =
     each (Start life at) h = tt
     each (Hear grant at) h = same grant h
     each (Release kind at) h = tt
+    each (Resume life) h = tt

@@ -1,12 +1,15 @@
 -- Where a `check` finds a handle continuous, its task may serve the key at each point from the handle's `hold` on.
-use Rattle.std.proofs.Common.{◌≡◌, ℕ, Bool, true, false, not, ◌&&◌, ◌||◌, List, ◌∷◌, ◌++◌, length, refl, sym, ◌∙◌, ap, subst, eqb-true}
-use Rattle.std.specs.Prelude.{IsTrue, ◌==◌, nat_lt, if◌then◌else◌}
+use Rattle.std.proofs.Common.{◌≡◌, ℕ, Bool, true, false, not, ◌&&◌, ◌||◌, List, ◌∷◌, ◌++◌, refl, sym, ◌∙◌, ap, subst, eqb-true}
+use Rattle.std.specs.Prelude.{IsTrue, ◌==◌, nat_lt, nat_le, if◌then◌else◌}
+use Rattle.std.specs.List.{AllByRecursion}
 use Rattle.policy_rules.specs.declared.answer.Verdict.{Verdict}
 use Rattle.policy_rules.specs.declared.answer.Verdict.TheVariants.{Allow, Deny}
 use Rattle.slicelet.specs.declared.handle.KeyHandle.{KeyHandle}
 use Rattle.lease_table.specs.declared.values.Grant.{Grant}
 use Rattle.machines.specs.Numbers.{is_within}
 use Rattle.slicelet.specs.declared.call.SliceletCall.{SliceletCall}
+use Rattle.slicelet.specs.Calls.{life_of, count_of}
+use Rattle.slicelet.specs.Accepted.{AreAccepted}
 use Rattle.slicelet.specs.States.{SliceletState}
 use Rattle.slicelet.specs.Rules.{is_permitted}
 use Rattle.slicelet.specs.Continuity.{handle_on, held_by, IsContinuous, is_strange, next_reading}
@@ -21,12 +24,14 @@ use Rattle.cluster.specs.Deliveries.{is_given}
 use Rattle.cluster.specs.Replies.{covers, rule_in, hold_reply, check_reply}
 use Rattle.cluster.specs.Runs.{IsReply, IsRun}
 use Rattle.cluster.specs.Headline.{MayServe, IsWhileHeld}
+use Rattle.slicelet.proofs.Processes.{IsWithinLife, continuous_in_life}
+use Rattle.cluster.proofs.TaskAcceptance.{accepted_calls}
 use Rattle.cluster.proofs.Ruling.{run_before}
 use Rattle.cluster.proofs.LaterPoints.{IsLonger, longer, read_anything, IsNearTo, near_before, timely_at_point, near_after, KeepsGenerations, agree_later}
 
 abbrev pub Between : Type 0
-Between = (covers : Grant → Bool) (later before h : List SliceletCall) (handle : KeyHandle) (at : ℕ) → handle.position ≡ length h
-    → IsContinuous covers (later ++ (before ++ h)) handle at → IsTrue (is_permitted covers (before ++ h) (next_reading later at))
+Between = (task : ℕ) (covers : Grant → Bool) (later before h : List SliceletCall) (handle : KeyHandle) (at : ℕ) → AreAccepted task (later ++ (before ++ h))
+    → handle.life ≡ life_of h → handle.position ≡ count_of h → IsContinuous covers (later ++ (before ++ h)) handle at → IsTrue (is_permitted covers (before ++ h) (next_reading later at))
 
 abbrev pub Agreeing : Type 0
 Agreeing = (covers other : Grant → Bool) (h : List SliceletCall) (at : ℕ) → AgreeOnHeard covers other h
@@ -42,7 +47,8 @@ pub record HasLaws (job : Job) : Type 0 where
 
 -- a task took a handle after an earlier past, and finds it continuous after a whole one, at a reading near to it
 record IsKept (job : Job) (whole before : Past) (task at : ℕ) (handle : KeyHandle) : Type 0 where
-  position : handle.position ≡ length (task_calls task before)
+  life : handle.life ≡ life_of (task_calls task before)
+  position : handle.position ≡ count_of (task_calls task before)
   continuous : IsContinuous (covers whole handle.key) (task_calls task whole) handle at
   near : IsNearTo job.policy.skew whole at
 
@@ -50,27 +56,30 @@ module _ (job : Job) (laws : HasLaws job) (rest since before : Past) (task at : 
   abbrev point : Past
   point = since ++ before
 
-  -- at the reading of the task's next call, or at that of the `check`, the key is permitted at the point
+  -- at the reading of the task's next call, or at that of the `check`, the key is permitted at the point, and all calls since are of one life
   permitted_there : IsKept job (rest ++ point) before task at handle → (P : ℕ → Type 0)
       → (next : IsLonger P (task_calls task point) (task_calls task (rest ++ point)) at)
-      → is_permitted (covers point handle.key) (task_calls task point) (next_reading next.later at) ≡ true
+      → AllByRecursion IsWithinLife next.later × (is_permitted (covers point handle.key) (task_calls task point) (next_reading next.later at) ≡ true)
   permitted_there k P next =
       let now = task_calls task point in
       let covering = covers (rest ++ point) handle.key in
       let r = next_reading next.later at in
       let past = longer (λ r. Unit {0}) task before since at tt (read_anything since) in
       let parts = next.parts ∙ ap (λ (calls : List SliceletCall). next.later ++ calls) past.parts in
+      let accepted = subst (AreAccepted task) parts (accepted_calls job (rest ++ point) task run) in
       let continuous = subst (λ (calls : List SliceletCall). IsContinuous covering calls handle at) parts k.continuous in
-      let kept = laws.between covering next.later past.later (task_calls task before) handle at k.position continuous in
+      let of_life = continuous_in_life task covering next.later past.later (task_calls task before) handle at accepted k.life continuous in
+      let kept = laws.between task covering next.later past.later (task_calls task before) handle at accepted k.life k.position continuous in
       let seen_later = subst (λ (calls : List SliceletCall). is_permitted covering calls r ≡ true) (sym past.parts) kept in
-      sym (laws.agreeing covering (covers point handle.key) now r (agree_later job laws.keeps rest point handle.key run task)) ∙ seen_later
+      (of_life.later_calls, sym (laws.agreeing covering (covers point handle.key) now r (agree_later job laws.keeps rest point handle.key run task)) ∙ seen_later)
 
   serves_there : IsKept job (rest ++ point) before task at handle → IsTimely job.policy.skew (readings (rest ++ point)) → MayServe job point task handle.key
   serves_there k timely =
       let skew = job.policy.skew in
       let near = near_before skew at rest point k.near in
       let next = longer (IsNearTo skew point) task point rest at near (near_after skew rest point timely) in
-      (next_reading next.later at, (next.next, timely_at_point skew rest point timely), permitted_there k (IsNearTo skew point) next)
+      let there = permitted_there k (IsNearTo skew point) next in
+      (next_reading next.later at, (next.next there.0, timely_at_point skew rest point timely), there.1)
 
 -- FROM A HOLD TO A CHECK
 
@@ -98,7 +107,7 @@ familiar_task : (s : SliceletState) (handle : KeyHandle) → is_strange s handle
 familiar_task s handle familiar = by_test (handle.task == s.task) refl familiar
   where
     by_test : (b : Bool) → b ≡ (handle.task == s.task)
-        → (not b || nat_lt s.life handle.life
+        → (not b || nat_le handle.life s.resumed || nat_lt s.life handle.life
         || (handle.life == s.life && nat_lt s.count handle.position)) ≡ false
         → handle.task ≡ s.task
     by_test true e f = eqb-true handle.task s.task (sym e)
@@ -128,7 +137,8 @@ module _ (job : Job) (task by key from at : ℕ) (handle : KeyHandle) (between b
       let f = check_found job (between ++ made) task at handle run.0 in
       let own : by ≡ task = ap (λ (h : KeyHandle). h.task) taken ∙ f.own in
       record {
-        position = sym (ap (λ (h : KeyHandle). h.position) taken) ∙ ap (λ (n : ℕ). length (task_calls n before)) own;
+        life = sym (ap (λ (h : KeyHandle). h.life) taken) ∙ ap (λ (n : ℕ). life_of (task_calls n before)) own;
+        position = sym (ap (λ (h : KeyHandle). h.position) taken) ∙ ap (λ (n : ℕ). count_of (task_calls n before)) own;
         continuous = f.continuous;
         near = (tt, timely.0);
       }

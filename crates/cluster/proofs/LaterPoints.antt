@@ -1,5 +1,6 @@
 -- What a later point of a run adds: calls of a task at readings near to the earlier point, and nothing to what a lease covers.
-use Rattle.std.proofs.Common.{◌≡◌, ℕ, ◌-◌, ◌≤◌, Bool, ◌&&◌, List, [], ◌∷◌, ◌++◌, refl, ◌∙◌, ap, subst, inl, inr, arith}
+use Rattle.std.proofs.Common.{◌≡◌, ℕ, ◌-◌, ◌≤◌, Bool, true, false, ◌&&◌, List, [], ◌∷◌, ◌++◌, refl, sym, ◌∙◌, ap, subst, inl, inr, arith}
+use Rattle.std.proofs.lemmas.Bool.{true≢false}
 use Rattle.std.specs.Prelude.{Option}
 use Rattle.std.specs.List.{AllByRecursion}
 use Rattle.machines.proofs.Every.{all_weaker}
@@ -13,18 +14,19 @@ use Rattle.lease_table.specs.Calls.{AnsweredTableCall}
 use Rattle.lease_table.specs.Generations.{assignment_in, newest_generation, owns_in, covers_as}
 use Rattle.lease_table.specs.OpenRows.{IsSent}
 use Rattle.slicelet.specs.declared.call.SliceletCall.{SliceletCall}
-use Rattle.slicelet.specs.declared.call.SliceletCall.TheVariants.{Start, Hear, Release}
-use Rattle.slicelet.specs.Calls.{reading_of}
+use Rattle.slicelet.specs.declared.call.SliceletCall.TheVariants.{Start, Hear, Release, Resume}
+use Rattle.slicelet.specs.Calls.{ends_life, clock_reading, reading_of}
 use Rattle.slicelet.specs.Continuity.{next_reading}
 use Rattle.slicelet.specs.Laws.{AgreeOnCall, AgreeOnHeard}
 use Rattle.cluster.specs.Jobs.{Job}
 use Rattle.cluster.specs.declared.timing.Reading.{Reading}
 use Rattle.cluster.specs.declared.timing.Reading.TheVariants.{TaskClock}
 use Rattle.cluster.specs.Timing.{IsNear, IsTimely}
-use Rattle.cluster.specs.Pasts.{Event, Past, reading, readings, table_calls, task_calls}
+use Rattle.cluster.specs.Pasts.{Event, Past, at_task, reading, readings, table_calls, task_calls}
 use Rattle.cluster.specs.Replies.{covers}
 use Rattle.cluster.specs.Runs.{IsRun}
-use Rattle.cluster.proofs.Adding.{adds_to_task}
+use Rattle.slicelet.proofs.Processes.{IsWithinLife}
+use Rattle.cluster.proofs.Adding.{AddsTaskCall, adds_to_task}
 use Rattle.cluster.proofs.Sending.{HearsSent, all_heard_sent}
 use Rattle.cluster.proofs.Ruling.{run_before}
 
@@ -35,28 +37,51 @@ abbrev pub AreRead : (ℕ → Type 0) → Past → Type 0
 AreRead P events = AllByRecursion (λ (e : Event). (r : ℕ) → reading e.call ≡ TaskClock r → P r) events
 
 -- calls are some earlier ones with later ones; what holds of the readings between, and of the last one, holds of the first
--- later call's
+-- later call's, if they are all of one life
 pub record IsLonger (P : ℕ → Type 0) (calls whole : List SliceletCall) (at : ℕ) : Type 0 where
   pub later : List SliceletCall
   pub parts : whole ≡ later ++ calls
-  pub next : P (next_reading later at)
+  pub next : AllByRecursion IsWithinLife later → P (next_reading later at)
+
+pub read_anything : (more : Past) → AreRead (λ r. Unit {0}) more
+read_anything [] = tt
+read_anything (e ∷ more) = (λ r read. tt, read_anything more)
+
+-- a call within a life reads the clock
+within_reads : (c : SliceletCall) → ends_life c ≡ false → at_task (clock_reading c) ≡ TaskClock (reading_of c)
+within_reads (Start life at) e = refl
+within_reads (Hear grant at) e = refl
+within_reads (Release kind at) e = refl
+within_reads (Resume life) e = absurd (cc)
 
 pub longer : (P : ℕ → Type 0) (task : ℕ) (past more : Past) (at : ℕ) → P at → AreRead P more → IsLonger P (task_calls task past) (task_calls task (more ++ past)) at
-longer P task past [] at last all = record { later = []; parts = refl; next = last }
+longer P task past [] at last all = record { later = []; parts = refl; next = λ within. last }
 longer P task past (e ∷ more) at last all =
     elim (adds_to_task task (more ++ past) e) [
       | inl same ↦ (
           let r = longer P task past more at last all.1 in
           record { later = r.later; parts = same ∙ r.parts; next = r.next })
-      | inr new ↦ (
-          let here = all.0 (reading_of new.made) (ap (λ (x : Event). reading x.call) new.is) in
-          let r = longer P task past more (reading_of new.made) here all.1 in
-          record { later = new.made ∷ r.later; parts = new.added ∙ ap (λ (calls : List SliceletCall). new.made ∷ calls) r.parts; next = r.next })
+      | inr new ↦ by_end new (ends_life new.made) refl (longer (λ r. Unit {0}) task past more at tt (read_anything more))
+          (λ here. longer P task past more (reading_of new.made) here all.1)
     ]
-
-pub read_anything : (more : Past) → AreRead (λ r. Unit {0}) more
-read_anything [] = tt
-read_anything (e ∷ more) = (λ r read. tt, read_anything more)
+  where
+    by_end : (new : AddsTaskCall task (more ++ past) e) (b : Bool) → ends_life new.made ≡ b
+        → IsLonger (λ r. Unit {0}) (task_calls task past) (task_calls task (more ++ past)) at
+        → (P (reading_of new.made) → IsLonger P (task_calls task past) (task_calls task (more ++ past)) (reading_of new.made))
+        → IsLonger P (task_calls task past) (task_calls task (e ∷ (more ++ past))) at
+    by_end new true ends any rest = record {
+      later = new.made ∷ any.later;
+      parts = new.added ∙ ap (λ (calls : List SliceletCall). new.made ∷ calls) any.parts;
+      next = λ within. absurd (true≢false (sym ends ∙ within.0));
+    }
+    by_end new false goes any rest =
+        let here = all.0 (reading_of new.made) (ap (λ (x : Event). reading x.call) new.is ∙ within_reads new.made goes) in
+        let r = rest here in
+        record {
+          later = new.made ∷ r.later;
+          parts = new.added ∙ ap (λ (calls : List SliceletCall). new.made ∷ calls) r.parts;
+          next = λ within. r.next within.1;
+        }
 
 -- TIMELY READINGS
 
@@ -111,6 +136,7 @@ module _ (job : Job) (keeps : KeepsGenerations job) (more past : Past) (key : �
       covers_same (table_calls (more ++ past)) (table_calls past) key grant
       (λ generation l. keeps.known more past generation run (omega (arith, l, low))) grant.lease.kind
   agree_heard (Release kind at) h = tt
+  agree_heard (Resume life) h = tt
 
   -- a lease that a task heard covers later what it covered
   pub agree_later : (task : ℕ) → AgreeOnHeard (covers (more ++ past) key) (covers past key) (task_calls task past)

@@ -1,10 +1,11 @@
 -- Every note that was made, or freed, was sent by its task.
-use Rattle.std.proofs.Common.{◌≡◌, ℕ, Bool, true, false, List, [], ◌∷◌, refl, sym, ◌∙◌, ap, subst, inl, inr, arith}
-use Rattle.std.specs.Prelude.{None, ◌==◌, Contains, Ok, Result, if◌then◌else◌}
+use Rattle.std.proofs.Common.{◌≡◌, ℕ, Bool, true, false, List, [], ◌∷◌, ◌++◌, refl, sym, ◌∙◌, ap, subst, inl, inr, arith}
+use Rattle.std.specs.Prelude.{None, ◌==◌, Contains, Result, if◌then◌else◌}
 use Rattle.std.specs.List.{AllByRecursion}
 use Rattle.std.proofs.lemmas.Bool.Decides.{nat_tests}
+use Rattle.std.proofs.lemmas.List.{append_assoc}
+use Rattle.std.proofs.lemmas.List.Elements.{Contains-append_left, Contains-append_right}
 use Rattle.machines.specs.Calls.{answered_call}
-use Rattle.machines.specs.Refusals.{first_of}
 use Rattle.machines.proofs.Every.{all_weaker}
 use Rattle.lease_table.specs.declared.call.TableCall.{TableCall}
 use Rattle.lease_table.specs.declared.call.TableCall.TheVariants.{Free}
@@ -14,12 +15,12 @@ use Rattle.lease_table.specs.declared.values.ReleaseNote.{ReleaseNote}
 use Rattle.lease_table.specs.Calls.{AnsweredTableCall}
 use Rattle.lease_table.proofs.Members.{here, there, nowhere, first_or_rest}
 use Rattle.slicelet.specs.declared.call.SliceletCall.{SliceletCall}
-use Rattle.slicelet.specs.declared.call.SliceletCall.TheVariants.{Start, Hear, Release}
+use Rattle.slicelet.specs.declared.call.SliceletCall.TheVariants.{Start, Hear, Release, Resume}
 use Rattle.slicelet.specs.declared.call.SliceletReply.{SliceletReply}
-use Rattle.slicelet.specs.declared.call.SliceletReply.TheVariants.{Started, Heard, Released}
-use Rattle.slicelet.specs.States.{SliceletState}
-use Rattle.slicelet.specs.Steps.{note_of, start_checks, hear_checks, release_checks, slicelet_step}
-use Rattle.slicelet.specs.Accepted.{notes_after, notes_sent}
+use Rattle.policy_rules.specs.declared.lease.Kind.TheVariants.{Guard, Bridge}
+use Rattle.slicelet.specs.Steps.{ended_note}
+use Rattle.slicelet.specs.Accepted.{notes_of, notes_after, notes_sent}
+use Rattle.slicelet.proofs.Standing.{SendsNotes, sends_notes}
 use Rattle.cluster.specs.Jobs.{Job}
 use Rattle.cluster.specs.declared.error.ClusterError.TheVariants as error
 use Rattle.cluster.specs.declared.call.ClusterCall.TheVariants as call
@@ -29,7 +30,7 @@ use Rattle.cluster.specs.Deliveries.{notes_made, same_note, is_made, table_refus
 use Rattle.cluster.specs.Runs.{IsReply, IsRun}
 use Rattle.cluster.specs.Promises.{IsNoteOf}
 use Rattle.cluster.proofs.Sameness.{equal_notes, is_member}
-use Rattle.cluster.proofs.Taking.{unless_true, table_taken, task_taken, named_reply}
+use Rattle.cluster.proofs.Taking.{unless_true, table_taken, task_taken}
 use Rattle.cluster.proofs.Adding.{adds_to_table, adds_to_task, adds_to_notes}
 
 pub member : {X : Type 0} (P : X → Type 0) (xs : List X) (x : X) → AllByRecursion P xs → Contains xs x → P x
@@ -43,6 +44,7 @@ pub note_stays : (task : ℕ) (c : SliceletCall) (h : List SliceletCall) (note :
 note_stays task (Start life at) h note i = i
 note_stays task (Hear grant at) h note i = i
 note_stays task (Release kind at) h note i = there _ note (notes_sent task h) i
+note_stays task (Resume life) h note i = there (ended_note task life Bridge) note (ended_note task life Guard ∷ notes_sent task h) (there (ended_note task life Guard) note (notes_sent task h) i)
 
 note_later : (e : Event) (past : Past) (note : ReleaseNote) → IsNoteOf past note → IsNoteOf (e ∷ past) note
 note_later e past note i =
@@ -56,35 +58,40 @@ note_later e past note i =
 pub same_number : (n : ℕ) → (n == n) ≡ true
 same_number n = grind (arith, nat_tests)
 
--- a step that answers a note sends it
-note_now : (s : SliceletState) (c : SliceletCall) (left : SliceletState × SliceletReply) (note : ReleaseNote) (notes : List ReleaseNote) → slicelet_step s c ≡ Ok left
-    → Released note ≡ left.1 → (note.task ≡ s.task) × Contains (notes_after s c notes) note
-note_now s (Start life at) left note notes e r =
-    absurd (let n : left.1 ≡ Started = named_reply (λ _. Started) (first_of (start_checks s life at)) _ left e in let f : Released note ≡ Started = r ∙ n in cc)
-note_now s (Hear grant at) left note notes e r =
-    absurd (let n : left.1 ≡ Heard = named_reply (λ _. Heard) (first_of (hear_checks s grant at)) _ left e in let f : Released note ≡ Heard = r ∙ n in cc)
-note_now s (Release kind at) left note notes e r =
-    let n : left.1 ≡ Released (note_of s kind) = named_reply Released (first_of (release_checks s kind at)) _ left e in
-    let same : note ≡ note_of s kind = let f : Released note ≡ Released (note_of s kind) = r ∙ n in cc in
-    (ap (λ (x : ReleaseNote). x.task) same, subst (λ (x : ReleaseNote). Contains (note_of s kind ∷ notes) x) (sym same) (here (note_of s kind) notes))
-
--- the call of a task that was told a note is among those that it accepted
-note_told : (past : Past) (task : ℕ) (c : SliceletCall) (note other : ReleaseNote) → Contains (notes_sent task (c ∷ task_calls task past)) other
-    → Contains (notes_sent task (task_calls task (event (call.Task task c) (reply.Task (Released note)) ∷ past))) other
-note_told past task c note other i = by_test (task == task) (same_number task)
+-- the call of a task that was told of is among those that it accepted
+notes_told : (past : Past) (task : ℕ) (c : SliceletCall) (told : SliceletReply) (note : ReleaseNote) → Contains (notes_sent task (c ∷ task_calls task past)) note
+    → Contains (notes_sent task (task_calls task (event (call.Task task c) (reply.Task told) ∷ past))) note
+notes_told past task c told note i = by_test (task == task) (same_number task)
   where
-    by_test : (b : Bool) → b ≡ true → Contains (notes_sent task (if b then c ∷ task_calls task past else task_calls task past)) other
+    by_test : (b : Bool) → b ≡ true → Contains (notes_sent task (if b then c ∷ task_calls task past else task_calls task past)) note
     by_test true e = i
     by_test false e = absurd (cc)
 
-new_note : (job : Job) (past : Past) (task : ℕ) (c : SliceletCall) (note : ReleaseNote) → IsReply job past (event (call.Task task c) (reply.Task (Released note)))
-    → IsNoteOf (event (call.Task task c) (reply.Task (Released note)) ∷ past) note
-new_note job past task c note h =
-    let t = task_taken job past task c (reply.Task (Released note)) h refl in
-    let named : Released note ≡ t.left.1 = let f : reply.Task (Released note) ≡ reply.Task t.left.1 = t.is in cc in
-    let now = note_now (history task past) c t.left note (notes_sent task (task_calls task past)) t.taken named in
-    subst (λ (n : ℕ). Contains (notes_sent n (task_calls n (event (call.Task task c) (reply.Task (Released note)) ∷ past))) note) (sym now.0)
-    (note_told past task c note note now.1)
+-- notes that a call was told are among those that it sent
+new_notes : (past : Past) (task : ℕ) (c : SliceletCall) (told : SliceletReply) (notes front : List ReleaseNote)
+    → notes_after (history task past) c (notes_sent task (task_calls task past)) ≡ (front ++ notes) ++ notes_sent task (task_calls task past)
+    → AllByRecursion (λ (note : ReleaseNote). note.task ≡ task) notes → AllByRecursion (IsNoteOf (event (call.Task task c) (reply.Task told) ∷ past)) notes
+new_notes past task c told [] front sent own = tt
+new_notes past task c told (note ∷ notes) front sent own =
+    let calls = notes_sent task (task_calls task past) in
+    let among : Contains ((front ++ note ∷ notes) ++ calls) note = Contains-append_left (front ++ note ∷ notes) calls note (Contains-append_right front (note ∷ notes) note (here note notes)) in
+    let now = subst (λ (xs : List ReleaseNote). Contains xs note) (sym sent) among in (
+      subst (λ (n : ℕ). Contains (notes_sent n (task_calls n (event (call.Task task c) (reply.Task told) ∷ past))) note) (sym own.0) (notes_told past task c told note now),
+      new_notes past task c told notes (front ++ note ∷ []) (sent ∙ ap (λ (xs : List ReleaseNote). xs ++ calls) (sym (append_assoc front (note ∷ []) notes))) own.1,
+    )
+
+made_now : (job : Job) (past : Past) (task : ℕ) (c : SliceletCall) (told : SliceletReply) → IsReply job past (event (call.Task task c) (reply.Task told))
+    → AllByRecursion (IsNoteOf (event (call.Task task c) (reply.Task told) ∷ past)) (notes_of told)
+made_now job past task c told h =
+    let t = task_taken job past task c (reply.Task told) h refl in
+    let named : t.left.1 ≡ told = let f : reply.Task told ≡ reply.Task t.left.1 = t.is in cc in
+    let sends = subst (λ (r : SliceletReply). SendsNotes (history task past) c (notes_of r) (notes_sent task (task_calls task past))) named
+    (sends_notes (history task past) c t.left (notes_sent task (task_calls task past)) t.taken) in
+    new_notes past task c told (notes_of told) [] sends.answered sends.own
+
+all_with : {X : Type 0} (P : X → Type 0) (xs ys : List X) → AllByRecursion P xs → AllByRecursion P ys → AllByRecursion P (xs ++ ys)
+all_with P [] ys first rest = rest
+all_with P (x ∷ xs) ys first rest = (first.0, all_with P xs ys first.1 rest)
 
 all_made_sent : (job : Job) (past : Past) → IsRun job past → AllByRecursion (IsNoteOf past) (notes_made past)
 all_made_sent job [] run = tt
@@ -93,9 +100,9 @@ all_made_sent job (e ∷ past) run =
     elim (adds_to_notes past e) [
       | inl same ↦ subst (λ (notes : List ReleaseNote). AllByRecursion (IsNoteOf (e ∷ past)) notes) (sym same) before
       | inr new ↦ (
-          let now = new_note job past new.task new.made new.note (subst (λ (x : Event). IsReply job past x) new.is run.0) in
-          subst (λ (notes : List ReleaseNote). AllByRecursion (IsNoteOf (e ∷ past)) notes) (sym new.added)
-          (subst (λ (x : Event). IsNoteOf (x ∷ past) new.note) (sym new.is) now, before))
+          let now = made_now job past new.task new.made new.told (subst (λ (x : Event). IsReply job past x) new.is run.0) in
+          let here_now = subst (λ (x : Event). AllByRecursion (IsNoteOf (x ∷ past)) (notes_of new.told)) (sym new.is) now in
+          subst (λ (notes : List ReleaseNote). AllByRecursion (IsNoteOf (e ∷ past)) notes) (sym new.added) (all_with (IsNoteOf (e ∷ past)) (notes_of new.told) (notes_made past) here_now before))
     ]
 
 -- every note that can be delivered was sent by its task

@@ -20,7 +20,6 @@ use Rattle.lease_table.specs.declared.values.Grant.{Grant}
 use Rattle.slicelet.specs.declared.call.SliceletCall.TheVariants.{Hear}
 use Rattle.slicelet.specs.declared.call.SliceletReply.{SliceletReply}
 use Rattle.slicelet.specs.declared.error.SliceletError.{SliceletError}
-use Rattle.slicelet.specs.Memory.{takes_memory}
 use Rattle.cluster.specs.Jobs.{Job}
 use Rattle.cluster.specs.declared.call.ClusterCall.TheVariants as asked
 use Rattle.cluster.specs.declared.error.ClusterError.TheVariants as error
@@ -30,6 +29,7 @@ use Rattle.cluster.specs.declared.cluster.Cluster.{Cluster}
 use Rattle.cluster.specs.Pasts.{Past, table_calls, grants, published}
 use Rattle.cluster.specs.Deliveries.{is_sent, is_published, is_published_as, task_refusal, clerk_refusal}
 use Rattle.cluster.specs.Replies.{by_actor}
+use Rattle.cluster.specs.Memory.{task_takes_memory}
 use Rattle.cluster.specs.Clusters.{LeadsTo, IsPlayed, IsPlayedOr}
 use Rattle.cluster.specs.Numbers.{with_number}
 use Rattle.cluster.proofs.Finding.{numbered_sent}
@@ -76,7 +76,7 @@ hear_played job past task at grant o none result new e played =
     subst (λ (o : Option Grant). IsPlayedOr job past (option_map (λ grant. asked.Task task (Hear grant at)) o) none result new) e played
 
 -- to hear takes memory
-pub hear_takes : (grant : Grant) (at : ℕ) (answer : Result SliceletReply (Trouble SliceletError)) → IfErr answer (λ trouble. trouble ≡ NoMemory → takes_memory (Hear grant at) ≡ true)
+pub hear_takes : (grant : Grant) (at : ℕ) (answer : Result SliceletReply (Trouble SliceletError)) → IfErr answer (λ trouble. trouble ≡ NoMemory → task_takes_memory (Hear grant at) ≡ true)
 hear_takes grant at (Ok told) = tt
 hear_takes grant at (Err trouble) = λ e. refl
 

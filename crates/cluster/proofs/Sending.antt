@@ -13,7 +13,7 @@ use Rattle.lease_table.specs.Equality.{grant_eq}
 use Rattle.lease_table.specs.Calls.{AnsweredTableCall, grants_after}
 use Rattle.lease_table.specs.OpenRows.{IsSent}
 use Rattle.slicelet.specs.declared.call.SliceletCall.{SliceletCall}
-use Rattle.slicelet.specs.declared.call.SliceletCall.TheVariants.{Start, Hear, Release}
+use Rattle.slicelet.specs.declared.call.SliceletCall.TheVariants.{Start, Hear, Release, Resume}
 use Rattle.slicelet.specs.Calls.{held_grant}
 use Rattle.slicelet.proofs.Hearing.{held_heard, all_at_heard}
 use Rattle.cluster.specs.Jobs.{Job}
@@ -42,16 +42,19 @@ abbrev pub HearsSent : List AnsweredTableCall → SliceletCall → Type 0
 HearsSent calls (Start life at) = Unit {0}
 HearsSent calls (Hear grant at) = IsSent calls grant
 HearsSent calls (Release kind at) = Unit {0}
+HearsSent calls (Resume life) = Unit {0}
 
 hears_later : (e : Event) (past : Past) (c : SliceletCall) → HearsSent (table_calls past) c → HearsSent (table_calls (e ∷ past)) c
 hears_later e past (Start life at) h = tt
 hears_later e past (Hear grant at) h = sent_later e past grant h
 hears_later e past (Release kind at) h = tt
+hears_later e past (Resume life) h = tt
 
 hears_now : (past : Past) (c : SliceletCall) → task_refusal past c ≡ None → HearsSent (table_calls past) c
 hears_now past (Start life at) came = tt
 hears_now past (Hear grant at) came = is_member grant_eq equal_grants grant (grants past) (unless_true (is_sent past grant) error.NotSent came)
 hears_now past (Release kind at) came = tt
+hears_now past (Resume life) came = tt
 
 pub all_heard_sent : (job : Job) (task : ℕ) (past : Past) → IsRun job past → AllByRecursion (HearsSent (table_calls past)) (task_calls task past)
 all_heard_sent job task [] run = tt

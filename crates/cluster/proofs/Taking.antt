@@ -10,11 +10,11 @@ use Rattle.lease_table.specs.declared.call.TableReply.{TableReply}
 use Rattle.lease_table.specs.declared.error.TableError.{TableError}
 use Rattle.lease_table.specs.Calls.{table_step}
 use Rattle.slicelet.specs.declared.call.SliceletCall.{SliceletCall}
-use Rattle.slicelet.specs.declared.call.SliceletCall.TheVariants.{Start, Hear, Release}
+use Rattle.slicelet.specs.declared.call.SliceletCall.TheVariants.{Start, Hear, Release, Resume}
 use Rattle.slicelet.specs.declared.call.SliceletReply.{SliceletReply}
-use Rattle.slicelet.specs.declared.call.SliceletReply.TheVariants.{Started, Heard, Released}
+use Rattle.slicelet.specs.declared.call.SliceletReply.TheVariants.{Started, Heard, Released, Resumed}
 use Rattle.slicelet.specs.States.{SliceletState}
-use Rattle.slicelet.specs.Steps.{start_checks, hear_checks, release_checks, slicelet_step}
+use Rattle.slicelet.specs.Steps.{start_checks, hear_checks, release_checks, resume_checks, slicelet_step}
 use Rattle.slicelet.specs.Accepted.{checks_of}
 use Rattle.cluster.specs.Jobs.{Job}
 use Rattle.cluster.specs.declared.error.ClusterError.{ClusterError}
@@ -83,6 +83,7 @@ pub step_unrefused : (s : SliceletState) (c : SliceletCall) (left : SliceletStat
 step_unrefused s (Start life at) left e = not_refused (λ _. Started) (first_of (start_checks s life at)) _ left e
 step_unrefused s (Hear grant at) left e = not_refused (λ _. Heard) (first_of (hear_checks s grant at)) _ left e
 step_unrefused s (Release kind at) left e = not_refused Released (first_of (release_checks s kind at)) _ left e
+step_unrefused s (Resume life) left e = not_refused Resumed (first_of (resume_checks s life)) _ left e
 
 pub named_reply : {M A S E : Type 0} (name : A → S) (o : Option E) (value : M × A) (left : M × S) → with_named_reply name (unless_refused o value) ≡ Ok left → left.1 ≡ name value.1
 named_reply name None value left e = cc

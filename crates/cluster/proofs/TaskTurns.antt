@@ -13,9 +13,8 @@ use Rattle.assignment.specs.Slices.{Slicing}
 use Rattle.lease_table.specs.declared.values.ReleaseNote.{ReleaseNote}
 use Rattle.slicelet.specs.declared.call.SliceletCall.{SliceletCall}
 use Rattle.slicelet.specs.declared.call.SliceletReply.{SliceletReply}
-use Rattle.slicelet.specs.declared.call.SliceletReply.TheVariants.{Started, Heard, Released}
+use Rattle.slicelet.specs.declared.call.SliceletReply.TheVariants.{Started, Heard, Released, Resumed}
 use Rattle.slicelet.specs.declared.error.SliceletError.{SliceletError}
-use Rattle.slicelet.specs.Memory.{takes_memory}
 use Rattle.slicelet.specs.States.{SliceletState, state_after}
 use Rattle.slicelet.specs.Steps.{slicelet_step}
 use Rattle.std.specs.declared.alloc.AllocError.{AllocError}
@@ -29,6 +28,7 @@ use Rattle.cluster.specs.declared.cluster.Cluster.{Cluster}
 use Rattle.cluster.specs.Pasts.{event, Past, task_calls, history, newest_learnt}
 use Rattle.cluster.specs.Deliveries.{notes_made, note_told, same_note, task_refusal}
 use Rattle.cluster.specs.Replies.{by_actor, unless, from_machine, reply_to}
+use Rattle.cluster.specs.Memory.{task_takes_memory}
 use Rattle.cluster.specs.Clusters.{AreActors, LeadsTo, IsPlayed}
 use Rattle.cluster.specs.internals.Turns.{known_after}
 use Rattle.cluster.specs.internals.Turns.{told_as, notes_kept}
@@ -58,6 +58,7 @@ kept_made : (told : SliceletReply) (note : ReleaseNote) (before : Bool) (notes :
 kept_made Started note before notes e = e
 kept_made Heard note before notes e = e
 kept_made (Released made) note before notes e = rw (e, same_note_turned made note) refl
+kept_made (Resumed ended) note before notes e = rw (e, same_note_turned ended.bridge note, same_note_turned ended.guard note) refl
 
 own_next : (past : Past) (task n : ℕ) (c : SliceletCall) (told : SliceletReply) → n ≡ task
     → state_after n (c ∷ task_calls n past) ≡ history n (event (call.Task task c) (reply.Task told) ∷ past)
@@ -80,7 +81,7 @@ module _ (job : Job) (past : Past) (task place : ℕ) (c : SliceletCall) (old ne
       ∙ ap (λ (o : Option ClusterError). unless o (from_machine error.Slicelet reply.Task (slicelet_step (history task past) c))) came
 
   pub task_played : (answer : Result SliceletReply (Trouble SliceletError)) → Takes (slicelet_step before c) before answer after
-      → IfErr answer (λ trouble. trouble ≡ NoMemory → takes_memory c ≡ true) → reverse new.notes.items ≡ notes_kept answer (reverse old.notes.items)
+      → IfErr answer (λ trouble. trouble ≡ NoMemory → task_takes_memory c ≡ true) → reverse new.notes.items ≡ notes_kept answer (reverse old.notes.items)
       → ((note : ReleaseNote) → contains same_note new.known_notes note ≡ known_after answer note (contains same_note old.known_notes note)) → IsPlayed job past (call.Task task c) (told_as error.Slicelet reply.Task answer) new
   unfolding LeadsTo
   task_played (Ok told) took memory notes known =
@@ -121,7 +122,7 @@ module _ (job : Job) (past : Past) (task place : ℕ) (c : SliceletCall) (old ne
 pub task_turn : (job : Job) (past : Past) (task place : ℕ) (c : SliceletCall) (old new : Cluster) → place + 1 ≡ task → task_refusal past c ≡ None → LeadsTo job past old
     → (before after : SliceletState) → before ≡ get_or old.tasks.items place before → place < length old.tasks.items
     → new.tasks.items ≡ set old.tasks.items place after → IsSameBesideTasks old new → (answer : Result SliceletReply (Trouble SliceletError))
-    → Takes (slicelet_step before c) before answer after → IfErr answer (λ trouble. trouble ≡ NoMemory → takes_memory c ≡ true) → reverse new.notes.items ≡ notes_kept answer (reverse old.notes.items)
+    → Takes (slicelet_step before c) before answer after → IfErr answer (λ trouble. trouble ≡ NoMemory → task_takes_memory c ≡ true) → reverse new.notes.items ≡ notes_kept answer (reverse old.notes.items)
     → ((note : ReleaseNote) → contains same_note new.known_notes note ≡ known_after answer note (contains same_note old.known_notes note)) → (result : Result ClusterReply AllocError) → result ≡ told_as error.Slicelet reply.Task answer → IsPlayed job past (call.Task task c) result new
 task_turn job past task place c old new number came k before after found within tasks others answer took memory notes known result is =
     subst (λ (r : Result ClusterReply AllocError). IsPlayed job past (call.Task task c) r new) (sym is)

@@ -1,5 +1,5 @@
 -- What a machine leaves.
-use Rattle.std.proofs.Common.{◌≡◌, ℕ, Bool, List, [], ◌∷◌, ◌++◌, refl, sym, ap}
+use Rattle.std.proofs.Common.{◌≡◌, ℕ, Bool, List, [], ◌∷◌, ◌++◌, refl, sym, ◌∙◌, ap}
 use Rattle.std.specs.Prelude.{Result, Ok, Err, reverse}
 use Rattle.std.proofs.lemmas.List.{reverse-append}
 use Rattle.machines.specs.declared.machine.Trouble.{Trouble}
@@ -32,6 +32,9 @@ answer_is p q e = cc
 -- one more, newest first
 pub reversed_more : {A : Type 0} (xs : List A) (x : A) → reverse (xs ++ x ∷ []) ≡ x ∷ reverse xs
 reversed_more xs x = reverse-append xs (x ∷ [])
+
+pub reversed_two : {A : Type 0} (xs : List A) (x y : A) → reverse ((xs ++ x ∷ []) ++ y ∷ []) ≡ y ∷ x ∷ reverse xs
+reversed_two xs x y = reversed_more (xs ++ x ∷ []) y ∙ ap (λ (rest : List _). y ∷ rest) (reversed_more xs x)
 
 -- a call that is heard sends no note
 heard_reply : (s left : SliceletState) (grant : Grant) (at : ℕ) (told : SliceletReply) → slicelet_step s (Hear grant at) ≡ Ok (left, told) → told ≡ Heard

@@ -1,5 +1,5 @@
 -- What was made so far, and which calls deliver nothing else.
-use Rattle.std.specs.Prelude.{Bool, false, not, ◌&&◌, nat_eq, List, [], ◌∷◌, Option, Some, None}
+use Rattle.std.specs.Prelude.{Bool, false, not, ◌&&◌, nat_eq, List, [], ◌∷◌, ◌++◌, Option, Some, None}
 use Rattle.std.specs.List.{list_any}
 use Rattle.machines.specs.Refusals.{when}
 use Rattle.machines.specs.Numbers.{is_within}
@@ -14,7 +14,7 @@ use Rattle.lease_table.specs.Equality.{grant_eq}
 use Rattle.slicelet.specs.declared.handle.KeyHandle.{KeyHandle}
 use Rattle.slicelet.specs.declared.call.SliceletCall.{SliceletCall}
 use Rattle.slicelet.specs.declared.call.SliceletCall.TheVariants.{Hear}
-use Rattle.slicelet.specs.declared.call.SliceletReply.TheVariants.{Released}
+use Rattle.slicelet.specs.Accepted.{notes_of}
 use Rattle.clerk.specs.declared.call.ClerkCall.{ClerkCall}
 use Rattle.clerk.specs.declared.call.ClerkCall.TheVariants.{Learn}
 use Rattle.cluster.specs.Jobs.{Job}
@@ -28,7 +28,7 @@ use Rattle.cluster.specs.Pasts.{Past, grants, published}
 
 -- the notes made so far, the last one first
 abbrev pub note_told : ClusterReply → List ReleaseNote → List ReleaseNote
-note_told (reply.Task (Released note)) before = note ∷ before
+note_told (reply.Task told) before = notes_of told ++ before
 note_told _ before = before
 
 abbrev pub with_note : ClusterCall → ClusterReply → List ReleaseNote → List ReleaseNote

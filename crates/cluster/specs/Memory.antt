@@ -1,6 +1,8 @@
 -- When a call may be out of memory.
 use Rattle.std.specs.Prelude.{◌≡◌, Bool, true, false}
 use Rattle.lease_table.specs.Memory.{takes_memory as table_takes_memory}
+use Rattle.slicelet.specs.declared.call.SliceletCall.{SliceletCall}
+use Rattle.slicelet.specs.declared.call.SliceletCall.TheVariants.{Resume}
 use Rattle.slicelet.specs.Memory.{takes_memory as slicelet_takes_memory}
 use Rattle.clerk.specs.Memory.{takes_memory as clerk_takes_memory}
 use Rattle.cluster.specs.Jobs.{Job}
@@ -11,10 +13,15 @@ use Rattle.cluster.specs.declared.reply.ClusterReply.TheVariants as reply
 use Rattle.cluster.specs.Pasts.{Past, is_accepted}
 use Rattle.cluster.specs.Replies.{reply_to}
 
+-- a call of a task takes the memory of its slicelet, or that for the notes of a life that ended
+abbrev pub task_takes_memory : SliceletCall → Bool
+task_takes_memory (Resume life) = true
+task_takes_memory c = slicelet_takes_memory c
+
 -- a call takes memory
 abbrev pub takes_memory : ClusterCall → Bool
 takes_memory (call.Table c) = table_takes_memory c
-takes_memory (call.Task task c) = slicelet_takes_memory c
+takes_memory (call.Task task c) = task_takes_memory c
 takes_memory (call.Clerk clerk c) = clerk_takes_memory c
 takes_memory call.Rows = true
 takes_memory (call.Hold task key at) = true

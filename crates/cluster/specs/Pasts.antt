@@ -9,7 +9,7 @@ use Rattle.lease_table.specs.Tables.{Standing}
 use Rattle.lease_table.specs.Calls.{AnsweredTableCall, reading_of as table_reading, standing_after, grants_sent}
 use Rattle.lease_table.specs.Generations.{published_in}
 use Rattle.slicelet.specs.declared.call.SliceletCall.{SliceletCall}
-use Rattle.slicelet.specs.Calls.{reading_of as task_reading}
+use Rattle.slicelet.specs.Calls.{clock_reading as task_reading}
 use Rattle.slicelet.specs.States.{SliceletState, state_after}
 use Rattle.clerk.specs.Knowledge.{accepted_with, greatest_of}
 use Rattle.cluster.specs.declared.call.ClusterCall.{ClusterCall}
@@ -38,14 +38,18 @@ is_accepted _ = true
 
 -- READINGS
 
--- whose clock a call reads, accepted or not, and when; a restart of the table reads none
+-- whose clock a call reads, accepted or not, and when; a restart of the table and a new process of a task read none
 abbrev pub at_table : Option ℕ → Reading
 at_table (Some at) = TableClock at
 at_table None = NoClock
 
+abbrev pub at_task : Option ℕ → Reading
+at_task (Some at) = TaskClock at
+at_task None = NoClock
+
 abbrev pub reading : ClusterCall → Reading
 reading (call.Table c) = at_table (table_reading c)
-reading (call.Task task c) = TaskClock (task_reading c)
+reading (call.Task task c) = at_task (task_reading c)
 reading (call.Serve task key at) = TaskClock at
 reading (call.Hold task key at) = TaskClock at
 reading (call.Check task handle at) = TaskClock at

@@ -1,6 +1,6 @@
 //! The notes and handles that were made, as members of sets, so that one is found without a scan.
 
-ghost use Rattle.std.specs.Prelude.{◌≡◌, ◌<◌, ◌||◌, ◌++◌};
+ghost use Rattle.std.specs.Prelude.{◌≡◌, ◌<◌, ◌≤◌, ◌+◌, ◌||◌, ◌++◌};
 ghost use Rattle.std.proofs.Common.{rules};
 ghost use Rattle.std.specs.Cmp.Rules.{comparing, hashing};
 ghost use Rattle.std.specs.Hash as fed;
@@ -141,7 +141,8 @@ impl Hash for KnownHandle {
 /// Adds a member to a set that has room for it.
 pub(crate) fn insert_reserved<T: Hash + Eq + Drop>(known: &mut IndexSet<T>, member: T)
     requires { 0 < spare known.old }
-    ensures { (other : T) → contains T.eq known.new other ≡ (T.eq member other || contains T.eq known.old other) }
+    ensures members { (other : T) → contains T.eq known.new other ≡ (T.eq member other || contains T.eq known.old other) }
+    ensures spare { spare known.old ≤ spare known.new + 1 }
 {
     let _ = known.insert(member);
 }

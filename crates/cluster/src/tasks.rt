@@ -3,8 +3,8 @@
 ghost use Rattle.std.specs.Prelude.{◌≡◌, ◌∷◌, ◌++◌, [], ◌||◌, true, Ok, IfOk, IfErr, OnOk, OnErr, reverse};
 ghost use Rattle.machines.specs.declared.machine.Trouble.TheVariants.{NoMemory};
 ghost use Rattle.machines.specs.Answers.{Takes};
-ghost use Rattle.slicelet.specs.Memory.{takes_memory};
-ghost use Rattle.slicelet.specs.Steps.{release_step, slicelet_step};
+ghost use Rattle.cluster.specs.Memory.{task_takes_memory};
+ghost use Rattle.slicelet.specs.Steps.{release_step, resume_step, slicelet_step};
 ghost use Rattle.cluster.specs.Jobs.{Job};
 ghost use Rattle.cluster.specs.declared.call.ClusterCall.TheVariants as asked;
 ghost use Rattle.cluster.specs.declared.error.ClusterError.TheVariants as error;
@@ -30,7 +30,7 @@ use lease_table::ReleaseNote;
 use machines::Trouble;
 use policy_rules::{Kind, Verdict};
 use slice_ranges::SliceKey;
-use slicelet::{KeyHandle, Slicelet, SliceletCall, SliceletError, SliceletReply};
+use slicelet::{EndedNotes, KeyHandle, Slicelet, SliceletCall, SliceletError, SliceletReply};
 use std::alloc::AllocError;
 
 // Turns a slicelet's answer into the cluster's reply.
@@ -46,7 +46,7 @@ pub(crate) fn told_by_task(
     }
 }
 
-// Makes a call of a slicelet, and keeps the note of a release.
+// Makes a call of a slicelet, and keeps the notes of its reply.
 fn take(
     slicelet: &mut Slicelet,
     notes: &mut Vec<ReleaseNote>,
@@ -54,7 +54,7 @@ fn take(
     call: &SliceletCall,
 ) -> Result<SliceletReply, Trouble<SliceletError>>
     ensures step { Takes (slicelet_step slicelet.old call.now) slicelet.old result slicelet.new }
-    ensures memory { IfErr result (λ trouble. trouble ≡ NoMemory → takes_memory call.now ≡ true) }
+    ensures memory { IfErr result (λ trouble. trouble ≡ NoMemory → task_takes_memory call.now ≡ true) }
     ensures notes { reverse notes.new.items ≡ notes_kept result (reverse notes.old.items) }
     ensures known { (note : Note) → contains same_note known.new note ≡ known_after result note (contains same_note known.old note) }
 {
@@ -70,6 +70,9 @@ fn take(
         SliceletCall::Release { kind, at } => {
             Ok(SliceletReply::Released(release(slicelet, notes, known, *kind, *at)?))
         }
+        SliceletCall::Resume { life } => Ok(SliceletReply::Resumed(begin_anew(
+            slicelet, notes, known, *life,
+        )?)),
     }
 }
 
@@ -98,6 +101,35 @@ fn release(
     notes.push_reserved(made);
     insert_reserved(known, member);
     Ok(note)
+}
+
+#[tactic(auto, using(crate::proofs::Turning::reversed_two))]
+fn begin_anew(
+    slicelet: &mut Slicelet,
+    notes: &mut Vec<ReleaseNote>,
+    known: &mut IndexSet<KnownNote>,
+    life: u32,
+) -> Result<EndedNotes, Trouble<SliceletError>>
+    ensures step { Takes (resume_step slicelet.old life) slicelet.old result slicelet.new }
+    ensures ok { IfOk result (λ ended. reverse notes.new.items ≡ ended.bridge ∷ ended.guard ∷ reverse notes.old.items) }
+    ensures err { OnErr result (notes.new.items ≡ notes.old.items) }
+    ensures known_ok { IfOk result (λ ended. (other : Note) → contains same_note known.new other
+        ≡ (same_note ended.bridge other || (same_note ended.guard other || contains same_note known.old other))) }
+    ensures known_err { OnErr result ((other : Note) → contains same_note known.new other ≡ contains same_note known.old other) }
+{
+    if let Some(why) = slicelet.resume_refusal(life) {
+        return Err(Trouble::Refused(why));
+    }
+    notes.reserve(2)?;
+    known.reserve(2)?;
+    let ended = slicelet.begin_anew(life).map_err(Trouble::Refused)?;
+    let guard = KnownNote::new(&ended.guard);
+    let bridge = KnownNote::new(&ended.bridge);
+    notes.push_reserved(ended.guard);
+    notes.push_reserved(ended.bridge);
+    insert_reserved(known, guard);
+    insert_reserved(known, bridge);
+    Ok(ended)
 }
 
 // Keeps a handle.

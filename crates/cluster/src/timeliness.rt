@@ -3,13 +3,15 @@
 ghost use Rattle.std.specs.Prelude.{◌≡◌, ℕ, List, [], ◌∷◌, MatchBool};
 ghost use Rattle.lease_table.specs.Calls.{reading_of};
 ghost use Rattle.cluster.specs.declared.timing.Reading.{Reading};
-ghost use Rattle.cluster.specs.Pasts.{at_table, reading};
+ghost use Rattle.slicelet.specs.Calls.{clock_reading};
+ghost use Rattle.cluster.specs.Pasts.{at_table, at_task, reading};
 ghost use Rattle.cluster.specs.Timing.{IsTimely};
 ghost use Rattle.cluster.specs.Timeliness.{IsTimelinessOf, least_after};
 
 use crate::call::ClusterCall;
 use crate::timing::Reading;
 use lease_table::TableCall;
+use slicelet::SliceletCall;
 
 impl Reading {
     /// Returns the reading of a call of the table.
@@ -26,6 +28,18 @@ impl Reading {
             | TableCall::Grant { at, .. }
             | TableCall::Free { at, .. } => Reading::TableClock(*at),
             TableCall::Restart => Reading::NoClock,
+        }
+    }
+
+    /// Returns the reading of a call of a task.
+    ///
+    /// The begin of a new process reads no clock.
+    pub fn of_task(call: &SliceletCall) -> Reading
+        ensures { result ≡ at_task (clock_reading call.now) }
+    {
+        match call.reading() {
+            Some(at) => Reading::TaskClock(at),
+            None => Reading::NoClock,
         }
     }
 
@@ -49,7 +63,7 @@ impl ClusterCall {
     {
         match self {
             ClusterCall::Table(call) => Reading::of_table(call),
-            ClusterCall::Task { task: _, call } => Reading::TaskClock(call.reading()),
+            ClusterCall::Task { task: _, call } => Reading::of_task(call),
             ClusterCall::Serve { at, .. }
             | ClusterCall::Hold { at, .. }
             | ClusterCall::Check { at, .. } => Reading::TaskClock(*at),

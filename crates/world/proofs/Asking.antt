@@ -63,6 +63,7 @@ faithful s next (machine.Table _) = record { accepts = refl; gives = refl; calls
 faithful s next (machine.Task slicelet.Started) = record { accepts = refl; gives = refl; calls = λ e calls. refl }
 faithful s next (machine.Task slicelet.Heard) = record { accepts = refl; gives = refl; calls = λ e calls. refl }
 faithful s next (machine.Task (slicelet.Released note)) = record { accepts = refl; gives = refl; calls = λ e calls. refl }
+faithful s next (machine.Task (slicelet.Resumed ended)) = record { accepts = refl; gives = refl; calls = λ e calls. refl }
 faithful s next (machine.Clerk clerk.Learnt) = record { accepts = refl; gives = refl; calls = λ e calls. refl }
 faithful s next (machine.Clerk clerk.Forgotten) = record { accepts = refl; gives = refl; calls = λ e calls. refl }
 faithful s next _ = record { accepts = refl; gives = refl; calls = λ e calls. refl }

@@ -74,11 +74,12 @@ table_reply s (table.Granted grant) = grant_reply grant
 table_reply s (table.Freed rows) = reply.Freed rows
 table_reply s (table.Lost rows) = reply.Lost rows
 
--- a note is told with its number
+-- a note is told with its number; no step begins a new process, so that the last reply is never told
 abbrev pub task_reply : Step → ℕ → SliceletReply → Reply
 task_reply s number slicelet.Started = reply.Started (life_in s)
 task_reply s number slicelet.Heard = reply.Heard (number_in s)
 task_reply s number (slicelet.Released note) = reply.Released number note
+task_reply s number (slicelet.Resumed ended) = reply.Started (life_in s)
 
 abbrev pub clerk_reply : Step → ClerkReply → Reply
 clerk_reply s clerk.Learnt = reply.Learnt (number_in s)

@@ -99,6 +99,8 @@ fn task_reply(step: &Step, number: u64, reply: SliceletReply) -> Reply
         SliceletReply::Started => Reply::Started(life_in(step)),
         SliceletReply::Heard => Reply::Heard(number_in(step)),
         SliceletReply::Released(note) => Reply::Released { number, note },
+        // No step begins a new process.
+        SliceletReply::Resumed(_) => Reply::Started(life_in(step)),
     }
 }
 

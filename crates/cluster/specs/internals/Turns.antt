@@ -13,7 +13,7 @@ use Rattle.lease_table.specs.Calls.{grants_after}
 use Rattle.lease_table.specs.Memory.{takes_memory}
 use Rattle.lease_table.specs.declared.error.TableError.{TableError}
 use Rattle.slicelet.specs.declared.call.SliceletReply.{SliceletReply}
-use Rattle.slicelet.specs.declared.call.SliceletReply.TheVariants.{Released}
+use Rattle.slicelet.specs.declared.call.SliceletReply.TheVariants.{Released, Resumed}
 use Rattle.cluster.specs.declared.error.ClusterError.{ClusterError}
 use Rattle.cluster.specs.declared.reply.ClusterReply.{ClusterReply}
 use Rattle.cluster.specs.declared.reply.ClusterReply.TheVariants as reply
@@ -43,6 +43,7 @@ notes_kept (Err why) before = before
 -- whether a note is known after an answer, where it was known before or not
 abbrev pub known_after : {E : Type 0} → Result SliceletReply E → ReleaseNote → Bool → Bool
 known_after (Ok (Released made)) note before = same_note made note || before
+known_after (Ok (Resumed ended)) note before = same_note ended.bridge note || (same_note ended.guard note || before)
 known_after _ note before = before
 
 -- a call of the table is out of memory only where it takes some

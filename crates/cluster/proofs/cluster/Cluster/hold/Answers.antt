@@ -1,4 +1,4 @@
-use Rattle.std.proofs.Common.{◌≡◌, ℕ, ◌<◌, ◌^◌, true, List, [], ◌∷◌, ◌++◌, length, subst, refl, sym, ap}
+use Rattle.std.proofs.Common.{◌≡◌, ℕ, ◌<◌, ◌^◌, true, List, length, subst, refl, sym, ap}
 use Rattle.std.specs.Prelude.{false, Ok, Err, reverse}
 use Rattle.machines.specs.Numbers.{is_within}
 use Rattle.slicelet.specs.declared.handle.KeyHandle.{KeyHandle}
