@@ -42,11 +42,46 @@ impl<M: Machine> LaneLock<M> {
         ensures accepted { OnOk result (is_allowed lanes limit ≡ true) }
         ensures refused { IfErr result (λ e. e ≡ (if is_allowed lanes limit then new_lock_error.NoMemory else new_lock_error.Lanes)) }
     {
-        if lanes == 0 || lanes > MOST_LANES || limit == 0 || limit > MOST_ENTRIES {
+        if are_allowed(lanes, limit) {
+            open(alloc, machine, lanes, limit).map_err(|_| NewLockError::NoMemory)
+        } else {
+            Err(NewLockError::Lanes)
+        }
+    }
+
+    /// Creates a lock around a copy of a machine, and a pass for each of its lanes, lane 0 first.
+    ///
+    /// A machine whose lock is closed, for instance because its history was full, goes on under a
+    /// lock that is created over it. The new history is legal from the machine as it is now, and
+    /// takes at most `limit` entries.
+    ///
+    /// Errors are those of [`new`](Self::new), in its order. The machine is unchanged.
+    pub fn over(
+        alloc: Global,
+        machine: &M,
+        lanes: u64,
+        limit: usize,
+    ) -> Result<(LaneLock<M>, Vec<Pass<M>>), NewLockError>
+        ensures opened { IfOk result (λ made. (made.0.opened ≡ record { machine = machine.now; lanes = lanes; limit = limit })
+            × (vec_len made.1 ≡ lanes) × AreNewFrom 0 made.0 made.1.items) }
+        ensures accepted { OnOk result (is_allowed lanes limit ≡ true) }
+        ensures refused { IfErr result (λ e. e ≡ (if is_allowed lanes limit then new_lock_error.NoMemory else new_lock_error.Lanes)) }
+    {
+        if !are_allowed(lanes, limit) {
             return Err(NewLockError::Lanes);
         }
-        open(alloc, machine, lanes, limit).map_err(|_| NewLockError::NoMemory)
+        match machine.copy() {
+            Ok(machine) => LaneLock::new(alloc, machine, lanes, limit),
+            Err(_) => Err(NewLockError::NoMemory),
+        }
     }
+}
+
+// Whether a lock may have this many lanes, and a history of this many entries.
+fn are_allowed(lanes: u64, limit: usize) -> bool
+    ensures { result ≡ is_allowed lanes limit }
+{
+    (0 < lanes && lanes <= MOST_LANES) && (0 < limit && limit <= MOST_ENTRIES)
 }
 
 // The lock and its passes.

@@ -6,6 +6,8 @@ mod calls;
 #[cfg(test)]
 mod crews;
 #[cfg(test)]
+mod going_on;
+#[cfg(test)]
 mod objects;
 #[cfg(test)]
 mod refusals;

@@ -6,7 +6,7 @@ ghost use Rattle.tickets.specs.Tickets.{DrawsFrom};
 
 use assignment::{Assignment, Listed, Slice, TaskId};
 use clerk::{Clerk, ClerkEvent};
-use history_lock::{History, Pass};
+use history_lock::{Closed, History, Pass};
 use lease_table::{LeaseTable, Policy, TableEvent};
 use shared_objects::{SharedClerk, SharedSlicelet, SharedTable};
 use slicelet::{Slicelet, SliceletEvent};
@@ -78,6 +78,20 @@ pub fn open_all(alloc: Global) -> Result<(Objects, Passes), Fail>
     Ok((objects, passes))
 }
 
+/// Creates an object of one lane over a copy of a table, and its one pass.
+pub fn open_over(
+    alloc: Global,
+    table: &LeaseTable,
+    entries: usize,
+) -> Result<(SharedTable, Pass<LeaseTable>), Fail>
+    ensures { IfOk result (λ made. IsPassOf made.0 made.1) }
+{
+    let made = SharedTable::over(alloc, table, 1, entries);
+    let (table, mut others) = made.ok().ok_or("one lane and some entries")?;
+    let pass = others.pop().ok_or("the pass of lane 0")?;
+    Ok((table, pass))
+}
+
 /// Creates a table of one lane whose history holds this many entries, and its one pass.
 pub fn open_table(alloc: Global, entries: usize) -> Result<(SharedTable, Pass<LeaseTable>), Fail>
     ensures { IfOk result (λ made. IsPassOf made.0 made.1) }
@@ -116,6 +130,19 @@ pub fn open_ticket(alloc: Global, draws: u64) -> Result<(Ticket, TicketPass), Fa
     Ok((ticket, pass))
 }
 
+/// Closes a table of one lane, and returns its machine and its history.
+pub fn close_whole(
+    alloc: Global,
+    table: SharedTable,
+    pass: Pass<LeaseTable>,
+) -> Result<Closed<LeaseTable>, Fail>
+    requires { IsPassOf table pass }
+{
+    let mut passes = Vec::new(alloc);
+    passes.push(pass)?;
+    Ok(table.close(passes).ok().ok_or("its one pass is there")?)
+}
+
 pub fn close_table(
     alloc: Global,
     table: SharedTable,
@@ -123,10 +150,7 @@ pub fn close_table(
 ) -> Result<History<TableEvent>, Fail>
     requires { IsPassOf table pass }
 {
-    let mut passes = Vec::new(alloc);
-    passes.push(pass)?;
-    let closed = table.close(passes).ok().ok_or("its one pass is there")?;
-    Ok(closed.history)
+    Ok(close_whole(alloc, table, pass)?.history)
 }
 
 pub fn close_task(

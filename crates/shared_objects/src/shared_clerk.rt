@@ -93,6 +93,34 @@ impl SharedClerk {
         }
     }
 
+    /// Creates an object around a copy of a clerk, with the clerk's number, and a pass for each lane
+    /// of its lock, lane 0 first.
+    ///
+    /// A clerk whose lock was closed, for instance because its history was full, goes on in an
+    /// object that is created over it. The history of the lock is legal from the clerk as it is
+    /// now, and holds at most `limit` entries. The clerk that was copied is unchanged.
+    ///
+    /// # Errors
+    ///
+    /// Those of [`SharedClerk::new`], in its order.
+    pub fn over(
+        alloc: Global,
+        number: u64,
+        clerk: &Clerk,
+        lanes: u64,
+        limit: usize,
+    ) -> Result<(SharedClerk, Vec<Pass<Clerk>>), NewLockError>
+        ensures opened { IfOk result (λ made. (made.0.lock.opened ≡ record { machine = clerk.now; lanes = lanes; limit = limit })
+            × (made.0.number ≡ number) × (vec_len made.1 ≡ lanes) × AreNewFrom 0 made.0.lock made.1.items) }
+        ensures accepted { OnOk result (is_allowed lanes limit ≡ true) }
+        ensures refused { IfErr result (λ e. e ≡ (if is_allowed lanes limit then new_lock_error.NoMemory else new_lock_error.Lanes)) }
+    {
+        match LaneLock::over(alloc, clerk, lanes, limit) {
+            Ok((lock, passes)) => Ok((SharedClerk { number, lock }, passes)),
+            Err(error) => Err(error),
+        }
+    }
+
     /// Learns an assignment that is newer than the one that the clerk knows.
     ///
     /// # Errors

@@ -150,6 +150,34 @@ impl SharedSlicelet {
         }
     }
 
+    /// Creates an object around a copy of a slicelet, and a pass for each lane of its lock, lane 0
+    /// first.
+    ///
+    /// A slicelet whose lock was closed, for instance because its history was full, goes on in an
+    /// object that is created over it. The history of the lock is legal from the slicelet as it is
+    /// now, and holds at most `limit` entries. The slicelet that was copied is unchanged.
+    ///
+    /// # Errors
+    ///
+    /// Those of [`SharedSlicelet::new`], in its order.
+    pub fn over(
+        alloc: Global,
+        slicelet: &Slicelet,
+        lanes: u64,
+        limit: usize,
+    ) -> Result<(SharedSlicelet, Vec<Pass<Slicelet>>), NewLockError>
+        ensures opened { IfOk result (λ made. (made.0.opened ≡ record { machine = slicelet.now; lanes = lanes; limit = limit })
+            × (vec_len made.1 ≡ lanes) × AreNewFrom 0 made.0 made.1.items) }
+        ensures accepted { OnOk result (is_allowed lanes limit ≡ true) }
+        ensures refused { IfErr result (λ e. e ≡ (if is_allowed lanes limit then new_lock_error.NoMemory else new_lock_error.Lanes)) }
+    {
+        let task = slicelet.task();
+        match LaneLock::over(alloc, slicelet, lanes, limit) {
+            Ok((lock, passes)) => Ok((SharedSlicelet { task, lock }, passes)),
+            Err(error) => Err(error),
+        }
+    }
+
     /// Starts a life of the task, at a reading of its clock in ticks.
     ///
     /// # Errors

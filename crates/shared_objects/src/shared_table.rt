@@ -112,6 +112,33 @@ impl SharedTable {
         }
     }
 
+    /// Creates an object around a copy of a table, and a pass for each lane of its lock, lane 0
+    /// first.
+    ///
+    /// A table whose lock was closed, for instance because its history was full, goes on in an
+    /// object that is created over it. The history of the lock is legal from the table as it is
+    /// now, and holds at most `limit` entries. The table that was copied is unchanged.
+    ///
+    /// # Errors
+    ///
+    /// Those of [`SharedTable::new`], in its order.
+    pub fn over(
+        alloc: Global,
+        table: &LeaseTable,
+        lanes: u64,
+        limit: usize,
+    ) -> Result<(SharedTable, Vec<Pass<LeaseTable>>), NewLockError>
+        ensures opened { IfOk result (λ made. (made.0.opened ≡ record { machine = table.now; lanes = lanes; limit = limit })
+            × (vec_len made.1 ≡ lanes) × AreNewFrom 0 made.0 made.1.items) }
+        ensures accepted { OnOk result (is_allowed lanes limit ≡ true) }
+        ensures refused { IfErr result (λ e. e ≡ (if is_allowed lanes limit then new_lock_error.NoMemory else new_lock_error.Lanes)) }
+    {
+        match LaneLock::over(alloc, table, lanes, limit) {
+            Ok((lock, passes)) => Ok((SharedTable { lock }, passes)),
+            Err(error) => Err(error),
+        }
+    }
+
     /// Gives the job lease to an assigner, for the job's term from the reading on, in ticks.
     ///
     /// # Errors
