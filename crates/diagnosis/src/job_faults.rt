@@ -1,6 +1,7 @@
 //! How to fix a job line.
 
 use crate::found::Found;
+use crate::quoted::Quoted;
 use crate::step_faults::{missing_member, unknown_member};
 use crate::steps::Members;
 use crate::wanted::{Wanted, WrongMember};
@@ -33,7 +34,7 @@ pub fn job_line_mend(alloc: Global, line: &Value) -> Result<String, AllocError> 
         return format!(in alloc; "found {}; {wanted}", Found(line));
     };
     match unknown_member(object, LINE, "job") {
-        Some(unknown) => format!(in alloc; "unknown member {unknown:?}; {wanted}"),
+        Some(unknown) => format!(in alloc; "unknown member {}; {wanted}", Quoted(unknown)),
         None => format!(in alloc; "\"job\" is missing; {wanted}"),
     }
 }
@@ -89,7 +90,7 @@ pub fn job_mend(alloc: Global, job: &Value) -> Result<String, AllocError> {
         names: NAMES,
     };
     if let Some(unknown) = unknown_member(object, members, "job") {
-        return format!(in alloc; "unknown member {unknown:?}; {members}");
+        return format!(in alloc; "unknown member {}; {members}", Quoted(unknown));
     }
     match missing_member(job, members) {
         Some(missing) => format!(in alloc; "\"{missing}\" is missing; {members}"),

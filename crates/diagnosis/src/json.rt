@@ -1,8 +1,10 @@
 //! Where bytes stop being JSON, and which member is written twice.
 
-ghost use Rattle.std.specs.Prelude.{◌≡◌, [], ◌∷◌, IfOk, map};
+ghost use Rattle.std.specs.Prelude.{◌≡◌, ◌++◌, [], ◌∷◌, IfOk, codes, map, string_bytes};
+ghost use Rattle.diagnosis.specs.Quoted.{quoted};
 
 use crate::faults::ScriptFault;
+use crate::quoted::Quoted;
 use serde_json::Error;
 use service::ScriptError;
 use std::alloc::{AllocError, Global};
@@ -36,8 +38,11 @@ pub fn line_mend(alloc: Global, error: &Error) -> Result<String, AllocError> {
 }
 
 /// Returns how to fix a line in which an object has a member of this name twice.
-pub fn repeated_mend(alloc: Global, name: &str) -> Result<String, AllocError> {
-    format!(in alloc; "member {name:?} is written twice")
+pub fn repeated_mend(alloc: Global, name: &str) -> Result<String, AllocError>
+    ensures { IfOk result (λ text. string_bytes text
+        ≡ codes "member " ++ (quoted name.now ++ codes " is written twice")) }
+{
+    format!(in alloc; "member {} is written twice", Quoted(name))
 }
 
 /// Returns the one fault of bytes that are not JSON: where the reader stopped, and why.

@@ -1,6 +1,7 @@
 //! How to fix an element that is not a step.
 
 use crate::found::Found;
+use crate::quoted::Quoted;
 use crate::steps::{Members, members_of};
 use crate::wanted::{Wanted, WrongMember};
 use serde_json::{Map, Value};
@@ -66,7 +67,8 @@ fn members_mend(
     let name = members.kind;
     if let Some(object) = step.as_object() {
         if let Some(unknown) = unknown_member(object, members, "do") {
-            return format!(in alloc; "{name}: unknown member {unknown:?}; {members}");
+            let unknown = Quoted(unknown);
+            return format!(in alloc; "{name}: unknown member {unknown}; {members}");
         }
     }
     if let Some(missing) = missing_member(step, members) {
@@ -91,6 +93,6 @@ pub fn step_mend(alloc: Global, job: Job, value: &Value) -> Result<String, Alloc
     };
     match members_of(name) {
         Some(members) => members_mend(alloc, job, members, value),
-        None => format!(in alloc; "unknown step {name:?}"),
+        None => format!(in alloc; "unknown step {}", Quoted(name)),
     }
 }

@@ -1,5 +1,5 @@
 -- A text that was written of a value in which no object has a member twice has no member twice either.
-use Rattle.std.proofs.Common.{◌≡◌, ℕ, max, List, [], ◌∷◌, ◌++◌, Option, Some, None, refl, sym, ap, ◌∙◌, arith, append-nil}
+use Rattle.std.proofs.Common.{◌≡◌, ℕ, ◌+◌, max, List, [], ◌∷◌, ◌++◌, Option, Some, None, refl, sym, ap, ◌∙◌, arith, append-nil}
 use Rattle.std.specs.Prelude.{option_and_then}
 use Rattle.json.specs.Token.{Token}
 use Rattle.json.specs.Lex.{tokens}
@@ -11,7 +11,11 @@ use Rattle.json.proofs.Unique.Spelling.{value-json_tokens_back}
 use Rattle.serde_json.specs.Data.{Data}
 use Rattle.serde_json.specs.Read.{max_depth}
 use Rattle.serde_json.specs.Written.{IsInOrder, blank, blank_items, blank_members, outline}
-use Rattle.program_io.specs.Repeated.{first_repeated, repeated_in_items, repeated_in_members, repeated_name}
+use Rattle.program_io.specs.Repeated.{first_repeated, names_of, repeated_in_items, repeated_in_members, repeated_name}
+
+same_names : (ms : Members) → names_of (blank_members ms) ≡ names_of ms
+same_names no_members = refl
+same_names (member name j ms) = ap (λ (names : List (List ℕ)). name ∷ names) (same_names ms)
 
 -- the names of a value stay where its numbers are left out
 mutual
@@ -21,15 +25,15 @@ mutual
   names_stay (number s) = refl
   names_stay (string s) = refl
   names_stay (array js) = items_stay js
-  names_stay (object ms) = members_stay [] ms
+  names_stay (object ms) = ap (λ names. repeated_in_members names 0 (blank_members ms)) (same_names ms) ∙ members_stay (names_of ms) 0 ms
 
   items_stay : (js : Items) → repeated_in_items (blank_items js) ≡ repeated_in_items js
   items_stay no_items = refl
   items_stay (item j js) = rw (names_stay j, items_stay js) refl
 
-  members_stay : (before : List (List ℕ)) (ms : Members) → repeated_in_members before (blank_members ms) ≡ repeated_in_members before ms
-  members_stay before no_members = refl
-  members_stay before (member name j ms) = rw (names_stay j, members_stay (name ∷ before) ms) refl
+  members_stay : (names : List (List ℕ)) (place : ℕ) (ms : Members) → repeated_in_members names place (blank_members ms) ≡ repeated_in_members names place ms
+  members_stay names place no_members = refl
+  members_stay names place (member name j ms) = rw (names_stay j, members_stay names (place + 1) ms) refl
 
 -- tokens are those of one value
 one_tree : (i j : Json) → json_tokens i ≡ json_tokens j → i ≡ j

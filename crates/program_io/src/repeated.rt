@@ -1,8 +1,8 @@
 //! The first member of a text that repeats the name of a member before it in its object.
 
-ghost use Rattle.std.specs.Prelude.{◌≡◌, [], IfOk, option_map, string_bytes};
+ghost use Rattle.std.specs.Prelude.{◌≡◌, IfOk, option_map, string_bytes};
 ghost use Rattle.json.specs.Value.{value_view, items_view, members_view};
-ghost use Rattle.program_io.specs.Repeated.{first_repeated, repeated_in_items, repeated_in_members, repeated_name, tree_of};
+ghost use Rattle.program_io.specs.Repeated.{first_repeated, names_of, repeated_in_items, repeated_in_members, repeated_name, tree_of};
 
 use json::{Error, Reader, Scratch, Value};
 use std::alloc::{AllocError, Global};
@@ -40,7 +40,7 @@ fn in_members<'t>(
     members: &Vec<(&'t str, Value<'t>)>,
 ) -> Result<Option<&'t str>, AllocError>
     ensures { IfOk result (λ name. option_map (λ s. s.now) name
-        ≡ repeated_in_members [] (members_view members.now.items)) }
+        ≡ repeated_in_members (names_of (members_view members.now.items)) 0 (members_view members.now.items)) }
 {
     let mut before = BTreeSet::new(alloc);
     for member in members {

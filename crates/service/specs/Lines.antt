@@ -24,7 +24,6 @@ use Rattle.load_ledger.specs.declared.error.LoadError.TheVariants as load
 use Rattle.weighted_move.specs.declared.error.PlanError.{PlanError}
 use Rattle.weighted_move.specs.declared.error.PlanError.TheVariants as plan
 use Rattle.weighted_move.specs.declared.moves.Move.{Move}
-use Rattle.weighted_move.specs.declared.made.Plan.{Plan}
 use Rattle.assignment.specs.declared.slice.Slice.{Slice}
 use Rattle.wire.specs.LeaseMembers.{kind_word}
 use Rattle.assigner.specs.declared.action.Action.{Action}

@@ -5,15 +5,16 @@ use Rattle.serde_json.specs.Written.{has_float, outline}
 use Rattle.policy_rules.specs.declared.lease.Kind.{Kind}
 use Rattle.lease_table.specs.declared.values.Grant.{Grant}
 use Rattle.lease_table.specs.declared.values.ReleaseNote.{ReleaseNote}
+use Rattle.slicelet.specs.declared.call.EndedNotes.{EndedNotes}
 use Rattle.slicelet.specs.declared.call.SliceletCall.{SliceletCall}
-use Rattle.slicelet.specs.declared.call.SliceletCall.TheVariants.{Start, Hear, Release}
+use Rattle.slicelet.specs.declared.call.SliceletCall.TheVariants.{Start, Hear, Release, Resume}
 use Rattle.slicelet.specs.declared.call.SliceletReply.{SliceletReply}
-use Rattle.slicelet.specs.declared.call.SliceletReply.TheVariants.{Started, Heard, Released}
+use Rattle.slicelet.specs.declared.call.SliceletReply.TheVariants.{Started, Heard, Released, Resumed}
 use Rattle.program_io.specs.Repeated.{first_repeated}
 use Rattle.wire.specs.Grants.{grant_data, grant_of}
 use Rattle.wire.specs.Messages.{IsWritten}
 use Rattle.wire.specs.Notes.{note_data, note_of}
-use Rattle.wire.specs.TaskCalls.{task_call_data, task_call_of, start_of, hear_of, release_of, task_reply_data, task_reply_of, started_of, heard_of, released_of}
+use Rattle.wire.specs.TaskCalls.{task_call_data, task_call_of, start_of, hear_of, release_of, resume_of, task_reply_data, task_reply_of, started_of, heard_of, released_of, resumed_of}
 use Rattle.wire.proofs.Grants.{grant_once, grant_shallow, grant_whole}
 use Rattle.wire.proofs.Notes.{kind_read}
 use Rattle.wire.proofs.Numbers.{is_life}
@@ -30,20 +31,27 @@ pub release_read : (kind : Kind) (at : ℕ) → task_call_of (task_call_data (Re
 unfolding task_call_of release_of
 release_read kind at = rw (kind_read kind) refl
 
+pub resume_read : (life : ℕ) → life < 2 ^ 32 → task_call_of (task_call_data (Resume life)) ≡ Ok (Resume life)
+unfolding task_call_of resume_of
+resume_read life below = rw (is_life life below) refl
+
 task_call_whole : (call : SliceletCall) → has_float (task_call_data call) ≡ false
 task_call_whole (Start life at) = refl
 task_call_whole (Hear grant at) = rw (grant_whole grant) refl
 task_call_whole (Release kind at) = refl
+task_call_whole (Resume life) = refl
 
 task_call_shallow : (call : SliceletCall) → depth (task_call_data call) ≤ 4
 task_call_shallow (Start life at) = omega arith
 task_call_shallow (Hear grant at) = omega (arith, grant_shallow grant)
 task_call_shallow (Release kind at) = omega arith
+task_call_shallow (Resume life) = omega arith
 
 task_call_once : (call : SliceletCall) → first_repeated (outline (task_call_data call)) ≡ None
 task_call_once (Start life at) = refl
 task_call_once (Hear grant at) = rw (grant_once grant) refl
 task_call_once (Release kind at) = refl
+task_call_once (Resume life) = refl
 
 pub task_call_written : (call : SliceletCall) (d : Data) → d ≡ task_call_data call → task_call_of (task_call_data call) ≡ Ok call → IsWritten task_call_data task_call_of call d
 task_call_written call d is reads = record {
@@ -66,20 +74,28 @@ pub released_read : (note : ReleaseNote) → note_of (note_data note) ≡ Ok not
 unfolding task_reply_of released_of
 released_read note read = rw read refl
 
+pub resumed_read : (ended : EndedNotes) → note_of (note_data ended.guard) ≡ Ok ended.guard → note_of (note_data ended.bridge) ≡ Ok ended.bridge
+    → task_reply_of (task_reply_data (Resumed ended)) ≡ Ok (Resumed ended)
+unfolding task_reply_of resumed_of
+resumed_read ended guard bridge = rw (guard, bridge) refl
+
 task_reply_whole : (reply : SliceletReply) → has_float (task_reply_data reply) ≡ false
 task_reply_whole Started = refl
 task_reply_whole Heard = refl
 task_reply_whole (Released note) = refl
+task_reply_whole (Resumed ended) = refl
 
 task_reply_shallow : (reply : SliceletReply) → depth (task_reply_data reply) ≤ 4
 task_reply_shallow Started = omega arith
 task_reply_shallow Heard = omega arith
 task_reply_shallow (Released note) = omega arith
+task_reply_shallow (Resumed ended) = omega arith
 
 task_reply_once : (reply : SliceletReply) → first_repeated (outline (task_reply_data reply)) ≡ None
 task_reply_once Started = refl
 task_reply_once Heard = refl
 task_reply_once (Released note) = refl
+task_reply_once (Resumed ended) = refl
 
 pub task_reply_written : (reply : SliceletReply) (d : Data) → d ≡ task_reply_data reply → task_reply_of (task_reply_data reply) ≡ Ok reply → IsWritten task_reply_data task_reply_of reply d
 task_reply_written reply d is reads = record {

@@ -2,9 +2,9 @@
 use Rattle.std.specs.Prelude.{List, [], ◌∷◌, codes, Result, Ok, ℕ}
 use Rattle.serde_json.specs.Data.{Data, string}
 use Rattle.slicelet.specs.declared.call.SliceletCall.{SliceletCall}
-use Rattle.slicelet.specs.declared.call.SliceletCall.TheVariants.{Start, Hear, Release}
+use Rattle.slicelet.specs.declared.call.SliceletCall.TheVariants.{Start, Hear, Release, Resume}
 use Rattle.slicelet.specs.declared.call.SliceletReply.{SliceletReply}
-use Rattle.slicelet.specs.declared.call.SliceletReply.TheVariants.{Started, Heard, Released}
+use Rattle.slicelet.specs.declared.call.SliceletReply.TheVariants.{Started, Heard, Released, Resumed}
 use Rattle.program_io.specs.Reading.{◌>>=◌, ◌>>◌}
 use Rattle.program_io.specs.Members.{exactly, member_at, number_at, text_at}
 use Rattle.wire.specs.declared.fault.Refusal.{Refusal}
@@ -23,6 +23,7 @@ task_call_data (Hear grant at) = object_data
     ((codes "at", number_data at) ∷ (codes "do", string (codes "hear")) ∷ (codes "grant", grant_data grant) ∷ [])
 task_call_data (Release kind at) = object_data
     ((codes "at", number_data at) ∷ (codes "do", string (codes "release")) ∷ (codes "kind", kind_data kind) ∷ [])
+task_call_data (Resume life) = object_data ((codes "do", string (codes "resume")) ∷ (codes "life", number_data life) ∷ [])
 
 -- a `start` has a life and a reading
 unfoldable pub start_of : Data → Result SliceletCall Refusal
@@ -48,12 +49,20 @@ release_of d = do
   at ← or_wrong (number_at (codes "at") d)
   Ok (Release kind at)
 
+-- a `resume` has a life
+unfoldable pub resume_of : Data → Result SliceletCall Refusal
+resume_of d = do
+  or_wrong (exactly (codes "do" ∷ codes "life" ∷ []) d)
+  life ← or_wrong (life_at (codes "life") d)
+  Ok (Resume life)
+
 -- the calls of a slicelet, each by its name and its reader
 abbrev pub task_call_kinds : List (List ℕ × (Data → Result SliceletCall Refusal))
 task_call_kinds =
     (codes "start", start_of) ∷
     (codes "hear", hear_of) ∷
-    (codes "release", release_of) ∷ []
+    (codes "release", release_of) ∷
+    (codes "resume", resume_of) ∷ []
 
 -- a call, named by its member `do`
 unfoldable pub task_call_of : Data → Result SliceletCall Refusal
@@ -66,6 +75,8 @@ abbrev pub task_reply_data : SliceletReply → Data
 task_reply_data Started = object_data ((codes "reply", string (codes "started")) ∷ [])
 task_reply_data Heard = object_data ((codes "reply", string (codes "heard")) ∷ [])
 task_reply_data (Released note) = object_data ((codes "note", note_data note) ∷ (codes "reply", string (codes "released")) ∷ [])
+task_reply_data (Resumed ended) = object_data
+    ((codes "bridge", note_data ended.bridge) ∷ (codes "guard", note_data ended.guard) ∷ (codes "reply", string (codes "resumed")) ∷ [])
 
 -- a `started` has nothing more
 unfoldable pub started_of : Data → Result SliceletReply Refusal
@@ -86,12 +97,21 @@ released_of d = do
   note ← or_wrong (member_at (codes "note") d >>= note_of)
   Ok (Released note)
 
+-- a `resumed` has the notes of the life that ended
+unfoldable pub resumed_of : Data → Result SliceletReply Refusal
+resumed_of d = do
+  or_wrong (exactly (codes "reply" ∷ codes "guard" ∷ codes "bridge" ∷ []) d)
+  guard ← or_wrong (member_at (codes "guard") d >>= note_of)
+  bridge ← or_wrong (member_at (codes "bridge") d >>= note_of)
+  Ok (Resumed (record { guard = guard; bridge = bridge }))
+
 -- the replies of a slicelet, each by its name and its reader
 abbrev pub task_reply_kinds : List (List ℕ × (Data → Result SliceletReply Refusal))
 task_reply_kinds =
     (codes "started", started_of) ∷
     (codes "heard", heard_of) ∷
-    (codes "released", released_of) ∷ []
+    (codes "released", released_of) ∷
+    (codes "resumed", resumed_of) ∷ []
 
 -- a reply, named by its member `reply`
 unfoldable pub task_reply_of : Data → Result SliceletReply Refusal

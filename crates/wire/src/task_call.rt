@@ -3,7 +3,7 @@
 ghost use Rattle.std.specs.Prelude.{◌≡◌, IfOk, Ok, codes};
 ghost use Rattle.serde_json.specs.View.{view};
 ghost use Rattle.wire.specs.Refusals.{Gives};
-ghost use Rattle.wire.specs.TaskCalls.{hear_of, heard_of, release_of, released_of, start_of, started_of, task_call_data, task_call_of, task_reply_data, task_reply_of};
+ghost use Rattle.wire.specs.TaskCalls.{hear_of, heard_of, release_of, released_of, resume_of, resumed_of, start_of, started_of, task_call_data, task_call_of, task_reply_data, task_reply_of};
 
 use crate::fault::{DecodeError, Refusal};
 use crate::grant::{grant_json, grant_law, grant_of};
@@ -12,7 +12,7 @@ use crate::message::Wire;
 use crate::note::{note_json, note_law, note_of};
 use program_io::{exactly, member_at, number_at, text_at};
 use serde_json::{Value, json};
-use slicelet::{SliceletCall, SliceletReply};
+use slicelet::{EndedNotes, SliceletCall, SliceletReply};
 use std::alloc::{AllocError, Global};
 
 // Writes the call as JSON.
@@ -30,6 +30,7 @@ fn task_call_json(alloc: Global, call: &SliceletCall) -> Result<Value, AllocErro
         SliceletCall::Release { kind, at } => {
             json!(in alloc; {"at": *at, "do": "release", "kind": kind_word(*kind)})
         }
+        SliceletCall::Resume { life } => json!(in alloc; {"do": "resume", "life": *life}),
     }
 }
 
@@ -65,6 +66,16 @@ fn release_of(value: &Value) -> Result<SliceletCall, Refusal>
     })
 }
 
+#[tactic(auto, unfolding(crate::specs::TaskCalls::resume_of))]
+fn resume_of(value: &Value) -> Result<SliceletCall, Refusal>
+    ensures { result ≡ resume_of (view value.now) }
+{
+    exactly(&["do", "life"], value)?;
+    Ok(SliceletCall::Resume {
+        life: life_at("life", value)?,
+    })
+}
+
 // Reads a call from JSON.
 #[tactic(auto, unfolding(crate::specs::TaskCalls::task_call_of))]
 fn task_call_of(alloc: Global, value: &Value) -> Result<SliceletCall, DecodeError>
@@ -74,6 +85,7 @@ fn task_call_of(alloc: Global, value: &Value) -> Result<SliceletCall, DecodeErro
         "start" => Ok(start_of(value)?),
         "hear" => hear_of(alloc, value),
         "release" => Ok(release_of(value)?),
+        "resume" => Ok(resume_of(value)?),
         _ => Err(DecodeError::Refused(Refusal::WrongForm)),
     }
 }
@@ -88,6 +100,9 @@ fn task_call_law(call: &SliceletCall)
         }
         SliceletCall::Hear { grant, .. } => grant_law(grant),
         SliceletCall::Release { .. } => {}
+        SliceletCall::Resume { life } => {
+            let _life = *life;
+        }
     }
 }
 
@@ -124,6 +139,11 @@ fn task_reply_json(alloc: Global, reply: &SliceletReply) -> Result<Value, AllocE
             let note = note_json(alloc, note)?;
             json!(in alloc; {"note": note, "reply": "released"})
         }
+        SliceletReply::Resumed(ended) => {
+            let bridge = note_json(alloc, &ended.bridge)?;
+            let guard = note_json(alloc, &ended.guard)?;
+            json!(in alloc; {"bridge": bridge, "guard": guard, "reply": "resumed"})
+        }
     }
 }
 
@@ -152,6 +172,16 @@ fn released_of(value: &Value) -> Result<SliceletReply, Refusal>
     Ok(SliceletReply::Released(note))
 }
 
+#[tactic(auto, unfolding(crate::specs::TaskCalls::resumed_of))]
+fn resumed_of(value: &Value) -> Result<SliceletReply, Refusal>
+    ensures { result ≡ resumed_of (view value.now) }
+{
+    exactly(&["reply", "guard", "bridge"], value)?;
+    let guard = note_of(member_at("guard", value)?)?;
+    let bridge = note_of(member_at("bridge", value)?)?;
+    Ok(SliceletReply::Resumed(EndedNotes { guard, bridge }))
+}
+
 // Reads a reply from JSON.
 #[tactic(auto, unfolding(crate::specs::TaskCalls::task_reply_of))]
 fn task_reply_of(value: &Value) -> Result<SliceletReply, Refusal>
@@ -161,6 +191,7 @@ fn task_reply_of(value: &Value) -> Result<SliceletReply, Refusal>
         "started" => started_of(value),
         "heard" => heard_of(value),
         "released" => released_of(value),
+        "resumed" => resumed_of(value),
         _ => Err(Refusal::WrongForm),
     }
 }
@@ -171,6 +202,10 @@ fn task_reply_law(reply: &SliceletReply)
 {
     match reply {
         SliceletReply::Released(note) => note_law(note),
+        SliceletReply::Resumed(ended) => {
+            note_law(&ended.guard);
+            note_law(&ended.bridge);
+        }
         SliceletReply::Started => {}
         SliceletReply::Heard => {}
     }
