@@ -13,7 +13,7 @@ use Rattle.slicelet.specs.Rules.{covers_key, is_allowed}
 use Rattle.slicelet.specs.States.{SliceletState, stamp_in, rule_in_state, permits}
 use Rattle.explain.specs.Breaking.{taken_after, HasNoBreakingCall}
 
--- what a check answers, by whether the handle is of another task, of a life to come, of this life, taken after more calls than there were,
+-- what a check answers, by whether the handle is of another task or an earlier process, of a life to come, of this life, taken after more calls than there were,
 -- taken after the stamp of its key, and its key permitted
 abbrev pub answer : Bool → Bool → Bool → Bool → Bool → Bool → Result Bool Stranger
 answer other to_come same past up may = if other || to_come || (same && past) then Err (record {}) else Ok ((same && up) && may)
@@ -45,14 +45,14 @@ module _ (s : SliceletState) (handle : KeyHandle) (at : ℕ) where
   -- a handle that is broken is so if it was taken earlier
   pub broken_earlier : (p q : ℕ) → q ≤ p → checked_in s (taken_after p handle) at ≡ Ok false → checked_in s (taken_after q handle) at ≡ Ok false
   broken_earlier p q l e =
-      earlier_answer (not (handle.task == s.task)) (nat_lt s.life handle.life) (handle.life == s.life) (nat_lt s.count p) (nat_lt s.count q)
+      earlier_answer (not (handle.task == s.task) || nat_le handle.life s.resumed) (nat_lt s.life handle.life) (handle.life == s.life) (nat_lt s.count p) (nat_lt s.count q)
       (is_up_to p (stamp_in s handle.key)) (is_up_to q (stamp_in s handle.key)) (permits s handle.key at)
       (λ t. (let u : nat_lt s.count q ≡ true = t in grind (arith, nat_tests))) (up_earlier (stamp_in s handle.key) q p l) e
 
   -- one that is continuous was taken after no more calls than there were, and its key is permitted
   pub continuous_facts : (p : ℕ) → checked_in s (taken_after p handle) at ≡ Ok true → (p ≤ s.count) × (permits s handle.key at ≡ true)
   continuous_facts p e =
-      let facts = true_answer (not (handle.task == s.task)) (nat_lt s.life handle.life) (handle.life == s.life) (nat_lt s.count p)
+      let facts = true_answer (not (handle.task == s.task) || nat_le handle.life s.resumed) (nat_lt s.life handle.life) (handle.life == s.life) (nat_lt s.count p)
       (is_up_to p (stamp_in s handle.key)) (permits s handle.key at) e in
       ((let t : nat_lt s.count p ≡ false = facts.0 in grind (arith, nat_tests)), facts.1)
 

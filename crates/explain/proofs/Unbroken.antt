@@ -1,11 +1,12 @@
 -- A handle that no call broke is continuous.
 use Rattle.std.proofs.Common.{◌≡◌, ◌∙◌, ℕ, zero, suc, ◌+◌, ◌-◌, ◌<◌, ◌≤◌, Bool, true, false, not, List, ◌∷◌, length, refl, sym, ap, subst, arith, length-append}
-use Rattle.std.specs.Prelude.{◌==◌, ◌&&◌, ◌||◌, nat_lt, Result, Ok}
+use Rattle.std.specs.Prelude.{◌==◌, ◌&&◌, ◌||◌, nat_lt, nat_le, Result, Ok}
 use Rattle.std.proofs.lemmas.Bool.Decides.{nat_tests}
 use Rattle.slice_ranges.specs.declared.key.TheConstants.{KEYS}
 use Rattle.slicelet.specs.declared.call.SliceletCall.{SliceletCall}
 use Rattle.slicelet.specs.declared.error.Stranger.{Stranger}
 use Rattle.slicelet.specs.declared.handle.KeyHandle.{KeyHandle}
+use Rattle.slicelet.specs.Calls.{this_process}
 use Rattle.slicelet.specs.Accepted.{StandsAfter}
 use Rattle.slicelet.specs.Continuity.{is_strange, is_kept, checked_in, IsKeptSince, IsContinuous, IsChecked}
 use Rattle.slicelet.specs.Handles.{is_up_to}
@@ -28,7 +29,7 @@ module _ (s : SliceletState) (handle : KeyHandle) (at : ℕ) (unbroken : HasNoBr
   -- a call that does not take the key away
   next_broken : (p : ℕ) → handle.position ≤ p → p < s.count → checked_in s (taken_after p handle) at ≡ Ok false → checked_in s (taken_after (p + 1) handle) at ≡ Ok false
   next_broken p since l e =
-      next_answer (not (handle.task == s.task)) (nat_lt s.life handle.life) (handle.life == s.life) (nat_lt s.count p) (nat_lt s.count (p + 1))
+      next_answer (not (handle.task == s.task) || nat_le handle.life s.resumed) (nat_lt s.life handle.life) (handle.life == s.life) (nat_lt s.count p) (nat_lt s.count (p + 1))
       (is_up_to p (stamp_in s handle.key)) (is_up_to (p + 1) (stamp_in s handle.key)) (permits s handle.key at)
       (let t : nat_lt s.count (p + 1) ≡ false = grind (arith, nat_tests) in t) e
       (λ kept. unbroken (p + 1) (record { since = omega (arith, since); before = p; just_before = refl; broken_before = e; continuous_after = kept }))
@@ -46,7 +47,7 @@ module _ (s : SliceletState) (handle : KeyHandle) (at : ℕ) (unbroken : HasNoBr
 given_within : (s : SliceletState) (handle : KeyHandle) → is_strange s handle ≡ false → handle.life ≡ s.life → handle.position ≤ s.count
 given_within s handle given lives =
     let same : (handle.life == s.life) ≡ true = grind (arith, nat_tests) in
-    let t : nat_lt s.count handle.position ≡ false = by_tests (not (handle.task == s.task)) (nat_lt s.life handle.life) (handle.life == s.life) (nat_lt s.count handle.position) same given in
+    let t : nat_lt s.count handle.position ≡ false = by_tests (not (handle.task == s.task) || nat_le handle.life s.resumed) (nat_lt s.life handle.life) (handle.life == s.life) (nat_lt s.count handle.position) same given in
     grind (arith, nat_tests)
   where
     by_tests : (a b c d : Bool) → c ≡ true → (a || b || (c && d)) ≡ false → d ≡ false
@@ -57,10 +58,10 @@ given_within s handle given lives =
 
 module _ (calls : List SliceletCall) (s : SliceletState) (handle : KeyHandle) (at : ℕ) (stands : StandsAfter calls s) (lives : handle.life ≡ s.life) (permitted : permits s handle.key at ≡ true) where
   -- there is no call after those that there were
-  none_since : IsKeptSince s.count (covers_key handle.key) calls
+  none_since : IsKeptSince s.count (covers_key handle.key) (this_process calls)
   none_since later before c e l =
-      let many : s.count ≡ length calls = ap (λ (x : SliceletState). x.count) stands.state in
-      let parts : length calls ≡ length later + length (c ∷ before) = ap length e ∙ length-append later (c ∷ before) in
+      let many : s.count ≡ length (this_process calls) = ap (λ (x : SliceletState). x.count) stands.state in
+      let parts : length (this_process calls) ≡ length later + length (c ∷ before) = ap length e ∙ length-append later (c ∷ before) in
       absurd (let f : length (c ∷ before) ≡ length before + 1 = omega arith in omega (arith, many, parts, l))
 
   continuous_now : IsContinuous (covers_key handle.key) calls (taken_after s.count handle) at

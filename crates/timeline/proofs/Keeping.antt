@@ -5,8 +5,8 @@ use Rattle.std.specs.Prelude.{◌&&◌, ◌||◌, nat_lt, nat_le, None}
 use Rattle.std.specs.List.{list_any}
 use Rattle.machines.specs.Refusals.{first_of}
 use Rattle.slicelet.specs.declared.call.SliceletCall.{SliceletCall}
-use Rattle.slicelet.specs.declared.call.SliceletCall.TheVariants.{Start, Hear, Release}
-use Rattle.slicelet.specs.Calls.{reading_of, last_reading}
+use Rattle.slicelet.specs.declared.call.SliceletCall.TheVariants.{Start, Hear, Release, Resume}
+use Rattle.slicelet.specs.Calls.{is_resume, reading_of, last_reading}
 use Rattle.slicelet.specs.Rules.{covers_key, is_permitted}
 use Rattle.slicelet.specs.States.{SliceletState, state_after}
 use Rattle.slicelet.specs.Accepted.{AreAccepted, checks_of}
@@ -14,11 +14,12 @@ use Rattle.slicelet.proofs.Accepting.{start_accepted, hear_accepted, release_acc
 use Rattle.timeline.specs.declared.stretch.KeyStretches.{KeyStretches}
 use Rattle.timeline.specs.Stretches.{calls_up_to, may_serve, is_in, IsKept, IsNext}
 
--- readings of accepted calls never fall
-in_order : (s : SliceletState) (c : SliceletCall) → first_of (checks_of s c) ≡ None → s.last ≤ reading_of c
-in_order s (Start life at) e = (start_accepted s life at e).in_order
-in_order s (Hear grant at) e = (hear_accepted s grant at e).in_order
-in_order s (Release kind at) e = (release_accepted s kind at e).in_order
+-- readings of accepted calls of one process never fall
+in_order : (s : SliceletState) (c : SliceletCall) → is_resume c ≡ false → first_of (checks_of s c) ≡ None → s.last ≤ reading_of c
+in_order s (Start life at) goes e = (start_accepted s life at e).in_order
+in_order s (Hear grant at) goes e = (hear_accepted s grant at e).in_order
+in_order s (Release kind at) goes e = (release_accepted s kind at e).in_order
+in_order s (Resume life) goes e = absurd (cc)
 
 -- from the last reading on, every call counts
 all_calls : (calls : List SliceletCall) (at : ℕ) → last_reading calls ≤ at → calls_up_to at calls ≡ calls
@@ -57,15 +58,15 @@ below_new from to now at may l here = by_test (nat_lt at from) refl
 next_reading : (task : ℕ) (before after : List SliceletCall) → AreAccepted task after → IsNext before after → last_reading before ≤ last_reading after
 next_reading task before after accepted (inl same) = subst (λ (calls : List SliceletCall). last_reading before ≤ last_reading calls) (sym same) (omega arith)
 next_reading task before after accepted (inr more) =
-    let both = subst (λ (calls : List SliceletCall). AreAccepted task calls) more.1 accepted in
-    subst (λ (calls : List SliceletCall). last_reading before ≤ last_reading calls) (sym more.1) (in_order (state_after task before) more.0 both.0)
+    let both = subst (λ (calls : List SliceletCall). AreAccepted task calls) more.2 accepted in
+    subst (λ (calls : List SliceletCall). last_reading before ≤ last_reading calls) (sym more.2) (in_order (state_after task before) more.0 more.1 both.0)
 
 -- one call more changes nothing below its reading
 same_below : (key : ℕ) (before after : List SliceletCall) → IsNext before after → (at : ℕ)
     → (nat_lt at (last_reading after) && may_serve key before at) ≡ (nat_lt at (last_reading after) && may_serve key after at)
 same_below key before after (inl same) at = ap (λ (calls : List SliceletCall). nat_lt at (last_reading after) && may_serve key calls at) (sym same)
 same_below key before after (inr more) at = subst (λ (calls : List SliceletCall). (nat_lt at (last_reading calls) && may_serve key before at)
-    ≡ (nat_lt at (last_reading calls) && may_serve key calls at)) (sym more.1)
+    ≡ (nat_lt at (last_reading calls) && may_serve key calls at)) (sym more.2)
     (by_test (nat_lt at (reading_of more.0)) refl)
   where
     by_test : (early : Bool) → nat_lt at (reading_of more.0) ≡ early

@@ -1,8 +1,8 @@
 -- The stretches of readings in which a task may serve a key.
-use Rattle.std.specs.Prelude.{◌≡◌, ◌⊎◌, ℕ, ◌≤◌, Bool, ◌&&◌, nat_lt, nat_le, List, [], ◌∷◌, if◌then◌else◌}
+use Rattle.std.specs.Prelude.{◌≡◌, ◌⊎◌, ℕ, ◌≤◌, Bool, false, ◌&&◌, nat_lt, nat_le, List, [], ◌∷◌, if◌then◌else◌}
 use Rattle.std.specs.List.{list_any}
 use Rattle.slicelet.specs.declared.call.SliceletCall.{SliceletCall}
-use Rattle.slicelet.specs.Calls.{reading_of, last_reading}
+use Rattle.slicelet.specs.Calls.{is_resume, reading_of, last_reading}
 use Rattle.slicelet.specs.Rules.{covers_key, is_permitted}
 use Rattle.timeline.specs.declared.stretch.Stretch.{Stretch}
 use Rattle.timeline.specs.declared.stretch.KeyStretches.{KeyStretches}
@@ -30,6 +30,6 @@ pub record IsKept (calls : List SliceletCall) (kept : KeyStretches) : Type 0 whe
   pub closed : (at : ℕ) → list_any (is_in at) kept.closed.items ≡ (nat_lt at (last_reading calls) && may_serve kept.key calls at)
   pub last : (at : ℕ) → last_reading calls ≤ at → nat_lt at kept.last.to ≡ is_permitted (covers_key kept.key) calls at
 
--- no call was accepted since, or one
+-- no call was accepted since, or one of the same process
 abbrev pub IsNext : List SliceletCall → List SliceletCall → Type 0
-IsNext before after = (after ≡ before) ⊎ ((c : SliceletCall) × (after ≡ c ∷ before))
+IsNext before after = (after ≡ before) ⊎ ((c : SliceletCall) × (is_resume c ≡ false) × (after ≡ c ∷ before))

@@ -71,7 +71,8 @@ impl KeyStretches {
         }
     }
 
-    /// Records what the task's slicelet knows now, after at most one more call.
+    /// Records what the task's slicelet knows now, after at most one more call of the same
+    /// process.
     pub fn observe(&mut self, slicelet: &Slicelet) -> Result<(), AllocError>
         ensures key { OnOk result (self.new.key ≡ self.old.key) }
         ensures kept { (before after : List SliceletCall) → IsKept before self.old → StandsAfter after slicelet.now
