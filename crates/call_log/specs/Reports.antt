@@ -1,6 +1,6 @@
 -- What is written of a log.
 use Rattle.std.specs.Prelude.{◌≡◌, ℕ, nat_lt, List, [], ◌++◌, codes, decimal, Option, Some, None, slice_get, if◌then◌else◌}
-use Rattle.session.specs.Quoted.{escaped}
+use Rattle.diagnosis.specs.Quoted.{escaped}
 use Rattle.slicelet.specs.declared.heard.HeldLease.{HeldLease}
 use Rattle.policy_rules.specs.declared.answer.Verdict.TheVariants.{Deny}
 use Rattle.policy_rules.specs.declared.answer.Ground.TheVariants.{Ended}

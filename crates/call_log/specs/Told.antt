@@ -54,6 +54,7 @@ abbrev pub task_reply : LoggedCall → ℕ → SliceletReply → Reply
 task_reply c number slicelet.Started = reply.Started (life_in c)
 task_reply c number slicelet.Heard = reply.Heard (number_in c)
 task_reply c number (slicelet.Released note) = reply.Released number note
+task_reply c number (slicelet.Resumed ended) = reply.Started (life_in c)
 
 abbrev pub clerk_reply : LoggedCall → ClerkReply → Reply
 clerk_reply c clerk.Learnt = reply.Learnt (number_in c)

@@ -1,9 +1,8 @@
 //! How to fix a line that is not a call.
 
 use crate::task_lines::bare_grant_of;
-use diagnosis::{Found, Members, Wanted, WrongMember, missing_member, unknown_member};
+use diagnosis::{Found, Members, Quoted, Wanted, WrongMember, missing_member, unknown_member};
 use serde_json::Value;
-use session::Quoted;
 use std::alloc::{AllocError, Global};
 use std::fmt;
 use wire::{DecodeError, grant_of, handle_of, note_of};

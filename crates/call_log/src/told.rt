@@ -82,6 +82,8 @@ fn task_reply(call: &LoggedCall, number: u64, reply: SliceletReply) -> Reply
         SliceletReply::Started => Reply::Started(life_in(call)),
         SliceletReply::Heard => Reply::Heard(number_in(call)),
         SliceletReply::Released(note) => Reply::Released { number, note },
+        // No line of a log begins a new process.
+        SliceletReply::Resumed(_) => Reply::Started(life_in(call)),
     }
 }
 

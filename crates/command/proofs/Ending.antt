@@ -1,9 +1,13 @@
 -- How the command ends, by what it read.
-use Rattle.std.proofs.Common.{◌≡◌, inl, inr, ℕ, List, [], Option, Some, None, Result, Ok, Err, IfErr, OnOk, refl, subst}
+use Rattle.std.proofs.Common.{◌≡◌, ◌⊎◌, inl, inr, ℕ, List, [], Option, Some, None, Result, Ok, Err, IfErr, OnOk, refl, subst}
 use Rattle.std.specs.Bool.{⊤}
 use Rattle.std.specs.Io.KnownBytes.{Keeps, prepend_known}
 use Rattle.std.specs.Io.Buffered.{reader_remaining, reader_buffer, reader_capacity, reader_inner}
 use Rattle.std.specs.declared.io.buffered.BufReader.{BufReader}
+use Rattle.clap.specs.Kinds.{IsAmong}
+use Rattle.clap.specs.Walk.{Text}
+use Rattle.clap.specs.declared.error.kind.ErrorKind.{ErrorKind}
+use Rattle.clap.specs.declared.error.kind.ErrorKind.TheVariants as kind
 use Rattle.program_io.proofs.Keeping.{keeps_itself}
 use Rattle.command.specs.declared.arguments.Request.{Request}
 use Rattle.command.specs.declared.arguments.ScriptText.{ScriptText}
@@ -14,7 +18,8 @@ use Rattle.diagnosis.specs.Errors.{status_after}
 use Rattle.session.specs.declared.answer.ReplyForm.{ReplyForm}
 use Rattle.session.specs.Talks.{IsTalked, IsBroken}
 use Rattle.command.specs.Runs.{IsAnswered, IsFailed}
-use Rattle.command.specs.Endings.{IsPlayed, IsSession, IsOutcome, IsWithoutInput, IsUnopened, EndsBy, Ends}
+use Rattle.command.specs.Endings.{IsPlayed, IsSession, IsOutcome, IsTold, EndsBy, Ends}
+use Rattle.command.specs.Words.{word_faults}
 
 pub played_of : (text : ScriptText) (full rest held holds : Option (List ℕ)) (answer : Result ⊤ AnswerError)
     → OnOk answer (IsAnswered text full rest held holds) → IfErr answer (IsFailed text full rest held holds) → IsPlayed text full rest held holds answer
@@ -46,21 +51,33 @@ fresh_remaining : {T A : Type 0} (remaining : T → Option (List ℕ)) (reader :
     → reader_inner reader ≡ inner → reader_buffer reader ≡ [] → reader_capacity reader ≡ 8192 → reader_remaining remaining reader ≡ remaining inner
 fresh_remaining remaining reader inner same empty room = rw (room, empty, same) (prepends_nothing (remaining inner))
 
-pub ends_buffered : {T A : Type 0} (remaining : T → Option (List ℕ)) (reader : BufReader T A) (inner : T) (after held holds : Option (List ℕ)) (code : ℕ)
-    → reader_inner reader ≡ inner → reader_buffer reader ≡ [] → reader_capacity reader ≡ 8192
-    → Ends (reader_remaining remaining reader) after held holds code → (rest : Option (List ℕ)) × Ends (remaining inner) rest held holds code
-ends_buffered remaining reader inner after held holds code same empty room ends =
-    (after, subst (λ (before : Option (List ℕ)). Ends before after held holds code) (fresh_remaining remaining reader inner same empty room) ends)
+module _ (words : List Text) where
+  pub ends_buffered : {T A : Type 0} (remaining : T → Option (List ℕ)) (reader : BufReader T A) (inner : T) (after held holds : Option (List ℕ)) (code : ℕ)
+      → reader_inner reader ≡ inner → reader_buffer reader ≡ [] → reader_capacity reader ≡ 8192 → Ends words (reader_remaining remaining reader) after held holds code
+      → (given : List Text) × (rest : Option (List ℕ)) × Ends given (remaining inner) rest held holds code
+  ends_buffered remaining reader inner after held holds code same empty room ends =
+      (words, after, subst (λ (before : Option (List ℕ)). Ends words before after held holds code) (fresh_remaining remaining reader inner same empty room) ends)
 
-pub ends_unread : (before held holds : Option (List ℕ)) (code : ℕ) → IsWithoutInput held holds code → (rest : Option (List ℕ)) × Ends before rest held holds code
-ends_unread before held holds code without = (before, inr (inr (keeps_itself before, without)))
+  -- memory ran out before anything was done
+  pub without_memory : (before held : Option (List ℕ)) (code : ℕ) → code ≡ 3 → Ends words before before held held code
+  without_memory before held code failed = inr (
+    keeps_itself before,
+    record {
+      why = kind.OutOfMemory;
+      reason = inl refl;
+      told = record {
+        help = λ is. absurd (elim is [ inl e ↦ cc | inr e ↦ cc ]);
+        memory = λ is. (failed, keeps_itself held);
+        refused = λ help version memory. absurd (memory refl);
+      };
+    },
+  )
 
-without_file : (from : Source) (before after held holds : Option (List ℕ)) (code : ℕ) → IsUnopened from before after held holds code
-    → Keeps before after × IsWithoutInput held holds code
-without_file source.Input before after held holds code unopened = absurd unopened
-without_file (source.File name) before after held holds code unopened = (unopened.1, inr (inl (unopened.0, unopened.2)))
+  -- an error is told
+  pub ends_told : (before after held holds : Option (List ℕ)) (code : ℕ) (why : ErrorKind) → Keeps before after
+      → (why ≡ kind.OutOfMemory) ⊎ IsAmong why (word_faults words) → IsTold why held holds code → Ends words before after held holds code
+  ends_told before after held holds code why kept reason told = inr (kept, record { why = why; reason = reason; told = told })
 
--- how it ends for a request, and where logs were audited
-pub ends_by : (request : Request) (before after held holds : Option (List ℕ)) (code : ℕ) → EndsBy request before after held holds code → Ends before after held holds code
-ends_by request before after held holds code (inl ends) = inl (request, ends)
-ends_by request before after held holds code (inr unopened) = inr (inr (without_file request.source before after held holds code unopened))
+-- before the words are known
+pub ends_unread : (before held : Option (List ℕ)) (code : ℕ) → code ≡ 3 → (words : List Text) × (rest : Option (List ℕ)) × Ends words before rest held held code
+ends_unread before held code failed = ([], before, without_memory [] before held code failed)

@@ -3,3 +3,4 @@ pub mod Outputs
 pub mod Ending
 pub mod Logs
 pub mod Runs
+pub mod Words

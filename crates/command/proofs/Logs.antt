@@ -42,7 +42,7 @@ to_its_end name file before after bytes short read = record { input = λ dash. b
   where
     by_part : IsLogBytes before after bytes → ReadsAll before after bytes
     by_part (inl all) = all
-    by_part (inr cut) = absurd (never_cut file 1 bytes short cut.long)
+    by_part (inr cut) = absurd (never_cut file 1 bytes cut.many short cut.line cut.long)
 
 pub to_their_ends : (names : List (List ℕ)) (file : ℕ) (before after : Option (List ℕ)) (files : List (List ℕ)) → AreShort (lines_from file files)
     → AreLogsRead IsLogBytes names before after files → AreLogsRead ReadsAll names before after files

@@ -1,17 +1,13 @@
 -- What `hourstable audit` writes, and the status that it exits with.
-use Rattle.std.specs.Prelude.{◌≡◌, ◌≢◌, ◌⊎◌, ◌+◌, ◌<◌, ◌==◌, ℕ, Bool, List, [], ◌∷◌, map, take, codes, Option, Result, Ok, Err, ⊤, if◌then◌else◌}
-use Rattle.std.specs.Option.{option_map_or}
+use Rattle.std.specs.Prelude.{◌≡◌, ◌≢◌, ◌⊎◌, ◌+◌, ◌<◌, ◌++◌, ℕ, Bool, List, [], ◌∷◌, All, length, take, codes, Option, Result, Ok, Err, ⊤, if◌then◌else◌}
+use Rattle.std.specs.Io.{IsEmptyOrEndsWith}
 use Rattle.std.specs.Io.KnownBytes.{Appends, Consumes, Keeps}
-use Rattle.clap.specs.Words.{found_of, matched_of, raw_values}
-use Rattle.clap.specs.declared.parser.matches.ArgMatches.{ArgMatches}
 use Rattle.program_io.specs.Streams.{ReadsAll}
 use Rattle.session.specs.declared.line_reading.TheConstants.{MOST_LINE_BYTES}
 use Rattle.call_log.specs.Audits.{IsAudited}
 use Rattle.call_log.specs.declared.entry.Place.{Place}
 use Rattle.call_log.specs.Files.{IsUnread, lines_from}
 use Rattle.call_log.specs.declared.log.LogError.{LogError}
-use Rattle.command.specs.declared.arguments.Asked.{Asked}
-use Rattle.command.specs.declared.arguments.Asked.TheVariants as asked
 use Rattle.command.specs.declared.log_audit.AuditError.{AuditError}
 use Rattle.command.specs.declared.log_audit.AuditError.TheVariants as audit
 
@@ -25,27 +21,21 @@ status_of _ = 3
 abbrev pub status_for : Bool → ℕ
 status_for one = if one then 0 else 1
 
--- the words that the command line gives for LOG
-abbrev pub logs_given : ArgMatches → List (List ℕ)
-logs_given matches = option_map_or raw_values (matched_of (found_of matches) (codes "LOG")) []
-
--- an audit of the logs of these names is asked for
-abbrev pub AsksAudit : List (List ℕ) → Asked → Type 0
-AsksAudit given (asked.Audit names progress) = map (λ n. n.now) names.items ≡ given
-AsksAudit given (asked.Answer request) = ⊥
-
--- how many bytes there are since the last end of a line, where there were so many before this byte, or before these bytes
-abbrev pub longer : ℕ → ℕ → ℕ
-longer run byte = if byte == 10 then 0 else run + 1
-
-abbrev pub run_after : ℕ → List ℕ → ℕ
-run_after run [] = run
-run_after run (byte ∷ bytes) = run_after (longer run byte) bytes
+-- the bytes after the last end of a line are this many
+pub record EndsInLine (bytes : List ℕ) (many : ℕ) : Type 0 where
+  pub before : List ℕ
+  pub line : List ℕ
+  pub parts : bytes ≡ before ++ line
+  pub whole : IsEmptyOrEndsWith before 10
+  pub unended : All (λ b. b ≢ 10) line
+  pub length_is : many ≡ length line
 
 -- a log was read up to a line that is too long: these are its first bytes, which end in more bytes without the end of a line than a line may have
 pub record IsLogCut (before after : Option (List ℕ)) (bytes : List ℕ) : Type 0 where
   pub gave : Consumes before after bytes
-  pub long : MOST_LINE_BYTES + 1 < run_after 0 bytes
+  pub many : ℕ
+  pub line : EndsInLine bytes many
+  pub long : MOST_LINE_BYTES + 1 < many
 
 -- a log has these bytes, all of them, or up to a line that is too long
 abbrev pub IsLogBytes : Option (List ℕ) → Option (List ℕ) → List ℕ → Type 0

@@ -1,6 +1,10 @@
 -- How the command ends, and the status that it exits with.
-use Rattle.std.specs.Prelude.{◌≡◌, ◌⊎◌, ℕ, List, map, Option, Result, Ok, Err, ⊤}
+use Rattle.std.specs.Prelude.{◌≡◌, ◌≢◌, ◌⊎◌, ℕ, List, map, Option, Result, Ok, Err, ⊤}
 use Rattle.std.specs.Io.KnownBytes.{Appends, Keeps}
+use Rattle.clap.specs.Kinds.{IsAmong}
+use Rattle.clap.specs.Walk.{Text}
+use Rattle.clap.specs.declared.error.kind.ErrorKind.{ErrorKind}
+use Rattle.clap.specs.declared.error.kind.ErrorKind.TheVariants as kind
 use Rattle.command.specs.declared.arguments.Asked.{Asked}
 use Rattle.command.specs.declared.arguments.Asked.TheVariants as asked
 use Rattle.command.specs.declared.arguments.Request.{Request}
@@ -15,6 +19,7 @@ use Rattle.session.specs.declared.answer.ReplyForm.{ReplyForm}
 use Rattle.session.specs.Talks.{IsTalked, IsBroken}
 use Rattle.command.specs.Runs.{IsAnswered, IsFailed}
 use Rattle.command.specs.Audits.{IsAuditEnd}
+use Rattle.command.specs.Words.{WordsAsk, word_faults}
 
 -- input was read that had `full` before and has `rest` after: all the input, or a file, and then nothing of the input
 abbrev pub IsReadFrom : Source → (before after full rest : Option (List ℕ)) → Type 0
@@ -45,21 +50,23 @@ pub record EndsWithInput (request : Request) (before after held holds : Option (
   pub outcome : IsOutcome request.subcommand full rest held holds answer
   pub status : code ≡ status_after answer
 
--- a text for help or for the version was written
+-- the text for help or for the version was written, or memory ran out, or it was written up to a place
 abbrev pub IsHelped : (held holds : Option (List ℕ)) → ℕ → Type 0
-IsHelped held holds code = (code ≡ 0) × (text : List ℕ) × Appends held holds text
+IsHelped held holds code =
+    ((code ≡ 0) × (text : List ℕ) × Appends held holds text)
+    ⊎ ((code ≡ 3) × (Keeps held holds ⊎ ((text : List ℕ) × Appends held holds text)))
 
--- the words are refused, or a file was not opened
-abbrev pub IsTurnedAway : (held holds : Option (List ℕ)) → ℕ → Type 0
-IsTurnedAway held holds code = (code ≡ 2) × Keeps held holds
+-- what is written for words that ask for nothing that the command does, for this reason
+pub record IsTold (why : ErrorKind) (held holds : Option (List ℕ)) (code : ℕ) : Type 0 where
+  pub help : (why ≡ kind.DisplayHelp) ⊎ (why ≡ kind.DisplayVersion) → IsHelped held holds code
+  pub memory : why ≡ kind.OutOfMemory → (code ≡ 3) × Keeps held holds
+  pub refused : why ≢ kind.DisplayHelp → why ≢ kind.DisplayVersion → why ≢ kind.OutOfMemory → (code ≡ 2) × Keeps held holds
 
--- memory ran out, or such a text was written up to a place
-abbrev pub IsCutOff : (held holds : Option (List ℕ)) → ℕ → Type 0
-IsCutOff held holds code = (code ≡ 3) × (Keeps held holds ⊎ ((text : List ℕ) × Appends held holds text))
-
--- no input was read
-abbrev pub IsWithoutInput : (held holds : Option (List ℕ)) → ℕ → Type 0
-IsWithoutInput held holds code = IsHelped held holds code ⊎ IsTurnedAway held holds code ⊎ IsCutOff held holds code
+-- no input was read: the words ask for nothing that the command does, or memory ran out
+pub record IsWithoutInput (words : List Text) (held holds : Option (List ℕ)) (code : ℕ) : Type 0 where
+  pub why : ErrorKind
+  pub reason : (why ≡ kind.OutOfMemory) ⊎ IsAmong why (word_faults words)
+  pub told : IsTold why held holds code
 
 -- the file of a request was not opened, and nothing was read or written
 abbrev pub IsUnopened : Source → (before after held holds : Option (List ℕ)) → ℕ → Type 0
@@ -76,9 +83,8 @@ abbrev pub EndsFor : Asked → (before after held holds : Option (List ℕ)) →
 EndsFor (asked.Answer request) before after held holds code = EndsBy request before after held holds code
 EndsFor (asked.Audit names progress) before after held holds code = IsAuditEnd (map (λ n. n.now) names.items) before after held holds code
 
--- how the command ends: it answers one input, audits logs of some names, or reads nothing
-abbrev pub Ends : (before after held holds : Option (List ℕ)) → ℕ → Type 0
-Ends before after held holds code =
-    ((request : Request) × EndsWithInput request before after held holds code)
-    ⊎ ((names : List (List ℕ)) × IsAuditEnd names before after held holds code)
-    ⊎ (Keeps before after × IsWithoutInput held holds code)
+-- how the command ends, for these words: it does what they ask for, or reads nothing
+abbrev pub Ends : List Text → (before after held holds : Option (List ℕ)) → ℕ → Type 0
+Ends words before after held holds code =
+    ((asked : Asked) × WordsAsk words asked × EndsFor asked before after held holds code)
+    ⊎ (Keeps before after × IsWithoutInput words held holds code)

@@ -1,7 +1,15 @@
 //! The arguments of the command.
 
-ghost use Rattle.std.specs.Prelude.{IfOk};
-ghost use Rattle.command.specs.Audits.{AsksAudit, logs_given};
+ghost use Rattle.std.specs.Prelude.{◌≡◌, IfOk, codes, if◌then◌else◌, map, option_map, string_bytes};
+ghost use Rattle.clap.specs.Kinds.{FailsBy};
+ghost use Rattle.clap.specs.Matches.{found_of};
+ghost use Rattle.clap.specs.Walk.{first_of, rows_of};
+ghost use Rattle.command.specs.Words.{Asks, AsksAudit, AsksRun, AsksSession, AsksTimeline, IsRequest, IsSource};
+ghost use Rattle.command.specs.Words.{audit_words, explain_words, run_words, session_words, timeline_words};
+ghost use Rattle.command.specs.Words.{IsArgument, IsReadAs, WordsAsk, bare_hourstable, file, flag, hourstable, leaf, logs, option, word_faults};
+ghost use Rattle.command.specs.declared.arguments.ScriptText.TheVariants as show;
+ghost use Rattle.command.specs.declared.arguments.Subcommand.TheVariants as command;
+ghost use Rattle.session.specs.declared.answer.ReplyForm.TheVariants as form;
 
 use clap::{Arg, ArgAction, ArgMatches, Command, Error};
 use program_io::LIBRARY_VERSION;
@@ -87,18 +95,24 @@ pub enum Asked<'a> {
     Audit { names: Vec<&'a str>, progress: bool },
 }
 
-fn flag<'a>(alloc: Global, name: &'a str, help: &'a str) -> Arg<'a> {
+fn flag<'a>(alloc: Global, name: &'a str, help: &'a str) -> Arg<'a>
+    ensures { IsArgument (flag name.entry.now) result }
+{
     Arg::new(alloc, name)
         .long(name)
         .help(help)
         .action(ArgAction::SetTrue)
 }
 
-fn file_argument<'a>(alloc: Global, help: &'a str) -> Arg<'a> {
+fn file_argument<'a>(alloc: Global, help: &'a str) -> Arg<'a>
+    ensures { IsArgument file result }
+{
     Arg::new(alloc, "FILE").help(help).action(ArgAction::Set)
 }
 
-fn run_command<'a>(alloc: Global) -> Result<Command<'a>, AllocError> {
+fn run_command<'a>(alloc: Global) -> Result<Command<'a>, AllocError>
+    ensures { IfOk result (IsReadAs (leaf run_words)) }
+{
     let number = "Begin each reply line with the number of its element and the name of its step";
     Command::new(alloc, "run")
         .about("Play a script, and write the reply to each step and whether clocks were timely")
@@ -107,28 +121,39 @@ fn run_command<'a>(alloc: Global) -> Result<Command<'a>, AllocError> {
         .arg(file_argument(alloc, SCRIPT))
 }
 
-fn explain_command<'a>(alloc: Global) -> Result<Command<'a>, AllocError> {
+fn explain_command<'a>(alloc: Global) -> Result<Command<'a>, AllocError>
+    ensures { IfOk result (IsReadAs (leaf explain_words)) }
+{
     Command::new(alloc, "explain")
         .about("Play a script as run does, and write a reason after each line that needs one")
         .after_help(SCRIPT_STATUSES)
         .arg(file_argument(alloc, SCRIPT))
 }
 
-fn timeline_command<'a>(alloc: Global) -> Result<Command<'a>, AllocError> {
-    let key = Arg::new(alloc, "key")
+fn key_argument<'a>(alloc: Global) -> Arg<'a>
+    ensures { IsArgument (option (codes "key")) result }
+{
+    Arg::new(alloc, "key")
         .long("key")
         .value_name("KEY")
         .help("Colour the readings at which each task may serve this key")
-        .action(ArgAction::Set);
+        .action(ArgAction::Set)
+}
+
+fn timeline_command<'a>(alloc: Global) -> Result<Command<'a>, AllocError>
+    ensures { IfOk result (IsReadAs (leaf timeline_words)) }
+{
     Command::new(alloc, "timeline")
         .about("Play a script, and draw it as an SVG picture")
         .after_help(SCRIPT_STATUSES)
-        .arg(key)?
+        .arg(key_argument(alloc))?
         .arg(flag(alloc, "clerks", "Draw the clerks too"))?
         .arg(file_argument(alloc, SCRIPT))
 }
 
-fn session_command<'a>(alloc: Global) -> Result<Command<'a>, AllocError> {
+fn session_command<'a>(alloc: Global) -> Result<Command<'a>, AllocError>
+    ensures { IfOk result (IsReadAs (leaf session_words)) }
+{
     let file =
         "The lines, a job line and then one step a line; standard input if it is - or missing";
     Command::new(alloc, "session")
@@ -138,18 +163,25 @@ fn session_command<'a>(alloc: Global) -> Result<Command<'a>, AllocError> {
         .arg(file_argument(alloc, file))
 }
 
-fn audit_command<'a>(alloc: Global) -> Result<Command<'a>, AllocError> {
-    let logs = Arg::new(alloc, "LOG")
+fn logs_argument<'a>(alloc: Global) -> Arg<'a>
+    ensures { IsArgument logs result }
+{
+    Arg::new(alloc, "LOG")
         .help("The logs; - is standard input. The first line of the first log is the job line")
         .required(true)
         .num_args(1..)
-        .action(ArgAction::Append);
+        .action(ArgAction::Append)
+}
+
+fn audit_command<'a>(alloc: Global) -> Result<Command<'a>, AllocError>
+    ensures { IfOk result (IsReadAs (leaf audit_words)) }
+{
     let progress = "Report every 100,000 lines read and calls judged on standard error";
     Command::new(alloc, "audit")
         .about("Read logs of a service's calls, and report whether they are one run of the job")
         .after_help(AUDIT_STATUSES)
         .arg(flag(alloc, "progress", progress))?
-        .arg(logs)
+        .arg(logs_argument(alloc))
 }
 
 /// Returns the version with the toolchain that proved it, as `--version` writes it.
@@ -157,13 +189,22 @@ pub fn version_text(alloc: Global) -> Result<String, AllocError> {
     format!(in alloc; "{LIBRARY_VERSION} (proved with {TOOLCHAIN})")
 }
 
-// Returns the command with its subcommands.
-fn hourstable_command<'a>(alloc: Global, version: &'a str) -> Result<Command<'a>, AllocError> {
+// Returns the command without its subcommands.
+fn bare_command<'a>(alloc: Global, version: &'a str) -> Command<'a>
+    ensures { IsReadAs bare_hourstable result }
+{
     Command::new(alloc, "hourstable")
         .version(version)
         .about("Run scripts and sessions of a key ownership service, and audit its logs")
         .after_help(STATUSES)
         .subcommand_required(true)
+}
+
+// Returns the command with its subcommands.
+fn hourstable_command<'a>(alloc: Global, version: &'a str) -> Result<Command<'a>, AllocError>
+    ensures { IfOk result (IsReadAs hourstable) }
+{
+    bare_command(alloc, version)
         .subcommand(run_command(alloc)?)?
         .subcommand(session_command(alloc)?)?
         .subcommand(audit_command(alloc)?)?
@@ -171,41 +212,75 @@ fn hourstable_command<'a>(alloc: Global, version: &'a str) -> Result<Command<'a>
         .subcommand(timeline_command(alloc)?)
 }
 
-fn source_of<'a>(matches: &ArgMatches<'a>) -> Source<'a> {
-    match matches.get_str("FILE") {
-        None | Some("-") => Source::Input,
+// Returns the input of this name, or standard input.
+fn source_named<'a>(name: Option<&'a str>) -> Source<'a>
+    ensures { IsSource (option_map (λ n. n.now) name.entry) result }
+{
+    match name {
+        None => Source::Input,
+        Some("-") => Source::Input,
         Some(name) => Source::File(name),
     }
 }
 
+fn source_of<'a>(matches: &ArgMatches<'a>) -> Source<'a>
+    ensures { IsSource (first_of (codes "FILE") (rows_of (found_of matches.now))) result }
+{
+    source_named(matches.get_str("FILE"))
+}
+
 // Returns a request to play a script and write `text` about it.
-fn play_request<'a>(matches: &ArgMatches<'a>, text: ScriptText<'a>) -> Asked<'a> {
+fn play_request<'a>(matches: &ArgMatches<'a>, text: ScriptText<'a>) -> Asked<'a>
+    ensures { IsRequest (command.Play text.entry) (rows_of (found_of matches.now)) result }
+{
     Asked::Answer(Request {
         subcommand: Subcommand::Play { text },
         source: source_of(matches),
     })
 }
 
-fn run_request<'a>(matches: &ArgMatches<'a>) -> Asked<'a> {
-    if matches.get_flag("number") {
-        play_request(matches, ScriptText::Numbered)
+// Returns the lines to write, with numbers or without.
+fn lines_text(number: bool) -> ScriptText<'static>
+    ensures { result ≡ (if number then show.Numbered else show.Lines) }
+{
+    if number {
+        ScriptText::Numbered
     } else {
-        play_request(matches, ScriptText::Lines)
+        ScriptText::Lines
     }
 }
 
-fn timeline_request<'a>(matches: &ArgMatches<'a>) -> Asked<'a> {
+fn run_request<'a>(matches: &ArgMatches<'a>) -> Asked<'a>
+    ensures { AsksRun (rows_of (found_of matches.now)) result }
+{
+    let number = matches.get_flag("number");
+    play_request(matches, lines_text(number))
+}
+
+fn timeline_request<'a>(matches: &ArgMatches<'a>) -> Asked<'a>
+    ensures { AsksTimeline (rows_of (found_of matches.now)) result }
+{
     let key = matches.get_str("key");
     let clerks = matches.get_flag("clerks");
     play_request(matches, ScriptText::Picture { key, clerks })
 }
 
-fn session_request<'a>(matches: &ArgMatches<'a>) -> Asked<'a> {
-    let form = if matches.get_flag("json") {
+// Returns how replies are written.
+fn reply_form(json: bool) -> ReplyForm
+    ensures { result ≡ (if json then form.Json else form.Text) }
+{
+    if json {
         ReplyForm::Json
     } else {
         ReplyForm::Text
-    };
+    }
+}
+
+fn session_request<'a>(matches: &ArgMatches<'a>) -> Asked<'a>
+    ensures { AsksSession (rows_of (found_of matches.now)) result }
+{
+    let json = matches.get_flag("json");
+    let form = reply_form(json);
     Asked::Answer(Request {
         subcommand: Subcommand::Session { form },
         source: source_of(matches),
@@ -214,7 +289,7 @@ fn session_request<'a>(matches: &ArgMatches<'a>) -> Asked<'a> {
 
 // Returns a request to audit all logs that were given, in their order.
 fn audited<'a>(alloc: Global, matches: &ArgMatches<'a>) -> Result<Asked<'a>, AllocError>
-    ensures { IfOk result (AsksAudit (logs_given matches.now)) }
+    ensures { IfOk result (AsksAudit (rows_of (found_of matches.now))) }
 {
     let given = matches.get_strs("LOG").unwrap_or(&[]);
     let names = Vec::from_slice(alloc, given)?;
@@ -222,22 +297,40 @@ fn audited<'a>(alloc: Global, matches: &ArgMatches<'a>) -> Result<Asked<'a>, All
     Ok(Asked::Audit { names, progress })
 }
 
+// Returns what the subcommand of this name asks for by what was given to it.
+fn asked_by<'a>(
+    alloc: Global,
+    name: &str,
+    matches: &ArgMatches<'a>,
+) -> Result<Asked<'a>, AllocError>
+    ensures { IfOk result (Asks name.now (rows_of (found_of matches.now))) }
+{
+    match name {
+        "audit" => audited(alloc, matches),
+        "session" => Ok(session_request(matches)),
+        "explain" => Ok(play_request(matches, ScriptText::Explained)),
+        "timeline" => Ok(timeline_request(matches)),
+        _ => Ok(run_request(matches)),
+    }
+}
+
 /// Parses a command line, whose first word is the name of the program; `version` is for `--version`.
 ///
-/// The error has the text for `--help`, for `--version`, or for words that ask for nothing the
-/// command does.
+/// Which words ask for what is defined by the options and arguments of each subcommand, and by what
+/// `clap` proves of a command that has no more than those. The error has the text for `--help`, for
+/// `--version`, or for words that ask for nothing the command does; `clap` writes that text, and no
+/// clause says what it is.
 pub fn parse_words<'a>(
     alloc: Global,
     version: &'a str,
     words: &'a [String],
-) -> Result<Asked<'a>, Error> {
+) -> Result<Asked<'a>, Error>
+    ensures ok { IfOk result (WordsAsk (map string_bytes words.entry.now)) }
+    ensures faults { FailsBy (word_faults (map string_bytes words.entry.now)) result }
+{
     let matches = hourstable_command(alloc, version)?.try_get_matches_from(words)?;
     match matches.subcommand() {
-        Some(("audit", matches)) => Ok(audited(alloc, matches)?),
-        Some(("session", matches)) => Ok(session_request(matches)),
-        Some(("explain", matches)) => Ok(play_request(matches, ScriptText::Explained)),
-        Some(("timeline", matches)) => Ok(timeline_request(matches)),
-        Some((_, matches)) => Ok(run_request(matches)),
+        Some((name, matches)) => Ok(asked_by(alloc, name, matches)?),
         None => Ok(run_request(&matches)),
     }
 }

@@ -1,13 +1,15 @@
 //! `hourstable audit`: reads logs, and writes a report.
 
-ghost use Rattle.std.specs.Prelude.{◌≡◌, ◌+◌, ◌<◌, ◌^◌, length, IfErr, IfOk, map, string_bytes};
+ghost use Rattle.std.specs.Prelude.{◌≡◌, ◌+◌, ◌++◌, ◌<◌, ◌^◌, ℕ, List, length, IfErr, IfOk, map, string_bytes};
 ghost use Rattle.call_log.specs.Audits.{IsAudited};
 ghost use Rattle.command.specs.declared.log_audit.AuditError.TheVariants as fault;
-ghost use Rattle.command.specs.Audits.{AreLogsRead, IsJudged, IsLogBytes, IsLogRead, IsNotAudited, IsNotRead, IsUnjudged, longer, run_after, status_of};
+ghost use Rattle.command.specs.Audits.{AreLogsRead, IsJudged, IsLogBytes, IsLogRead, IsNotAudited, IsNotRead, IsUnjudged, EndsInLine, status_of};
 
 use call_log::{LogError, LogReport, Place, Progress, audit_logs};
+use diagnosis::Escaped;
+use memchr::memrchr;
 use program_io::{ReadError, WriteError, write_all};
-use session::{Escaped, LONG_WORDS, MOST_LINE_BYTES};
+use session::{LONG_WORDS, MOST_LINE_BYTES};
 use std::alloc::{AllocError, AllocFailed, Global};
 use std::fs::File;
 use std::io::{Error, Read, Write};
@@ -110,25 +112,16 @@ pub struct Audit<'n, 'a> {
     pub progress: bool,
 }
 
-// Returns how many bytes there are since the last end of a line, after one more byte.
-fn longer(run: usize, byte: u8) -> usize
-    requires { run + 1 < 2 ^ 64 }
-    ensures { result ≡ longer run byte }
-{
-    if byte == b'\n' { 0 } else { run + 1 }
-}
-
 // Returns how many bytes there are since the last end of a line, where there were so many before
 // the piece.
 fn run_after(before: usize, piece: &[u8]) -> usize
     requires { before + length piece.now < 2 ^ 64 }
-    ensures { result ≡ run_after before piece.now }
+    ensures { (bytes : List ℕ) → EndsInLine bytes before → EndsInLine (bytes ++ piece.now) result }
 {
-    let mut run = before;
-    for byte in piece {
-        run = longer(run, *byte);
+    match memrchr(b'\n', piece) {
+        Some(end) => piece.len() - end - 1,
+        None => before + piece.len(),
     }
-    run
 }
 
 // Reads a log to its end, or up to a line that is too long, which is not read to its end.

@@ -1,19 +1,20 @@
 //! The program.
 
-ghost use Rattle.std.specs.Prelude.{◌≡◌, ℕ, List, Option, map};
+ghost use Rattle.std.specs.Prelude.{◌≡◌, ℕ, List, Option, map, string_bytes};
 ghost use Rattle.std.specs.Process.{exit_status};
 ghost use Rattle.diagnosis.specs.Errors.{status_after};
 ghost use Rattle.command.specs.Audits.{IsAuditEnd};
-ghost use Rattle.command.specs.Endings.{Ends, EndsBy, EndsFor, IsOutcome, IsWithoutInput};
+ghost use Rattle.clap.specs.Values.{kind_of};
+ghost use Rattle.command.specs.Endings.{Ends, EndsBy, EndsFor, IsHelped, IsOutcome, IsTold};
 
 use crate::arguments::{Asked, Request, Source, Subcommand, parse_words, version_text};
 use crate::log_audit::{Audit, audit_named, say_error};
 use crate::script_run::run_lines;
 use clap::Error;
 use clap::error::ErrorKind;
-use diagnosis::AnswerError;
+use diagnosis::{AnswerError, Escaped};
 use program_io::write_all;
-use session::{Escaped, run_session};
+use session::run_session;
 use std::alloc::Global;
 use std::env::{self, Env};
 use std::fs::File;
@@ -171,19 +172,11 @@ fn do_asked<R: BufRead, W: Write, E: Write>(
     }
 }
 
-// Writes the help or the version, or reports what is wrong with the words.
-fn tell<W: Write, E: Write>(alloc: Global, error: &Error, output: &mut W, errors: &mut E) -> u8
-    ensures { IsWithoutInput (W.contents output.old) (W.contents output.new) result }
+// Writes the text for help or for the version, and returns the exit status.
+fn write_help<W: Write, E: Write>(alloc: Global, help: &Error, output: &mut W, errors: &mut E) -> u8
+    ensures { IsHelped (W.contents output.old) (W.contents output.new) result }
 {
-    if error.use_stderr() {
-        let _ = write!(errors, "hourstable: {error}");
-        return if error.kind() == ErrorKind::OutOfMemory {
-            FAILED
-        } else {
-            REFUSED
-        };
-    }
-    let Ok(text) = format!(in alloc; "{error}") else {
+    let Ok(text) = format!(in alloc; "{help}") else {
         let _ = writeln!(errors, "hourstable: out of memory");
         return FAILED;
     };
@@ -192,6 +185,24 @@ fn tell<W: Write, E: Write>(alloc: Global, error: &Error, output: &mut W, errors
         Err(_) => {
             let _ = writeln!(errors, "hourstable: write fault");
             FAILED
+        }
+    }
+}
+
+// Writes the help or the version, or reports what is wrong with the words.
+fn tell<W: Write, E: Write>(alloc: Global, error: &Error, output: &mut W, errors: &mut E) -> u8
+    ensures { IsTold (kind_of error.now) (W.contents output.old) (W.contents output.new) result }
+{
+    match error.kind() {
+        ErrorKind::DisplayHelp => write_help(alloc, error, output, errors),
+        ErrorKind::DisplayVersion => write_help(alloc, error, output, errors),
+        ErrorKind::OutOfMemory => {
+            let _ = write!(errors, "hourstable: {error}");
+            FAILED
+        }
+        _ => {
+            let _ = write!(errors, "hourstable: {error}");
+            REFUSED
         }
     }
 }
@@ -209,7 +220,7 @@ pub fn do_words<R: BufRead, W: Write, E: Write>(
     output: &mut W,
     errors: &mut E,
 ) -> u8
-    ensures { Ends (R.remaining input.old) (R.remaining input.new)
+    ensures { Ends (map string_bytes words.now) (R.remaining input.old) (R.remaining input.new)
         (W.contents output.old) (W.contents output.new) result }
 {
     let Ok(version) = version_text(rt.alloc()) else {
@@ -229,7 +240,7 @@ pub fn hourstable<R: Read + Drop, W: Write, E: Write>(
     output: &mut W,
     errors: &mut E,
 ) -> ExitCode
-    ensures { (after : Option (List ℕ)) × Ends (R.remaining input) after
+    ensures { (words : List (List ℕ)) × (after : Option (List ℕ)) × Ends words (R.remaining input) after
         (W.contents output.old) (W.contents output.new) (exit_status result) }
 {
     let words: Option<Vec<String>> = match env::args(rt) {

@@ -12,7 +12,7 @@ use std::alloc::Global;
 use std::fs;
 use std::rt::Files;
 
-const NAMES: [&str; 86] = [
+const NAMES: [&str; 87] = [
     "help",
     "help-of-run",
     "help-of-session",
@@ -48,6 +48,7 @@ const NAMES: [&str; 86] = [
     "session-no-job",
     "session-repeated-member",
     "session-repeated-job",
+    "session-names-of-201-characters",
     "session-empty-input",
     "audit-hand-over",
     "audit-two-files",

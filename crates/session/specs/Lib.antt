@@ -5,4 +5,3 @@ pub mod Lines
 pub mod Turns
 pub mod Talks
 pub mod internals
-pub mod Quoted

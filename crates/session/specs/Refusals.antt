@@ -9,7 +9,7 @@ use Rattle.clerk.specs.declared.error.ClerkError.{ClerkError}
 use Rattle.clerk.specs.declared.error.ClerkError.TheVariants as clerk
 use Rattle.world.specs.declared.reply.Refusal.{Refusal}
 use Rattle.world.specs.declared.reply.Refusal.TheVariants as refusal
-use Rattle.service.specs.Lines.{table_words, slicelet_words, refusal_words}
+use Rattle.service.specs.Lines.{refusal_words}
 use Rattle.wire.specs.LeaseMembers.{kind_data}
 use Rattle.wire.specs.Objects.{number_data, object_data}
 

@@ -4,7 +4,6 @@
 
 mod answer;
 mod line_reading;
-mod quoted;
 mod reading;
 mod refusal_json;
 mod reply_json;
@@ -13,7 +12,6 @@ mod talk;
 
 pub use answer::{LONG_WORDS, ReplyForm};
 pub use line_reading::{MOST_LINE_BYTES, is_long};
-pub use quoted::{Escaped, MOST_TOLD, Quoted};
 pub use reading::job_said;
 pub use session::Session;
 pub use talk::{is_blank, run_session};

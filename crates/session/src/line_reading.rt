@@ -5,12 +5,13 @@ ghost use Rattle.std.specs.Io.KnownBytes.{Consumes};
 ghost use Rattle.session.specs.Lines.{is_long};
 ghost use Rattle.session.specs.internals.Reading.{IsLineRead, IsPart};
 
+use memchr::memchr;
 use program_io::ReadError;
 use std::alloc::Global;
 use std::io::{BufRead, ErrorKind};
 
-/// The greatest number of bytes of a line, without its end.
-pub const MOST_LINE_BYTES: usize = 1_048_576;
+/// The greatest number of bytes of a line, without its end: that of a message.
+pub const MOST_LINE_BYTES: usize = wire::MOST_BYTES;
 
 /// A line that was read, with its end.
 #[derive(Debug, Drop)]
@@ -59,19 +60,15 @@ fn find_end(bytes: &[u8]) -> Through
     ensures ends { result.is_done ≡ true → 0 < result.len
         → slice_index bytes.now (result.len - 1) ≡ 10 }
 {
-    let mut i = 0;
-    while i < bytes.len() {
-        if bytes[i] == b'\n' {
-            return Through {
-                len: i + 1,
-                is_done: true,
-            };
-        }
-        i += 1;
-    }
-    Through {
-        len: i,
-        is_done: i == 0,
+    match memchr(b'\n', bytes) {
+        Some(end) => Through {
+            len: end + 1,
+            is_done: true,
+        },
+        None => Through {
+            len: bytes.len(),
+            is_done: bytes.is_empty(),
+        },
     }
 }
 

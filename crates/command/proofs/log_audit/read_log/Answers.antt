@@ -1,19 +1,26 @@
 use Rattle.std.proofs.Common.{inr, arith}
-use Rattle.session.proofs.Bytes.{consumes_more}
-use Rattle.command.proofs.Runs.{piece_longer}
+use Rattle.session.proofs.Bytes.{consumes_more, consumes_none}
+use Rattle.command.proofs.Runs.{nothing_yet}
 use Rattle.command.proofs.log_audit.read_log.Goals as goal
+
+pub reads-init : goal.reads-init
+reads-init g c = record { gave = rw c.new-bytes.ensures.items (consumes_none _); line = rw c.new-bytes.ensures.items nothing_yet; short = omega arith }
 
 pub returns-then-run : goal.returns-then-run
 returns-then-run g c =
-    let same = piece_longer c.reads.run c.run_after-run.result c.reads.bytes.items _ c.extend_from_slice.new.self.items c.reads.invariant.run c.run_after-run.ensures c.in_ok-extend_from_slice-in-Ok.ensures.items in
     let more = c.if-run.true in
-    inr (record { gave = rw c.in_ok-extend_from_slice-in-Ok.ensures.items (consumes_more _ _ _ _ _ c.reads.invariant.gave c.in-Ok.ensures.bytes.0); long = omega (arith, same, more) })
+    inr (record {
+      gave = rw c.in_ok-extend_from_slice-in-Ok.ensures.items (consumes_more _ _ _ _ _ c.reads.invariant.gave c.in-Ok.ensures.bytes.0);
+      many = c.run_after-run.result;
+      line = rw c.in_ok-extend_from_slice-in-Ok.ensures.items (c.run_after-run.ensures c.reads.bytes.items c.reads.invariant.line);
+      long = omega (arith, more);
+    })
 
 pub reads-preserved : goal.reads-preserved
 reads-preserved g c =
     let few = c.if-run.false in
     record {
       gave = rw c.in_ok-extend_from_slice-in-Ok.ensures.items (consumes_more _ _ _ _ _ c.reads.invariant.gave c.in-Ok.ensures.bytes.0);
-      run = piece_longer c.reads.run c.run_after-run.result c.reads.bytes.items _ c.extend_from_slice.new.self.items c.reads.invariant.run c.run_after-run.ensures c.in_ok-extend_from_slice-in-Ok.ensures.items;
+      line = rw c.in_ok-extend_from_slice-in-Ok.ensures.items (c.run_after-run.ensures c.reads.bytes.items c.reads.invariant.line);
       short = omega (arith, few);
     }

@@ -1,11 +1,14 @@
-use Rattle.std.proofs.Common.{◌≢◌, ◌-◌, All, subst, rules, arith, take-take}
-use Rattle.std.proofs.lemmas.List.Elements.{All-take, All-more}
+use Rattle.session.proofs.Ends.{end_there, none_at_all, none_before, none_but_last}
 use Rattle.session.proofs.line_reading.find_end.Goals as goal
 
-pub loop-i-preserved : goal.loop-i-preserved
-loop-i-preserved c = (search rules, All-more (λ b. b ≢ 10) _ _ 0 (search rules) c.loop-i.invariant.1 (search rules))
+pub returns-in-Some-clause-stops : goal.returns-in-Some-clause-stops
+returns-in-Some-clause-stops c = none_before c.args.bytes.now c.in-Some.end c.in-Some.ensures.0
 
-pub returns-clause-stops : goal.returns-clause-stops
-returns-clause-stops c =
-    let i = c.loop-i.i in
-    subst (All (λ b. b ≢ 10)) (take-take (i - 1) i c.args.bytes.now (omega arith)) (All-take (λ b. b ≢ 10) (i - 1) _ c.loop-i.invariant.1)
+pub returns-in-Some-clause-ends : goal.returns-in-Some-clause-ends
+returns-in-Some-clause-ends c = λ done some. end_there c.args.bytes.now c.in-Some.end c.in-Some.ensures.0 c.in-Some.ensures.1
+
+pub returns-in-None-clause-stops : goal.returns-in-None-clause-stops
+returns-in-None-clause-stops c = none_but_last c.args.bytes.now c.in-None.ensures
+
+pub returns-in-None-clause-goes_on : goal.returns-in-None-clause-goes_on
+returns-in-None-clause-goes_on c = λ goes_on. none_at_all c.args.bytes.now c.in-None.ensures

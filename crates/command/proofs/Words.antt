@@ -1,0 +1,134 @@
+-- What clap's matches say of the words.
+use Rattle.std.proofs.Common.{◌≡◌, ◌≢◌, ◌∙◌, ℕ, Bool, true, false, List, [], Option, Some, None, map, option_map, unwrap_or, codes, slice_index, refl, sym, ap, ap₂, arith, is_some}
+use Rattle.std.specs.Prelude.{Box}
+use Rattle.std.specs.Box.{box_value}
+use Rattle.std.specs.Option.{option_map_or}
+use Rattle.clap.specs.Built.{AddsSubcommand, IsParsedFrom}
+use Rattle.clap.specs.Faults.{fault_of, is_simple_and_free}
+use Rattle.clap.specs.Matches.{first_value, found_of, has_subcommand, matched_of, one_text, raw_values, subcommand_name_of}
+use Rattle.clap.specs.Simple.{App, HasMatchesOf, Shape, app_of, is_simple, subcommand_of, subcommand_rows, subcommand_rows_of, with_subcommand}
+use Rattle.clap.specs.Walk.{Row, Text, all_of, first_of, rows_of}
+use Rattle.clap.specs.declared.builder.command.Command.{Command}
+use Rattle.clap.specs.declared.parser.matches.ArgMatches.{ArgMatches}
+use Rattle.clap.specs.declared.parser.matches.ArgMatches.TheViews.{out-ArgMatches, out-SubCommand}
+use Rattle.clap.specs.declared.parser.matches.Found.{Found}
+use Rattle.clap.specs.declared.parser.matches.MatchedArg.{MatchedArg}
+use Rattle.clap.specs.declared.parser.matches.SubCommand.{SubCommand}
+use Rattle.clap.proofs.WalkLemmas.{first_value-rows, one_text-rows, raw_values-rows}
+use Rattle.command.specs.declared.arguments.Asked.{Asked}
+use Rattle.command.specs.Words.{Asks, AsksAudit, AsksExplain, AsksRun, AsksSession, AsksTimeline, IsFlag, IsReadAs, WordsAsk, hourstable, leaf, word_faults}
+
+-- ---- an argument
+
+pub flag_is : (f : Found) (name : Text) (is : Bool) → (one_text f name ≡ None → is ≡ false) → (one_text f name ≡ Some (codes "true") → is ≡ true)
+    → (one_text f name ≡ Some (codes "false") → is ≡ false) → IsFlag name (rows_of f) is
+flag_is f name is none given not_given = record {
+  given = λ e. given (one_text-rows f name ∙ e);
+  not_given = λ e. not_given (one_text-rows f name ∙ e);
+  unknown = λ e. none (one_text-rows f name ∙ e);
+}
+
+pub first_is : (f : Found) (name : Text) (o : Option Text) → o ≡ first_value f name → o ≡ first_of name (rows_of f)
+first_is f name o is = is ∙ first_value-rows f name
+
+by_match : (o : Option MatchedArg) → option_map_or raw_values o [] ≡ unwrap_or (option_map raw_values o) []
+by_match None = refl
+by_match (Some m) = refl
+
+pub all_given : (f : Found) (name : Text) → option_map_or raw_values (matched_of f name) [] ≡ unwrap_or (all_of name (rows_of f)) []
+all_given f name = by_match (matched_of f name) ∙ ap (λ (x : Option (List Text)). unwrap_or x []) (raw_values-rows f name)
+
+-- ---- the subcommand
+
+letter : (name other : Text) → name ≡ other → slice_index name 0 ≡ slice_index other 0
+letter name other is = ap (λ t. slice_index t 0) is
+
+module _ (name : Text) (rows : List Row) (asked : Asked) where
+  pub asks_audit : name ≡ codes "audit" → AsksAudit rows asked → Asks name rows asked
+  asks_audit is asks =
+      let first = letter name (codes "audit") is in
+      record {
+        run = λ e. let bad = letter name (codes "run") e in absurd (omega (arith, first, bad));
+        session = λ e. let bad = letter name (codes "session") e in absurd (omega (arith, first, bad));
+        audit = λ e. asks;
+        explain = λ e. let bad = letter name (codes "explain") e in absurd (omega (arith, first, bad));
+        timeline = λ e. let bad = letter name (codes "timeline") e in absurd (omega (arith, first, bad));
+      }
+
+  pub asks_session : name ≡ codes "session" → AsksSession rows asked → Asks name rows asked
+  asks_session is asks =
+      let first = letter name (codes "session") is in
+      record {
+        run = λ e. let bad = letter name (codes "run") e in absurd (omega (arith, first, bad));
+        session = λ e. asks;
+        audit = λ e. let bad = letter name (codes "audit") e in absurd (omega (arith, first, bad));
+        explain = λ e. let bad = letter name (codes "explain") e in absurd (omega (arith, first, bad));
+        timeline = λ e. let bad = letter name (codes "timeline") e in absurd (omega (arith, first, bad));
+      }
+
+  pub asks_explain : name ≡ codes "explain" → AsksExplain rows asked → Asks name rows asked
+  asks_explain is asks =
+      let first = letter name (codes "explain") is in
+      record {
+        run = λ e. let bad = letter name (codes "run") e in absurd (omega (arith, first, bad));
+        session = λ e. let bad = letter name (codes "session") e in absurd (omega (arith, first, bad));
+        audit = λ e. let bad = letter name (codes "audit") e in absurd (omega (arith, first, bad));
+        explain = λ e. asks;
+        timeline = λ e. let bad = letter name (codes "timeline") e in absurd (omega (arith, first, bad));
+      }
+
+  pub asks_timeline : name ≡ codes "timeline" → AsksTimeline rows asked → Asks name rows asked
+  asks_timeline is asks =
+      let first = letter name (codes "timeline") is in
+      record {
+        run = λ e. let bad = letter name (codes "run") e in absurd (omega (arith, first, bad));
+        session = λ e. let bad = letter name (codes "session") e in absurd (omega (arith, first, bad));
+        audit = λ e. let bad = letter name (codes "audit") e in absurd (omega (arith, first, bad));
+        explain = λ e. let bad = letter name (codes "explain") e in absurd (omega (arith, first, bad));
+        timeline = λ e. asks;
+      }
+
+  pub asks_run : name ≢ codes "audit" → name ≢ codes "session" → name ≢ codes "explain" → name ≢ codes "timeline" → AsksRun rows asked → Asks name rows asked
+  asks_run no_audit no_session no_explain no_timeline asks = record {
+    run = λ e. asks;
+    session = λ e. absurd (no_session e);
+    audit = λ e. absurd (no_audit e);
+    explain = λ e. absurd (no_explain e);
+    timeline = λ e. absurd (no_timeline e);
+  }
+
+-- ---- the command
+
+pub one_more : (old sub new : Command) (app : App) (shape : Shape) → IsReadAs app old → IsReadAs (leaf shape) sub → AddsSubcommand old sub new → IsReadAs (with_subcommand app shape) new
+one_more old sub new app shape read leaf adds =
+    (adds.shape leaf.1 ∙ ap₂ with_subcommand read.0 (ap (λ (a : App). a.top) leaf.0), adds.globals ∙ rw (read.1, leaf.1) refl)
+
+pub hourstable_is_simple : is_simple hourstable ≡ true
+hourstable_is_simple = refl
+
+pub hourstable_is_free : is_simple_and_free hourstable ≡ true
+hourstable_is_free = refl
+
+module _ {Z : Type 0} where
+  met : (s : Option (Box SubCommand Z)) (name : Text) (rows : List Row) → Some name ≡ option_map (λ b. (out-SubCommand (box_value b)).name.now) s
+      → Some rows ≡ option_map (λ p. p.1) (subcommand_rows s) → subcommand_rows s ≡ Some (name, rows)
+  met None name rows named given = absurd (cc)
+  met (Some b) name rows named given = cc
+
+module _ (command : Command) (m : ArgMatches) (read : IsReadAs hourstable command) where
+  pub words_ask : (words : List Text) (name : Text) (rows : List Row) (asked : Asked) → HasMatchesOf (app_of command) words m
+      → Some name ≡ subcommand_name_of m → Some rows ≡ option_map (λ p. p.1) (subcommand_rows (out-ArgMatches m).subcommand) → Asks name rows asked → WordsAsk words asked
+  words_ask words name rows asked has named given asks =
+      let whole = has (ap is_simple read.0 ∙ hourstable_is_simple) in
+      record {
+        name = name;
+        rows = rows;
+        given = ap (λ a. subcommand_of a words) (sym read.0) ∙ sym whole.1 ∙ met (out-ArgMatches m).subcommand name rows named given;
+        asks = asks;
+      }
+
+  pub no_fault : (words : List Text) → (is_simple_and_free (app_of command) ≡ true → fault_of (app_of command) words ≡ []) → word_faults words ≡ []
+  no_fault words none = ap (λ a. fault_of a words) (sym read.0) ∙ none (ap is_simple_and_free read.0 ∙ hourstable_is_free)
+
+  pub has_one : IsParsedFrom command m → has_subcommand m ≡ true
+  has_one parsed = (parsed.parsed (parsed.from.globals ∙ read.1)).checked.subcommand (parsed.from.needs_subcommand ∙ ap (λ (a : App). a.top.subcommand_required) read.0)

@@ -1,0 +1,152 @@
+-- What the words of a command line ask for.
+use Rattle.std.specs.Prelude.{◌≡◌, ◌≢◌, ◌⊎◌, Bool, true, false, List, [], ◌∷◌, map, codes, Option, Some, None, option_map, unwrap_or, if◌then◌else◌}
+use Rattle.clap.specs.Faults.{fault_of}
+use Rattle.clap.specs.Kinds.{Kinds}
+use Rattle.clap.specs.Lexer.{usize_max}
+use Rattle.clap.specs.Simple.{App, Shape, app_of, new_rule, new_shape, subcommand_of}
+use Rattle.clap.specs.Walk.{Row, Rule, Text, all_of, first_of, one_of, rule_of}
+use Rattle.clap.specs.declared.builder.arg.Arg.{Arg}
+use Rattle.clap.specs.declared.builder.command.Command.{Command}
+use Rattle.clap.specs.declared.builder.command.Command.TheViews.{out-Command}
+use Rattle.clap.specs.declared.builder.action.ArgAction.TheVariants.{Append, Set, SetTrue}
+use Rattle.session.specs.declared.answer.ReplyForm.TheVariants as form
+use Rattle.command.specs.declared.arguments.Asked.{Asked}
+use Rattle.command.specs.declared.arguments.Asked.TheVariants as asked
+use Rattle.command.specs.declared.arguments.ScriptText.TheVariants as show
+use Rattle.command.specs.declared.arguments.Source.{Source}
+use Rattle.command.specs.declared.arguments.Source.TheVariants as source
+use Rattle.command.specs.declared.arguments.Subcommand.{Subcommand}
+use Rattle.command.specs.declared.arguments.Subcommand.TheVariants as command
+
+-- ---- the subcommands, with their options and arguments
+
+-- an option with no value, as `--json`
+abbrev pub flag : Text → Rule
+flag name = record (new_rule name) { long = Some name; action = Some SetTrue }
+
+-- an option with a value, as `--key KEY`
+abbrev pub option : Text → Rule
+option name = record (new_rule name) { long = Some name; action = Some Set; value_names = 1 }
+
+-- FILE, which may be left out
+abbrev pub file : Rule
+file = record (new_rule (codes "FILE")) { action = Some Set }
+
+-- LOG.., one or more
+abbrev pub logs : Rule
+logs = record (new_rule (codes "LOG")) {
+  action = Some Append;
+  range = Some (record { start_inclusive = 1; end_inclusive = usize_max });
+  required = true;
+}
+
+-- a subcommand of this name
+abbrev pub subcommand : Text → List Rule → Shape
+subcommand name rules = record (new_shape name) { rules = rules }
+
+abbrev pub run_words : Shape
+run_words = subcommand (codes "run") (flag (codes "number") ∷ file ∷ [])
+
+abbrev pub session_words : Shape
+session_words = subcommand (codes "session") (flag (codes "json") ∷ file ∷ [])
+
+abbrev pub audit_words : Shape
+audit_words = subcommand (codes "audit") (flag (codes "progress") ∷ logs ∷ [])
+
+abbrev pub explain_words : Shape
+explain_words = subcommand (codes "explain") (file ∷ [])
+
+abbrev pub timeline_words : Shape
+timeline_words = subcommand (codes "timeline") (option (codes "key") ∷ flag (codes "clerks") ∷ file ∷ [])
+
+-- the command: one of these subcommands must be named
+abbrev pub hourstable : App
+hourstable = record {
+  top = record (new_shape (codes "hourstable")) { is_leaf = false; has_version = true; subcommand_required = true };
+  subs = run_words ∷ session_words ∷ audit_words ∷ explain_words ∷ timeline_words ∷ [];
+}
+
+-- ---- what was given to a subcommand: a row for each option and argument
+
+-- the flag of this name was given
+pub record IsFlag (name : Text) (rows : List Row) (is : Bool) : Type 0 where
+  pub given : one_of name rows ≡ Some (codes "true") → is ≡ true
+  pub not_given : one_of name rows ≡ Some (codes "false") → is ≡ false
+  pub unknown : one_of name rows ≡ None → is ≡ false
+
+-- the input is FILE; without one, and for `-`, it is standard input
+abbrev pub IsSource : Option Text → Source → Type 0
+IsSource file source.Input = (file ≡ None) ⊎ (file ≡ Some (codes "-"))
+IsSource file (source.File name) = (file ≡ Some name.now) × (name.now ≢ codes "-")
+
+-- the subcommand is done with FILE
+abbrev pub IsRequest : Subcommand → List Row → Asked → Type 0
+IsRequest subcommand rows (asked.Answer request) = (request.subcommand ≡ subcommand) × IsSource (first_of (codes "FILE") rows) request.source
+IsRequest subcommand rows (asked.Audit names progress) = ⊥
+
+-- `run [--number] [FILE]`
+abbrev pub AsksRun : List Row → Asked → Type 0
+AsksRun rows asked = (number : Bool) × IsFlag (codes "number") rows number
+    × IsRequest (command.Play (if number then show.Numbered else show.Lines)) rows asked
+
+-- `explain [FILE]`
+abbrev pub AsksExplain : List Row → Asked → Type 0
+AsksExplain rows asked = IsRequest (command.Play show.Explained) rows asked
+
+-- `session [--json] [FILE]`
+abbrev pub AsksSession : List Row → Asked → Type 0
+AsksSession rows asked = (json : Bool) × IsFlag (codes "json") rows json
+    × IsRequest (command.Session (if json then form.Json else form.Text)) rows asked
+
+-- a picture of the key that `--key` names, with clerks for `--clerks`
+abbrev pub IsPicture : List Row → Subcommand → Type 0
+IsPicture rows (command.Play (show.Picture key clerks)) =
+    (option_map (λ k. k.now) key ≡ first_of (codes "key") rows) × IsFlag (codes "clerks") rows clerks
+IsPicture rows _ = ⊥
+
+-- `timeline [--key KEY] [--clerks] [FILE]`
+abbrev pub AsksTimeline : List Row → Asked → Type 0
+AsksTimeline rows asked = (picture : Subcommand) × IsPicture rows picture × IsRequest picture rows asked
+
+-- `audit [--progress] LOG..`: all the logs, in their order
+abbrev pub AsksAudit : List Row → Asked → Type 0
+AsksAudit rows (asked.Audit names progress) =
+    (map (λ n. n.now) names.items ≡ unwrap_or (all_of (codes "LOG") rows) []) × IsFlag (codes "progress") rows progress
+AsksAudit rows (asked.Answer request) = ⊥
+
+-- what is asked for by the subcommand of this name and what was given to it
+pub record Asks (name : Text) (rows : List Row) (asked : Asked) : Type 0 where
+  pub run : name ≡ codes "run" → AsksRun rows asked
+  pub session : name ≡ codes "session" → AsksSession rows asked
+  pub audit : name ≡ codes "audit" → AsksAudit rows asked
+  pub explain : name ≡ codes "explain" → AsksExplain rows asked
+  pub timeline : name ≡ codes "timeline" → AsksTimeline rows asked
+
+-- these words ask for this; the first is the name of the program
+pub record WordsAsk (words : List Text) (asked : Asked) : Type 0 where
+  pub name : Text
+  pub rows : List Row
+  pub given : subcommand_of hourstable words ≡ Some (name, rows)
+  pub asks : Asks name rows asked
+
+-- why these words ask for nothing that the command does, or ask for help or the version
+abbrev pub word_faults : List Text → Kinds
+word_faults words = fault_of hourstable words
+
+-- ---- what is built for clap
+
+-- the argument is read by this rule
+abbrev pub IsArgument : Rule → Arg → Type 0
+IsArgument rule argument = (rule_of argument ≡ rule) × (argument.global ≡ false)
+
+-- the command is read as this one
+abbrev pub IsReadAs : App → Command → Type 0
+IsReadAs app command = (app_of command ≡ app) × ((out-Command command).has_globals ≡ false)
+
+-- a command with no subcommands
+abbrev pub leaf : Shape → App
+leaf shape = record { top = shape; subs = [] }
+
+-- the command before its subcommands are added
+abbrev pub bare_hourstable : App
+bare_hourstable = leaf (record (new_shape (codes "hourstable")) { has_version = true; subcommand_required = true })
