@@ -92,7 +92,7 @@ enum hs_code {
     HS_TOO_LATE = 11,     /* the lease of the grant has ended */
     HS_NOTHING_HELD = 12, /* no lease of the kind is held */
     HS_HISTORY_FULL = 13, /* the slicelet has accepted 65,536 calls and accepts no more, not even
-                             release: open a new one, and start it at a higher life */
+                             release: resume the task in a new one, and start a higher life */
 
     /* What a check of a key handle returns. */
     HS_BROKEN = 14,   /* the handle is not continuous */
@@ -165,6 +165,16 @@ enum hs_kind { HS_GUARD = 1, HS_BRIDGE = 2 };
 /* What an assigner does next. */
 enum hs_action { HS_TAKE = 1, HS_RENEW = 2, HS_COMMIT = 3, HS_PROPOSE = 4, HS_REST = 5 };
 
+/* What a task does next about its leases. */
+enum hs_task_action {
+    HS_START = 1,          /* start a life */
+    HS_ASK_GUARD = 2,      /* ask the table for a grant, which is of a guard lease now */
+    HS_ASK_BRIDGE = 3,     /* ask the table for a grant, which is of a bridge lease now */
+    HS_GIVE_UP_GUARD = 4,  /* release the guard lease, and send the note to the table */
+    HS_GIVE_UP_BRIDGE = 5, /* release the bridge lease, and send the note to the table */
+    HS_TASK_REST = 6       /* nothing */
+};
+
 /* Numbers that a code comes with. Fields that a code does not set are unchanged. */
 struct hs_told {
     uint64_t number;     /* of a grant, of a term, or the version of a message */
@@ -180,6 +190,13 @@ struct hs_key_handle {
     uint64_t slice_key;
     uint64_t position;
     uint32_t life;
+};
+
+/* A lease that a task holds. */
+struct hs_held_lease {
+    uint64_t number;     /* of its grant */
+    uint64_t generation; /* that it was granted for */
+    uint64_t until;      /* the first reading of the task's clock at which it has ended */
 };
 
 /* The owners of a key: the first `count` of `tasks`, in rising order. The others are 0. */
@@ -296,6 +313,17 @@ int32_t hs_session_close(struct hs_place *place);
  * HS_WRONG_FORM. */
 int32_t hs_slicelet_open(struct hs_place *place, uint64_t task);
 
+/* Creates the slicelet of a task's new process in `place`, destroying what was there. `life` is the
+ * greatest life that the task ever started, or a greater one: only lives above it are started, and
+ * each handle of an earlier process is HS_STRANGER. Never call it beside a process of the task that
+ * may still run: two processes could serve one key. HS_WRONG_FORM. */
+int32_t hs_slicelet_resume(struct hs_place *place, uint64_t task, uint32_t life);
+
+/* Writes the message of the note that gives back all leases of a kind of a life that ended with its
+ * process, so that the table need not wait until they end. No process of the task in this life may
+ * still run. HS_WRONG_FORM, then HS_NO_ROOM or HS_NO_MEMORY. */
+int32_t hs_ended_note(uint64_t task, uint32_t life, uint32_t kind, uint8_t *out, size_t out_len, size_t *needed);
+
 /* Starts a life of the task, which holds no lease yet. Takes no memory. HS_OLD_LIFE, HS_CLOCK_BACK,
  * HS_HISTORY_FULL. */
 int32_t hs_slicelet_start(struct hs_place *place, uint32_t life, uint64_t at);
@@ -333,6 +361,21 @@ int32_t hs_slicelet_hold_at(struct hs_place *place, uint64_t slice_key, uint64_t
 /* Whether the task has held the key of a handle without a break since it took the handle, and may
  * serve it now. HS_WRONG_FORM, HS_STRANGER, HS_BROKEN. Takes no memory. */
 int32_t hs_slicelet_check(struct hs_place *place, const struct hs_key_handle *handle, uint64_t at);
+
+/* Writes the lease of a kind that the task holds, which may have ended. HS_WRONG_FORM,
+ * HS_NOTHING_HELD. Takes no memory. */
+int32_t hs_slicelet_held(struct hs_place *place, uint32_t kind, struct hs_held_lease *out);
+
+/* Writes what the task does next about its leases, an hs_task_action, in a phase of the table:
+ * starts a life; asks for a lease of the phase, if it holds none that is live; gives up the lease of
+ * the other kind, which delays the next commit; or nothing. It does not ask before a lease ends: ask
+ * before that, by `until` of hs_slicelet_held. HS_WRONG_FORM if `proposed` is neither 0 nor
+ * `committed` + 1. Takes no memory. */
+int32_t hs_slicelet_next(struct hs_place *place, const struct hs_phase *phase, uint64_t at, uint32_t *action);
+
+/* Writes how many more calls of hs_slicelet_start, _hear and _release are accepted before
+ * HS_HISTORY_FULL. */
+int32_t hs_slicelet_calls_left(struct hs_place *place, uint64_t *left);
 
 /* Clerks. --------------------------------------------------------------------------------------------------------- */
 

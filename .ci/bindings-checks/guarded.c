@@ -88,6 +88,26 @@ int32_t guarded_slicelet_open(struct hs_place *place, uint64_t task) {
     return returned(hs_slicelet_open(PLACE, task));
 }
 
+int32_t guarded_slicelet_resume(struct hs_place *place, uint64_t task, uint32_t life) {
+    return returned(hs_slicelet_resume(PLACE, task, life));
+}
+
+int32_t guarded_ended_note(uint64_t task, uint32_t life, uint32_t kind, uint8_t *out, size_t out_len, size_t *needed) {
+    return returned(hs_ended_note(task, life, kind, OUT));
+}
+
+int32_t guarded_slicelet_held(struct hs_place *place, uint32_t kind, struct hs_held_lease *out) {
+    return returned(hs_slicelet_held(PLACE, kind, WRITTEN(out)));
+}
+
+int32_t guarded_slicelet_next(struct hs_place *place, const struct hs_phase *phase, uint64_t at, uint32_t *action) {
+    return returned(hs_slicelet_next(PLACE, READ(phase), at, WRITTEN(action)));
+}
+
+int32_t guarded_slicelet_calls_left(struct hs_place *place, uint64_t *left) {
+    return returned(hs_slicelet_calls_left(PLACE, WRITTEN(left)));
+}
+
 int32_t guarded_slicelet_start(struct hs_place *place, uint32_t life, uint64_t at) {
     return returned(hs_slicelet_start(PLACE, life, at));
 }

@@ -14,6 +14,11 @@ int32_t guarded_table_close(struct hs_place *place);
 int32_t guarded_assigner_close(struct hs_place *place);
 int32_t guarded_session_close(struct hs_place *place);
 int32_t guarded_slicelet_open(struct hs_place *place, uint64_t task);
+int32_t guarded_slicelet_resume(struct hs_place *place, uint64_t task, uint32_t life);
+int32_t guarded_ended_note(uint64_t task, uint32_t life, uint32_t kind, uint8_t *out, size_t out_len, size_t *needed);
+int32_t guarded_slicelet_held(struct hs_place *place, uint32_t kind, struct hs_held_lease *out);
+int32_t guarded_slicelet_next(struct hs_place *place, const struct hs_phase *phase, uint64_t at, uint32_t *action);
+int32_t guarded_slicelet_calls_left(struct hs_place *place, uint64_t *left);
 int32_t guarded_slicelet_start(struct hs_place *place, uint32_t life, uint64_t at);
 int32_t guarded_slicelet_hear(struct hs_place *place, const uint8_t *grant, size_t grant_len, uint64_t at,
                               struct hs_told *told);
@@ -82,6 +87,11 @@ int32_t guarded_session_last(struct hs_place *place, uint8_t *out, size_t out_le
 #define hs_assigner_close guarded_assigner_close
 #define hs_session_close guarded_session_close
 #define hs_slicelet_open guarded_slicelet_open
+#define hs_slicelet_resume guarded_slicelet_resume
+#define hs_ended_note guarded_ended_note
+#define hs_slicelet_held guarded_slicelet_held
+#define hs_slicelet_next guarded_slicelet_next
+#define hs_slicelet_calls_left guarded_slicelet_calls_left
 #define hs_slicelet_start guarded_slicelet_start
 #define hs_slicelet_hear guarded_slicelet_hear
 #define hs_slicelet_release guarded_slicelet_release

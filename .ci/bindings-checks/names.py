@@ -24,6 +24,8 @@ version_text = re.findall(r'^#define HS_LIBRARY_VERSION "(.*)"$', header, re.M)
 kinds, actions = ({word.lower(): int(number) for word, number in re.findall(r"HS_(\w+) = (\d+)", words)}
                   for words in re.findall(r"enum hs_(?:kind|action) \{(.*?)\}", header, re.S))
 
+task_actions = re.findall(r"HS_(\w+) = \d+", header.split("enum hs_task_action {")[1].split("};")[0])
+
 
 def class_of(struct):
     """Returns the class of a struct, such as KeyHandle for hs_key_handle."""
@@ -68,6 +70,8 @@ faults = [what for what, same in [
     ("text of the version", version_text == [".".join(map(str, version))]),
     ("kinds in Python", hourstable.KINDS == kinds),
     ("actions in Python", hourstable.ACTIONS == {number: word for word, number in actions.items()}),
+    ("task actions in Python", list(hourstable.TASK_ACTIONS)
+     == [word.lower().replace("_", " ").removeprefix("task ") for word in task_actions]),
     *[(f"parameters of {name} in Python", declared.get(name) == function) for name, function in functions.items()],
     *[(f"fields of {name} in Python", getattr(class_of(name), "_fields_", None) == fields)
       for name, fields in structs.items()],

@@ -15,7 +15,7 @@ sys.path.insert(0, "examples/python")
 import handover
 import hourstable
 from hourstable import (
-    Clerk, JobTerm, KeyHandle, Phase, PlanPolicy, Policy, Refused, TableClock, TaskClock, Told, boottime_ticks,
+    Clerk, HeldLease, JobTerm, KeyHandle, Phase, PlanPolicy, Policy, Refused, TableClock, TaskClock, Told, boottime_ticks,
     clock_evidence,
 )
 
@@ -48,7 +48,7 @@ def refused(code, **told):
 def check_numbers():
     for struct, limits in [
         (KeyHandle, [U64, U64, U64, U32]), (Policy, [U64] * 7), (JobTerm, [U64] * 3), (Phase, [U64] * 2),
-        (PlanPolicy, [U64] * 6),
+        (PlanPolicy, [U64] * 6), (HeldLease, [U64] * 3),
     ]:
         most = struct(*[limit - 1 for limit in limits])
         for at, (limit, (name, _)) in enumerate(zip(limits, struct._fields_)):

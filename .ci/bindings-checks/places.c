@@ -23,6 +23,10 @@ static void open_as(struct hs_place *place, enum standing kind) {
 
 static void refuse_slicelet(struct hs_place *place) {
     struct hs_key_handle handle = {2, 5, 1, 1};
+    struct hs_held_lease held = {5, 5, 5};
+    const struct hs_phase phase = {1, 0};
+    uint64_t left = 5;
+    uint32_t action = 5;
     uint8_t out[256];
     size_t needed = 0;
     memset(out, '-', sizeof out);
@@ -38,6 +42,11 @@ static void refuse_slicelet(struct hs_place *place) {
     HOLDS(handle.task == 2 && handle.slice_key == 5 && handle.position == 1 && handle.life == 1);
     HOLDS(tells(UNTOLD, UNTOLD, UNTOLD, UNTOLD, UNTOLD));
     IS(hs_slicelet_check(place, &handle, 5), HS_OTHER_PLACE);
+    IS(hs_slicelet_held(place, HS_GUARD, &held), HS_OTHER_PLACE);
+    HOLDS(held.number == 5 && held.generation == 5 && held.until == 5);
+    IS(hs_slicelet_next(place, &phase, 5, &action), HS_OTHER_PLACE);
+    IS(hs_slicelet_calls_left(place, &left), HS_OTHER_PLACE);
+    HOLDS(action == 5 && left == 5);
     IS(hs_slicelet_close(place), HS_OTHER_PLACE);
     HOLDS(are_dashes(out, sizeof out));
 }

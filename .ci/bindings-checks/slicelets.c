@@ -125,7 +125,7 @@ static void checks_others(struct hs_place *place) {
     IS(check_other(place, 2, key, 4, 1), HS_STRANGER);
     IS(check_other(place, 2, key, 0, 2), HS_STRANGER);
     IS(check_other(place, 2, key, 2, 1), HS_BROKEN);
-    IS(check_other(place, 2, key, 9, 0), HS_BROKEN);
+    IS(check_other(place, 2, key, 9, 0), HS_STRANGER);
 }
 
 /* The note is written whole or not at all. If it is not written, the lease is still held. */
@@ -240,6 +240,69 @@ static void by_slice_key(void) {
     hs_place_free(&task);
 }
 
+/* A task's next process starts only higher lives, and knows no handle of an earlier one. Its notes are those of
+ * the greatest number that a grant can have. */
+static void resumes(void) {
+    const char *guard = MESSAGE("note", "\"kind\":\"guard\",\"life\":1,\"number\":4294967296,\"task\":2");
+    struct hs_place task = serving_task();
+    struct hs_key_handle handle;
+    uint64_t left = 0;
+    uint8_t out[256];
+    size_t needed = 0;
+    IS(hs_slicelet_hold(&task, HELLO, 6, &handle, fresh_told()), HS_DONE);
+    IS(hs_slicelet_calls_left(&task, &left), HS_DONE);
+    HOLDS(left == 65534);
+    IS(hs_slicelet_resume(&task, 65, 1), HS_WRONG_FORM);
+    IS(hs_slicelet_check(&task, &handle, 6), HS_DONE);
+    IS(hs_slicelet_resume(&task, 2, 1), HS_DONE);
+    IS(hs_slicelet_calls_left(&task, &left), HS_DONE);
+    HOLDS(left == 65536);
+    IS(serve(&task, 6), HS_DOWN);
+    IS(hs_slicelet_check(&task, &handle, 6), HS_STRANGER);
+    IS(hs_slicelet_start(&task, 1, 0), HS_OLD_LIFE);
+    IS(hs_slicelet_start(&task, 2, 0), HS_DONE);
+    IS(hear(&task, GRANT("guard", "1", "7", ALL_KEYS, "2"), 1), HS_OTHER_LIFE);
+    IS(hs_slicelet_check(&task, &handle, 6), HS_STRANGER);
+    IS(hs_ended_note(2, 1, HS_GUARD, out, sizeof out, &needed), HS_DONE);
+    HOLDS(needed == strlen(guard) && memcmp(out, guard, needed) == 0);
+    IS(hs_ended_note(2, 1, HS_GUARD, out, needed - 1, &needed), HS_NO_ROOM);
+    HOLDS(needed == strlen(guard));
+    IS(hs_ended_note(0, 1, HS_GUARD, out, sizeof out, &needed), HS_WRONG_FORM);
+    IS(hs_ended_note(2, 1, 3, out, sizeof out, &needed), HS_WRONG_FORM);
+    hs_place_free(&task);
+}
+
+/* What a task holds, and what it does next: while 3 is committed it keeps its guard lease, while 4 is proposed it
+ * asks for a bridge lease and then gives up the guard lease. */
+static void goes_on(void) {
+    const char *bridge = MESSAGE("grant", "\"ends\":99,\"generation\":4,\"kind\":\"bridge\",\"life\":1,\"number\":9,"
+                                          "\"ranges\":[[0,4611686018427387904]],\"task\":2,\"until\":109");
+    const struct hs_phase steady = {3, 0}, bridging = {3, 4}, none = {3, 5};
+    struct hs_place task = serving_task();
+    struct hs_held_lease held = {5, 5, 5};
+    uint32_t action = 9;
+    IS(hs_slicelet_held(&task, HS_BRIDGE, &held), HS_NOTHING_HELD);
+    IS(hs_slicelet_held(&task, 3, &held), HS_WRONG_FORM);
+    HOLDS(held.number == 5 && held.generation == 5 && held.until == 5);
+    IS(hs_slicelet_held(&task, HS_GUARD, &held), HS_DONE);
+    HOLDS(held.number == 7 && held.generation == 3 && held.until == 95);
+    IS(hs_slicelet_next(&task, &none, 6, &action), HS_WRONG_FORM);
+    HOLDS(action == 9);
+    IS(hs_slicelet_next(&task, &steady, 94, &action), HS_DONE);
+    HOLDS(action == HS_TASK_REST);
+    IS(hs_slicelet_next(&task, &steady, 95, &action), HS_DONE);
+    HOLDS(action == HS_ASK_GUARD);
+    IS(hs_slicelet_next(&task, &bridging, 6, &action), HS_DONE);
+    HOLDS(action == HS_ASK_BRIDGE);
+    IS(hear(&task, bridge, 6), HS_DONE);
+    IS(hs_slicelet_next(&task, &bridging, 6, &action), HS_DONE);
+    HOLDS(action == HS_GIVE_UP_GUARD);
+    IS(hs_slicelet_resume(&task, 2, 1), HS_DONE);
+    IS(hs_slicelet_next(&task, &steady, 6, &action), HS_DONE);
+    HOLDS(action == HS_START);
+    hs_place_free(&task);
+}
+
 void check_slicelets(void) {
     struct hs_key_handle handle = {0, 0, 0, 0};
     struct hs_place place = opened();
@@ -256,4 +319,6 @@ void check_slicelets(void) {
     fills_up();
     two_leases();
     by_slice_key();
+    resumes();
+    goes_on();
 }

@@ -32,6 +32,7 @@ KINDS = {"guard": 1, "bridge": 2}
 KIND_WORDS = {number: word for word, number in KINDS.items()}
 SCRIPT_WORDS = {"OLD_GENERATION": "old"}  # if a script has another word than the header
 ACTIONS = {1: "take", 2: "renew", 3: "commit", 4: "propose", 5: "rest"}
+TASK_ACTIONS = ("start", "ask guard", "ask bridge", "give up guard", "give up bridge", "rest")
 
 
 def name_of(code):
@@ -107,6 +108,10 @@ class Told(Numbers):
 
 class KeyHandle(Numbers):
     _fields_ = fields("task slice_key position") + [("life", ctypes.c_uint32)]
+
+
+class HeldLease(Numbers):
+    _fields_ = fields("number generation until")
 
 
 class Owners(ctypes.Structure):
@@ -193,6 +198,7 @@ class TableClock(Clock):
 Version = namedtuple("Version", "major minor patch")
 Found = namedtuple("Found", "generation tasks")
 Served = namedtuple("Served", "kind generation")
+Held = namedtuple("Held", "number generation until")
 
 U32, U64, SIZE = whole(ctypes.c_uint32), whole(ctypes.c_uint64), whole(ctypes.c_size_t)
 OUT = [ctypes.c_void_p, SIZE, ctypes.POINTER(ctypes.c_size_t)]
@@ -203,6 +209,11 @@ DECLARED = {
     "slicelet_close": [P(Place)], "clerk_close": [P(Place)], "table_close": [P(Place)],
     "assigner_close": [P(Place)], "session_close": [P(Place)],
     "slicelet_open": [P(Place), U64],
+    "slicelet_resume": [P(Place), U64, U32],
+    "ended_note": [U64, U32, U32, *OUT],
+    "slicelet_held": [P(Place), U32, P(HeldLease)],
+    "slicelet_next": [P(Place), P(Phase), U64, P(ctypes.c_uint32)],
+    "slicelet_calls_left": [P(Place), P(ctypes.c_uint64)],
     "slicelet_start": [P(Place), U32, U64],
     "slicelet_hear": [P(Place), *BYTES, U64, P(Told)],
     "slicelet_release": [P(Place), U32, U64, *OUT],
@@ -289,6 +300,11 @@ def slice_key(key):
     return library.hs_slice_key(key, len(key))
 
 
+def ended_note(task, life, kind):
+    """Returns the note that gives back all leases of a kind of a life that ended with its process."""
+    return text_of(library.hs_ended_note, task, life, KINDS[kind])
+
+
 def plan(assignment, loads, tasks, policy):
     """Returns the message of the assignment of the next generation."""
     loads, tasks = array_of(ctypes.c_uint64, loads), array_of(ctypes.c_uint64, tasks)
@@ -367,6 +383,14 @@ class Slicelet(Standing):
     def __init__(self, task):
         super().__init__("slicelet", task)
 
+    @classmethod
+    def resume(cls, task, life):
+        """Returns the slicelet of the task's new process. `life` is the greatest life that the task ever started. Never
+        call it beside a process of the task that may still run."""
+        slicelet = cls(task)
+        slicelet.do("resume", task, life)
+        return slicelet
+
     def start(self, life, at):
         self.do("start", life, at)
 
@@ -398,6 +422,24 @@ class Slicelet(Standing):
 
     def check(self, handle, at):
         self.do("check", ctypes.byref(handle), at)
+
+    def held(self, kind):
+        """Returns the lease of a kind that the task holds, which may have ended."""
+        held = HeldLease()
+        self.do("held", KINDS[kind], ctypes.byref(held))
+        return Held(held.number, held.generation, held.until)
+
+    def next(self, phase, at):
+        """Returns what the task does next about its leases, in a phase of the table: one of TASK_ACTIONS."""
+        action = ctypes.c_uint32()
+        self.do("next", ctypes.byref(phase), at, ctypes.byref(action))
+        return TASK_ACTIONS[action.value - 1]
+
+    def calls_left(self):
+        """Returns how many more starts, hears and releases are accepted."""
+        left = ctypes.c_uint64()
+        self.do("calls_left", ctypes.byref(left))
+        return left.value
 
 
 class Clerk(Standing):

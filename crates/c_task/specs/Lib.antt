@@ -6,3 +6,4 @@ pub mod KeyHandles
 pub mod Owners
 pub mod ClerkCalls
 pub mod SliceKeys
+pub mod Processes

@@ -10,10 +10,12 @@ mod clerk_calls;
 mod key_handle;
 mod owners;
 mod slicelet_calls;
+mod slicelet_process;
 mod slicelet_release;
 
 pub use clerk_calls::{learn, look, look_at};
 pub use key_handle::HandleNumbers;
 pub use owners::OwnersNumbers;
 pub use slicelet_calls::{check, hear, hold, hold_at, open_slicelet, serve, serve_at, start};
+pub use slicelet_process::{HeldNumbers, calls_left, ended_note, held, next, resume_slicelet};
 pub use slicelet_release::release;

@@ -45,7 +45,7 @@ pub fn release(
     }
 }
 
-fn kind_of(number: u32) -> Option<Kind>
+pub(crate) fn kind_of(number: u32) -> Option<Kind>
     ensures { result ≡ kind_of number }
 {
     match number {

@@ -8,6 +8,7 @@ mod assigner_exports;
 mod clerk_exports;
 mod clock_exports;
 mod place_exports;
+mod process_exports;
 mod session_exports;
 mod slicelet_exports;
 mod table_exports;

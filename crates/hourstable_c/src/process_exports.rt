@@ -1,0 +1,105 @@
+//! Exports for a task's processes, what it holds and what it does next.
+
+ghost use Rattle.std.specs.Prelude.{◌≡◌, ◌-◌};
+ghost use Rattle.c_numbers.specs.Outputs.{output};
+ghost use Rattle.c_place.specs.declared.held.Held.TheVariants as held;
+ghost use Rattle.c_table.specs.Terms.{phase_of};
+ghost use Rattle.c_task.specs.Processes.{IsHeldTold, IsNextTold, IsNoteFor, note_for, opened_anew};
+ghost use Rattle.c_task.specs.Releases.{kind_of};
+ghost use Rattle.hourstable_c.specs.Opened.{AtPlace, IsOpened};
+ghost use Rattle.hourstable_c.specs.Places.{OnSlicelet};
+ghost use Rattle.hourstable_c.specs.Returned.{Returns};
+ghost use Rattle.slicelet.specs.declared.slicelet.TheConstants.{CALLS};
+
+use c_numbers::Answer;
+use c_place::{Held, Place};
+use c_table::PhaseNumbers;
+use c_task::{HeldNumbers, calls_left, ended_note, held, next, resume_slicelet};
+use std::alloc::Global;
+
+/// Creates the slicelet of a task's new process in `place`, destroying what was there.
+#[unsafe(no_mangle)]
+pub extern "C" fn hs_slicelet_resume(alloc: Global, place: &mut Place, task: u64, life: u32) -> i32
+    ensures { AtPlace (IsOpened held.Slicelet (opened_anew task life)) place.old.value place.new.value result }
+{
+    let Some(held) = place.held() else {
+        return Answer::OtherPlace.number();
+    };
+    match resume_slicelet(alloc, task, life) {
+        Some(slicelet) => {
+            held.put(Held::Slicelet(slicelet));
+            Answer::Done.number()
+        }
+        None => Answer::WrongForm.number(),
+    }
+}
+
+/// Writes the message of the note that gives back all leases of a kind of a life that ended.
+#[unsafe(no_mangle)]
+#[tactic(auto, using(crate::proofs::Returning::returns))]
+pub extern "C" fn hs_ended_note(
+    alloc: Global,
+    task: u64,
+    life: u32,
+    kind: u32,
+    out: &mut [u8],
+    needed: &mut usize,
+) -> i32
+    ensures { Returns (IsNoteFor (note_for task life (kind_of kind))
+        (output out.old needed.old) (output out.new needed.new)) result }
+{
+    ended_note(alloc, task, life, kind, out, needed).number()
+}
+
+/// Writes how many more calls the slicelet accepts.
+#[unsafe(no_mangle)]
+#[tactic(auto, using(crate::proofs::Returning::returns))]
+pub extern "C" fn hs_slicelet_calls_left(place: &mut Place, left: &mut u64) -> i32
+    ensures { OnSlicelet place.old.value place.new.value (left.new ≡ left.old) result
+        (λ old new. (new ≡ old) × (left.new ≡ CALLS - old.count) × Returns (λ answer. answer ≡ Answer.Done) result) }
+{
+    let Some(held) = place.held() else {
+        return Answer::OtherPlace.number();
+    };
+    match held {
+        Held::Slicelet(slicelet) => calls_left(slicelet, left).number(),
+        _ => Answer::OtherPlace.number(),
+    }
+}
+
+/// Writes the lease of a kind that the task holds, which may have ended.
+#[unsafe(no_mangle)]
+#[tactic(auto, using(crate::proofs::Returning::returns))]
+pub extern "C" fn hs_slicelet_held(place: &mut Place, kind: u32, out: &mut HeldNumbers) -> i32
+    ensures { OnSlicelet place.old.value place.new.value (out.new ≡ out.old) result
+        (λ old new. (new ≡ old) × Returns (IsHeldTold (kind_of kind) old out.old out.new) result) }
+{
+    let Some(thing) = place.held() else {
+        return Answer::OtherPlace.number();
+    };
+    match thing {
+        Held::Slicelet(slicelet) => held(slicelet, kind, out).number(),
+        _ => Answer::OtherPlace.number(),
+    }
+}
+
+/// Writes the number of what the task does next about its leases, in a phase of the table.
+#[unsafe(no_mangle)]
+#[tactic(auto, using(crate::proofs::Returning::returns))]
+pub extern "C" fn hs_slicelet_next(
+    place: &mut Place,
+    phase: &PhaseNumbers,
+    at: u64,
+    action: &mut u32,
+) -> i32
+    ensures { OnSlicelet place.old.value place.new.value (action.new ≡ action.old) result
+        (λ old new. (new ≡ old) × Returns (IsNextTold (phase_of phase.now) old at action.old action.new) result) }
+{
+    let Some(held) = place.held() else {
+        return Answer::OtherPlace.number();
+    };
+    match held {
+        Held::Slicelet(slicelet) => next(slicelet, phase.phase(), at, action).number(),
+        _ => Answer::OtherPlace.number(),
+    }
+}
