@@ -19,7 +19,7 @@ use std::alloc::Global;
 use std::io;
 use std::process::ExitCode;
 use steps::{owners_by_clerk, publish, start_with_lease, write_once};
-use wire::kind_word;
+use wire::{JobName, kind_word};
 
 /// Returns the policy of the job: one owner a slice, clocks up to 5 ticks apart, guard and bridge
 /// leases of 100 ticks, job leases of 1,000 ticks, and up to 8 grants.
@@ -74,13 +74,14 @@ fn print_owners(rt: &impl Print, name: &str, owners: &[TaskId]) -> io::Result<()
 /// Publishes an assignment at a new table, and starts a task with a lease of it.
 fn first_lease(
     alloc: Global,
+    job: &JobName,
     policy: Policy,
     task: TaskId,
     assignment: &Assignment,
 ) -> Result<(Slicelet, Grant), ExampleError> {
     let mut table = LeaseTable::new(alloc, policy);
     publish(&mut table, 7, assignment, 0)?;
-    start_with_lease(alloc, &mut table, task, 1, 0)
+    start_with_lease(alloc, job, &mut table, task, 1, 0)
 }
 
 /// Writes to a key while the task's lease is live, and again when the lease ends.
@@ -103,14 +104,15 @@ fn write_twice(
 /// Plays the example for the key of this name. All readings are in ticks, of clocks that agree.
 fn run(rt: &(impl Print + AllocGlobal), name: &str) -> Result<(), ExampleError> {
     let alloc = rt.alloc();
-    let (Some(policy), Some(task)) = (policy(), TaskId::new(1)) else {
+    let (Some(job), Some(policy), Some(task)) = (JobName::new("example"), policy(), TaskId::new(1))
+    else {
         return Err(ExampleError::OutOfLimits);
     };
     let assignment = halves(alloc)?;
-    let (slicelet, grant) = first_lease(alloc, policy, task, &assignment)?;
+    let (slicelet, grant) = first_lease(alloc, &job, policy, task, &assignment)?;
     print_lease(rt, &grant.lease)?;
     write_twice(rt, task, name, &slicelet, grant.lease.ends)?;
-    let found = owners_by_clerk(alloc, &assignment, slice_key(name.as_bytes()))?;
+    let found = owners_by_clerk(alloc, &job, &assignment, slice_key(name.as_bytes()))?;
     print_owners(rt, name, found.owners.as_slice())?;
     Ok(())
 }

@@ -8,6 +8,7 @@ ghost use Rattle.policy_rules.specs.Rule.{is_allowed};
 ghost use Rattle.lease_table.specs.Steps.{grant_step};
 ghost use Rattle.slicelet.specs.Rules.{covers_key};
 ghost use Rattle.slicelet.specs.States.{permits, rule_in_state};
+ghost use Rattle.wire.specs.declared.numerals.Numerals.TheVariants as numeral;
 ghost use Rattle.wire.specs.Messages.{IsDecodedAs, message_text};
 
 use crate::error::ExampleError;
@@ -18,15 +19,15 @@ use policy_rules::Verdict;
 use slice_ranges::SliceKey;
 use slicelet::Slicelet;
 use std::alloc::Global;
-use wire::{DecodeError, Wire, decode, encode};
+use wire::{DecodeError, JobName, Wire, decode, encode};
 
-/// Carries a value as bytes, as a transport would: what arrives is what was sent, unless there are more
-/// bytes than a message may have, or memory runs out.
-pub fn carry<T: Wire>(alloc: Global, value: &T) -> Result<T, DecodeError>
-    ensures { IsDecodedAs (message_text T.name (T.data_of value.now)) value.now result }
+/// Carries a value as a message of a job, as a transport would: what arrives is what was sent,
+/// unless there are more bytes than a message may have, or memory runs out.
+pub fn carry<T: Wire>(alloc: Global, job: &JobName, value: &T) -> Result<T, DecodeError>
+    ensures { IsDecodedAs (message_text job.now T.name (T.data_of numeral.Quoted value.now)) value.now result }
 {
-    let bytes = encode(alloc, value)?;
-    decode(alloc, bytes.as_slice())
+    let bytes = encode(alloc, job, value)?;
+    decode(alloc, job, bytes.as_slice())
 }
 
 /// Takes the job lease for an assigner, and proposes and commits the assignment under it.
@@ -50,6 +51,7 @@ pub fn publish(
 /// then on permits exactly the keys of the lease, until the lease ends.
 pub fn start_with_lease(
     alloc: Global,
+    job: &JobName,
     table: &mut LeaseTable,
     task: TaskId,
     life: u32,
@@ -62,7 +64,7 @@ pub fn start_with_lease(
     let mut slicelet = Slicelet::new(alloc, task);
     slicelet.start(life, at)?;
     let grant = table.grant(task, life, at)?;
-    let heard = carry(alloc, &grant)?;
+    let heard = carry(alloc, job, &grant)?;
     slicelet.hear(&heard, at)?;
     Ok((slicelet, heard))
 }
@@ -89,6 +91,7 @@ pub fn write_once(
 /// Returns the tasks that own a key, from a clerk that learns the assignment from its bytes.
 pub fn owners_by_clerk(
     alloc: Global,
+    job: &JobName,
     assignment: &Assignment,
     key: SliceKey,
 ) -> Result<Found, ExampleError>
@@ -96,6 +99,6 @@ pub fn owners_by_clerk(
     ensures owners { IfOk result (λ found. found.owners.items ≡ owners_of assignment.now.slices key) }
 {
     let mut clerk = Clerk::new();
-    clerk.learn(&carry(alloc, assignment)?)?;
+    clerk.learn(&carry(alloc, job, assignment)?)?;
     Ok(clerk.look(key)?)
 }

@@ -5,16 +5,20 @@ use Rattle.serde_json.specs.Data.{Data}
 use Rattle.slice_ranges.specs.declared.key.TheConstants.{KEYS}
 use Rattle.assignment.specs.declared.task.TheConstants.{TASKS}
 use Rattle.slicelet.specs.declared.handle.KeyHandle.{KeyHandle}
+use Rattle.wire.specs.declared.numerals.Numerals.TheVariants.{Quoted}
 use Rattle.wire.specs.Handles.{handle_data, handle_of}
 use Rattle.wire.specs.Messages.{IsWritten}
 use Rattle.wire.specs.Refusals.{or_wrong}
+use Rattle.wire.proofs.Digits.{digits_read}
 use Rattle.wire.proofs.Numbers.{is_life, is_task}
 
-pub handle_read : (handle : KeyHandle) → handle.life < 2 ^ 32 → 1 ≤ handle.task → handle.task ≤ TASKS → handle.key < KEYS → handle_of (handle_data handle) ≡ Ok handle
+pub handle_read : (handle : KeyHandle) → handle.life < 2 ^ 32 → 1 ≤ handle.task → handle.task ≤ TASKS → handle.key < KEYS → handle.position < 2 ^ 64
+    → handle_of Quoted (handle_data Quoted handle) ≡ Ok handle
 unfolding handle_of
-handle_read handle life low high key = rw (is_task handle.task TASKS low high, is_life handle.life life, lt-ltb handle.key KEYS key) refl
+handle_read handle life low high key position =
+    rw (is_task handle.task TASKS low high, is_life handle.life life, digits_read handle.key (omega (arith, key)), lt-ltb handle.key KEYS key, digits_read handle.position position) refl
 
-pub handle_written : (handle : KeyHandle) (d : Data) → d ≡ handle_data handle → handle_of (handle_data handle) ≡ Ok handle → IsWritten handle_data (λ d. or_wrong (handle_of d)) handle d
+pub handle_written : (handle : KeyHandle) (d : Data) → d ≡ handle_data Quoted handle → handle_of Quoted (handle_data Quoted handle) ≡ Ok handle → IsWritten handle_data (λ numerals d. or_wrong (handle_of numerals d)) handle d
 handle_written handle d is reads = record {
   is = is;
   reads = rw (is, reads) refl;

@@ -1,4 +1,5 @@
 pub mod Numbers
+pub mod Digits
 pub mod Lists
 pub mod Pairs
 pub mod Notes
@@ -9,4 +10,5 @@ pub mod TableCalls
 pub mod TableReplies
 pub mod TaskCalls
 pub mod ClerkCalls
+pub mod KeptValues
 pub mod Decoding

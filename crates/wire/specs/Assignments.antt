@@ -7,27 +7,29 @@ use Rattle.assignment.specs.declared.slice.Slice.{Slice}
 use Rattle.assignment.specs.declared.error.AssignmentError.{AssignmentError}
 use Rattle.program_io.specs.declared.fault.WrongForm.{WrongForm}
 use Rattle.program_io.specs.Reading.{◌>>=◌, ◌>>◌}
-use Rattle.program_io.specs.Members.{exactly, list_at, list_of, number_at, number_of, pair_of}
+use Rattle.program_io.specs.Members.{exactly, list_at, list_of, number_of, pair_of}
 use Rattle.wire.specs.declared.fault.Refusal.{Refusal}
 use Rattle.wire.specs.declared.fault.Refusal.TheVariants.{Slices}
+use Rattle.wire.specs.declared.numerals.Numerals.{Numerals}
+use Rattle.wire.specs.Numerals.{numeral_at, numeral_data, numeral_of}
 use Rattle.wire.specs.Objects.{list_data, number_data, object_data}
 use Rattle.wire.specs.Refusals.{or_wrong}
 
 -- `[START,[OWNER,..]]`
-abbrev pub slice_data : Slice → Data
-slice_data slice = array (item (number_data slice.start) (item (list_data number_data slice.owners) no_items))
+abbrev pub slice_data : Numerals → Slice → Data
+slice_data numerals slice = array (item (numeral_data numerals slice.start) (item (list_data number_data slice.owners) no_items))
 
 -- `{"generation":G,"slices":[[START,[OWNER,..]],..]}`
-abbrev pub assignment_data : Slicing → Data
-assignment_data a = object_data
-    ((codes "generation", number_data a.generation) ∷
-    (codes "slices", list_data slice_data a.slices) ∷ [])
+abbrev pub assignment_data : Numerals → Slicing → Data
+assignment_data numerals a = object_data
+    ((codes "generation", numeral_data numerals a.generation) ∷
+    (codes "slices", list_data (slice_data numerals) a.slices) ∷ [])
 
 -- a slice, written as `[start, [owner, ..]]`
-unfoldable pub slice_of : Data → Result Slice WrongForm
-slice_of d = do
+unfoldable pub slice_of : Numerals → Data → Result Slice WrongForm
+slice_of numerals d = do
   pair ← pair_of d
-  start ← number_of pair.0
+  start ← numeral_of numerals pair.0
   owners ← list_of number_of pair.1
   Ok (record { start = start; owners = owners })
 
@@ -37,14 +39,14 @@ slicing_of generation slices None = Ok (built generation slices)
 slicing_of generation slices (Some why) = Err (Slices why)
 
 -- the members `generation` and `slices` of an object, as an assignment
-unfoldable pub slicing_in : Data → Result Slicing Refusal
-slicing_in d = do
-  generation ← or_wrong (number_at (codes "generation") d)
-  slices ← or_wrong (list_at slice_of (codes "slices") d)
+unfoldable pub slicing_in : Numerals → Data → Result Slicing Refusal
+slicing_in numerals d = do
+  generation ← or_wrong (numeral_at numerals (codes "generation") d)
+  slices ← or_wrong (list_at (slice_of numerals) (codes "slices") d)
   slicing_of generation slices (refusal_of slices)
 
 -- an assignment has a generation and slices
-unfoldable pub assignment_of : Data → Result Slicing Refusal
-assignment_of d = do
+unfoldable pub assignment_of : Numerals → Data → Result Slicing Refusal
+assignment_of numerals d = do
   or_wrong (exactly (codes "generation" ∷ codes "slices" ∷ []) d)
-  slicing_in d
+  slicing_in numerals d

@@ -8,22 +8,24 @@ use Rattle.clerk.specs.declared.call.ClerkReply.TheVariants.{Learnt, Forgotten}
 use Rattle.program_io.specs.Reading.{◌>>=◌, ◌>>◌}
 use Rattle.program_io.specs.Members.{exactly, text_at}
 use Rattle.wire.specs.declared.fault.Refusal.{Refusal}
+use Rattle.wire.specs.declared.numerals.Numerals.{Numerals}
 use Rattle.wire.specs.Assignments.{slice_data, slicing_in}
-use Rattle.wire.specs.Objects.{list_data, number_data, object_data}
+use Rattle.wire.specs.Numerals.{numeral_data}
+use Rattle.wire.specs.Objects.{list_data, object_data}
 use Rattle.wire.specs.Refusals.{or_wrong}
 use Rattle.wire.specs.TableCalls.{read_named}
 
 -- a call is written as the step of a script, with an assignment in place of its generation
-abbrev pub clerk_call_data : ClerkCall → Data
-clerk_call_data (Learn slicing) = object_data
-    ((codes "do", string (codes "learn")) ∷ (codes "generation", number_data slicing.generation) ∷ (codes "slices", list_data slice_data slicing.slices) ∷ [])
-clerk_call_data Forget = object_data ((codes "do", string (codes "forget")) ∷ [])
+abbrev pub clerk_call_data : Numerals → ClerkCall → Data
+clerk_call_data numerals (Learn slicing) = object_data
+    ((codes "do", string (codes "learn")) ∷ (codes "generation", numeral_data numerals slicing.generation) ∷ (codes "slices", list_data (slice_data numerals) slicing.slices) ∷ [])
+clerk_call_data numerals Forget = object_data ((codes "do", string (codes "forget")) ∷ [])
 
 -- a `learn` has an assignment
-unfoldable pub learn_of : Data → Result ClerkCall Refusal
-learn_of d = do
+unfoldable pub learn_of : Numerals → Data → Result ClerkCall Refusal
+learn_of numerals d = do
   or_wrong (exactly (codes "do" ∷ codes "generation" ∷ codes "slices" ∷ []) d)
-  slicing ← slicing_in d
+  slicing ← slicing_in numerals d
   Ok (Learn slicing)
 
 -- a `forget` has nothing more
@@ -33,16 +35,16 @@ forget_of d = do
   Ok Forget
 
 -- the calls of a clerk, each by its name and its reader
-abbrev pub clerk_call_kinds : List (List ℕ × (Data → Result ClerkCall Refusal))
-clerk_call_kinds =
-    (codes "learn", learn_of) ∷
+abbrev pub clerk_call_kinds : Numerals → List (List ℕ × (Data → Result ClerkCall Refusal))
+clerk_call_kinds numerals =
+    (codes "learn", learn_of numerals) ∷
     (codes "forget", forget_of) ∷ []
 
 -- a call, named by its member `do`
-unfoldable pub clerk_call_of : Data → Result ClerkCall Refusal
-clerk_call_of d = do
+unfoldable pub clerk_call_of : Numerals → Data → Result ClerkCall Refusal
+clerk_call_of numerals d = do
   name ← or_wrong (text_at (codes "do") d)
-  read_named clerk_call_kinds name d
+  read_named (clerk_call_kinds numerals) name d
 
 -- a reply is named by the first word of its line in a script
 abbrev pub clerk_reply_data : ClerkReply → Data

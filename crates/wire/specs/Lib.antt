@@ -1,5 +1,6 @@
 pub mod Refusals
 pub mod Objects
+pub mod Numerals
 pub mod LeaseMembers
 pub mod Notes
 pub mod Handles
@@ -10,4 +11,5 @@ pub mod TableCalls
 pub mod TableReplies
 pub mod TaskCalls
 pub mod ClerkCalls
+pub mod Kept
 pub mod Messages

@@ -5,80 +5,82 @@ use Rattle.serde_json.specs.Data.{Data, string}
 use Rattle.lease_table.specs.declared.call.TableCall.{TableCall}
 use Rattle.lease_table.specs.declared.call.TableCall.TheVariants.{JobTake, JobRenew, Propose, Commit, Grant, Free, Restart}
 use Rattle.program_io.specs.Reading.{◌>>=◌, ◌>>◌}
-use Rattle.program_io.specs.Members.{exactly, member_at, number_at, text_at}
+use Rattle.program_io.specs.Members.{exactly, member_at, text_at}
 use Rattle.wire.specs.declared.fault.Refusal.{Refusal}
 use Rattle.wire.specs.declared.fault.Refusal.TheVariants.{WrongForm}
+use Rattle.wire.specs.declared.numerals.Numerals.{Numerals}
 use Rattle.wire.specs.Assignments.{slice_data, slicing_in}
 use Rattle.wire.specs.LeaseMembers.{life_at, task_at}
 use Rattle.wire.specs.Notes.{note_data, note_of}
+use Rattle.wire.specs.Numerals.{numeral_at, numeral_data}
 use Rattle.wire.specs.Objects.{list_data, number_data, object_data}
 use Rattle.wire.specs.Refusals.{or_wrong}
 
 -- a call is written as the step of a script, with the number of a term in place of an assigner, and a note in place of its number
-abbrev pub call_data : TableCall → Data
-call_data (JobTake assigner at) = object_data
-    ((codes "assigner", number_data assigner) ∷ (codes "at", number_data at) ∷ (codes "do", string (codes "take")) ∷ [])
-call_data (JobRenew number at) = object_data
-    ((codes "at", number_data at) ∷ (codes "do", string (codes "renew")) ∷ (codes "term", number_data number) ∷ [])
-call_data (Propose number slicing at) = object_data
-    ((codes "at", number_data at) ∷ (codes "do", string (codes "propose")) ∷ (codes "generation", number_data slicing.generation)
-    ∷ (codes "slices", list_data slice_data slicing.slices) ∷ (codes "term", number_data number) ∷ [])
-call_data (Commit number at) = object_data
-    ((codes "at", number_data at) ∷ (codes "do", string (codes "commit")) ∷ (codes "term", number_data number) ∷ [])
-call_data (Grant task life at) = object_data
-    ((codes "at", number_data at) ∷ (codes "do", string (codes "grant")) ∷ (codes "life", number_data life) ∷ (codes "task", number_data task) ∷ [])
-call_data (Free note at) = object_data
-    ((codes "at", number_data at) ∷ (codes "do", string (codes "free")) ∷ (codes "note", note_data note) ∷ [])
-call_data Restart = object_data ((codes "do", string (codes "lose")) ∷ [])
+abbrev pub call_data : Numerals → TableCall → Data
+call_data numerals (JobTake assigner at) = object_data
+    ((codes "assigner", numeral_data numerals assigner) ∷ (codes "at", numeral_data numerals at) ∷ (codes "do", string (codes "take")) ∷ [])
+call_data numerals (JobRenew number at) = object_data
+    ((codes "at", numeral_data numerals at) ∷ (codes "do", string (codes "renew")) ∷ (codes "term", numeral_data numerals number) ∷ [])
+call_data numerals (Propose number slicing at) = object_data
+    ((codes "at", numeral_data numerals at) ∷ (codes "do", string (codes "propose")) ∷ (codes "generation", numeral_data numerals slicing.generation)
+    ∷ (codes "slices", list_data (slice_data numerals) slicing.slices) ∷ (codes "term", numeral_data numerals number) ∷ [])
+call_data numerals (Commit number at) = object_data
+    ((codes "at", numeral_data numerals at) ∷ (codes "do", string (codes "commit")) ∷ (codes "term", numeral_data numerals number) ∷ [])
+call_data numerals (Grant task life at) = object_data
+    ((codes "at", numeral_data numerals at) ∷ (codes "do", string (codes "grant")) ∷ (codes "life", number_data life) ∷ (codes "task", number_data task) ∷ [])
+call_data numerals (Free note at) = object_data
+    ((codes "at", numeral_data numerals at) ∷ (codes "do", string (codes "free")) ∷ (codes "note", note_data numerals note) ∷ [])
+call_data numerals Restart = object_data ((codes "do", string (codes "lose")) ∷ [])
 
 -- a `take` has an assigner and a reading
-unfoldable pub take_of : Data → Result TableCall Refusal
-take_of d = do
+unfoldable pub take_of : Numerals → Data → Result TableCall Refusal
+take_of numerals d = do
   or_wrong (exactly (codes "do" ∷ codes "assigner" ∷ codes "at" ∷ []) d)
-  assigner ← or_wrong (number_at (codes "assigner") d)
-  at ← or_wrong (number_at (codes "at") d)
+  assigner ← or_wrong (numeral_at numerals (codes "assigner") d)
+  at ← or_wrong (numeral_at numerals (codes "at") d)
   Ok (JobTake assigner at)
 
 -- a `renew` has a term and a reading
-unfoldable pub renew_of : Data → Result TableCall Refusal
-renew_of d = do
+unfoldable pub renew_of : Numerals → Data → Result TableCall Refusal
+renew_of numerals d = do
   or_wrong (exactly (codes "do" ∷ codes "term" ∷ codes "at" ∷ []) d)
-  term ← or_wrong (number_at (codes "term") d)
-  at ← or_wrong (number_at (codes "at") d)
+  term ← or_wrong (numeral_at numerals (codes "term") d)
+  at ← or_wrong (numeral_at numerals (codes "at") d)
   Ok (JobRenew term at)
 
 -- a `propose` has a term, an assignment and a reading
-unfoldable pub propose_of : Data → Result TableCall Refusal
-propose_of d = do
+unfoldable pub propose_of : Numerals → Data → Result TableCall Refusal
+propose_of numerals d = do
   or_wrong (exactly (codes "do" ∷ codes "term" ∷ codes "generation" ∷ codes "slices" ∷ codes "at" ∷ []) d)
-  term ← or_wrong (number_at (codes "term") d)
-  at ← or_wrong (number_at (codes "at") d)
-  slicing ← slicing_in d
+  term ← or_wrong (numeral_at numerals (codes "term") d)
+  at ← or_wrong (numeral_at numerals (codes "at") d)
+  slicing ← slicing_in numerals d
   Ok (Propose term slicing at)
 
 -- a `commit` has a term and a reading
-unfoldable pub commit_of : Data → Result TableCall Refusal
-commit_of d = do
+unfoldable pub commit_of : Numerals → Data → Result TableCall Refusal
+commit_of numerals d = do
   or_wrong (exactly (codes "do" ∷ codes "term" ∷ codes "at" ∷ []) d)
-  term ← or_wrong (number_at (codes "term") d)
-  at ← or_wrong (number_at (codes "at") d)
+  term ← or_wrong (numeral_at numerals (codes "term") d)
+  at ← or_wrong (numeral_at numerals (codes "at") d)
   Ok (Commit term at)
 
 -- a `grant` has a task, a life of it and a reading
-unfoldable pub grant_call_of : Data → Result TableCall Refusal
-grant_call_of d = do
+unfoldable pub grant_call_of : Numerals → Data → Result TableCall Refusal
+grant_call_of numerals d = do
   or_wrong (exactly (codes "do" ∷ codes "task" ∷ codes "life" ∷ codes "at" ∷ []) d)
   task ← or_wrong (task_at (codes "task") d)
   life ← or_wrong (life_at (codes "life") d)
-  at ← or_wrong (number_at (codes "at") d)
+  at ← or_wrong (numeral_at numerals (codes "at") d)
   Ok (Grant task life at)
 
 -- a `free` has a note and a reading
-unfoldable pub free_of : Data → Result TableCall Refusal
-free_of d = do
+unfoldable pub free_of : Numerals → Data → Result TableCall Refusal
+free_of numerals d = do
   or_wrong (exactly (codes "do" ∷ codes "note" ∷ codes "at" ∷ []) d)
-  note ← or_wrong (member_at (codes "note") d >>= note_of)
-  at ← or_wrong (number_at (codes "at") d)
+  note ← or_wrong (member_at (codes "note") d >>= note_of numerals)
+  at ← or_wrong (numeral_at numerals (codes "at") d)
   Ok (Free note at)
 
 -- a `lose` has nothing more
@@ -93,18 +95,18 @@ read_named [] name d = Err WrongForm
 read_named (kind ∷ kinds) name d = if bytes_eq name kind.0 then kind.1 d else read_named kinds name d
 
 -- the calls of the table, each by its name and its reader
-abbrev pub call_kinds : List (List ℕ × (Data → Result TableCall Refusal))
-call_kinds =
-    (codes "take", take_of) ∷
-    (codes "renew", renew_of) ∷
-    (codes "propose", propose_of) ∷
-    (codes "commit", commit_of) ∷
-    (codes "grant", grant_call_of) ∷
-    (codes "free", free_of) ∷
+abbrev pub call_kinds : Numerals → List (List ℕ × (Data → Result TableCall Refusal))
+call_kinds numerals =
+    (codes "take", take_of numerals) ∷
+    (codes "renew", renew_of numerals) ∷
+    (codes "propose", propose_of numerals) ∷
+    (codes "commit", commit_of numerals) ∷
+    (codes "grant", grant_call_of numerals) ∷
+    (codes "free", free_of numerals) ∷
     (codes "lose", lose_of) ∷ []
 
 -- a call, named by its member `do`
-unfoldable pub call_of : Data → Result TableCall Refusal
-call_of d = do
+unfoldable pub call_of : Numerals → Data → Result TableCall Refusal
+call_of numerals d = do
   name ← or_wrong (text_at (codes "do") d)
-  read_named call_kinds name d
+  read_named (call_kinds numerals) name d

@@ -6,47 +6,49 @@ use Rattle.slicelet.specs.declared.call.SliceletCall.TheVariants.{Start, Hear, R
 use Rattle.slicelet.specs.declared.call.SliceletReply.{SliceletReply}
 use Rattle.slicelet.specs.declared.call.SliceletReply.TheVariants.{Started, Heard, Released, Resumed}
 use Rattle.program_io.specs.Reading.{◌>>=◌, ◌>>◌}
-use Rattle.program_io.specs.Members.{exactly, member_at, number_at, text_at}
+use Rattle.program_io.specs.Members.{exactly, member_at, text_at}
 use Rattle.wire.specs.declared.fault.Refusal.{Refusal}
+use Rattle.wire.specs.declared.numerals.Numerals.{Numerals}
 use Rattle.wire.specs.Grants.{grant_data, grant_of}
 use Rattle.wire.specs.LeaseMembers.{kind_at, kind_data, life_at}
 use Rattle.wire.specs.Notes.{note_data, note_of}
+use Rattle.wire.specs.Numerals.{numeral_at, numeral_data}
 use Rattle.wire.specs.Objects.{number_data, object_data}
 use Rattle.wire.specs.Refusals.{or_wrong}
 use Rattle.wire.specs.TableCalls.{read_named}
 
 -- a call is written as the step of a script, with a grant in place of its number
-abbrev pub task_call_data : SliceletCall → Data
-task_call_data (Start life at) = object_data
-    ((codes "at", number_data at) ∷ (codes "do", string (codes "start")) ∷ (codes "life", number_data life) ∷ [])
-task_call_data (Hear grant at) = object_data
-    ((codes "at", number_data at) ∷ (codes "do", string (codes "hear")) ∷ (codes "grant", grant_data grant) ∷ [])
-task_call_data (Release kind at) = object_data
-    ((codes "at", number_data at) ∷ (codes "do", string (codes "release")) ∷ (codes "kind", kind_data kind) ∷ [])
-task_call_data (Resume life) = object_data ((codes "do", string (codes "resume")) ∷ (codes "life", number_data life) ∷ [])
+abbrev pub task_call_data : Numerals → SliceletCall → Data
+task_call_data numerals (Start life at) = object_data
+    ((codes "at", numeral_data numerals at) ∷ (codes "do", string (codes "start")) ∷ (codes "life", number_data life) ∷ [])
+task_call_data numerals (Hear grant at) = object_data
+    ((codes "at", numeral_data numerals at) ∷ (codes "do", string (codes "hear")) ∷ (codes "grant", grant_data numerals grant) ∷ [])
+task_call_data numerals (Release kind at) = object_data
+    ((codes "at", numeral_data numerals at) ∷ (codes "do", string (codes "release")) ∷ (codes "kind", kind_data kind) ∷ [])
+task_call_data numerals (Resume life) = object_data ((codes "do", string (codes "resume")) ∷ (codes "life", number_data life) ∷ [])
 
 -- a `start` has a life and a reading
-unfoldable pub start_of : Data → Result SliceletCall Refusal
-start_of d = do
+unfoldable pub start_of : Numerals → Data → Result SliceletCall Refusal
+start_of numerals d = do
   or_wrong (exactly (codes "do" ∷ codes "life" ∷ codes "at" ∷ []) d)
   life ← or_wrong (life_at (codes "life") d)
-  at ← or_wrong (number_at (codes "at") d)
+  at ← or_wrong (numeral_at numerals (codes "at") d)
   Ok (Start life at)
 
 -- a `hear` has a grant and a reading
-unfoldable pub hear_of : Data → Result SliceletCall Refusal
-hear_of d = do
+unfoldable pub hear_of : Numerals → Data → Result SliceletCall Refusal
+hear_of numerals d = do
   or_wrong (exactly (codes "do" ∷ codes "grant" ∷ codes "at" ∷ []) d)
-  at ← or_wrong (number_at (codes "at") d)
-  grant ← or_wrong (member_at (codes "grant") d) >>= grant_of
+  at ← or_wrong (numeral_at numerals (codes "at") d)
+  grant ← or_wrong (member_at (codes "grant") d) >>= grant_of numerals
   Ok (Hear grant at)
 
 -- a `release` has a kind of lease and a reading
-unfoldable pub release_of : Data → Result SliceletCall Refusal
-release_of d = do
+unfoldable pub release_of : Numerals → Data → Result SliceletCall Refusal
+release_of numerals d = do
   or_wrong (exactly (codes "do" ∷ codes "kind" ∷ codes "at" ∷ []) d)
   kind ← or_wrong (kind_at (codes "kind") d)
-  at ← or_wrong (number_at (codes "at") d)
+  at ← or_wrong (numeral_at numerals (codes "at") d)
   Ok (Release kind at)
 
 -- a `resume` has a life
@@ -57,26 +59,26 @@ resume_of d = do
   Ok (Resume life)
 
 -- the calls of a slicelet, each by its name and its reader
-abbrev pub task_call_kinds : List (List ℕ × (Data → Result SliceletCall Refusal))
-task_call_kinds =
-    (codes "start", start_of) ∷
-    (codes "hear", hear_of) ∷
-    (codes "release", release_of) ∷
+abbrev pub task_call_kinds : Numerals → List (List ℕ × (Data → Result SliceletCall Refusal))
+task_call_kinds numerals =
+    (codes "start", start_of numerals) ∷
+    (codes "hear", hear_of numerals) ∷
+    (codes "release", release_of numerals) ∷
     (codes "resume", resume_of) ∷ []
 
 -- a call, named by its member `do`
-unfoldable pub task_call_of : Data → Result SliceletCall Refusal
-task_call_of d = do
+unfoldable pub task_call_of : Numerals → Data → Result SliceletCall Refusal
+task_call_of numerals d = do
   name ← or_wrong (text_at (codes "do") d)
-  read_named task_call_kinds name d
+  read_named (task_call_kinds numerals) name d
 
 -- a reply is named by the first word of its line in a script
-abbrev pub task_reply_data : SliceletReply → Data
-task_reply_data Started = object_data ((codes "reply", string (codes "started")) ∷ [])
-task_reply_data Heard = object_data ((codes "reply", string (codes "heard")) ∷ [])
-task_reply_data (Released note) = object_data ((codes "note", note_data note) ∷ (codes "reply", string (codes "released")) ∷ [])
-task_reply_data (Resumed ended) = object_data
-    ((codes "bridge", note_data ended.bridge) ∷ (codes "guard", note_data ended.guard) ∷ (codes "reply", string (codes "resumed")) ∷ [])
+abbrev pub task_reply_data : Numerals → SliceletReply → Data
+task_reply_data numerals Started = object_data ((codes "reply", string (codes "started")) ∷ [])
+task_reply_data numerals Heard = object_data ((codes "reply", string (codes "heard")) ∷ [])
+task_reply_data numerals (Released note) = object_data ((codes "note", note_data numerals note) ∷ (codes "reply", string (codes "released")) ∷ [])
+task_reply_data numerals (Resumed ended) = object_data
+    ((codes "bridge", note_data numerals ended.bridge) ∷ (codes "guard", note_data numerals ended.guard) ∷ (codes "reply", string (codes "resumed")) ∷ [])
 
 -- a `started` has nothing more
 unfoldable pub started_of : Data → Result SliceletReply Refusal
@@ -91,30 +93,30 @@ heard_of d = do
   Ok Heard
 
 -- a `released` has the note of the lease
-unfoldable pub released_of : Data → Result SliceletReply Refusal
-released_of d = do
+unfoldable pub released_of : Numerals → Data → Result SliceletReply Refusal
+released_of numerals d = do
   or_wrong (exactly (codes "reply" ∷ codes "note" ∷ []) d)
-  note ← or_wrong (member_at (codes "note") d >>= note_of)
+  note ← or_wrong (member_at (codes "note") d >>= note_of numerals)
   Ok (Released note)
 
 -- a `resumed` has the notes of the life that ended
-unfoldable pub resumed_of : Data → Result SliceletReply Refusal
-resumed_of d = do
+unfoldable pub resumed_of : Numerals → Data → Result SliceletReply Refusal
+resumed_of numerals d = do
   or_wrong (exactly (codes "reply" ∷ codes "guard" ∷ codes "bridge" ∷ []) d)
-  guard ← or_wrong (member_at (codes "guard") d >>= note_of)
-  bridge ← or_wrong (member_at (codes "bridge") d >>= note_of)
+  guard ← or_wrong (member_at (codes "guard") d >>= note_of numerals)
+  bridge ← or_wrong (member_at (codes "bridge") d >>= note_of numerals)
   Ok (Resumed (record { guard = guard; bridge = bridge }))
 
 -- the replies of a slicelet, each by its name and its reader
-abbrev pub task_reply_kinds : List (List ℕ × (Data → Result SliceletReply Refusal))
-task_reply_kinds =
+abbrev pub task_reply_kinds : Numerals → List (List ℕ × (Data → Result SliceletReply Refusal))
+task_reply_kinds numerals =
     (codes "started", started_of) ∷
     (codes "heard", heard_of) ∷
-    (codes "released", released_of) ∷
-    (codes "resumed", resumed_of) ∷ []
+    (codes "released", released_of numerals) ∷
+    (codes "resumed", resumed_of numerals) ∷ []
 
 -- a reply, named by its member `reply`
-unfoldable pub task_reply_of : Data → Result SliceletReply Refusal
-task_reply_of d = do
+unfoldable pub task_reply_of : Numerals → Data → Result SliceletReply Refusal
+task_reply_of numerals d = do
   name ← or_wrong (text_at (codes "reply") d)
-  read_named task_reply_kinds name d
+  read_named (task_reply_kinds numerals) name d

@@ -2,11 +2,13 @@
 
 ghost use Rattle.std.specs.Prelude.{◌≡◌, IfOk, Ok, codes};
 ghost use Rattle.serde_json.specs.View.{view};
+ghost use Rattle.wire.specs.declared.numerals.Numerals.TheVariants as numeral;
 ghost use Rattle.wire.specs.Refusals.{Gives};
 ghost use Rattle.wire.specs.ClerkCalls.{clerk_call_data, clerk_call_of, clerk_reply_data, clerk_reply_of, forget_of, forgotten_of, learn_of, learnt_of};
 
 use crate::fault::{DecodeError, Refusal};
 use crate::message::Wire;
+use crate::numerals::{Numerals, numeral_json};
 use crate::slicing::{assignment_in, slices_json};
 use clerk::{ClerkCall, ClerkReply};
 use program_io::{exactly, text_at};
@@ -14,15 +16,15 @@ use serde_json::{Value, json};
 use std::alloc::{AllocError, Global};
 
 // Writes the call as JSON.
-fn clerk_call_json(alloc: Global, call: &ClerkCall) -> Result<Value, AllocError>
-    ensures { IfOk result (λ v. view v ≡ clerk_call_data call.now) }
+fn clerk_call_json(alloc: Global, numerals: Numerals, call: &ClerkCall) -> Result<Value, AllocError>
+    ensures { IfOk result (λ v. view v ≡ clerk_call_data numerals call.now) }
 {
     match call {
         ClerkCall::Learn(assignment) => {
-            let slices = slices_json(alloc, assignment.slices())?;
+            let slices = slices_json(alloc, numerals, assignment.slices())?;
             json!(in alloc; {
                 "do": "learn",
-                "generation": assignment.generation(),
+                "generation": numeral_json(alloc, numerals, assignment.generation())?,
                 "slices": slices
             })
         }
@@ -31,11 +33,11 @@ fn clerk_call_json(alloc: Global, call: &ClerkCall) -> Result<Value, AllocError>
 }
 
 #[tactic(auto, unfolding(crate::specs::ClerkCalls::learn_of))]
-fn learn_of(alloc: Global, value: &Value) -> Result<ClerkCall, DecodeError>
-    ensures { Gives result (learn_of (view value.now)) }
+fn learn_of(alloc: Global, numerals: Numerals, value: &Value) -> Result<ClerkCall, DecodeError>
+    ensures { Gives result (learn_of numerals (view value.now)) }
 {
     exactly(&["do", "generation", "slices"], value)?;
-    let assignment = assignment_in(alloc, value)?;
+    let assignment = assignment_in(alloc, numerals, value)?;
     Ok(ClerkCall::Learn(assignment))
 }
 
@@ -49,11 +51,11 @@ fn forget_of(value: &Value) -> Result<ClerkCall, Refusal>
 
 // Reads a call from JSON.
 #[tactic(auto, unfolding(crate::specs::ClerkCalls::clerk_call_of))]
-fn clerk_call_of(alloc: Global, value: &Value) -> Result<ClerkCall, DecodeError>
-    ensures { Gives result (clerk_call_of (view value.now)) }
+fn clerk_call_of(alloc: Global, numerals: Numerals, value: &Value) -> Result<ClerkCall, DecodeError>
+    ensures { Gives result (clerk_call_of numerals (view value.now)) }
 {
     match text_at("do", value)? {
-        "learn" => learn_of(alloc, value),
+        "learn" => learn_of(alloc, numerals, value),
         "forget" => Ok(forget_of(value)?),
         _ => Err(DecodeError::Refused(Refusal::WrongForm)),
     }
@@ -61,10 +63,11 @@ fn clerk_call_of(alloc: Global, value: &Value) -> Result<ClerkCall, DecodeError>
 
 // States that reading what was written of a call gives the same call.
 fn clerk_call_law(call: &ClerkCall)
-    ensures { clerk_call_of (clerk_call_data call.now) ≡ Ok call.now }
+    ensures { clerk_call_of numeral.Quoted (clerk_call_data numeral.Quoted call.now) ≡ Ok call.now }
 {
     match call {
         ClerkCall::Learn(assignment) => {
+            let _generation = assignment.generation();
             let _slices = assignment.slices();
         }
         ClerkCall::Forget => {}
@@ -85,11 +88,11 @@ impl Wire for ClerkCall {
     #[tactic(auto, using(crate::proofs::ClerkCalls::clerk_call_written))]
     fn to_json(&self, alloc: Global) -> Result<Value, AllocError> {
         clerk_call_law(self);
-        clerk_call_json(alloc, self)
+        clerk_call_json(alloc, Numerals::Quoted, self)
     }
 
-    fn of_json(alloc: Global, value: &Value) -> Result<ClerkCall, DecodeError> {
-        clerk_call_of(alloc, value)
+    fn of_json(alloc: Global, numerals: Numerals, value: &Value) -> Result<ClerkCall, DecodeError> {
+        clerk_call_of(alloc, numerals, value)
     }
 }
 
@@ -134,9 +137,9 @@ fn clerk_reply_of(value: &Value) -> Result<ClerkReply, Refusal>
 impl Wire for ClerkReply {
     ghost name = { codes "clerk-reply" };
 
-    ghost data_of = { clerk_reply_data };
+    ghost data_of = { λ _. clerk_reply_data };
 
-    ghost form = { clerk_reply_of };
+    ghost form = { λ _. clerk_reply_of };
 
     fn name() -> &'static str {
         "clerk-reply"
@@ -147,7 +150,11 @@ impl Wire for ClerkReply {
         clerk_reply_json(alloc, self)
     }
 
-    fn of_json(_alloc: Global, value: &Value) -> Result<ClerkReply, DecodeError> {
+    fn of_json(
+        _alloc: Global,
+        _numerals: Numerals,
+        value: &Value,
+    ) -> Result<ClerkReply, DecodeError> {
         Ok(clerk_reply_of(value)?)
     }
 }

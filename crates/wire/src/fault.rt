@@ -14,7 +14,7 @@ use thiserror::Error;
 /// Why bytes are not a message of a type.
 ///
 /// The length is checked first, then that the bytes are JSON, then that no member is repeated, then
-/// the version, the type and the value.
+/// the version, the members of the message, the type, the job and the value.
 #[derive(Clone, Copy, Debug, PartialEq, Eq, Error)]
 pub enum Refusal {
     /// There are more than [`MOST_BYTES`](crate::MOST_BYTES) bytes.
@@ -32,6 +32,9 @@ pub enum Refusal {
     /// The value is of another type.
     #[error("another type")]
     OtherType,
+    /// The message is of another job.
+    #[error("another job")]
+    OtherJob,
     /// A member is missing, is unknown, or does not have the form that it must have.
     #[error("wrong form")]
     WrongForm,

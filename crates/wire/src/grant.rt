@@ -2,40 +2,42 @@
 
 ghost use Rattle.std.specs.Prelude.{◌≡◌, IfOk, Ok, codes};
 ghost use Rattle.serde_json.specs.View.{view};
+ghost use Rattle.wire.specs.declared.numerals.Numerals.TheVariants as numeral;
 ghost use Rattle.wire.specs.Grants.{grant_data, grant_of};
 ghost use Rattle.wire.specs.Refusals.{Gives};
 
 use crate::fault::DecodeError;
 use crate::lease_members::{kind_at, kind_word, life_at, task_at};
 use crate::message::Wire;
+use crate::numerals::{Numerals, numeral_at, numeral_json};
 use crate::ranges::{ranges_json, ranges_of};
 use lease_table::Grant;
 use policy_rules::Lease;
-use program_io::{exactly, member_at, number_at};
+use program_io::{exactly, member_at};
 use serde_json::{Value, json};
 use std::alloc::{AllocError, Global};
 
 /// Writes the grant as JSON.
-pub fn grant_json(alloc: Global, grant: &Grant) -> Result<Value, AllocError>
-    ensures { IfOk result (λ v. view v ≡ grant_data grant.now) }
+pub fn grant_json(alloc: Global, numerals: Numerals, grant: &Grant) -> Result<Value, AllocError>
+    ensures { IfOk result (λ v. view v ≡ grant_data numerals grant.now) }
 {
-    let ranges = ranges_json(alloc, &grant.lease.ranges)?;
+    let ranges = ranges_json(alloc, numerals, &grant.lease.ranges)?;
     json!(in alloc; {
-        "ends": grant.lease.ends,
-        "generation": grant.lease.generation,
+        "ends": numeral_json(alloc, numerals, grant.lease.ends)?,
+        "generation": numeral_json(alloc, numerals, grant.lease.generation)?,
         "kind": kind_word(grant.lease.kind),
         "life": grant.life,
-        "number": grant.number,
+        "number": numeral_json(alloc, numerals, grant.number)?,
         "ranges": ranges,
         "task": grant.task.number(),
-        "until": grant.table_ends
+        "until": numeral_json(alloc, numerals, grant.table_ends)?
     })
 }
 
 /// Reads a grant from JSON.
 #[tactic(auto, unfolding(crate::specs::Grants::grant_of))]
-pub fn grant_of(alloc: Global, value: &Value) -> Result<Grant, DecodeError>
-    ensures { Gives result (grant_of (view value.now)) }
+pub fn grant_of(alloc: Global, numerals: Numerals, value: &Value) -> Result<Grant, DecodeError>
+    ensures { Gives result (grant_of numerals (view value.now)) }
 {
     exactly(
         &[
@@ -50,14 +52,14 @@ pub fn grant_of(alloc: Global, value: &Value) -> Result<Grant, DecodeError>
         ],
         value,
     )?;
-    let number = number_at("number", value)?;
+    let number = numeral_at(numerals, "number", value)?;
     let task = task_at("task", value)?;
     let life = life_at("life", value)?;
     let kind = kind_at("kind", value)?;
-    let generation = number_at("generation", value)?;
-    let ends = number_at("ends", value)?;
-    let table_ends = number_at("until", value)?;
-    let ranges = ranges_of(alloc, member_at("ranges", value)?)?;
+    let generation = numeral_at(numerals, "generation", value)?;
+    let ends = numeral_at(numerals, "ends", value)?;
+    let table_ends = numeral_at(numerals, "until", value)?;
+    let ranges = ranges_of(alloc, numerals, member_at("ranges", value)?)?;
     Ok(Grant {
         number,
         task,
@@ -75,9 +77,13 @@ pub fn grant_of(alloc: Global, value: &Value) -> Result<Grant, DecodeError>
 /// States that reading what was written of a grant gives the same grant.
 #[tactic(auto, using(crate::proofs::Grants::grant_read))]
 pub fn grant_law(grant: &Grant)
-    ensures { grant_of (grant_data grant.now) ≡ Ok grant.now }
+    ensures { grant_of numeral.Quoted (grant_data numeral.Quoted grant.now) ≡ Ok grant.now }
 {
+    let _number = grant.number;
     let _life = grant.life;
+    let _generation = grant.lease.generation;
+    let _ends = grant.lease.ends;
+    let _until = grant.table_ends;
     let _task = grant.task.number();
     let _boundaries = grant.lease.ranges.boundaries();
 }
@@ -96,10 +102,10 @@ impl Wire for Grant {
     #[tactic(auto, using(crate::proofs::Grants::grant_written))]
     fn to_json(&self, alloc: Global) -> Result<Value, AllocError> {
         grant_law(self);
-        grant_json(alloc, self)
+        grant_json(alloc, Numerals::Quoted, self)
     }
 
-    fn of_json(alloc: Global, value: &Value) -> Result<Grant, DecodeError> {
-        grant_of(alloc, value)
+    fn of_json(alloc: Global, numerals: Numerals, value: &Value) -> Result<Grant, DecodeError> {
+        grant_of(alloc, numerals, value)
     }
 }

@@ -2,35 +2,41 @@
 
 ghost use Rattle.std.specs.Prelude.{◌≡◌, IfOk, Ok, codes};
 ghost use Rattle.serde_json.specs.View.{view};
+ghost use Rattle.wire.specs.declared.numerals.Numerals.TheVariants as numeral;
 ghost use Rattle.wire.specs.Handles.{handle_data, handle_of, slice_key_at};
 ghost use Rattle.wire.specs.Refusals.{or_wrong};
 
 use crate::fault::DecodeError;
 use crate::lease_members::{life_at, task_at};
 use crate::message::Wire;
-use program_io::{WrongForm, exactly, number_at};
+use crate::numerals::{Numerals, numeral_at, numeral_json};
+use program_io::{WrongForm, exactly};
 use serde_json::{Value, json};
 use slice_ranges::SliceKey;
 use slicelet::KeyHandle;
 use std::alloc::{AllocError, Global};
 
 /// Writes the handle as JSON.
-pub fn handle_json(alloc: Global, handle: &KeyHandle) -> Result<Value, AllocError>
-    ensures { IfOk result (λ v. view v ≡ handle_data handle.now) }
+pub fn handle_json(
+    alloc: Global,
+    numerals: Numerals,
+    handle: &KeyHandle,
+) -> Result<Value, AllocError>
+    ensures { IfOk result (λ v. view v ≡ handle_data numerals handle.now) }
 {
     json!(in alloc; {
         "life": handle.life,
-        "position": handle.position,
-        "slice_key": handle.key.value(),
+        "position": numeral_json(alloc, numerals, handle.position)?,
+        "slice_key": numeral_json(alloc, numerals, handle.key.value())?,
         "task": handle.task.number()
     })
 }
 
 // Returns the member with this name as a slice key.
-fn slice_key_at(name: &str, value: &Value) -> Result<SliceKey, WrongForm>
-    ensures { result ≡ slice_key_at name.now (view value.now) }
+fn slice_key_at(numerals: Numerals, name: &str, value: &Value) -> Result<SliceKey, WrongForm>
+    ensures { result ≡ slice_key_at numerals name.now (view value.now) }
 {
-    match SliceKey::new(number_at(name, value)?) {
+    match SliceKey::new(numeral_at(numerals, name, value)?) {
         Some(key) => Ok(key),
         None => Err(WrongForm),
     }
@@ -38,26 +44,27 @@ fn slice_key_at(name: &str, value: &Value) -> Result<SliceKey, WrongForm>
 
 /// Reads a handle from JSON.
 #[tactic(auto, unfolding(crate::specs::Handles::handle_of))]
-pub fn handle_of(value: &Value) -> Result<KeyHandle, WrongForm>
-    ensures { result ≡ handle_of (view value.now) }
+pub fn handle_of(numerals: Numerals, value: &Value) -> Result<KeyHandle, WrongForm>
+    ensures { result ≡ handle_of numerals (view value.now) }
 {
     exactly(&["life", "position", "slice_key", "task"], value)?;
     Ok(KeyHandle {
         task: task_at("task", value)?,
         life: life_at("life", value)?,
-        key: slice_key_at("slice_key", value)?,
-        position: number_at("position", value)?,
+        key: slice_key_at(numerals, "slice_key", value)?,
+        position: numeral_at(numerals, "position", value)?,
     })
 }
 
 // States that reading what was written of a handle gives the same handle.
 #[tactic(auto, using(crate::proofs::Handles::handle_read))]
 fn handle_law(handle: &KeyHandle)
-    ensures { handle_of (handle_data handle.now) ≡ Ok handle.now }
+    ensures { handle_of numeral.Quoted (handle_data numeral.Quoted handle.now) ≡ Ok handle.now }
 {
     let _life = handle.life;
     let _task = handle.task.number();
     let _key = handle.key.value();
+    let _position = handle.position;
 }
 
 impl Wire for KeyHandle {
@@ -65,7 +72,7 @@ impl Wire for KeyHandle {
 
     ghost data_of = { handle_data };
 
-    ghost form = { λ d. or_wrong (handle_of d) };
+    ghost form = { λ numerals d. or_wrong (handle_of numerals d) };
 
     fn name() -> &'static str {
         "handle"
@@ -74,10 +81,14 @@ impl Wire for KeyHandle {
     #[tactic(auto, using(crate::proofs::Handles::handle_written))]
     fn to_json(&self, alloc: Global) -> Result<Value, AllocError> {
         handle_law(self);
-        handle_json(alloc, self)
+        handle_json(alloc, Numerals::Quoted, self)
     }
 
-    fn of_json(_alloc: Global, value: &Value) -> Result<KeyHandle, DecodeError> {
-        Ok(handle_of(value)?)
+    fn of_json(
+        _alloc: Global,
+        numerals: Numerals,
+        value: &Value,
+    ) -> Result<KeyHandle, DecodeError> {
+        Ok(handle_of(numerals, value)?)
     }
 }

@@ -2,15 +2,19 @@
 
 ghost use Rattle.std.specs.Prelude.{◌≡◌, IfOk, Ok, codes};
 ghost use Rattle.serde_json.specs.View.{view};
+ghost use Rattle.program_io.specs.Members.{list_at};
+ghost use Rattle.program_io.specs.Reading as reading;
+ghost use Rattle.wire.specs.declared.numerals.Numerals.TheVariants as numeral;
 ghost use Rattle.wire.specs.Assignments.{assignment_data, assignment_of, slice_data, slice_of, slicing_in};
 ghost use Rattle.wire.specs.Objects.{list_data, number_data};
 ghost use Rattle.wire.specs.Refusals.{Gives};
 
 use crate::fault::{DecodeError, Refusal};
 use crate::message::Wire;
-use assignment::{Assignment, OwnedSlice, Slice, TaskId};
+use crate::numerals::{Numerals, numeral_at, numeral_json, numeral_of};
+use assignment::{Assignment, Listed, OwnedSlice, Slice, TaskId};
 use machines::Trouble;
-use program_io::{Form, Number, Unread, exactly, list_at, list_of, number_at, number_of, pair_of};
+use program_io::{Form, Number, Unread, exactly, list_at, list_of, pair_of};
 use serde_json::{Value, json};
 use std::alloc::{AllocError, Global};
 
@@ -24,57 +28,114 @@ fn owners_json(alloc: Global, owners: &[TaskId]) -> Result<Value, AllocError>
     Ok(Value::Array(list))
 }
 
-fn slice_json(alloc: Global, slice: &OwnedSlice) -> Result<Value, AllocError>
-    ensures { IfOk result (λ v. view v ≡ slice_data slice.now) }
+fn slice_json(alloc: Global, numerals: Numerals, slice: &OwnedSlice) -> Result<Value, AllocError>
+    ensures { IfOk result (λ v. view v ≡ slice_data numerals slice.now) }
 {
     let owners = owners_json(alloc, slice.owners())?;
-    json!(in alloc; [slice.start().value(), owners])
+    let start = numeral_json(alloc, numerals, slice.start().value())?;
+    json!(in alloc; [start, owners])
 }
 
 /// Writes the slices as JSON.
-pub fn slices_json(alloc: Global, slices: &[OwnedSlice]) -> Result<Value, AllocError>
-    ensures { IfOk result (λ v. view v ≡ list_data slice_data slices.now) }
+pub fn slices_json(
+    alloc: Global,
+    numerals: Numerals,
+    slices: &[OwnedSlice],
+) -> Result<Value, AllocError>
+    ensures { IfOk result (λ v. view v ≡ list_data (slice_data numerals) slices.now) }
 {
     let mut list = Vec::new(alloc);
     for slice in slices {
-        list.push(slice_json(alloc, slice)?)?;
+        list.push(slice_json(alloc, numerals, slice)?)?;
     }
     Ok(Value::Array(list))
 }
 
 /// Writes the assignment as JSON.
-pub fn assignment_json(alloc: Global, assignment: &Assignment) -> Result<Value, AllocError>
-    ensures { IfOk result (λ v. view v ≡ assignment_data assignment.now) }
+pub fn assignment_json(
+    alloc: Global,
+    numerals: Numerals,
+    assignment: &Assignment,
+) -> Result<Value, AllocError>
+    ensures { IfOk result (λ v. view v ≡ assignment_data numerals assignment.now) }
 {
-    let slices = slices_json(alloc, assignment.slices())?;
-    json!(in alloc; {"generation": assignment.generation(), "slices": slices})
+    let slices = slices_json(alloc, numerals, assignment.slices())?;
+    let generation = numeral_json(alloc, numerals, assignment.generation())?;
+    json!(in alloc; {"generation": generation, "slices": slices})
 }
 
-/// The form of a slice, written as `[start, [owner, ..]]`.
+// Reads a slice from `[start, [owner, ..]]`.
+#[tactic(auto, unfolding(crate::specs::Assignments::slice_of))]
+fn slice_of(alloc: Global, numerals: Numerals, value: &Value) -> Result<Slice, Unread>
+    ensures { reading.Gives result (slice_of numerals (view value.now)) }
+{
+    let (start, owners) = pair_of(value)?;
+    Ok(Slice {
+        start: numeral_of(numerals, start)?,
+        owners: list_of::<Number>(alloc, owners)?,
+    })
+}
+
+/// The form of a slice in a script, written as `[start, [owner, ..]]`.
 pub struct SliceForm;
 
 impl Form for SliceForm {
     type Output = Slice;
 
-    ghost form = { slice_of };
+    ghost form = { slice_of numeral.Bare };
 
-    #[tactic(auto, unfolding(crate::specs::Assignments::slice_of))]
     fn read(alloc: Global, value: &Value) -> Result<Slice, Unread> {
-        let (start, owners) = pair_of(value)?;
-        Ok(Slice {
-            start: number_of(start)?,
-            owners: list_of::<Number>(alloc, owners)?,
-        })
+        slice_of(alloc, Numerals::Bare, value)
+    }
+}
+
+struct QuotedSlice;
+
+impl Form for QuotedSlice {
+    type Output = Slice;
+
+    ghost form = { slice_of numeral.Quoted };
+
+    fn read(alloc: Global, value: &Value) -> Result<Slice, Unread> {
+        slice_of(alloc, Numerals::Quoted, value)
+    }
+}
+
+/// The form of a slice in a line of a log, whose start may be a number or the text of one.
+pub struct EitherSlice;
+
+impl Form for EitherSlice {
+    type Output = Slice;
+
+    ghost form = { slice_of numeral.Either };
+
+    fn read(alloc: Global, value: &Value) -> Result<Slice, Unread> {
+        slice_of(alloc, Numerals::Either, value)
+    }
+}
+
+// Reads the slices in the member `slices` of an object.
+fn slices_in(alloc: Global, numerals: Numerals, value: &Value) -> Result<Listed<Slice>, Unread>
+    ensures { reading.Gives result (list_at (slice_of numerals) (codes "slices") (view value.now)) }
+{
+    match numerals {
+        Numerals::Bare => list_at::<SliceForm>(alloc, "slices", value),
+        Numerals::Quoted => list_at::<QuotedSlice>(alloc, "slices", value),
+        Numerals::Either => list_at::<EitherSlice>(alloc, "slices", value),
     }
 }
 
 /// Reads an assignment from the members `generation` and `slices` of an object.
 #[tactic(auto, unfolding(crate::specs::Assignments::slicing_in))]
-pub fn assignment_in(alloc: Global, value: &Value) -> Result<Assignment, DecodeError>
-    ensures { Gives result (slicing_in (view value.now)) }
+pub fn assignment_in(
+    alloc: Global,
+    numerals: Numerals,
+    value: &Value,
+) -> Result<Assignment, DecodeError>
+    ensures { Gives result (slicing_in numerals (view value.now)) }
 {
-    let generation = number_at("generation", value)?;
-    let slices = list_at::<SliceForm>(alloc, "slices", value)?;
+    let generation = numeral_at(numerals, "generation", value)?;
+    let slices = slices_in(alloc, numerals, value)?;
     match Assignment::build(alloc, generation, slices.as_slice()) {
         Ok(assignment) => Ok(assignment),
         Err(Trouble::NoMemory) => Err(DecodeError::NoMemory),
@@ -84,18 +145,23 @@ pub fn assignment_in(alloc: Global, value: &Value) -> Result<Assignment, DecodeE
 
 /// Reads an assignment from JSON.
 #[tactic(auto, unfolding(crate::specs::Assignments::assignment_of))]
-pub fn assignment_of(alloc: Global, value: &Value) -> Result<Assignment, DecodeError>
-    ensures { Gives result (assignment_of (view value.now)) }
+pub fn assignment_of(
+    alloc: Global,
+    numerals: Numerals,
+    value: &Value,
+) -> Result<Assignment, DecodeError>
+    ensures { Gives result (assignment_of numerals (view value.now)) }
 {
     exactly(&["generation", "slices"], value)?;
-    assignment_in(alloc, value)
+    assignment_in(alloc, numerals, value)
 }
 
-// States that reading what was written of an assignment gives the same assignment.
+/// States that reading what was written of an assignment gives the same assignment.
 #[tactic(auto, using(crate::proofs::Assignments::assignment_read))]
-fn assignment_law(assignment: &Assignment)
-    ensures { assignment_of (assignment_data assignment.now) ≡ Ok assignment.now }
+pub fn assignment_law(assignment: &Assignment)
+    ensures { assignment_of numeral.Quoted (assignment_data numeral.Quoted assignment.now) ≡ Ok assignment.now }
 {
+    let _generation = assignment.generation();
     let _slices = assignment.slices();
 }
 
@@ -113,10 +179,14 @@ impl Wire for Assignment {
     #[tactic(auto, using(crate::proofs::Assignments::assignment_written))]
     fn to_json(&self, alloc: Global) -> Result<Value, AllocError> {
         assignment_law(self);
-        assignment_json(alloc, self)
+        assignment_json(alloc, Numerals::Quoted, self)
     }
 
-    fn of_json(alloc: Global, value: &Value) -> Result<Assignment, DecodeError> {
-        assignment_of(alloc, value)
+    fn of_json(
+        alloc: Global,
+        numerals: Numerals,
+        value: &Value,
+    ) -> Result<Assignment, DecodeError> {
+        assignment_of(alloc, numerals, value)
     }
 }

@@ -3,6 +3,7 @@
 ghost use Rattle.std.specs.Prelude.{◌≡◌, IfOk, Ok, codes};
 ghost use Rattle.serde_json.specs.View.{view};
 ghost use Rattle.lease_table.specs.declared.call.TableCall.TheVariants as call;
+ghost use Rattle.wire.specs.declared.numerals.Numerals.TheVariants as numeral;
 ghost use Rattle.wire.specs.Refusals.{Gives};
 ghost use Rattle.wire.specs.TableCalls.{call_data, call_of, commit_of, free_of, grant_call_of, lose_of, propose_of, renew_of, take_of};
 
@@ -10,90 +11,120 @@ use crate::fault::{DecodeError, Refusal};
 use crate::lease_members::{life_at, task_at};
 use crate::message::Wire;
 use crate::note::{note_json, note_law, note_of};
+use crate::numerals::{Numerals, numeral_at, numeral_json};
 use crate::slicing::{assignment_in, slices_json};
 use assignment::TaskId;
 use lease_table::{ReleaseNote, TableCall};
-use program_io::{exactly, member_at, number_at, text_at};
+use program_io::{exactly, member_at, text_at};
 use serde_json::{Value, json};
 use std::alloc::{AllocError, Global};
 
-fn grant_call_json(alloc: Global, task: TaskId, life: u32, at: u64) -> Result<Value, AllocError>
-    ensures { IfOk result (λ v. view v ≡ call_data (call.Grant task life at)) }
+fn renew_json(alloc: Global, numerals: Numerals, number: u64, at: u64) -> Result<Value, AllocError>
+    ensures { IfOk result (λ v. view v ≡ call_data numerals (call.JobRenew number at)) }
 {
+    let at = numeral_json(alloc, numerals, at)?;
+    let term = numeral_json(alloc, numerals, number)?;
+    json!(in alloc; {"at": at, "do": "renew", "term": term})
+}
+
+fn commit_json(alloc: Global, numerals: Numerals, number: u64, at: u64) -> Result<Value, AllocError>
+    ensures { IfOk result (λ v. view v ≡ call_data numerals (call.Commit number at)) }
+{
+    let at = numeral_json(alloc, numerals, at)?;
+    let term = numeral_json(alloc, numerals, number)?;
+    json!(in alloc; {"at": at, "do": "commit", "term": term})
+}
+
+fn grant_call_json(
+    alloc: Global,
+    numerals: Numerals,
+    task: TaskId,
+    life: u32,
+    at: u64,
+) -> Result<Value, AllocError>
+    ensures { IfOk result (λ v. view v ≡ call_data numerals (call.Grant task life at)) }
+{
+    let at = numeral_json(alloc, numerals, at)?;
     json!(in alloc; {"at": at, "do": "grant", "life": life, "task": task.number()})
 }
 
-fn free_json(alloc: Global, note: &ReleaseNote, at: u64) -> Result<Value, AllocError>
-    ensures { IfOk result (λ v. view v ≡ call_data (call.Free note.now at)) }
+fn free_json(
+    alloc: Global,
+    numerals: Numerals,
+    note: &ReleaseNote,
+    at: u64,
+) -> Result<Value, AllocError>
+    ensures { IfOk result (λ v. view v ≡ call_data numerals (call.Free note.now at)) }
 {
-    let note = note_json(alloc, note)?;
+    let note = note_json(alloc, numerals, note)?;
+    let at = numeral_json(alloc, numerals, at)?;
     json!(in alloc; {"at": at, "do": "free", "note": note})
 }
 
 // Writes the call as JSON.
-fn call_json(alloc: Global, call: &TableCall) -> Result<Value, AllocError>
-    ensures { IfOk result (λ v. view v ≡ call_data call.now) }
+fn call_json(alloc: Global, numerals: Numerals, call: &TableCall) -> Result<Value, AllocError>
+    ensures { IfOk result (λ v. view v ≡ call_data numerals call.now) }
 {
     match call {
         TableCall::JobTake { assigner, at } => {
-            json!(in alloc; {"assigner": *assigner, "at": *at, "do": "take"})
+            let assigner = numeral_json(alloc, numerals, *assigner)?;
+            let at = numeral_json(alloc, numerals, *at)?;
+            json!(in alloc; {"assigner": assigner, "at": at, "do": "take"})
         }
-        TableCall::JobRenew { number, at } => {
-            json!(in alloc; {"at": *at, "do": "renew", "term": *number})
-        }
+        TableCall::JobRenew { number, at } => { renew_json(alloc, numerals, *number, *at) }
         TableCall::Propose {
             number,
             assignment,
             at,
         } => {
-            let slices = slices_json(alloc, assignment.slices())?;
+            let slices = slices_json(alloc, numerals, assignment.slices())?;
             json!(in alloc; {
-                "at": *at,
+                "at": numeral_json(alloc, numerals, *at)?,
                 "do": "propose",
-                "generation": assignment.generation(),
+                "generation": numeral_json(alloc, numerals, assignment.generation())?,
                 "slices": slices,
-                "term": *number
+                "term": numeral_json(alloc, numerals, *number)?
             })
         }
-        TableCall::Commit { number, at } => {
-            json!(in alloc; {"at": *at, "do": "commit", "term": *number})
+        TableCall::Commit { number, at } => { commit_json(alloc, numerals, *number, *at) }
+        TableCall::Grant { task, life, at } => {
+            grant_call_json(alloc, numerals, *task, *life, *at)
         }
-        TableCall::Grant { task, life, at } => { grant_call_json(alloc, *task, *life, *at) }
-        TableCall::Free { note, at } => free_json(alloc, note, *at),
+        TableCall::Free { note, at } => free_json(alloc, numerals, note, *at),
         TableCall::Restart => json!(in alloc; {"do": "lose"}),
     }
 }
 
 #[tactic(auto, unfolding(crate::specs::TableCalls::take_of))]
-fn take_of(value: &Value) -> Result<TableCall, Refusal>
-    ensures { result ≡ take_of (view value.now) }
+fn take_of(numerals: Numerals, value: &Value) -> Result<TableCall, Refusal>
+    ensures { result ≡ take_of numerals (view value.now) }
 {
     exactly(&["do", "assigner", "at"], value)?;
     Ok(TableCall::JobTake {
-        assigner: number_at("assigner", value)?,
-        at: number_at("at", value)?,
+        assigner: numeral_at(numerals, "assigner", value)?,
+        at: numeral_at(numerals, "at", value)?,
     })
 }
 
 #[tactic(auto, unfolding(crate::specs::TableCalls::renew_of))]
-fn renew_of(value: &Value) -> Result<TableCall, Refusal>
-    ensures { result ≡ renew_of (view value.now) }
+fn renew_of(numerals: Numerals, value: &Value) -> Result<TableCall, Refusal>
+    ensures { result ≡ renew_of numerals (view value.now) }
 {
     exactly(&["do", "term", "at"], value)?;
     Ok(TableCall::JobRenew {
-        number: number_at("term", value)?,
-        at: number_at("at", value)?,
+        number: numeral_at(numerals, "term", value)?,
+        at: numeral_at(numerals, "at", value)?,
     })
 }
 
 #[tactic(auto, unfolding(crate::specs::TableCalls::propose_of))]
-fn propose_of(alloc: Global, value: &Value) -> Result<TableCall, DecodeError>
-    ensures { Gives result (propose_of (view value.now)) }
+fn propose_of(alloc: Global, numerals: Numerals, value: &Value) -> Result<TableCall, DecodeError>
+    ensures { Gives result (propose_of numerals (view value.now)) }
 {
     exactly(&["do", "term", "generation", "slices", "at"], value)?;
-    let number = number_at("term", value)?;
-    let at = number_at("at", value)?;
-    let assignment = assignment_in(alloc, value)?;
+    let number = numeral_at(numerals, "term", value)?;
+    let at = numeral_at(numerals, "at", value)?;
+    let assignment = assignment_in(alloc, numerals, value)?;
     Ok(TableCall::Propose {
         number,
         assignment,
@@ -102,36 +133,36 @@ fn propose_of(alloc: Global, value: &Value) -> Result<TableCall, DecodeError>
 }
 
 #[tactic(auto, unfolding(crate::specs::TableCalls::commit_of))]
-fn commit_of(value: &Value) -> Result<TableCall, Refusal>
-    ensures { result ≡ commit_of (view value.now) }
+fn commit_of(numerals: Numerals, value: &Value) -> Result<TableCall, Refusal>
+    ensures { result ≡ commit_of numerals (view value.now) }
 {
     exactly(&["do", "term", "at"], value)?;
     Ok(TableCall::Commit {
-        number: number_at("term", value)?,
-        at: number_at("at", value)?,
+        number: numeral_at(numerals, "term", value)?,
+        at: numeral_at(numerals, "at", value)?,
     })
 }
 
 #[tactic(auto, unfolding(crate::specs::TableCalls::grant_call_of))]
-fn grant_call_of(value: &Value) -> Result<TableCall, Refusal>
-    ensures { result ≡ grant_call_of (view value.now) }
+fn grant_call_of(numerals: Numerals, value: &Value) -> Result<TableCall, Refusal>
+    ensures { result ≡ grant_call_of numerals (view value.now) }
 {
     exactly(&["do", "task", "life", "at"], value)?;
     Ok(TableCall::Grant {
         task: task_at("task", value)?,
         life: life_at("life", value)?,
-        at: number_at("at", value)?,
+        at: numeral_at(numerals, "at", value)?,
     })
 }
 
 #[tactic(auto, unfolding(crate::specs::TableCalls::free_of))]
-fn free_of(value: &Value) -> Result<TableCall, Refusal>
-    ensures { result ≡ free_of (view value.now) }
+fn free_of(numerals: Numerals, value: &Value) -> Result<TableCall, Refusal>
+    ensures { result ≡ free_of numerals (view value.now) }
 {
     exactly(&["do", "note", "at"], value)?;
     Ok(TableCall::Free {
-        note: note_of(member_at("note", value)?)?,
-        at: number_at("at", value)?,
+        note: note_of(numerals, member_at("note", value)?)?,
+        at: numeral_at(numerals, "at", value)?,
     })
 }
 
@@ -145,16 +176,16 @@ fn lose_of(value: &Value) -> Result<TableCall, Refusal>
 
 // Reads a call from JSON.
 #[tactic(auto, unfolding(crate::specs::TableCalls::call_of))]
-fn call_of(alloc: Global, value: &Value) -> Result<TableCall, DecodeError>
-    ensures { Gives result (call_of (view value.now)) }
+fn call_of(alloc: Global, numerals: Numerals, value: &Value) -> Result<TableCall, DecodeError>
+    ensures { Gives result (call_of numerals (view value.now)) }
 {
     match text_at("do", value)? {
-        "take" => Ok(take_of(value)?),
-        "renew" => Ok(renew_of(value)?),
-        "propose" => propose_of(alloc, value),
-        "commit" => Ok(commit_of(value)?),
-        "grant" => Ok(grant_call_of(value)?),
-        "free" => Ok(free_of(value)?),
+        "take" => Ok(take_of(numerals, value)?),
+        "renew" => Ok(renew_of(numerals, value)?),
+        "propose" => propose_of(alloc, numerals, value),
+        "commit" => Ok(commit_of(numerals, value)?),
+        "grant" => Ok(grant_call_of(numerals, value)?),
+        "free" => Ok(free_of(numerals, value)?),
         "lose" => Ok(lose_of(value)?),
         _ => Err(DecodeError::Refused(Refusal::WrongForm)),
     }
@@ -162,20 +193,40 @@ fn call_of(alloc: Global, value: &Value) -> Result<TableCall, DecodeError>
 
 // States that reading what was written of a call gives the same call.
 fn call_law(call: &TableCall)
-    ensures { call_of (call_data call.now) ≡ Ok call.now }
+    ensures { call_of numeral.Quoted (call_data numeral.Quoted call.now) ≡ Ok call.now }
 {
     match call {
-        TableCall::Propose { assignment, .. } => {
+        TableCall::Propose {
+            number,
+            assignment,
+            at,
+        } => {
+            let _number = *number;
+            let _at = *at;
+            let _generation = assignment.generation();
             let _slices = assignment.slices();
         }
-        TableCall::Grant { task, life, .. } => {
+        TableCall::Grant { task, life, at } => {
+            let _at = *at;
             let _life = *life;
             let _task = task.number();
         }
-        TableCall::Free { note, .. } => note_law(note),
-        TableCall::JobTake { .. } => {}
-        TableCall::JobRenew { .. } => {}
-        TableCall::Commit { .. } => {}
+        TableCall::Free { note, at } => {
+            let _at = *at;
+            note_law(note);
+        }
+        TableCall::JobTake { assigner, at } => {
+            let _assigner = *assigner;
+            let _at = *at;
+        }
+        TableCall::JobRenew { number, at } => {
+            let _number = *number;
+            let _at = *at;
+        }
+        TableCall::Commit { number, at } => {
+            let _number = *number;
+            let _at = *at;
+        }
         TableCall::Restart => {}
     }
 }
@@ -194,10 +245,10 @@ impl Wire for TableCall {
     #[tactic(auto, using(crate::proofs::TableCalls::call_written))]
     fn to_json(&self, alloc: Global) -> Result<Value, AllocError> {
         call_law(self);
-        call_json(alloc, self)
+        call_json(alloc, Numerals::Quoted, self)
     }
 
-    fn of_json(alloc: Global, value: &Value) -> Result<TableCall, DecodeError> {
-        call_of(alloc, value)
+    fn of_json(alloc: Global, numerals: Numerals, value: &Value) -> Result<TableCall, DecodeError> {
+        call_of(alloc, numerals, value)
     }
 }

@@ -2,6 +2,7 @@
 
 ghost use Rattle.std.specs.Prelude.{◌≡◌, IfOk, Ok, codes};
 ghost use Rattle.serde_json.specs.View.{view};
+ghost use Rattle.wire.specs.declared.numerals.Numerals.TheVariants as numeral;
 ghost use Rattle.wire.specs.Refusals.{Gives};
 ghost use Rattle.wire.specs.TaskCalls.{hear_of, heard_of, release_of, released_of, resume_of, resumed_of, start_of, started_of, task_call_data, task_call_of, task_reply_data, task_reply_of};
 
@@ -10,59 +11,67 @@ use crate::grant::{grant_json, grant_law, grant_of};
 use crate::lease_members::{kind_at, kind_word, life_at};
 use crate::message::Wire;
 use crate::note::{note_json, note_law, note_of};
-use program_io::{exactly, member_at, number_at, text_at};
+use crate::numerals::{Numerals, numeral_at, numeral_json};
+use program_io::{exactly, member_at, text_at};
 use serde_json::{Value, json};
 use slicelet::{EndedNotes, SliceletCall, SliceletReply};
 use std::alloc::{AllocError, Global};
 
 // Writes the call as JSON.
-fn task_call_json(alloc: Global, call: &SliceletCall) -> Result<Value, AllocError>
-    ensures { IfOk result (λ v. view v ≡ task_call_data call.now) }
+fn task_call_json(
+    alloc: Global,
+    numerals: Numerals,
+    call: &SliceletCall,
+) -> Result<Value, AllocError>
+    ensures { IfOk result (λ v. view v ≡ task_call_data numerals call.now) }
 {
     match call {
         SliceletCall::Start { life, at } => {
-            json!(in alloc; {"at": *at, "do": "start", "life": *life})
+            let at = numeral_json(alloc, numerals, *at)?;
+            json!(in alloc; {"at": at, "do": "start", "life": *life})
         }
         SliceletCall::Hear { grant, at } => {
-            let grant = grant_json(alloc, grant)?;
-            json!(in alloc; {"at": *at, "do": "hear", "grant": grant})
+            let grant = grant_json(alloc, numerals, grant)?;
+            let at = numeral_json(alloc, numerals, *at)?;
+            json!(in alloc; {"at": at, "do": "hear", "grant": grant})
         }
         SliceletCall::Release { kind, at } => {
-            json!(in alloc; {"at": *at, "do": "release", "kind": kind_word(*kind)})
+            let at = numeral_json(alloc, numerals, *at)?;
+            json!(in alloc; {"at": at, "do": "release", "kind": kind_word(*kind)})
         }
         SliceletCall::Resume { life } => json!(in alloc; {"do": "resume", "life": *life}),
     }
 }
 
 #[tactic(auto, unfolding(crate::specs::TaskCalls::start_of))]
-fn start_of(value: &Value) -> Result<SliceletCall, Refusal>
-    ensures { result ≡ start_of (view value.now) }
+fn start_of(numerals: Numerals, value: &Value) -> Result<SliceletCall, Refusal>
+    ensures { result ≡ start_of numerals (view value.now) }
 {
     exactly(&["do", "life", "at"], value)?;
     Ok(SliceletCall::Start {
         life: life_at("life", value)?,
-        at: number_at("at", value)?,
+        at: numeral_at(numerals, "at", value)?,
     })
 }
 
 #[tactic(auto, unfolding(crate::specs::TaskCalls::hear_of))]
-fn hear_of(alloc: Global, value: &Value) -> Result<SliceletCall, DecodeError>
-    ensures { Gives result (hear_of (view value.now)) }
+fn hear_of(alloc: Global, numerals: Numerals, value: &Value) -> Result<SliceletCall, DecodeError>
+    ensures { Gives result (hear_of numerals (view value.now)) }
 {
     exactly(&["do", "grant", "at"], value)?;
-    let at = number_at("at", value)?;
-    let grant = grant_of(alloc, member_at("grant", value)?)?;
+    let at = numeral_at(numerals, "at", value)?;
+    let grant = grant_of(alloc, numerals, member_at("grant", value)?)?;
     Ok(SliceletCall::Hear { grant, at })
 }
 
 #[tactic(auto, unfolding(crate::specs::TaskCalls::release_of))]
-fn release_of(value: &Value) -> Result<SliceletCall, Refusal>
-    ensures { result ≡ release_of (view value.now) }
+fn release_of(numerals: Numerals, value: &Value) -> Result<SliceletCall, Refusal>
+    ensures { result ≡ release_of numerals (view value.now) }
 {
     exactly(&["do", "kind", "at"], value)?;
     Ok(SliceletCall::Release {
         kind: kind_at("kind", value)?,
-        at: number_at("at", value)?,
+        at: numeral_at(numerals, "at", value)?,
     })
 }
 
@@ -78,13 +87,17 @@ fn resume_of(value: &Value) -> Result<SliceletCall, Refusal>
 
 // Reads a call from JSON.
 #[tactic(auto, unfolding(crate::specs::TaskCalls::task_call_of))]
-fn task_call_of(alloc: Global, value: &Value) -> Result<SliceletCall, DecodeError>
-    ensures { Gives result (task_call_of (view value.now)) }
+fn task_call_of(
+    alloc: Global,
+    numerals: Numerals,
+    value: &Value,
+) -> Result<SliceletCall, DecodeError>
+    ensures { Gives result (task_call_of numerals (view value.now)) }
 {
     match text_at("do", value)? {
-        "start" => Ok(start_of(value)?),
-        "hear" => hear_of(alloc, value),
-        "release" => Ok(release_of(value)?),
+        "start" => Ok(start_of(numerals, value)?),
+        "hear" => hear_of(alloc, numerals, value),
+        "release" => Ok(release_of(numerals, value)?),
         "resume" => Ok(resume_of(value)?),
         _ => Err(DecodeError::Refused(Refusal::WrongForm)),
     }
@@ -92,14 +105,20 @@ fn task_call_of(alloc: Global, value: &Value) -> Result<SliceletCall, DecodeErro
 
 // States that reading what was written of a call gives the same call.
 fn task_call_law(call: &SliceletCall)
-    ensures { task_call_of (task_call_data call.now) ≡ Ok call.now }
+    ensures { task_call_of numeral.Quoted (task_call_data numeral.Quoted call.now) ≡ Ok call.now }
 {
     match call {
-        SliceletCall::Start { life, .. } => {
+        SliceletCall::Start { life, at } => {
+            let _at = *at;
             let _life = *life;
         }
-        SliceletCall::Hear { grant, .. } => grant_law(grant),
-        SliceletCall::Release { .. } => {}
+        SliceletCall::Hear { grant, at } => {
+            let _at = *at;
+            grant_law(grant);
+        }
+        SliceletCall::Release { at, .. } => {
+            let _at = *at;
+        }
         SliceletCall::Resume { life } => {
             let _life = *life;
         }
@@ -120,28 +139,36 @@ impl Wire for SliceletCall {
     #[tactic(auto, using(crate::proofs::TaskCalls::task_call_written))]
     fn to_json(&self, alloc: Global) -> Result<Value, AllocError> {
         task_call_law(self);
-        task_call_json(alloc, self)
+        task_call_json(alloc, Numerals::Quoted, self)
     }
 
-    fn of_json(alloc: Global, value: &Value) -> Result<SliceletCall, DecodeError> {
-        task_call_of(alloc, value)
+    fn of_json(
+        alloc: Global,
+        numerals: Numerals,
+        value: &Value,
+    ) -> Result<SliceletCall, DecodeError> {
+        task_call_of(alloc, numerals, value)
     }
 }
 
 // Writes the reply as JSON.
-fn task_reply_json(alloc: Global, reply: &SliceletReply) -> Result<Value, AllocError>
-    ensures { IfOk result (λ v. view v ≡ task_reply_data reply.now) }
+fn task_reply_json(
+    alloc: Global,
+    numerals: Numerals,
+    reply: &SliceletReply,
+) -> Result<Value, AllocError>
+    ensures { IfOk result (λ v. view v ≡ task_reply_data numerals reply.now) }
 {
     match reply {
         SliceletReply::Started => json!(in alloc; {"reply": "started"}),
         SliceletReply::Heard => json!(in alloc; {"reply": "heard"}),
         SliceletReply::Released(note) => {
-            let note = note_json(alloc, note)?;
+            let note = note_json(alloc, numerals, note)?;
             json!(in alloc; {"note": note, "reply": "released"})
         }
         SliceletReply::Resumed(ended) => {
-            let bridge = note_json(alloc, &ended.bridge)?;
-            let guard = note_json(alloc, &ended.guard)?;
+            let bridge = note_json(alloc, numerals, &ended.bridge)?;
+            let guard = note_json(alloc, numerals, &ended.guard)?;
             json!(in alloc; {"bridge": bridge, "guard": guard, "reply": "resumed"})
         }
     }
@@ -164,41 +191,41 @@ fn heard_of(value: &Value) -> Result<SliceletReply, Refusal>
 }
 
 #[tactic(auto, unfolding(crate::specs::TaskCalls::released_of))]
-fn released_of(value: &Value) -> Result<SliceletReply, Refusal>
-    ensures { result ≡ released_of (view value.now) }
+fn released_of(numerals: Numerals, value: &Value) -> Result<SliceletReply, Refusal>
+    ensures { result ≡ released_of numerals (view value.now) }
 {
     exactly(&["reply", "note"], value)?;
-    let note = note_of(member_at("note", value)?)?;
+    let note = note_of(numerals, member_at("note", value)?)?;
     Ok(SliceletReply::Released(note))
 }
 
 #[tactic(auto, unfolding(crate::specs::TaskCalls::resumed_of))]
-fn resumed_of(value: &Value) -> Result<SliceletReply, Refusal>
-    ensures { result ≡ resumed_of (view value.now) }
+fn resumed_of(numerals: Numerals, value: &Value) -> Result<SliceletReply, Refusal>
+    ensures { result ≡ resumed_of numerals (view value.now) }
 {
     exactly(&["reply", "guard", "bridge"], value)?;
-    let guard = note_of(member_at("guard", value)?)?;
-    let bridge = note_of(member_at("bridge", value)?)?;
+    let guard = note_of(numerals, member_at("guard", value)?)?;
+    let bridge = note_of(numerals, member_at("bridge", value)?)?;
     Ok(SliceletReply::Resumed(EndedNotes { guard, bridge }))
 }
 
 // Reads a reply from JSON.
 #[tactic(auto, unfolding(crate::specs::TaskCalls::task_reply_of))]
-fn task_reply_of(value: &Value) -> Result<SliceletReply, Refusal>
-    ensures { result ≡ task_reply_of (view value.now) }
+fn task_reply_of(numerals: Numerals, value: &Value) -> Result<SliceletReply, Refusal>
+    ensures { result ≡ task_reply_of numerals (view value.now) }
 {
     match text_at("reply", value)? {
         "started" => started_of(value),
         "heard" => heard_of(value),
-        "released" => released_of(value),
-        "resumed" => resumed_of(value),
+        "released" => released_of(numerals, value),
+        "resumed" => resumed_of(numerals, value),
         _ => Err(Refusal::WrongForm),
     }
 }
 
 // States that reading what was written of a reply gives the same reply.
 fn task_reply_law(reply: &SliceletReply)
-    ensures { task_reply_of (task_reply_data reply.now) ≡ Ok reply.now }
+    ensures { task_reply_of numeral.Quoted (task_reply_data numeral.Quoted reply.now) ≡ Ok reply.now }
 {
     match reply {
         SliceletReply::Released(note) => note_law(note),
@@ -225,10 +252,14 @@ impl Wire for SliceletReply {
     #[tactic(auto, using(crate::proofs::TaskCalls::task_reply_written))]
     fn to_json(&self, alloc: Global) -> Result<Value, AllocError> {
         task_reply_law(self);
-        task_reply_json(alloc, self)
+        task_reply_json(alloc, Numerals::Quoted, self)
     }
 
-    fn of_json(_alloc: Global, value: &Value) -> Result<SliceletReply, DecodeError> {
-        Ok(task_reply_of(value)?)
+    fn of_json(
+        _alloc: Global,
+        numerals: Numerals,
+        value: &Value,
+    ) -> Result<SliceletReply, DecodeError> {
+        Ok(task_reply_of(numerals, value)?)
     }
 }

@@ -4,4 +4,4 @@ use Rattle.wire.proofs.ranges.ranges_of.Goals as goal
 
 pub returns-in-Ok : goal.returns-in-Ok
 returns-in-Ok c =
-    ranges_are (view c.args.value.now) c.in_ok-pairs.pairs c.as_slice.result.now c.in-Ok.ranges c.in_ok-pairs.ensures c.as_slice.ensures c.in-Ok.ensures.accepted c.boundaries-boundaries.ensures.ranges c.in-Ok.ensures.keys
+    ranges_are c.args.numerals (view c.args.value.now) c.in_ok-pairs.pairs c.as_slice.result.now c.in-Ok.ranges c.in_ok-pairs.ensures c.as_slice.ensures c.in-Ok.ensures.accepted c.boundaries-boundaries.ensures.ranges c.in-Ok.ensures.keys

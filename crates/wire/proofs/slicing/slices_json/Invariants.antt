@@ -4,4 +4,4 @@ use Rattle.wire.specs.Assignments.{slice_data}
 use Rattle.wire.proofs.slicing.slices_json.Given as goal
 
 abbrev pub invariant-loop-slice : goal.invariant-loop-slice
-invariant-loop-slice l = map view l.list.items ≡ map slice_data (take l.slice-index l.slices)
+invariant-loop-slice l = map view l.list.items ≡ map (slice_data l.numerals) (take l.slice-index l.slices)
