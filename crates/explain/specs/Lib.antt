@@ -6,4 +6,5 @@ pub mod Reasons
 pub mod internals
 pub mod Untimely
 pub mod Explanations
+pub mod Sentences
 pub mod Texts

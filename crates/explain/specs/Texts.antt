@@ -1,5 +1,7 @@
 -- The text that explains a script.
-use Rattle.std.specs.Prelude.{◌≡◌, ℕ, List, [], ◌∷◌, ◌++◌, length, codes, Bool, true, false, Option, Some, None, MatchOption}
+use Rattle.std.specs.Prelude.{◌≡◌, ℕ, List, [], ◌∷◌, ◌++◌, length, codes, decimal, Bool, true, false, Option, Some, None, MatchOption}
+use Rattle.world.specs.declared.step.Step.{Step}
+use Rattle.world.specs.declared.reply.Reply.{Reply}
 use Rattle.service.specs.declared.script.Script.{Script}
 use Rattle.service.specs.Lines.{line_of, timely_line}
 use Rattle.service.specs.Output.{IsOutput}
@@ -7,6 +9,7 @@ use Rattle.explain.specs.declared.explanation.Explanation.{Explanation}
 use Rattle.explain.specs.declared.reason.Reason.{Reason}
 use Rattle.explain.specs.declared.untimely.Untimely.{Untimely}
 use Rattle.explain.specs.Hearing.{replies_of}
+use Rattle.explain.specs.Sentences.{sentence_of}
 use Rattle.explain.specs.Untimely.{AreAllNear, IsFirstUntimely}
 use Rattle.explain.specs.Explanations.{AreExplained}
 
@@ -14,41 +17,43 @@ use Rattle.explain.specs.Explanations.{AreExplained}
 abbrev pub indented : List ℕ → List ℕ
 indented words = codes "    " ++ words ++ codes "\n"
 
--- the line of a reply, and the words for its reason, if it has one
-abbrev pub with_reason : List ℕ → Option Reason → List ℕ → List ℕ
-with_reason line None words = line
-with_reason line (Some reason) words = line ++ indented words
+-- the line of a reply, and its reason in words, if it has one
+abbrev pub with_reason : Step → Reply → Option Reason → List ℕ
+with_reason s r None = line_of r
+with_reason s r (Some reason) = line_of r ++ indented (sentence_of s r reason)
 
-abbrev pub explained_lines : Explanation → List ℕ → List ℕ
-explained_lines x words = with_reason (line_of x.reply) x.reason words
+abbrev pub explained_lines : Step → Explanation → List ℕ
+explained_lines s x = with_reason s x.reply x.reason
 
--- the lines of replies, one after another, each with its words
-abbrev pub all_lines : List Explanation → List (List ℕ) → List ℕ
-all_lines (x ∷ told) (words ∷ sentences) = explained_lines x words ++ all_lines told sentences
+-- the lines of the replies to steps, one after another
+abbrev pub all_lines : List Step → List Explanation → List ℕ
+all_lines (s ∷ steps) (x ∷ told) = explained_lines s x ++ all_lines steps told
 all_lines _ _ = []
 
-pub record AreLines (told : List Explanation) (text : List ℕ) : Type 0 where
-  pub sentences : List (List ℕ)
-  pub many : length sentences ≡ length told
-  pub lines : text ≡ all_lines told sentences
+-- a step and its reading of a clock
+abbrev pub read_words : ℕ → ℕ → List ℕ → List ℕ
+read_words place at clock = codes "step " ++ (decimal place ++ (codes " read " ++ (decimal at ++ (codes " on " ++ clock))))
 
--- the last line, and the words for the two steps that are not timely
-abbrev pub last_lines : Bool → Option Untimely → List ℕ → List ℕ
-last_lines true untimely words = timely_line true
-last_lines false None words = timely_line false
-last_lines false (Some two) words = timely_line false ++ indented words
+-- two steps that are not timely, the one that reads the table's clock first
+abbrev pub untimely_words : Untimely → ℕ → List ℕ
+untimely_words u skew =
+    read_words u.table_step u.table_reading (codes "the table's clock") ++ (codes "; later "
+    ++ (read_words u.task_step u.task_reading (codes "a task's clock") ++ (codes ", more than the skew " ++ (decimal skew ++ codes " below"))))
 
--- the text that explains a script: its lines are those of the text of the script, each followed by words where it has a reason
+-- the last line, and the two steps that are not timely
+abbrev pub last_lines : Bool → Option Untimely → ℕ → List ℕ
+last_lines true untimely skew = timely_line true
+last_lines false None skew = timely_line false
+last_lines false (Some two) skew = timely_line false ++ indented (untimely_words two skew)
+
+-- the text that explains a script: its lines are those of the text of the script, each followed by its reason in words, where it has one
 pub record IsExplainedText (script : Script) (text : List ℕ) : Type 0 where
   pub told : List Explanation
   pub explained : AreExplained script.job script.steps told
   pub plain : List ℕ
   pub output : IsOutput script plain
   pub same : output.replies ≡ replies_of told
-  pub lines : List ℕ
-  pub are_lines : AreLines told lines
   pub untimely : Option Untimely
   pub two_steps : MatchOption untimely (AreAllNear script.job.policy.skew script.steps (length script.steps)) (IsFirstUntimely script.job.policy.skew
       script.steps)
-  pub words : List ℕ
-  pub text_is : text ≡ lines ++ last_lines output.timely untimely words
+  pub text_is : text ≡ all_lines script.steps told ++ last_lines output.timely untimely script.job.policy.skew

@@ -1,7 +1,14 @@
 //! Reasons as sentences.
 
+ghost use Rattle.std.specs.Prelude.{◌≡◌, IfOk, Some, string_bytes};
+ghost use Rattle.explain.specs.Sentences.{below_words, break_words, deciding_words, delivery_number, delivery_word, ground_words};
+ghost use Rattle.explain.specs.Sentences.{lease_name, lease_words, old_grant_words, old_words, row_words, sentence_of};
+ghost use Rattle.explain.specs.Sentences.{task_in, tasks_text, ticks_in, unsent_words, verdict_in, verdict_words};
+
 use crate::reason::{Break, Reason, TaskLease, VerdictReason};
+use crate::refusals::task_of;
 use assignment::TaskId;
+use cluster::Reading;
 use lease_table::Row;
 use policy_rules::{Ground, Kind, Verdict};
 use std::alloc::{AllocError, Global};
@@ -14,6 +21,8 @@ use world::{Reply, Step};
 struct Tasks<'a>(&'a [TaskId]);
 
 impl fmt::Display for Tasks<'_> {
+    ghost output = { λ t. Some (tasks_text t.0.now) };
+
     fn fmt<W: fmt::Write>(&self, f: &mut fmt::Formatter<W>) -> fmt::Result {
         let [first, others @ ..] = self.0 else {
             return f.write_str("none");
@@ -34,6 +43,8 @@ struct Named {
 }
 
 impl fmt::Display for Named {
+    ghost output = { λ n. Some (lease_name n.lease n.heard_in) };
+
     fn fmt<W: fmt::Write>(&self, f: &mut fmt::Formatter<W>) -> fmt::Result {
         let kind = kind_word(self.lease.kind);
         write!(f, "the {kind} lease of grant {}", self.lease.number)?;
@@ -54,7 +65,9 @@ struct Decided<'a> {
 }
 
 // Returns the words for the lease that decides a verdict.
-fn lease_words(alloc: Global, verdict: Verdict, named: Named) -> Result<String, AllocError> {
+fn lease_words(alloc: Global, verdict: Verdict, named: Named) -> Result<String, AllocError>
+    ensures { IfOk result (λ text. string_bytes text ≡ lease_words verdict named.lease named.heard_in) }
+{
     let ends = named.lease.ends;
     match verdict {
         Verdict::Allow { .. } => format!(in alloc; "{named} covers the key until {ends}"),
@@ -68,39 +81,55 @@ fn lease_words(alloc: Global, verdict: Verdict, named: Named) -> Result<String, 
 }
 
 // Returns the words for a verdict that no lease decides.
-fn ground_words(alloc: Global, decided: Decided<'_>) -> Result<String, AllocError> {
+fn ground_words(alloc: Global, decided: Decided<'_>) -> Result<String, AllocError>
+    ensures { IfOk result (λ text. string_bytes text
+        ≡ ground_words decided.entry.task decided.entry.at decided.entry.reason.now.last decided.entry.verdict) }
+{
     let task = decided.task;
     match decided.verdict {
         Verdict::Deny(Ground::Down) => format!(in alloc; "task {task} was not started"),
         Verdict::Deny(Ground::ClockBack) => {
-            reading_words(alloc, decided.at, decided.reason.last, task)
+            below_words(alloc, decided.at, decided.reason.last, task)
         }
         _ => format!(in alloc; "task {task} holds no live lease, and none that covers the key"),
     }
 }
 
 // Returns the words for a reading that is below the last one of a task.
-fn reading_words(alloc: Global, at: u64, last: u64, task: u64) -> Result<String, AllocError> {
+fn below_words(alloc: Global, at: u64, last: u64, task: u64) -> Result<String, AllocError>
+    ensures { IfOk result (λ text. string_bytes text ≡ below_words at last task) }
+{
     format!(in alloc; "{at} is below {last}, the last reading that task {task} accepted")
 }
 
+// Returns the words for why a verdict was given.
+fn deciding_words(alloc: Global, decided: Decided<'_>) -> Result<String, AllocError>
+    ensures { IfOk result (λ text. string_bytes text
+        ≡ deciding_words decided.entry.task decided.entry.at decided.entry.verdict decided.entry.reason.now
+        decided.entry.reason.now.lease) }
+{
+    let heard_in = decided.reason.heard_in;
+    match decided.reason.lease {
+        Some(lease) => lease_words(alloc, decided.verdict, Named { lease, heard_in }),
+        None => ground_words(alloc, decided),
+    }
+}
+
 // Returns the words for a verdict.
-fn verdict_words(alloc: Global, decided: Decided<'_>) -> Result<String, AllocError> {
-    let reason = decided.reason;
-    let why = match reason.lease {
-        Some(lease) => {
-            let heard_in = reason.heard_in;
-            lease_words(alloc, decided.verdict, Named { lease, heard_in })?
-        }
-        None => ground_words(alloc, decided)?,
-    };
-    let generation = reason.generation;
-    let owners = Tasks(reason.owners.as_slice());
+fn verdict_words(alloc: Global, decided: Decided<'_>) -> Result<String, AllocError>
+    ensures { IfOk result (λ text. string_bytes text
+        ≡ verdict_words decided.entry.task decided.entry.at decided.entry.verdict decided.entry.reason.now) }
+{
+    let why = deciding_words(alloc, decided)?;
+    let generation = decided.reason.generation;
+    let owners = Tasks(decided.reason.owners.as_slice());
     format!(in alloc; "{why}; owners in generation {generation}: {owners}")
 }
 
 // Returns the words for a row that holds up a commit.
-fn row_words(alloc: Global, row: Row) -> Result<String, AllocError> {
+fn row_words(alloc: Global, row: Row) -> Result<String, AllocError>
+    ensures { IfOk result (λ text. string_bytes text ≡ row_words row) }
+{
     let kind = kind_word(row.kind);
     let held = format!(in alloc;
         "task {} may hold the {kind} lease of grant {}",
@@ -119,18 +148,23 @@ fn old_grant_words(
     kind: Kind,
     heard: u64,
     life: u32,
-) -> Result<String, AllocError> {
+) -> Result<String, AllocError>
+    ensures { IfOk result (λ text. string_bytes text ≡ old_grant_words step.now kind heard life) }
+{
     let kind = kind_word(kind);
     match step {
-        Step::Hear { task, number, .. } => format!(in alloc;
-            "grant {number} is not above grant {heard}, the last {kind} lease that task {task} heard in life {life}"
-        ),
+        Step::Hear { task, number, .. } => {
+            let old = format!(in alloc; "grant {number} is not above grant {heard}")?;
+            format!(in alloc; "{old}, the last {kind} lease that task {task} heard in life {life}")
+        }
         _ => String::from_str(alloc, ""),
     }
 }
 
 // Returns the words for a life or a generation that is old.
-fn old_words(alloc: Global, step: &Step, kept: u64) -> Result<String, AllocError> {
+fn old_words(alloc: Global, step: &Step, kept: u64) -> Result<String, AllocError>
+    ensures { IfOk result (λ text. string_bytes text ≡ old_words step.now kept) }
+{
     match step {
         Step::Start { task, life, .. } => {
             format!(in alloc;
@@ -144,15 +178,37 @@ fn old_words(alloc: Global, step: &Step, kept: u64) -> Result<String, AllocError
     }
 }
 
+// Returns what a step delivers.
+fn delivery_word(step: &Step) -> &'static str
+    ensures { result.now ≡ delivery_word step.now }
+{
+    match step {
+        Step::Hear { .. } => "grant",
+        Step::Free { .. } => "note",
+        Step::Check { .. } => "handle",
+        Step::Learn { .. } => "committed generation",
+        _ => "message",
+    }
+}
+
+// Returns the number of what a step delivers.
+fn delivery_number(step: &Step) -> u64
+    ensures { result ≡ delivery_number step.now }
+{
+    match step {
+        Step::Hear { number, .. } => *number,
+        Step::Free { note, .. } => *note,
+        Step::Check { handle, .. } => *handle,
+        Step::Learn { generation, .. } => *generation,
+        _ => 0,
+    }
+}
+
 // Returns the words for something that was not sent.
-fn unsent_words(alloc: Global, step: &Step, made: u64) -> Result<String, AllocError> {
-    let (what, number) = match step {
-        Step::Hear { number, .. } => ("grant", *number),
-        Step::Free { note, .. } => ("note", *note),
-        Step::Check { handle, .. } => ("handle", *handle),
-        Step::Learn { generation, .. } => ("committed generation", *generation),
-        _ => ("message", 0),
-    };
+fn unsent_words(alloc: Global, step: &Step, made: u64) -> Result<String, AllocError>
+    ensures { IfOk result (λ text. string_bytes text ≡ unsent_words step.now made) }
+{
+    let (what, number) = (delivery_word(step), delivery_number(step));
     if made == 0 {
         format!(in alloc; "there is no {what} {number}; there is none yet")
     } else {
@@ -160,28 +216,28 @@ fn unsent_words(alloc: Global, step: &Step, made: u64) -> Result<String, AllocEr
     }
 }
 
-// Returns the task and the reading of a step of a task.
-fn reading_of(step: &Step) -> (u64, u64) {
-    match step {
-        Step::Start { task, at, .. }
-        | Step::Hear { task, at, .. }
-        | Step::Release { task, at, .. }
-        | Step::Serve { task, at, .. }
-        | Step::Hold { task, at, .. }
-        | Step::Check { task, at, .. } => (*task, *at),
-        Step::Take { at, .. }
-        | Step::Renew { at, .. }
-        | Step::Propose { at, .. }
-        | Step::Commit { at, .. }
-        | Step::Grant { at, .. }
-        | Step::Free { at, .. } => (0, *at),
-        _ => (0, 0),
+// Returns the task that takes a step, 0 for another actor.
+fn task_in(step: &Step) -> u64
+    ensures { result ≡ task_in step.now }
+{
+    task_of(step).unwrap_or(0)
+}
+
+// Returns the reading of a step in ticks, 0 if it reads no clock.
+fn ticks_in(step: &Step) -> u64
+    ensures { result ≡ ticks_in step.now }
+{
+    match step.reading() {
+        Reading::TableClock(at) | Reading::TaskClock(at) => at,
+        Reading::NoClock => 0,
     }
 }
 
 // Returns the words for why a handle is broken.
-fn break_words(alloc: Global, step: &Step, why: &Break) -> Result<String, AllocError> {
-    let (task, at) = reading_of(step);
+fn break_words(alloc: Global, step: &Step, why: &Break) -> Result<String, AllocError>
+    ensures { IfOk result (λ text. string_bytes text ≡ break_words step.now why.now) }
+{
+    let (task, at) = (task_in(step), ticks_in(step));
     match why {
         Break::OtherLife(life) => {
             format!(in alloc; "task {task} is in life {life}, and the handle is from another life")
@@ -209,7 +265,9 @@ fn break_words(alloc: Global, step: &Step, why: &Break) -> Result<String, AllocE
 }
 
 // Returns the verdict of a reply.
-fn verdict_in(reply: &Reply) -> Verdict {
+fn verdict_in(reply: &Reply) -> Verdict
+    ensures { result ≡ verdict_in reply.now }
+{
     match reply {
         Reply::Verdict(verdict) => *verdict,
         _ => Verdict::Deny(Ground::NoLease),
@@ -222,8 +280,10 @@ pub fn sentence_of(
     step: &Step,
     reply: &Reply,
     reason: &Reason,
-) -> Result<String, AllocError> {
-    let (task, at) = reading_of(step);
+) -> Result<String, AllocError>
+    ensures { IfOk result (λ text. string_bytes text ≡ sentence_of step.now reply.now reason.now) }
+{
+    let (task, at) = (task_in(step), ticks_in(step));
     match reason {
         Reason::Verdict(reason) => {
             let verdict = verdict_in(reply);
@@ -241,7 +301,7 @@ pub fn sentence_of(
         Reason::TableReading(last) => {
             format!(in alloc; "{at} is below {last}, the last reading that the table accepted")
         }
-        Reason::TaskReading(last) => reading_words(alloc, at, *last, task),
+        Reason::TaskReading(last) => below_words(alloc, at, *last, task),
         Reason::OldGrant { kind, heard, life } => {
             old_grant_words(alloc, step, *kind, *heard, *life)
         }

@@ -1,11 +1,11 @@
 //! The text that explains a script.
 
-ghost use Rattle.std.specs.Prelude.{◌≡◌, ℕ, List, true, IfOk, string_bytes};
+ghost use Rattle.std.specs.Prelude.{◌≡◌, true, IfOk, Some, string_bytes};
 ghost use Rattle.std.specs.List.{list_all};
 ghost use Rattle.service.specs.Lines.{line_of};
 ghost use Rattle.service.specs.Output.{is_answer};
 ghost use Rattle.explain.specs.Hearing.{replies_of};
-ghost use Rattle.explain.specs.Texts.{indented, explained_lines, last_lines, AreLines, IsExplainedText};
+ghost use Rattle.explain.specs.Texts.{all_lines, explained_lines, indented, last_lines, read_words, untimely_words, IsExplainedText};
 
 use crate::explanation::{Explanation, explanations_of};
 use crate::sentence::sentence_of;
@@ -13,6 +13,7 @@ use crate::untimely::{Untimely, first_untimely};
 use lease_table::policy_law;
 use service::{Line, Script, is_timely};
 use std::alloc::{AllocError, Global};
+use std::fmt;
 use world::{Reply, Step};
 
 // Returns the line of a reply.
@@ -31,7 +32,7 @@ fn indented(alloc: Global, words: &str) -> Result<String, AllocError>
 
 // Returns the line of a reply, with its reason if it has one.
 fn lines_of(alloc: Global, step: &Step, told: &Explanation) -> Result<String, AllocError>
-    ensures { IfOk result (λ text. (words : List ℕ) × (string_bytes text ≡ explained_lines told.now words)) }
+    ensures { IfOk result (λ text. string_bytes text ≡ explained_lines step.now told.now) }
 {
     let line = line_of(alloc, &told.reply)?;
     match &told.reason {
@@ -46,7 +47,7 @@ fn lines_of(alloc: Global, step: &Step, told: &Explanation) -> Result<String, Al
 
 // Returns the same, or an error if the reply is out of memory.
 fn answer_lines(alloc: Global, step: &Step, told: &Explanation) -> Result<String, AllocError>
-    ensures lines { IfOk result (λ text. (words : List ℕ) × (string_bytes text ≡ explained_lines told.now words)) }
+    ensures lines { IfOk result (λ text. string_bytes text ≡ explained_lines step.now told.now) }
     ensures answers { IfOk result (λ text. is_answer told.now.reply ≡ true) }
 {
     if matches!(told.reply, Reply::NoMemory) {
@@ -57,7 +58,7 @@ fn answer_lines(alloc: Global, step: &Step, told: &Explanation) -> Result<String
 
 // Returns the lines of all replies, none of which is out of memory.
 fn all_lines(alloc: Global, steps: &[Step], told: &[Explanation]) -> Result<String, AllocError>
-    ensures lines { IfOk result (λ text. AreLines told.now (string_bytes text)) }
+    ensures lines { IfOk result (λ text. string_bytes text ≡ all_lines steps.now told.now) }
     ensures answers { IfOk result (λ text. list_all is_answer (replies_of told.now) ≡ true) }
 {
     let mut text = String::new(alloc);
@@ -71,16 +72,41 @@ fn all_lines(alloc: Global, steps: &[Step], told: &[Explanation]) -> Result<Stri
     Ok(text)
 }
 
+/// Displays a step and its reading of a clock.
+#[derive(Clone, Copy)]
+struct ClockRead {
+    step: usize,
+    reading: u64,
+    clock: &'static str,
+}
+
+impl fmt::Display for ClockRead {
+    ghost output = { λ r. Some (read_words r.step r.reading r.clock.now) };
+
+    fn fmt<W: fmt::Write>(&self, f: &mut fmt::Formatter<W>) -> fmt::Result {
+        let ClockRead {
+            step,
+            reading,
+            clock,
+        } = *self;
+        write!(f, "step {step} read {reading} on {clock}")
+    }
+}
+
 // Returns the sentence for two steps that are not timely.
-fn untimely_words(alloc: Global, two: Untimely, skew: u64) -> Result<String, AllocError> {
-    let early = format!(in alloc;
-        "step {} read {} on the table's clock",
-        two.table_step, two.table_reading
-    )?;
-    let late = format!(in alloc;
-        "step {} read {} on a task's clock",
-        two.task_step, two.task_reading
-    )?;
+fn untimely_words(alloc: Global, two: Untimely, skew: u64) -> Result<String, AllocError>
+    ensures { IfOk result (λ text. string_bytes text ≡ untimely_words two skew) }
+{
+    let early = ClockRead {
+        step: two.table_step,
+        reading: two.table_reading,
+        clock: "the table's clock",
+    };
+    let late = ClockRead {
+        step: two.task_step,
+        reading: two.task_reading,
+        clock: "a task's clock",
+    };
     format!(in alloc; "{early}; later {late}, more than the skew {skew} below")
 }
 
@@ -91,7 +117,7 @@ fn last_lines(
     untimely: Option<Untimely>,
     skew: u64,
 ) -> Result<String, AllocError>
-    ensures { IfOk result (λ text. (words : List ℕ) × (string_bytes text ≡ last_lines timely untimely words)) }
+    ensures { IfOk result (λ text. string_bytes text ≡ last_lines timely untimely skew) }
 {
     if timely {
         return String::from_str(alloc, "timely yes\n");

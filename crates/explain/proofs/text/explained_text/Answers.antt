@@ -1,4 +1,4 @@
-use Rattle.std.proofs.Common.{◌≡◌, ◌∙◌, ℕ, ap, true, List, ◌++◌, length, IfOk, rules, string_bytes, subst}
+use Rattle.std.proofs.Common.{◌≡◌, ◌∙◌, ℕ, ap, ap₂, true, List, ◌++◌, length, IfOk, rules, string_bytes, subst}
 use Rattle.std.specs.Prelude.{MatchOption}
 use Rattle.world.specs.declared.step.Step.{Step}
 use Rattle.lease_table.specs.Policies.{Terms, is_policy}
@@ -6,7 +6,7 @@ use Rattle.explain.specs.declared.explanation.Explanation.{Explanation}
 use Rattle.std.specs.List.{list_all}
 use Rattle.service.specs.Output.{is_answer}
 use Rattle.explain.specs.Hearing.{replies_of}
-use Rattle.explain.specs.Texts.{AreLines}
+use Rattle.explain.specs.Texts.{all_lines, last_lines}
 use Rattle.explain.specs.Explanations.{AreExplained}
 use Rattle.explain.specs.Untimely.{AreAllNear, IsFirstUntimely}
 use Rattle.explain.proofs.Output.{explained_text}
@@ -28,8 +28,11 @@ returns c =
     steps)) c.as_slice-steps.ensures
     (subst (λ (k : ℕ). MatchOption untimely (AreAllNear k c.as_slice-steps.result.now (length c.as_slice-steps.result.now)) (IsFirstUntimely k
     c.as_slice-steps.result.now)) skew c.first_untimely.ensures) in
-    let are_lines = subst (λ (ts : List Explanation). AreLines ts lines) c.as_slice.ensures.value c.in_ok-lines.ensures.lines in
     let answers = subst (λ (ts : List Explanation). list_all is_answer (replies_of ts) ≡ true) c.as_slice.ensures.value c.in_ok-lines.ensures.answers in
-    let made : IfOk c.format.result (λ t. string_bytes t ≡ lines ++ last) = search rules in
-    explained_text string_bytes c.format.result script told lines last c.is_timely.result untimely within explained are_lines answers c.is_timely.ensures
-    two_steps c.in_ok-last.ensures made
+    let lines_are : lines ≡ all_lines script.steps told =
+    c.in_ok-lines.ensures.lines ∙ ap₂ all_lines c.as_slice-steps.ensures c.as_slice.ensures.value in
+    let last_is : last ≡ last_lines c.is_timely.result untimely script.job.policy.skew =
+    c.in_ok-last.ensures ∙ ap (last_lines c.is_timely.result untimely) skew in
+    let joined : IfOk c.format.result (λ t. string_bytes t ≡ lines ++ last) = search rules in
+    let made = subst (λ (l : List ℕ). IfOk c.format.result (λ t. string_bytes t ≡ l)) (ap₂ (λ (p q : List ℕ). p ++ q) lines_are last_is) joined in
+    explained_text string_bytes c.format.result script told c.is_timely.result untimely within explained answers c.is_timely.ensures two_steps made
