@@ -12,6 +12,7 @@ use Rattle.weighted_move.specs.Owning.{rise_from}
 use Rattle.weighted_move.specs.Bounds.{Bounds, bounds, is_bounds}
 use Rattle.program_io.specs.Reading.{◌>>=◌, ◌>>◌, check}
 use Rattle.program_io.specs.Members.{wrong, exactly, number_at, number_in, number_of, flag_at, text_at, list_at}
+use Rattle.wire.specs.declared.numerals.Numerals.TheVariants.{Bare}
 use Rattle.wire.specs.Assignments.{slice_of}
 use Rattle.wire.specs.LeaseMembers.{kind_at, life_at}
 use Rattle.service.specs.Keys.{key_at}
@@ -29,7 +30,7 @@ unfoldable pub assign_step : Data → Result Step WrongForm
 assign_step d = do
   exactly (codes "do" ∷ codes "generation" ∷ codes "slices" ∷ []) d
   generation ← number_at (codes "generation") d
-  slices ← list_at slice_of (codes "slices") d
+  slices ← list_at (slice_of Bare) (codes "slices") d
   Ok (Assign generation slices)
 
 -- an `owners` has a key
@@ -67,7 +68,7 @@ propose_step job d = do
   exactly (codes "do" ∷ codes "assigner" ∷ codes "generation" ∷ codes "slices" ∷ codes "at" ∷ []) d
   assigner ← number_in 1 job.assigners (codes "assigner") d
   generation ← number_at (codes "generation") d
-  slices ← list_at slice_of (codes "slices") d
+  slices ← list_at (slice_of Bare) (codes "slices") d
   at ← number_at (codes "at") d
   Ok (Propose assigner generation slices at)
 

@@ -12,7 +12,8 @@ use Rattle.std.proofs.Transfers.{StopsAt-append, StopsAt-take}
 use Rattle.session.specs.declared.line_reading.TheConstants.{MOST_LINE_BYTES}
 use Rattle.session.specs.Lines.{is_long}
 use Rattle.session.specs.Talks.{IsLine}
-use Rattle.session.specs.internals.Reading.{IsKept, IsLineRead, IsPart}
+use Rattle.session.specs.LinesRead.{IsKept, IsLineRead}
+use Rattle.session.specs.internals.Reading.{IsPart}
 use Rattle.session.proofs.Bytes.{consumes_more, consumes_none}
 
 pub kept_all : (a b : Option (List ℕ)) → Keeps a b → Consumes a b []

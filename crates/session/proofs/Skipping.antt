@@ -7,7 +7,7 @@ use Rattle.std.proofs.BufReadLemmas.{take_through-nil}
 use Rattle.std.proofs.lemmas.List.Elements.{filter-append}
 use Rattle.session.specs.Lines.{is_blank, is_long, is_skipped}
 use Rattle.session.specs.Talks.{IsLine, AreLines, without_skipped, IsNextLine}
-use Rattle.session.specs.internals.Reading.{IsLineRead, IsNextRead, ends_search}
+use Rattle.session.specs.LinesRead.{IsLineRead, IsNextRead, ends_search}
 use Rattle.session.proofs.Bytes.{consumes_more, consumes_none}
 
 -- lines, and then lines

@@ -20,7 +20,8 @@ use Rattle.session.specs.Answers.{answer_text, error_text, long_words}
 use Rattle.session.specs.Lines.{SaysJob, SaysStep, SaysNoStep, IsNoJob, is_long}
 use Rattle.session.specs.Turns.{IsAt, IsTurned}
 use Rattle.session.specs.Talks.{AreLines, without_skipped, IsNextLine, HasNoLine, Turn, past_of, lines_of, text_of, IsPlayed, IsPassed, IsOverlong, AreTurns, IsConversation, IsTalked, IsStopped, IsCut, IsRefused, IsBroken}
-use Rattle.session.specs.internals.Reading.{IsKept, IsNextRead, SaysFirst, SaysNoFirst, IsReadTurned}
+use Rattle.session.specs.LinesRead.{IsKept, IsNextRead}
+use Rattle.session.specs.internals.Reading.{SaysFirst, SaysNoFirst, IsReadTurned}
 use Rattle.session.proofs.Bytes.{appends_more, appends_none, takes_more}
 use Rattle.session.proofs.Skipping.{reads_on, consumed, with_first, with_line, with_blanks, not_empty}
 

@@ -20,6 +20,7 @@ use Rattle.world.specs.declared.reply.Refusal.{Refusal}
 use Rattle.world.specs.declared.reply.Refusal.TheVariants as refusal
 use Rattle.world.specs.declared.reply.Reply.{Reply}
 use Rattle.world.specs.declared.reply.Reply.TheVariants as reply
+use Rattle.wire.specs.declared.numerals.Numerals.TheVariants.{Bare}
 use Rattle.wire.specs.Assignments.{slice_data}
 use Rattle.wire.specs.Objects.{number_data}
 use Rattle.wire.proofs.Lists.{items_whole}
@@ -84,7 +85,7 @@ phase_whole : (p : Phase) → has_float (phase_data p) ≡ false
 phase_whole (Steady generation) = refl
 phase_whole (Bridging from to) = refl
 
-slice_whole : (slice : Slice) → has_float (slice_data slice) ≡ false
+slice_whole : (slice : Slice) → has_float (slice_data Bare slice) ≡ false
 slice_whole slice = rw (items_whole number_data (λ n. refl) slice.owners) refl
 
 change_whole : (giver taker : Option ℕ) (move : Move) → has_float (move_of giver taker move) ≡ false
@@ -121,7 +122,7 @@ reply_whole (reply.Found found) = rw (items_whole number_data (λ n. refl) found
 reply_whole reply.Forgotten = refl
 reply_whole (reply.Recorded total) = refl
 reply_whole (reply.Gathered loads totals) = rw (items_whole number_data (λ n. refl) loads, items_whole number_data (λ n. refl) totals) refl
-reply_whole (reply.Planned plan) = rw (items_whole move_data move_whole plan.moves, items_whole slice_data slice_whole plan.slices) refl
+reply_whole (reply.Planned plan) = rw (items_whole move_data move_whole plan.moves, items_whole (slice_data Bare) slice_whole plan.slices) refl
 reply_whole (reply.Next action) = refl
 reply_whole reply.Restarted = refl
 reply_whole (reply.Refused r) = refusal_whole r

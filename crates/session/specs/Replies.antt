@@ -13,6 +13,7 @@ use Rattle.weighted_move.specs.declared.moves.Move.{Move}
 use Rattle.world.specs.declared.reply.Reply.{Reply}
 use Rattle.world.specs.declared.reply.Reply.TheVariants as reply
 use Rattle.service.specs.Lines.{hex_16, action_word}
+use Rattle.wire.specs.declared.numerals.Numerals.TheVariants.{Bare}
 use Rattle.wire.specs.Assignments.{slice_data}
 use Rattle.wire.specs.LeaseMembers.{kind_data}
 use Rattle.wire.specs.Objects.{number_data, object_data, list_data}
@@ -117,7 +118,7 @@ reply_data (reply.Recorded total) = object_data ((codes "reply", string (codes "
 reply_data (reply.Gathered loads totals) = object_data
     ((codes "loads", list_data number_data loads) ∷ (codes "reply", string (codes "loads")) ∷ (codes "totals", list_data number_data totals) ∷ [])
 reply_data (reply.Planned plan) = object_data
-    ((codes "moves", list_data move_data plan.moves) ∷ (codes "reply", string (codes "plan")) ∷ (codes "slices", list_data slice_data plan.slices) ∷ [])
+    ((codes "moves", list_data move_data plan.moves) ∷ (codes "reply", string (codes "plan")) ∷ (codes "slices", list_data (slice_data Bare) plan.slices) ∷ [])
 reply_data (reply.Next action) = object_data ((codes "next", string (action_word action)) ∷ (codes "reply", string (codes "next")) ∷ [])
 reply_data reply.Restarted = plain_data (codes "restarted")
 reply_data (reply.Refused refusal) = refusal_data refusal

@@ -10,8 +10,8 @@ mod reply_json;
 mod session;
 mod talk;
 
-pub use answer::{LONG_WORDS, ReplyForm};
-pub use line_reading::{MOST_LINE_BYTES, is_long};
+pub use answer::{LONG_WORDS, ReplyForm, answer_text, error_text};
+pub use line_reading::{LineRead, MOST_LINE_BYTES, is_long};
 pub use reading::job_said;
 pub use session::Session;
-pub use talk::{is_blank, run_session};
+pub use talk::{is_blank, next_line, run_session};

@@ -3,7 +3,8 @@
 ghost use Rattle.std.specs.Prelude.{◌≡◌, ◌≢◌, ◌-◌, ◌<◌, ◌≤◌, ◌||◌, ◌&&◌, not, nat_eq, true, false, ℕ, List, length, take, slice_index, All, IfOk, OnErr};
 ghost use Rattle.std.specs.Io.KnownBytes.{Consumes};
 ghost use Rattle.session.specs.Lines.{is_long};
-ghost use Rattle.session.specs.internals.Reading.{IsLineRead, IsPart};
+ghost use Rattle.session.specs.LinesRead.{IsLineRead};
+ghost use Rattle.session.specs.internals.Reading.{IsPart};
 
 use memchr::memchr;
 use program_io::ReadError;

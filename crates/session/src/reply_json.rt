@@ -2,6 +2,7 @@
 
 ghost use Rattle.std.specs.Prelude.{◌≡◌, IfOk, map};
 ghost use Rattle.serde_json.specs.View.{view};
+ghost use Rattle.wire.specs.declared.numerals.Numerals.TheVariants as numeral;
 ghost use Rattle.wire.specs.Assignments.{slice_data};
 ghost use Rattle.wire.specs.Objects.{list_data, number_data};
 ghost use Rattle.session.specs.Replies.{plain_data, generation_data, rows_reply_data, denied_data, verdict_data, term_data, phase_data, row_data, move_data, released_data, handle_data, reply_data};
@@ -129,14 +130,14 @@ fn numbers_json(alloc: Global, numbers: &[u64]) -> Result<Value, AllocError>
 }
 
 fn slice_json(alloc: Global, slice: &Slice) -> Result<Value, AllocError>
-    ensures { IfOk result (λ v. view v ≡ slice_data slice.now) }
+    ensures { IfOk result (λ v. view v ≡ slice_data numeral.Bare slice.now) }
 {
     let owners = numbers_json(alloc, slice.owners.as_slice())?;
     json!(in alloc; [slice.start, owners])
 }
 
 fn slices_json(alloc: Global, slices: &[Slice]) -> Result<Value, AllocError>
-    ensures { IfOk result (λ v. view v ≡ list_data slice_data slices.now) }
+    ensures { IfOk result (λ v. view v ≡ list_data (slice_data numeral.Bare) slices.now) }
 {
     let mut list = Vec::new(alloc);
     for slice in slices {

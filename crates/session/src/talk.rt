@@ -4,7 +4,7 @@ ghost use Rattle.std.specs.Prelude.{◌≡◌, ℕ, List, IfOk, IfErr, OnOk, OnE
 ghost use Rattle.std.specs.Io.KnownBytes.{Consumes};
 ghost use Rattle.session.specs.Lines.{is_blank};
 ghost use Rattle.session.specs.Talks.{IsTalked, IsBroken};
-ghost use Rattle.session.specs.internals.Reading.{IsNextRead, ends_search};
+ghost use Rattle.session.specs.LinesRead.{IsNextRead, ends_search};
 
 use crate::answer::ReplyForm;
 use crate::line_reading::{LineRead, read_line};
@@ -28,8 +28,10 @@ fn ends_search(line: &LineRead) -> bool
     line.is_long || line.bytes.is_empty() || !is_blank(line.bytes.as_slice())
 }
 
-// Reads the next line that is not skipped. It is empty at the end of the input.
-fn next_line<R: BufRead>(alloc: Global, reader: &mut R) -> Result<LineRead, ReadError>
+/// Reads the next line that is not blank. It is empty at the end of the input.
+///
+/// Of a line of more than [`MOST_LINE_BYTES`](crate::MOST_LINE_BYTES) beside its end only the length is known.
+pub fn next_line<R: BufRead>(alloc: Global, reader: &mut R) -> Result<LineRead, ReadError>
     ensures ok { IfOk result (λ line.
         IsNextRead (R.remaining reader.old) (R.remaining reader.new) line.bytes.items line.is_long) }
     ensures err { OnErr result ((bytes : List ℕ)
