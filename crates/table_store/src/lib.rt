@@ -14,3 +14,6 @@ pub use laws::{replaced_law, single_save_law};
 pub use memory_store::{MemoryFault, MemoryStore, Stop};
 pub use saving::Ahead;
 pub use store::{Store, StoreError, Stored};
+
+#[cfg(test)]
+mod tests;
