@@ -9,7 +9,7 @@ use Rattle.cluster.specs.Pasts.{event, Past, reading, readings}
 use Rattle.cluster.specs.Timing.{IsTimely}
 use Rattle.cluster.specs.Runs.{IsRun}
 use Rattle.cluster.specs.Clusters.{LeadsTo}
-use Rattle.world.specs.declared.reply.Reply.{Reply}
+use Rattle.call_log.specs.declared.told.Told.{Told}
 use Rattle.call_log.specs.declared.entry.Entry.{Entry}
 use Rattle.call_log.specs.declared.late.Late.{Late}
 use Rattle.call_log.specs.declared.line.LoggedCall.{LoggedCall}
@@ -48,7 +48,7 @@ module _ (entries : List Entry) (i : ℕ) (entry : Entry) (low : i < length entr
   }
 
   -- a call whose caller was told otherwise
-  pub breaks_here : (job : Job) (past : Past) (next : Cluster) (wanted : Reply) (held : Option HeldLeases) → IsPastOf (reverse (take i entries)) past
+  pub breaks_here : (job : Job) (past : Past) (next : Cluster) (wanted : Told) (held : Option HeldLeases) → IsPastOf (reverse (take i entries)) past
       → (answered : IsAnswered job past entry.line (Some wanted) next) → IsRun job (event (call_after past entry.line.call) answered.answer ∷ past)
       → held ≡ held_by_asked job (event (call_after past entry.line.call) answered.answer ∷ past) entry.line.call → IsBreak job entries i wanted held
   breaks_here job past next wanted held told answered run leases = record {

@@ -6,7 +6,7 @@ use Rattle.cluster.specs.declared.reply.ClusterReply.{ClusterReply}
 use Rattle.cluster.specs.Pasts.{Event, event, Past, readings}
 use Rattle.cluster.specs.Timing.{IsTimely}
 use Rattle.cluster.specs.Runs.{IsRun}
-use Rattle.world.specs.declared.reply.Reply.{Reply}
+use Rattle.call_log.specs.declared.told.Told.{Told}
 use Rattle.audit.specs.OneRun.{Rises}
 use Rattle.call_log.specs.declared.entry.Entry.{Entry}
 use Rattle.call_log.specs.declared.line.LoggedLine.{LoggedLine}
@@ -23,7 +23,7 @@ abbrev pub WasTold : Past → LoggedLine → ClusterReply → Type 0
 WasTold past line answer = is_worded line.reply (told_after past line.call answer) ≡ true
 
 -- the caller should have been told this, and was told something else
-abbrev pub WasToldOther : Past → LoggedLine → ClusterReply → Reply → Type 0
+abbrev pub WasToldOther : Past → LoggedLine → ClusterReply → Told → Type 0
 WasToldOther past line answer wanted = (wanted ≡ told_after past line.call answer) × (is_worded line.reply wanted ≡ false)
 
 -- an event after these calls is the call of a line, with a reply that has its words
@@ -55,7 +55,7 @@ pub record IsOneRun (job : Job) (entries : List Entry) (steps : ℕ) (late : Opt
   pub clocks : Tells job entries past late
 
 -- the entries before this place are a run, the caller of its call should have been told this, and these are the leases of the task that it asked for a key
-pub record IsBreak (job : Job) (entries : List Entry) (index : ℕ) (wanted : Reply) (held : Option HeldLeases) : Type 0 where
+pub record IsBreak (job : Job) (entries : List Entry) (index : ℕ) (wanted : Told) (held : Option HeldLeases) : Type 0 where
   pub entry : Entry
   pub here : slice_get entries index ≡ Some entry
   pub past : Past

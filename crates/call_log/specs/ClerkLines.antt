@@ -6,6 +6,7 @@ use Rattle.cluster.specs.declared.call.ClusterCall.TheVariants as call
 use Rattle.program_io.specs.Reading.{◌>>=◌, ◌>>◌}
 use Rattle.program_io.specs.Members.{exactly, number_at}
 use Rattle.wire.specs.declared.fault.Refusal.{Refusal}
+use Rattle.wire.specs.declared.numerals.Numerals.TheVariants.{Either}
 use Rattle.wire.specs.Assignments.{slicing_in}
 use Rattle.wire.specs.Refusals.{or_wrong}
 use Rattle.call_log.specs.declared.line.LoggedCall.{LoggedCall}
@@ -17,7 +18,7 @@ unfoldable pub learn_line : Data → Result LoggedCall Refusal
 learn_line d = do
   or_wrong (exactly (codes "ticket" ∷ codes "reply" ∷ codes "do" ∷ codes "clerk" ∷ codes "generation" ∷ codes "slices" ∷ []) d)
   clerk ← or_wrong (number_at (codes "clerk") d)
-  slicing ← slicing_in d
+  slicing ← slicing_in Either d
   Ok (Whole (call.Clerk clerk (clerk_call.Learn slicing)))
 
 -- a `look` has a clerk and a key

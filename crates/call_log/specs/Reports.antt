@@ -6,7 +6,8 @@ use Rattle.policy_rules.specs.declared.answer.Verdict.TheVariants.{Deny}
 use Rattle.policy_rules.specs.declared.answer.Ground.TheVariants.{Ended}
 use Rattle.cluster.specs.declared.timing.Reading.{Reading}
 use Rattle.cluster.specs.declared.timing.Reading.TheVariants.{TaskClock}
-use Rattle.world.specs.declared.reply.Reply.{Reply}
+use Rattle.call_log.specs.declared.told.Told.{Told}
+use Rattle.call_log.specs.declared.told.Told.TheVariants.{Scripted}
 use Rattle.world.specs.declared.reply.Reply.TheVariants as reply
 use Rattle.call_log.specs.declared.entry.Entry.{Entry}
 use Rattle.call_log.specs.declared.finding.Finding.{Finding}
@@ -48,8 +49,8 @@ ended_text word (Some lease) at = if nat_lt at lease.ends then [] else ended_wor
 abbrev pub reason_at : ℕ → HeldLeases → List ℕ
 reason_at at held = codes ": " ++ (ended_text (codes "guard") held.guard at ++ (ended_text (codes "bridge") held.bridge at ++ (codes "read at " ++ decimal at)))
 
-abbrev pub reason_text : Reply → Reading → Option HeldLeases → List ℕ
-reason_text (reply.Verdict (Deny Ended)) (TaskClock at) (Some held) = reason_at at held
+abbrev pub reason_text : Told → Reading → Option HeldLeases → List ℕ
+reason_text (Scripted (reply.Verdict (Deny Ended))) (TaskClock at) (Some held) = reason_at at held
 reason_text _ _ _ = []
 
 -- the ticket of an entry
@@ -64,13 +65,13 @@ double_text names entries first second =
     ++ (codes " is also at " ++ (standing_at names entries first ++ codes "\n"))))
 
 -- a call whose caller was told otherwise: where it stands, what was told, with escapes, and what should have been
-abbrev pub told_text : List ℕ → List ℕ → Reply → Reading → Option HeldLeases → List ℕ
+abbrev pub told_text : List ℕ → List ℕ → Told → Reading → Option HeldLeases → List ℕ
 told_text standing told wanted reading held =
     standing ++ (codes ": told \"" ++ (escaped told ++ (codes "\"; should be \"" ++ (plain_text wanted
     ++ (codes "\"" ++ (reason_text wanted reading held ++ codes "\n"))))))
 
 -- it names the words that the line says were told
-abbrev pub IsOtherOf : List (List ℕ) → List Entry → ℕ → Reply → Option HeldLeases → Option Entry → List ℕ → Type 0
+abbrev pub IsOtherOf : List (List ℕ) → List Entry → ℕ → Told → Option HeldLeases → Option Entry → List ℕ → Type 0
 IsOtherOf names entries index wanted held (Some entry) text =
     text ≡ told_text (standing_at names entries index) entry.line.reply wanted (reading_in entry.line.call) held
 IsOtherOf names entries index wanted held None text = text ≡ []

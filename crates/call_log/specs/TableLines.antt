@@ -6,6 +6,7 @@ use Rattle.cluster.specs.declared.call.ClusterCall.TheVariants as call
 use Rattle.program_io.specs.Reading.{◌>>=◌, ◌>>◌}
 use Rattle.program_io.specs.Members.{exactly, member_at, number_at}
 use Rattle.wire.specs.declared.fault.Refusal.{Refusal}
+use Rattle.wire.specs.declared.numerals.Numerals.TheVariants.{Either}
 use Rattle.wire.specs.Assignments.{slicing_in}
 use Rattle.wire.specs.LeaseMembers.{life_at, task_at}
 use Rattle.wire.specs.Notes.{note_of}
@@ -35,7 +36,7 @@ propose_line d = do
   or_wrong (exactly (codes "ticket" ∷ codes "reply" ∷ codes "do" ∷ codes "term" ∷ codes "generation" ∷ codes "slices" ∷ codes "at" ∷ []) d)
   term ← or_wrong (number_at (codes "term") d)
   at ← or_wrong (number_at (codes "at") d)
-  slicing ← slicing_in d
+  slicing ← slicing_in Either d
   Ok (Whole (call.Table (table.Propose term slicing at)))
 
 -- a `commit` has a term and a reading
@@ -59,7 +60,7 @@ grant_line d = do
 unfoldable pub free_line : Data → Result LoggedCall Refusal
 free_line d = do
   or_wrong (exactly (codes "ticket" ∷ codes "reply" ∷ codes "do" ∷ codes "note" ∷ codes "at" ∷ []) d)
-  note ← or_wrong (member_at (codes "note") d >>= note_of)
+  note ← or_wrong (member_at (codes "note") d >>= note_of Either)
   at ← or_wrong (number_at (codes "at") d)
   Ok (Whole (call.Table (table.Free note at)))
 

@@ -8,9 +8,11 @@ use Rattle.program_io.specs.declared.fault.WrongForm.{WrongForm}
 use Rattle.program_io.specs.Reading.{◌>>=◌, ◌>>◌}
 use Rattle.program_io.specs.Members.{exactly, member_at, number_at}
 use Rattle.wire.specs.declared.fault.Refusal.{Refusal}
+use Rattle.wire.specs.declared.numerals.Numerals.TheVariants.{Either}
 use Rattle.wire.specs.Grants.{grant_of}
 use Rattle.wire.specs.Handles.{handle_of}
 use Rattle.wire.specs.LeaseMembers.{kind_at, life_at, task_at}
+use Rattle.wire.specs.Numerals.{numeral_at}
 use Rattle.wire.specs.Refusals.{or_wrong}
 use Rattle.call_log.specs.Keys.{slice_key_in}
 use Rattle.call_log.specs.declared.line.BareGrant.{BareGrant}
@@ -21,19 +23,19 @@ use Rattle.call_log.specs.declared.line.LoggedCall.TheVariants.{Whole, HearBare}
 unfoldable pub bare_grant_of : Data → Result BareGrant WrongForm
 bare_grant_of d = do
   exactly (codes "ends" ∷ codes "generation" ∷ codes "kind" ∷ codes "life" ∷ codes "number" ∷ codes "task" ∷ codes "until" ∷ []) d
-  number ← number_at (codes "number") d
+  number ← numeral_at Either (codes "number") d
   task ← task_at (codes "task") d
   life ← life_at (codes "life") d
   kind ← kind_at (codes "kind") d
-  generation ← number_at (codes "generation") d
-  ends ← number_at (codes "ends") d
-  until ← number_at (codes "until") d
+  generation ← numeral_at Either (codes "generation") d
+  ends ← numeral_at Either (codes "ends") d
+  until ← numeral_at Either (codes "until") d
   Ok (record { number = number; task = task; life = life; kind = kind; generation = generation; ends = ends; table_ends = until })
 
 -- a task hears a grant, of which the ranges may be left out
 abbrev pub whole_heard : ℕ → ℕ → Data → Result LoggedCall Refusal
 whole_heard task at d = do
-  grant ← grant_of d
+  grant ← grant_of Either d
   Ok (Whole (call.Task task (task_call.Hear grant at)))
 
 abbrev pub bare_heard : ℕ → ℕ → Data → Result LoggedCall Refusal
@@ -43,6 +45,14 @@ bare_heard task at d = do
 
 unfoldable pub heard_of : ℕ → ℕ → Data → Result LoggedCall Refusal
 heard_of task at d = if is_some (get (codes "ranges") d) then whole_heard task at d else bare_heard task at d
+
+-- an `open` has a task and a life of it, the greatest one that it ever started
+unfoldable pub open_line : Data → Result LoggedCall Refusal
+open_line d = do
+  or_wrong (exactly (codes "ticket" ∷ codes "reply" ∷ codes "do" ∷ codes "task" ∷ codes "life" ∷ []) d)
+  task ← or_wrong (number_at (codes "task") d)
+  life ← or_wrong (life_at (codes "life") d)
+  Ok (Whole (call.Task task (task_call.Resume life)))
 
 -- a `start` has a task, a life of it and a reading
 unfoldable pub start_line : Data → Result LoggedCall Refusal
@@ -94,13 +104,14 @@ unfoldable pub check_line : Data → Result LoggedCall Refusal
 check_line d = do
   or_wrong (exactly (codes "ticket" ∷ codes "reply" ∷ codes "do" ∷ codes "task" ∷ codes "handle" ∷ codes "at" ∷ []) d)
   task ← or_wrong (number_at (codes "task") d)
-  handle ← or_wrong (member_at (codes "handle") d >>= handle_of)
+  handle ← or_wrong (member_at (codes "handle") d >>= handle_of Either)
   at ← or_wrong (number_at (codes "at") d)
   Ok (Whole (call.Check task handle at))
 
 -- the calls of a task, each by its name and its reader
 abbrev pub task_kinds : List (List ℕ × (Data → Result LoggedCall Refusal))
 task_kinds =
+    (codes "open", open_line) ∷
     (codes "start", start_line) ∷
     (codes "hear", hear_line) ∷
     (codes "release", release_line) ∷

@@ -22,10 +22,13 @@ use Rattle.world.specs.Replies.{grant_reply, refusal_by}
 use Rattle.service.specs.Lines.{reply_text}
 use Rattle.call_log.specs.declared.line.LoggedCall.{LoggedCall}
 use Rattle.call_log.specs.declared.line.LoggedCall.TheVariants.{Whole, HearBare}
+use Rattle.call_log.specs.declared.told.Told.{Told}
+use Rattle.call_log.specs.declared.told.Told.TheVariants.{Scripted, Opened}
 
 -- the life that a call names
 abbrev pub life_in : LoggedCall → ℕ
 life_in (Whole (call.Task task (task_call.Start life at))) = life
+life_in (Whole (call.Task task (task_call.Resume life))) = life
 life_in _ = 0
 
 -- the number that a call names, of a grant or of a generation
@@ -49,41 +52,46 @@ table_reply c (table.Granted grant) = grant_reply grant
 table_reply c (table.Freed rows) = reply.Freed rows
 table_reply c (table.Lost rows) = reply.Lost rows
 
--- a note is told with its number
-abbrev pub task_reply : LoggedCall → ℕ → SliceletReply → Reply
-task_reply c number slicelet.Started = reply.Started (life_in c)
-task_reply c number slicelet.Heard = reply.Heard (number_in c)
-task_reply c number (slicelet.Released note) = reply.Released number note
-task_reply c number (slicelet.Resumed ended) = reply.Started (life_in c)
+-- a note is told with its number, and a new process with the life that its call names
+abbrev pub task_reply : LoggedCall → ℕ → SliceletReply → Told
+task_reply c number slicelet.Started = Scripted (reply.Started (life_in c))
+task_reply c number slicelet.Heard = Scripted (reply.Heard (number_in c))
+task_reply c number (slicelet.Released note) = Scripted (reply.Released number note)
+task_reply c number (slicelet.Resumed ended) = Opened (life_in c)
 
 abbrev pub clerk_reply : LoggedCall → ClerkReply → Reply
 clerk_reply c clerk.Learnt = reply.Learnt (number_in c)
 clerk_reply c clerk.Forgotten = reply.Forgotten
 
--- a reply of the machines to a logged call as a script is told it, where the next note and the next handle have these numbers
-abbrev pub told_as : LoggedCall → ℕ → ℕ → ClusterReply → Reply
-told_as c note handle (machine.Table r) = table_reply c r
+-- a reply of the machines to a logged call as its caller is told it, where the next note and the next handle have these numbers
+abbrev pub told_as : LoggedCall → ℕ → ℕ → ClusterReply → Told
+told_as c note handle (machine.Table r) = Scripted (table_reply c r)
 told_as c note handle (machine.Task r) = task_reply c note r
-told_as c note handle (machine.Clerk r) = clerk_reply c r
-told_as c note handle (machine.Phase phase) = reply.Phase phase
-told_as c note handle (machine.Rows rows) = reply.Rows rows
-told_as c note handle (machine.Verdict verdict) = reply.Verdict verdict
-told_as c note handle (machine.Holding made) = reply.Holding handle made
-told_as c note handle machine.Continuous = reply.Continuous
-told_as c note handle machine.Broken = reply.Broken
-told_as c note handle (machine.Found found) = reply.Found found
-told_as c note handle (machine.Refused why) = reply.Refused (refusal_by why)
+told_as c note handle (machine.Clerk r) = Scripted (clerk_reply c r)
+told_as c note handle (machine.Phase phase) = Scripted (reply.Phase phase)
+told_as c note handle (machine.Rows rows) = Scripted (reply.Rows rows)
+told_as c note handle (machine.Verdict verdict) = Scripted (reply.Verdict verdict)
+told_as c note handle (machine.Holding made) = Scripted (reply.Holding handle made)
+told_as c note handle machine.Continuous = Scripted reply.Continuous
+told_as c note handle machine.Broken = Scripted reply.Broken
+told_as c note handle (machine.Found found) = Scripted (reply.Found found)
+told_as c note handle (machine.Refused why) = Scripted (reply.Refused (refusal_by why))
 
 -- the same after these calls
-abbrev pub told_after : Past → LoggedCall → ClusterReply → Reply
+abbrev pub told_after : Past → LoggedCall → ClusterReply → Told
 told_after past c answer = told_as c (length (notes_made past) + 1) (length (handles_made past) + 1) answer
 
+-- the words of a reply
+abbrev pub words_of : Told → List ℕ
+words_of (Scripted scripted) = reply_text scripted
+words_of (Opened life) = codes "opened " ++ decimal life
+
 -- the words of a reply for callers that number no notes and handles: these are told by what they say
-abbrev pub plain_text : Reply → List ℕ
-plain_text (reply.Released number note) = codes "released life " ++ decimal note.life ++ codes " number " ++ decimal note.number
-plain_text (reply.Holding number handle) = codes "handle life " ++ decimal handle.life ++ codes " position " ++ decimal handle.position
-plain_text told = reply_text told
+abbrev pub plain_text : Told → List ℕ
+plain_text (Scripted (reply.Released number note)) = codes "released life " ++ decimal note.life ++ codes " number " ++ decimal note.number
+plain_text (Scripted (reply.Holding number handle)) = codes "handle life " ++ decimal handle.life ++ codes " position " ++ decimal handle.position
+plain_text told = words_of told
 
 -- the words are those of the reply, with the numbers of notes and handles or without
-abbrev pub is_worded : List ℕ → Reply → Bool
-is_worded words told = bytes_eq words (reply_text told) || bytes_eq words (plain_text told)
+abbrev pub is_worded : List ℕ → Told → Bool
+is_worded words told = bytes_eq words (words_of told) || bytes_eq words (plain_text told)

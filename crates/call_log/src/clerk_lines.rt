@@ -13,7 +13,7 @@ use cluster::ClusterCall;
 use program_io::{exactly, number_at};
 use serde_json::Value;
 use std::alloc::Global;
-use wire::{DecodeError, Refusal, assignment_in};
+use wire::{DecodeError, Numerals, Refusal, assignment_in};
 
 #[tactic(auto, unfolding(crate::specs::ClerkLines::learn_line))]
 fn learn_line(alloc: Global, line: &Value) -> Result<LoggedCall, DecodeError>
@@ -24,7 +24,7 @@ fn learn_line(alloc: Global, line: &Value) -> Result<LoggedCall, DecodeError>
         line,
     )?;
     let clerk = number_at("clerk", line)?;
-    let assignment = assignment_in(alloc, line)?;
+    let assignment = assignment_in(alloc, Numerals::Either, line)?;
     Ok(LoggedCall::Whole(ClusterCall::Clerk {
         clerk,
         call: ClerkCall::Learn(assignment),

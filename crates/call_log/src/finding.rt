@@ -1,8 +1,8 @@
 //! What an audit finds.
 
 use crate::late::Late;
+use crate::told::Told;
 use slicelet::HeldLease;
-use world::Reply;
 
 /// The leases that a task holds, each of which may have ended.
 #[derive(Clone, Copy, Debug, PartialEq, Eq)]
@@ -33,7 +33,7 @@ pub enum Finding {
     Other {
         index: usize,
         /// The reply that the caller should have got.
-        wanted: Reply,
+        wanted: Told,
         /// The leases of the task that the call asks for a key; `None` for other calls, or if the
         /// job has no such task.
         held: Option<HeldLeases>,

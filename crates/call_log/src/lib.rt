@@ -32,4 +32,4 @@ pub use log_reading::read_log;
 pub use progress::Progress;
 pub use reading::{NoLine, line_of, line_said};
 pub use report::{NamedEntries, report_of};
-pub use told::PlainLine;
+pub use told::{PlainLine, Told, ToldLine, table_reply};

@@ -2,10 +2,11 @@
 
 use crate::task_lines::bare_grant_of;
 use diagnosis::{Found, Members, Quoted, Wanted, WrongMember, missing_member, unknown_member};
+use program_io::{Unread, list_of};
 use serde_json::Value;
 use std::alloc::{AllocError, Global};
 use std::fmt;
-use wire::{DecodeError, grant_of, handle_of, note_of};
+use wire::{DecodeError, EitherSlice, Numerals, grant_of, handle_of, note_of, numeral_of};
 
 /// The members of each call, in the order in which they are checked.
 const CALLS: &[(&str, &[&str])] = &[
@@ -21,6 +22,7 @@ const CALLS: &[(&str, &[&str])] = &[
     ("lose", &["ticket", "reply"]),
     ("phase", &["ticket", "reply"]),
     ("rows", &["ticket", "reply"]),
+    ("open", &["ticket", "reply", "task", "life"]),
     ("start", &["ticket", "reply", "task", "life", "at"]),
     ("hear", &["ticket", "reply", "task", "grant", "at"]),
     ("release", &["ticket", "reply", "task", "kind", "at"]),
@@ -60,8 +62,8 @@ impl Delivered {
         match self {
             Delivered::Words => Ok(value.is_string()),
             Delivered::Grant => is_grant(alloc, value),
-            Delivered::Note => Ok(note_of(value).is_ok()),
-            Delivered::Handle => Ok(handle_of(value).is_ok()),
+            Delivered::Note => Ok(note_of(Numerals::Either, value).is_ok()),
+            Delivered::Handle => Ok(handle_of(Numerals::Either, value).is_ok()),
         }
     }
 }
@@ -84,10 +86,24 @@ fn is_grant(alloc: Global, value: &Value) -> Result<bool, AllocError> {
     if value.get("ranges").is_none() {
         return Ok(bare_grant_of(value).is_ok());
     }
-    match grant_of(alloc, value) {
+    match grant_of(alloc, Numerals::Either, value) {
         Ok(_grant) => Ok(true),
         Err(DecodeError::Refused(_)) => Ok(false),
         Err(DecodeError::NoMemory) => Err(AllocError),
+    }
+}
+
+// Whether a value is the member of an assignment with this name as messages have it, whose numbers
+// are texts.
+fn is_of_message(alloc: Global, name: &str, value: &Value) -> Result<bool, AllocError> {
+    match name {
+        "generation" => Ok(numeral_of(Numerals::Quoted, value).is_ok()),
+        "slices" => match list_of::<EitherSlice>(alloc, value) {
+            Ok(_slices) => Ok(true),
+            Err(Unread::WrongForm) => Ok(false),
+            Err(Unread::Memory) => Err(AllocError),
+        },
+        _ => Ok(false),
     }
 }
 
@@ -122,7 +138,7 @@ fn member_mend(
         return Ok(Some(format!(in alloc; "\"{name}\" is {found}; it must be {delivered}")?));
     }
     let wanted = wanted_of(call, name);
-    if wanted.is_met(alloc, value)? {
+    if wanted.is_met(alloc, value)? || is_of_message(alloc, name, value)? {
         return Ok(None);
     }
     let wrong = WrongMember {

@@ -9,14 +9,13 @@ ghost use Rattle.call_log.specs.internals.Answers.{IsAnswered};
 
 use crate::finding::HeldLeases;
 use crate::line::{BareGrant, LoggedCall, LoggedLine};
-use crate::told::{is_worded, told_as};
+use crate::told::{Told, is_worded, told_as};
 use cluster::{Cluster, ClusterCall, ClusterReply, Reading};
 use lease_table::Grant;
 use policy_rules::{Kind, Lease};
 use slice_ranges::Ranges;
 use slicelet::SliceletCall;
 use std::alloc::{AllocError, Global};
-use world::Reply;
 
 impl LoggedCall {
     /// Returns whose clock the call reads, and the reading.
@@ -97,7 +96,7 @@ pub fn answer(
     alloc: Global,
     cluster: &mut Cluster,
     line: &LoggedLine,
-) -> Result<Option<Reply>, AllocError>
+) -> Result<Option<Told>, AllocError>
     ensures { (job : Job) (past : Past) → LeadsTo job past cluster.old
         → IfOk result (λ other. IsAnswered job past line.now other cluster.new) }
 {

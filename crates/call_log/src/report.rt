@@ -6,7 +6,7 @@ ghost use Rattle.call_log.specs.Reports.{IsOtherOf, IsReport, clocks_text, doubl
 use crate::entry::Entry;
 use crate::finding::{Finding, HeldLeases};
 use crate::late::Late;
-use crate::told::PlainLine;
+use crate::told::{PlainLine, Told};
 use cluster::Reading;
 use diagnosis::Escaped;
 use policy_rules::{Ground, Verdict};
@@ -82,7 +82,7 @@ impl fmt::Display for EndedText {
 /// Displays why a key should have been denied, if its leases have ended.
 #[derive(Clone, Copy)]
 struct Reason<'a> {
-    wanted: &'a Reply,
+    wanted: &'a Told,
     reading: Reading,
     held: Option<HeldLeases>,
 }
@@ -91,7 +91,7 @@ impl fmt::Display for Reason<'_> {
     ghost output = { λ r. Some (reason_text r.wanted.now r.reading r.held) };
 
     fn fmt<W: fmt::Write>(&self, f: &mut fmt::Formatter<W>) -> fmt::Result {
-        let Reply::Verdict(Verdict::Deny(Ground::Ended)) = self.wanted else {
+        let Told::Scripted(Reply::Verdict(Verdict::Deny(Ground::Ended))) = self.wanted else {
             return Ok(());
         };
         let Reading::TaskClock(at) = self.reading else {
@@ -190,7 +190,7 @@ fn other_text(
     alloc: Global,
     log: NamedEntries,
     index: usize,
-    wanted: &Reply,
+    wanted: &Told,
     held: Option<HeldLeases>,
 ) -> Result<String, AllocError>
     ensures { IfOk result (λ text.

@@ -15,7 +15,7 @@ use lease_table::TableCall;
 use program_io::{exactly, member_at, number_at};
 use serde_json::Value;
 use std::alloc::Global;
-use wire::{DecodeError, Refusal, assignment_in, life_at, note_of, task_at};
+use wire::{DecodeError, Numerals, Refusal, assignment_in, life_at, note_of, task_at};
 
 #[tactic(auto, unfolding(crate::specs::TableLines::take_line))]
 fn take_line(line: &Value) -> Result<LoggedCall, Refusal>
@@ -57,7 +57,7 @@ fn propose_line(alloc: Global, line: &Value) -> Result<LoggedCall, DecodeError>
     )?;
     let number = number_at("term", line)?;
     let at = number_at("at", line)?;
-    let assignment = assignment_in(alloc, line)?;
+    let assignment = assignment_in(alloc, Numerals::Either, line)?;
     Ok(LoggedCall::Whole(ClusterCall::Table(TableCall::Propose {
         number,
         assignment,
@@ -94,7 +94,7 @@ fn free_line(line: &Value) -> Result<LoggedCall, Refusal>
 {
     exactly(&["ticket", "reply", "do", "note", "at"], line)?;
     Ok(LoggedCall::Whole(ClusterCall::Table(TableCall::Free {
-        note: note_of(member_at("note", line)?)?,
+        note: note_of(Numerals::Either, member_at("note", line)?)?,
         at: number_at("at", line)?,
     })))
 }

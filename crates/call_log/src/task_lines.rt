@@ -4,7 +4,7 @@ ghost use Rattle.std.specs.Prelude.{◌≡◌, ◌++◌};
 ghost use Rattle.serde_json.specs.View.{view};
 ghost use Rattle.wire.specs.Refusals.{Gives};
 ghost use Rattle.wire.specs.TableCalls.{read_named};
-ghost use Rattle.call_log.specs.TaskLines.{bare_grant_of, check_line, heard_of, hear_line, hold_line, release_line, serve_line, start_line, task_kinds};
+ghost use Rattle.call_log.specs.TaskLines.{bare_grant_of, check_line, heard_of, hear_line, hold_line, open_line, release_line, serve_line, start_line, task_kinds};
 ghost use Rattle.call_log.specs.ClerkLines.{clerk_kinds};
 
 use crate::clerk_lines::clerk_call_named;
@@ -15,7 +15,9 @@ use program_io::{WrongForm, exactly, member_at, number_at};
 use serde_json::Value;
 use slicelet::SliceletCall;
 use std::alloc::Global;
-use wire::{DecodeError, Refusal, grant_of, handle_of, kind_at, life_at, task_at};
+use wire::{
+    DecodeError, Numerals, Refusal, grant_of, handle_of, kind_at, life_at, numeral_at, task_at,
+};
 
 /// Parses a grant without the ranges of its lease.
 #[tactic(auto, unfolding(crate::specs::TaskLines::bare_grant_of))]
@@ -35,13 +37,13 @@ pub fn bare_grant_of(grant: &Value) -> Result<BareGrant, WrongForm>
         grant,
     )?;
     Ok(BareGrant {
-        number: number_at("number", grant)?,
+        number: numeral_at(Numerals::Either, "number", grant)?,
         task: task_at("task", grant)?,
         life: life_at("life", grant)?,
         kind: kind_at("kind", grant)?,
-        generation: number_at("generation", grant)?,
-        ends: number_at("ends", grant)?,
-        table_ends: number_at("until", grant)?,
+        generation: numeral_at(Numerals::Either, "generation", grant)?,
+        ends: numeral_at(Numerals::Either, "ends", grant)?,
+        table_ends: numeral_at(Numerals::Either, "until", grant)?,
     })
 }
 
@@ -51,13 +53,26 @@ fn heard_of(alloc: Global, task: u64, at: u64, grant: &Value) -> Result<LoggedCa
     ensures { Gives result (heard_of task at (view grant.now)) }
 {
     if grant.get("ranges").is_some() {
-        let grant = grant_of(alloc, grant)?;
+        let grant = grant_of(alloc, Numerals::Either, grant)?;
         let call = SliceletCall::Hear { grant, at };
         Ok(LoggedCall::Whole(ClusterCall::Task { task, call }))
     } else {
         let grant = bare_grant_of(grant)?;
         Ok(LoggedCall::HearBare { task, grant, at })
     }
+}
+
+#[tactic(auto, unfolding(crate::specs::TaskLines::open_line))]
+fn open_line(line: &Value) -> Result<LoggedCall, Refusal>
+    ensures { result ≡ open_line (view line.now) }
+{
+    exactly(&["ticket", "reply", "do", "task", "life"], line)?;
+    Ok(LoggedCall::Whole(ClusterCall::Task {
+        task: number_at("task", line)?,
+        call: SliceletCall::Resume {
+            life: life_at("life", line)?,
+        },
+    }))
 }
 
 #[tactic(auto, unfolding(crate::specs::TaskLines::start_line))]
@@ -129,7 +144,7 @@ fn check_line(line: &Value) -> Result<LoggedCall, Refusal>
     exactly(&["ticket", "reply", "do", "task", "handle", "at"], line)?;
     Ok(LoggedCall::Whole(ClusterCall::Check {
         task: number_at("task", line)?,
-        handle: handle_of(member_at("handle", line)?)?,
+        handle: handle_of(Numerals::Either, member_at("handle", line)?)?,
         at: number_at("at", line)?,
     }))
 }
@@ -139,6 +154,7 @@ pub fn task_call_named(alloc: Global, name: &str, line: &Value) -> Result<Logged
     ensures { Gives result (read_named (task_kinds ++ clerk_kinds) name.now (view line.now)) }
 {
     match name {
+        "open" => Ok(open_line(line)?),
         "start" => Ok(start_line(line)?),
         "hear" => hear_line(alloc, line),
         "release" => Ok(release_line(line)?),

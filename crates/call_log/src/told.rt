@@ -1,7 +1,7 @@
 //! The replies that callers of logged calls get.
 
 ghost use Rattle.std.specs.Prelude.{◌≡◌, IfOk, Some};
-ghost use Rattle.call_log.specs.Told.{clerk_reply, is_worded, life_in, number_in, plain_text, table_reply, task_reply, term_reply, told_as};
+ghost use Rattle.call_log.specs.Told.{clerk_reply, is_worded, life_in, number_in, plain_text, table_reply, task_reply, term_reply, told_as, words_of};
 
 use crate::line::LoggedCall;
 use clerk::{ClerkCall, ClerkReply};
@@ -13,6 +13,15 @@ use std::alloc::{AllocError, Global};
 use std::fmt;
 use world::{Reply, grant_reply, refusal_by};
 
+/// The reply that the caller of a logged call gets.
+#[derive(Debug, Drop)]
+pub enum Told {
+    /// A reply that scripts get too.
+    Scripted(Reply),
+    /// A new process of the task began; the value is the life that the call names.
+    Opened(u32),
+}
+
 // Returns the life that a call names, or 0.
 fn life_in(call: &LoggedCall) -> u32
     ensures { result ≡ life_in call.now }
@@ -20,7 +29,7 @@ fn life_in(call: &LoggedCall) -> u32
     match call {
         LoggedCall::Whole(
             ClusterCall::Task {
-                call: SliceletCall::Start { life, .. },
+                call: SliceletCall::Start { life, .. } | SliceletCall::Resume { life },
                 ..
             },
         ) => *life,
@@ -62,7 +71,8 @@ fn term_reply(call: &LoggedCall, term: JobTerm) -> Reply
     }
 }
 
-fn table_reply(call: &LoggedCall, reply: &TableReply) -> Reply
+/// Converts the table's reply to a logged call to the reply that its caller gets.
+pub fn table_reply(call: &LoggedCall, reply: &TableReply) -> Reply
     ensures { result ≡ table_reply call.now reply.now }
 {
     match reply {
@@ -75,15 +85,14 @@ fn table_reply(call: &LoggedCall, reply: &TableReply) -> Reply
     }
 }
 
-fn task_reply(call: &LoggedCall, number: u64, reply: SliceletReply) -> Reply
+fn task_reply(call: &LoggedCall, number: u64, reply: SliceletReply) -> Told
     ensures { result ≡ task_reply call.now number reply }
 {
     match reply {
-        SliceletReply::Started => Reply::Started(life_in(call)),
-        SliceletReply::Heard => Reply::Heard(number_in(call)),
-        SliceletReply::Released(note) => Reply::Released { number, note },
-        // No line of a log begins a new process.
-        SliceletReply::Resumed(_) => Reply::Started(life_in(call)),
+        SliceletReply::Started => Told::Scripted(Reply::Started(life_in(call))),
+        SliceletReply::Heard => Told::Scripted(Reply::Heard(number_in(call))),
+        SliceletReply::Released(note) => Told::Scripted(Reply::Released { number, note }),
+        SliceletReply::Resumed(_) => Told::Opened(life_in(call)),
     }
 }
 
@@ -96,59 +105,74 @@ fn clerk_reply(call: &LoggedCall, reply: ClerkReply) -> Reply
     }
 }
 
-/// Converts the machines' reply to a logged call to the reply that a script gets.
+/// Converts the machines' reply to a logged call to the reply that its caller gets.
 ///
 /// `note` and `handle` are the numbers of the next note and the next handle.
-pub fn told_as(call: &LoggedCall, note: u64, handle: u64, reply: ClusterReply) -> Reply
+pub fn told_as(call: &LoggedCall, note: u64, handle: u64, reply: ClusterReply) -> Told
     ensures { result ≡ told_as call.now note handle reply }
 {
     match reply {
-        ClusterReply::Table(reply) => table_reply(call, &reply),
+        ClusterReply::Table(reply) => Told::Scripted(table_reply(call, &reply)),
         ClusterReply::Task(reply) => task_reply(call, note, reply),
-        ClusterReply::Clerk(reply) => clerk_reply(call, reply),
-        ClusterReply::Phase(phase) => Reply::Phase(phase),
-        ClusterReply::Rows(rows) => Reply::Rows(rows),
-        ClusterReply::Verdict(verdict) => Reply::Verdict(verdict),
-        ClusterReply::Holding(made) => Reply::Holding {
+        ClusterReply::Clerk(reply) => Told::Scripted(clerk_reply(call, reply)),
+        ClusterReply::Phase(phase) => Told::Scripted(Reply::Phase(phase)),
+        ClusterReply::Rows(rows) => Told::Scripted(Reply::Rows(rows)),
+        ClusterReply::Verdict(verdict) => Told::Scripted(Reply::Verdict(verdict)),
+        ClusterReply::Holding(made) => Told::Scripted(Reply::Holding {
             number: handle,
             handle: made,
-        },
-        ClusterReply::Continuous => Reply::Continuous,
-        ClusterReply::Broken => Reply::Broken,
-        ClusterReply::Found(found) => Reply::Found(found),
-        ClusterReply::Refused(why) => Reply::Refused(refusal_by(why)),
+        }),
+        ClusterReply::Continuous => Told::Scripted(Reply::Continuous),
+        ClusterReply::Broken => Told::Scripted(Reply::Broken),
+        ClusterReply::Found(found) => Told::Scripted(Reply::Found(found)),
+        ClusterReply::Refused(why) => Told::Scripted(Reply::Refused(refusal_by(why))),
+    }
+}
+
+/// Displays the line of a reply.
+#[derive(Clone, Copy)]
+pub struct ToldLine<'a>(pub &'a Told);
+
+impl fmt::Display for ToldLine<'_> {
+    ghost output = { λ l. Some (words_of l.0.now) };
+
+    fn fmt<W: fmt::Write>(&self, f: &mut fmt::Formatter<W>) -> fmt::Result {
+        match self.0 {
+            Told::Scripted(reply) => write!(f, "{}", Line(reply)),
+            Told::Opened(life) => write!(f, "opened {life}"),
+        }
     }
 }
 
 /// Displays the line of a reply, without the numbers of notes and handles.
 #[derive(Clone, Copy)]
-pub struct PlainLine<'a>(pub &'a Reply);
+pub struct PlainLine<'a>(pub &'a Told);
 
 impl fmt::Display for PlainLine<'_> {
     ghost output = { λ l. Some (plain_text l.0.now) };
 
     fn fmt<W: fmt::Write>(&self, f: &mut fmt::Formatter<W>) -> fmt::Result {
         match self.0 {
-            Reply::Released { note, .. } => {
+            Told::Scripted(Reply::Released { note, .. }) => {
                 write!(f, "released life {} number {}", note.life, note.number)
             }
-            Reply::Holding { handle, .. } => {
+            Told::Scripted(Reply::Holding { handle, .. }) => {
                 write!(
                     f,
                     "handle life {} position {}",
                     handle.life, handle.position
                 )
             }
-            told => write!(f, "{}", Line(told)),
+            told => write!(f, "{}", ToldLine(told)),
         }
     }
 }
 
 /// Whether words are the line of a reply, with or without the numbers of notes and handles.
-pub fn is_worded(alloc: Global, words: &str, told: &Reply) -> Result<bool, AllocError>
+pub fn is_worded(alloc: Global, words: &str, told: &Told) -> Result<bool, AllocError>
     ensures { IfOk result (λ same. same ≡ is_worded words.now told.now) }
 {
-    let line = format!(in alloc; "{}", Line(told))?;
+    let line = format!(in alloc; "{}", ToldLine(told))?;
     if words == line.as_str() {
         return Ok(true);
     }

@@ -12,7 +12,7 @@ use std::alloc::Global;
 use std::fs;
 use std::rt::Files;
 
-const NAMES: [&str; 87] = [
+const NAMES: [&str; 91] = [
     "help",
     "help-of-run",
     "help-of-session",
@@ -86,6 +86,10 @@ const NAMES: [&str; 87] = [
     "audit-words-with-escapes",
     "audit-call-of-201-characters",
     "audit-member-with-escapes",
+    "audit-begun-anew",
+    "audit-begun-anew-unsaid",
+    "audit-begun-anew-with-its-clock",
+    "audit-open-with-a-reading",
     "help-of-audit",
     "explain-a-commit-that-is-held-up",
     "explain-broken-handles",
