@@ -1,0 +1,4 @@
+pub mod TableLines
+pub mod TableTurns
+pub mod TableTalks
+pub mod TableLives
