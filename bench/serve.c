@@ -7,6 +7,7 @@
 #include <stdlib.h>
 #include <string.h>
 
+#define JOB (const uint8_t *)"", 0
 #define KEYS ((uint64_t)1 << 63)
 
 /* The message of a guard until reading 1000, for task 1. */
@@ -30,7 +31,7 @@ static void begin(struct hs_place *place, uint64_t ranges) {
     struct hs_told told = {0};
     size_t length = 0;
     char *grant = grant_of(ranges, &length);
-    if (hs_place_new(place) || hs_slicelet_open(place, 1) || hs_slicelet_start(place, 1, 0) ||
+    if (hs_place_new(place) || hs_slicelet_open(place, JOB, 1) || hs_slicelet_start(place, 1, 0) ||
         hs_slicelet_hear(place, (const uint8_t *)grant, length, 1, &told))
         exit(1);
     free(grant);

@@ -6,10 +6,11 @@
  *   - a table, which gives out the leases of a job and commits its assignments;
  *   - an assigner, which keeps a term of the job lease;
  *   - a session, which is a whole job, played step by step in the words of scripts.
- * Readings are those of the caller's own clock, in ticks. Grants, notes and assignments are
- * messages: bytes of JSON, as they go over the network (docs/FORMATS.md). docs/CONCEPTS.md explains
- * the terms, and docs/BINDINGS.md says how to build, link and call. A clock has no place: it is a
- * struct, which the caller keeps.
+ * Readings are those of the caller's own clock, in ticks. Grants, notes, assignments and kept values
+ * are messages: bytes of JSON, as they go over the network (docs/FORMATS.md). A message names its
+ * job, and a slicelet, a clerk or a table writes and reads only those of the job that it was opened
+ * for. docs/CONCEPTS.md explains the terms, and docs/BINDINGS.md says how to build, link and call. A
+ * clock has no place: it is a struct, which the caller keeps.
  *
  * Every function but hs_library_version, hs_slice_key and hs_place_free returns a code of hs_code:
  * 0 if the call is done, positive if it is refused, negative if an argument cannot be used or
@@ -36,8 +37,11 @@
  *   - A pointer to bytes, numbers or rows is not null, even at length 0, and its length is true.
  *     Every other pointer is to a value of its type. Each is aligned for its type, and no two
  *     pointers of a call overlap. What a call only writes need not hold a value.
- *   - One call at a time is made on a place or a clock, on any thread. Two places or clocks share
- *     nothing that needs a lock.
+ *   - A function that takes a `const struct hs_place *` only reads. Any number of such calls may be
+ *     made on one place at the same time, on any threads. Every other call on a place, and every
+ *     call on a clock, is made alone: no other call on it runs at that time, and the threads are
+ *     synchronised, as by a lock. A read-write lock of your own does it, which is taken for reading
+ *     by the first kind of calls. Two places or clocks share nothing that needs a lock.
  *   - malloc, realloc and free belong to one allocator, whose blocks are aligned to each power of
  *     two up to 16 that divides their size. No call comes from a signal handler, nor from the
  *     forked child of a program with threads.
@@ -45,10 +49,13 @@
  * The laws about who may serve a key rest on the following, which nothing checks either:
  *   - A life is above every life that the task ever started, in earlier processes too. Store it.
  *   - A grant that is heard was made by the table of this job, and a note that is freed by a
- *     slicelet of this job. They name no job and no sender: a forged grant is heard.
- *   - A job has one table, which is opened once.
- *   - Threads that share a slicelet hold its lock from hs_slicelet_serve until the answer is given
- *     or the write is done.
+ *     slicelet of this job. They name their job, but no sender: a forged grant is heard. Jobs that
+ *     share a transport have different names.
+ *   - A job has one table at a time. It is opened once. From then on it is restored from the values
+ *     that it kept: save what hs_table_kept writes before the reply to a call that changed it leaves
+ *     the process.
+ *   - Threads that share a slicelet hold its lock, for reading, from hs_slicelet_serve until the
+ *     answer is given or the write is done.
  *   - Clocks are timely: no reading of the table's clock is more than the skew ahead of a later
  *     reading of a task's clock. All readings of a job are in one unit. Clocks that are within the
  *     skew of each other are timely. So are values of hs_task_clock_read, even with a skew of 0, if
@@ -131,6 +138,18 @@ enum hs_code {
     HS_TOO_LARGE = 37,  /* the value would be 2^64 or more */
     HS_NOT_YET = 38,    /* the table's clock is below the value that was kept, clock->kept */
 
+    /* Why kept values restore no table; also HS_READING_RANGE of the last reading,
+     * HS_TOO_MANY_OWNERS_FOR_JOB, and HS_NO_ASSIGNMENT, if grants were made without one. */
+    HS_OTHER_POLICY = 39,    /* they are of a table with another policy */
+    HS_NO_TERM = 40,         /* there is an assignment, but no term of the job lease was given */
+    HS_TERM_RANGE = 41,      /* the term has number 0 or a number above its end, or ends more than a
+                                job lease lasts after the last reading */
+    HS_KEPT_GENERATION = 42, /* the committed generation is 0, or the proposed one is not the next */
+    HS_TOO_MANY_GRANTS = 43, /* the table made more grants than the policy allows */
+    HS_DEADLINE_RANGE = 44,  /* the greatest deadline is 0 although grants were made, is above 0
+                                although none was, or is further after the last reading than a lease
+                                lasts */
+
     HS_NO_MEMORY = -1, /* out of memory */
     HS_NO_ROOM = -2,   /* the buffer is shorter than `needed`: call again with a longer one; after
                           hs_session_answer, call hs_session_last */
@@ -156,8 +175,146 @@ enum hs_code {
     HS_TOO_MANY_SLICES = -17, /* an assignment has more than 1,024 slices */
 
     HS_OTHER_PLACE = -18, /* the place does not hold the kind of object that the function is for */
-    HS_NO_JOB = -19       /* the line is not a job line */
+    HS_NO_JOB = -19,      /* the line is not a job line */
+    HS_OTHER_JOB = -20    /* the message is of another job */
 };
+
+/* Returns the name of a code, such as "HS_DONE", or "unknown" if this header has no such code. */
+static inline const char *hs_code_name(int32_t code) {
+    switch ((enum hs_code)code) {
+    case HS_DONE:
+        return "HS_DONE";
+    case HS_DOWN:
+        return "HS_DOWN";
+    case HS_CLOCK_BACK:
+        return "HS_CLOCK_BACK";
+    case HS_ENDED:
+        return "HS_ENDED";
+    case HS_NOT_OWNED:
+        return "HS_NOT_OWNED";
+    case HS_NO_LEASE:
+        return "HS_NO_LEASE";
+    case HS_NOT_STARTED:
+        return "HS_NOT_STARTED";
+    case HS_OLD_LIFE:
+        return "HS_OLD_LIFE";
+    case HS_OTHER_TASK:
+        return "HS_OTHER_TASK";
+    case HS_OTHER_LIFE:
+        return "HS_OTHER_LIFE";
+    case HS_OLD:
+        return "HS_OLD";
+    case HS_TOO_LATE:
+        return "HS_TOO_LATE";
+    case HS_NOTHING_HELD:
+        return "HS_NOTHING_HELD";
+    case HS_HISTORY_FULL:
+        return "HS_HISTORY_FULL";
+    case HS_BROKEN:
+        return "HS_BROKEN";
+    case HS_STRANGER:
+        return "HS_STRANGER";
+    case HS_READING_RANGE:
+        return "HS_READING_RANGE";
+    case HS_JOB_HELD:
+        return "HS_JOB_HELD";
+    case HS_NOT_HOLDER:
+        return "HS_NOT_HOLDER";
+    case HS_STALE_BASE:
+        return "HS_STALE_BASE";
+    case HS_PENDING:
+        return "HS_PENDING";
+    case HS_NOTHING_PENDING:
+        return "HS_NOTHING_PENDING";
+    case HS_TOO_MANY_OWNERS_FOR_JOB:
+        return "HS_TOO_MANY_OWNERS_FOR_JOB";
+    case HS_GRACE:
+        return "HS_GRACE";
+    case HS_HELD:
+        return "HS_HELD";
+    case HS_NO_ROW:
+        return "HS_NO_ROW";
+    case HS_NO_ASSIGNMENT:
+        return "HS_NO_ASSIGNMENT";
+    case HS_NUMBERS_SPENT:
+        return "HS_NUMBERS_SPENT";
+    case HS_OLD_GENERATION:
+        return "HS_OLD_GENERATION";
+    case HS_UNKNOWN:
+        return "HS_UNKNOWN";
+    case HS_NOT_ADOPTED:
+        return "HS_NOT_ADOPTED";
+    case HS_NO_TASKS:
+        return "HS_NO_TASKS";
+    case HS_LOADS_LENGTH:
+        return "HS_LOADS_LENGTH";
+    case HS_LOAD_RANGE:
+        return "HS_LOAD_RANGE";
+    case HS_SENT_AHEAD:
+        return "HS_SENT_AHEAD";
+    case HS_NO_SAMPLE:
+        return "HS_NO_SAMPLE";
+    case HS_TOO_OLD:
+        return "HS_TOO_OLD";
+    case HS_TOO_LARGE:
+        return "HS_TOO_LARGE";
+    case HS_NOT_YET:
+        return "HS_NOT_YET";
+    case HS_OTHER_POLICY:
+        return "HS_OTHER_POLICY";
+    case HS_NO_TERM:
+        return "HS_NO_TERM";
+    case HS_TERM_RANGE:
+        return "HS_TERM_RANGE";
+    case HS_KEPT_GENERATION:
+        return "HS_KEPT_GENERATION";
+    case HS_TOO_MANY_GRANTS:
+        return "HS_TOO_MANY_GRANTS";
+    case HS_DEADLINE_RANGE:
+        return "HS_DEADLINE_RANGE";
+    case HS_NO_MEMORY:
+        return "HS_NO_MEMORY";
+    case HS_NO_ROOM:
+        return "HS_NO_ROOM";
+    case HS_NOT_JSON:
+        return "HS_NOT_JSON";
+    case HS_VERSION:
+        return "HS_VERSION";
+    case HS_OTHER_TYPE:
+        return "HS_OTHER_TYPE";
+    case HS_WRONG_FORM:
+        return "HS_WRONG_FORM";
+    case HS_PAST_END:
+        return "HS_PAST_END";
+    case HS_UNSORTED:
+        return "HS_UNSORTED";
+    case HS_EMPTY:
+        return "HS_EMPTY";
+    case HS_NO_SLICES:
+        return "HS_NO_SLICES";
+    case HS_FIRST_NOT_ZERO:
+        return "HS_FIRST_NOT_ZERO";
+    case HS_NOT_RISING:
+        return "HS_NOT_RISING";
+    case HS_NO_OWNER:
+        return "HS_NO_OWNER";
+    case HS_TOO_MANY_OWNERS:
+        return "HS_TOO_MANY_OWNERS";
+    case HS_OWNER_TWICE:
+        return "HS_OWNER_TWICE";
+    case HS_BAD_TASK:
+        return "HS_BAD_TASK";
+    case HS_TOO_MANY_SLICES:
+        return "HS_TOO_MANY_SLICES";
+    case HS_OTHER_PLACE:
+        return "HS_OTHER_PLACE";
+    case HS_NO_JOB:
+        return "HS_NO_JOB";
+    case HS_OTHER_JOB:
+        return "HS_OTHER_JOB";
+    }
+    return "unknown";
+}
 
 /* Kinds of leases. */
 enum hs_kind { HS_GUARD = 1, HS_BRIDGE = 2 };
@@ -309,20 +466,24 @@ int32_t hs_session_close(struct hs_place *place);
 
 /* Slicelets. ------------------------------------------------------------------------------------------------------ */
 
-/* Creates a new slicelet in `place`, destroying what was there; `task` is 1 to 64.
+/* Creates a new slicelet of a job in `place`, destroying what was there. `job` is the name of the
+ * job, at most 64 bytes of UTF-8: grants of another job are HS_OTHER_JOB, and notes are written for
+ * this one. The empty name also reads messages of version 1, which name no job. `task` is 1 to 64.
  * HS_WRONG_FORM. */
-int32_t hs_slicelet_open(struct hs_place *place, uint64_t task);
+int32_t hs_slicelet_open(struct hs_place *place, const uint8_t *job, size_t job_len, uint64_t task);
 
-/* Creates the slicelet of a task's new process in `place`, destroying what was there. `life` is the
- * greatest life that the task ever started, or a greater one: only lives above it are started, and
- * each handle of an earlier process is HS_STRANGER. Never call it beside a process of the task that
- * may still run: two processes could serve one key. HS_WRONG_FORM. */
-int32_t hs_slicelet_resume(struct hs_place *place, uint64_t task, uint32_t life);
+/* Creates the slicelet of a task's new process in `place`, destroying what was there; `job` is as in
+ * hs_slicelet_open. `life` is the greatest life that the task ever started, or a greater one: only
+ * lives above it are started, and each handle of an earlier process is HS_STRANGER. Never call it
+ * beside a process of the task that may still run: two processes could serve one key.
+ * HS_WRONG_FORM. */
+int32_t hs_slicelet_resume(struct hs_place *place, const uint8_t *job, size_t job_len, uint64_t task, uint32_t life);
 
-/* Writes the message of the note that gives back all leases of a kind of a life that ended with its
- * process, so that the table need not wait until they end. No process of the task in this life may
- * still run. HS_WRONG_FORM, then HS_NO_ROOM or HS_NO_MEMORY. */
-int32_t hs_ended_note(uint64_t task, uint32_t life, uint32_t kind, uint8_t *out, size_t out_len, size_t *needed);
+/* Writes the message of the note of a job that gives back all leases of a kind of a life that ended
+ * with its process, so that the table need not wait until they end. No process of the task in this
+ * life may still run. HS_WRONG_FORM, then HS_NO_ROOM or HS_NO_MEMORY. */
+int32_t hs_ended_note(const uint8_t *job, size_t job_len, uint64_t task, uint32_t life, uint32_t kind, uint8_t *out,
+                      size_t out_len, size_t *needed);
 
 /* Starts a life of the task, which holds no lease yet. Takes no memory. HS_OLD_LIFE, HS_CLOCK_BACK,
  * HS_HISTORY_FULL. */
@@ -342,63 +503,76 @@ int32_t hs_slicelet_release(struct hs_place *place, uint32_t kind, uint64_t at, 
 
 /* Whether the task may serve a key now: HS_DONE, with told.kind and told.generation of the lease,
  * or HS_DOWN, HS_CLOCK_BACK, HS_ENDED, HS_NOT_OWNED, HS_NO_LEASE. Takes no memory. */
-int32_t hs_slicelet_serve(struct hs_place *place, const uint8_t *key, size_t key_len, uint64_t at,
+int32_t hs_slicelet_serve(const struct hs_place *place, const uint8_t *key, size_t key_len, uint64_t at,
                           struct hs_told *told);
 
 /* The same by slice key, for a caller that keeps the slice keys of its keys: most of hs_slicelet_serve
  * is the hash of the key. HS_WRONG_FORM if no key has this slice key, which is 2^63 or more. */
-int32_t hs_slicelet_serve_at(struct hs_place *place, uint64_t slice_key, uint64_t at, struct hs_told *told);
+int32_t hs_slicelet_serve_at(const struct hs_place *place, uint64_t slice_key, uint64_t at, struct hs_told *told);
 
 /* Takes a handle on a key if the task may serve it, and leaves `told` unchanged; otherwise returns
  * the code of hs_slicelet_serve. Takes no memory. */
-int32_t hs_slicelet_hold(struct hs_place *place, const uint8_t *key, size_t key_len, uint64_t at,
+int32_t hs_slicelet_hold(const struct hs_place *place, const uint8_t *key, size_t key_len, uint64_t at,
                          struct hs_key_handle *out, struct hs_told *told);
 
 /* The same by slice key, as hs_slicelet_serve_at. HS_WRONG_FORM, also if no key has this slice key. */
-int32_t hs_slicelet_hold_at(struct hs_place *place, uint64_t slice_key, uint64_t at, struct hs_key_handle *out,
+int32_t hs_slicelet_hold_at(const struct hs_place *place, uint64_t slice_key, uint64_t at, struct hs_key_handle *out,
                             struct hs_told *told);
 
 /* Whether the task has held the key of a handle without a break since it took the handle, and may
  * serve it now. HS_WRONG_FORM, HS_STRANGER, HS_BROKEN. Takes no memory. */
-int32_t hs_slicelet_check(struct hs_place *place, const struct hs_key_handle *handle, uint64_t at);
+int32_t hs_slicelet_check(const struct hs_place *place, const struct hs_key_handle *handle, uint64_t at);
 
 /* Writes the lease of a kind that the task holds, which may have ended. HS_WRONG_FORM,
  * HS_NOTHING_HELD. Takes no memory. */
-int32_t hs_slicelet_held(struct hs_place *place, uint32_t kind, struct hs_held_lease *out);
+int32_t hs_slicelet_held(const struct hs_place *place, uint32_t kind, struct hs_held_lease *out);
 
 /* Writes what the task does next about its leases, an hs_task_action, in a phase of the table:
  * starts a life; asks for a lease of the phase, if it holds none that is live; gives up the lease of
  * the other kind, which delays the next commit; or nothing. It does not ask before a lease ends: ask
  * before that, by `until` of hs_slicelet_held. HS_WRONG_FORM if `proposed` is neither 0 nor
  * `committed` + 1. Takes no memory. */
-int32_t hs_slicelet_next(struct hs_place *place, const struct hs_phase *phase, uint64_t at, uint32_t *action);
+int32_t hs_slicelet_next(const struct hs_place *place, const struct hs_phase *phase, uint64_t at, uint32_t *action);
 
 /* Writes how many more calls of hs_slicelet_start, _hear and _release are accepted before
  * HS_HISTORY_FULL. */
-int32_t hs_slicelet_calls_left(struct hs_place *place, uint64_t *left);
+int32_t hs_slicelet_calls_left(const struct hs_place *place, uint64_t *left);
 
 /* Clerks. --------------------------------------------------------------------------------------------------------- */
 
-/* Creates a new clerk in `place`, destroying what was there. It keeps no assignment. */
-int32_t hs_clerk_open(struct hs_place *place);
+/* Creates a new clerk of a job in `place`, destroying what was there; `job` is as in
+ * hs_slicelet_open. It keeps no assignment. HS_WRONG_FORM. */
+int32_t hs_clerk_open(struct hs_place *place, const uint8_t *job, size_t job_len);
 
 /* Keeps an assignment, given as its message. Message codes, then HS_OLD_GENERATION,
  * HS_NO_MEMORY. */
 int32_t hs_clerk_learn(struct hs_place *place, const uint8_t *assignment, size_t assignment_len, struct hs_told *told);
 
 /* Writes the owners of a key in the kept assignment. HS_UNKNOWN. Takes no memory. */
-int32_t hs_clerk_look(struct hs_place *place, const uint8_t *key, size_t key_len, struct hs_owners *out);
+int32_t hs_clerk_look(const struct hs_place *place, const uint8_t *key, size_t key_len, struct hs_owners *out);
 
 /* The same by slice key. HS_WRONG_FORM if no key has this slice key, HS_UNKNOWN. */
-int32_t hs_clerk_look_at(struct hs_place *place, uint64_t slice_key, struct hs_owners *out);
+int32_t hs_clerk_look_at(const struct hs_place *place, uint64_t slice_key, struct hs_owners *out);
 
 /* Forgets the kept assignment. */
 int32_t hs_clerk_forget(struct hs_place *place);
 
 /* Tables. --------------------------------------------------------------------------------------------------------- */
 
-/* Creates a new table with a policy in `place`, destroying what was there. HS_WRONG_FORM. */
-int32_t hs_table_open(struct hs_place *place, const struct hs_policy *policy);
+/* Creates a new table of a job, with a policy, in `place`, destroying what was there; `job` is as in
+ * hs_slicelet_open. HS_WRONG_FORM. */
+int32_t hs_table_open(struct hs_place *place, const uint8_t *job, size_t job_len, const struct hs_policy *policy);
+
+/* Writes the message of the kept values of the table: all of it but its rows. Save it before the
+ * reply to a call that changed the table leaves the process. HS_NO_ROOM or HS_NO_MEMORY. */
+int32_t hs_table_kept(const struct hs_place *place, uint8_t *out, size_t out_len, size_t *needed);
+
+/* Restores the table of a job from its kept values, given as their message, in `place`, destroying
+ * what was there. It is the table that kept them, as hs_table_restart leaves it. HS_WRONG_FORM,
+ * message codes, HS_OTHER_POLICY, HS_READING_RANGE, HS_NO_TERM, HS_TERM_RANGE, HS_KEPT_GENERATION,
+ * HS_TOO_MANY_OWNERS_FOR_JOB, HS_NO_ASSIGNMENT, HS_TOO_MANY_GRANTS, HS_DEADLINE_RANGE. */
+int32_t hs_table_restore(struct hs_place *place, const uint8_t *job, size_t job_len, const struct hs_policy *policy,
+                         const uint8_t *kept, size_t kept_len, struct hs_told *told);
 
 /* Gives the job lease to an assigner, and writes its term. HS_WRONG_FORM if `assigner` is 0,
  * HS_READING_RANGE, HS_CLOCK_BACK, HS_JOB_HELD. */
@@ -437,15 +611,15 @@ int32_t hs_table_free(struct hs_place *place, const uint8_t *note, size_t note_l
 int32_t hs_table_restart(struct hs_place *place, uint64_t *lost);
 
 /* Writes the phase of the table. */
-int32_t hs_table_phase(struct hs_place *place, struct hs_phase *out);
+int32_t hs_table_phase(const struct hs_place *place, struct hs_phase *out);
 
 /* Writes the rows that have not ended at the last accepted reading, in grant order; *needed is how
  * many. HS_NO_ROOM or HS_NO_MEMORY. */
-int32_t hs_table_rows(struct hs_place *place, struct hs_row *out, size_t out_len, size_t *needed);
+int32_t hs_table_rows(const struct hs_place *place, struct hs_row *out, size_t out_len, size_t *needed);
 
 /* Writes the message of the committed assignment. HS_NO_ASSIGNMENT, then HS_NO_ROOM or
  * HS_NO_MEMORY. */
-int32_t hs_table_committed(struct hs_place *place, uint8_t *out, size_t out_len, size_t *needed);
+int32_t hs_table_committed(const struct hs_place *place, uint8_t *out, size_t out_len, size_t *needed);
 
 /* Assigners. ------------------------------------------------------------------------------------------------------ */
 
@@ -463,16 +637,16 @@ int32_t hs_assigner_restart(struct hs_place *place);
 /* Writes what to do next, an hs_action, and the number of the kept term, 0 for none. `wanted` is
  * not 0 if another assignment is wanted. HS_WRONG_FORM if `proposed` is neither 0 nor
  * `committed` + 1. */
-int32_t hs_assigner_next(struct hs_place *place, uint64_t at, const struct hs_phase *phase, uint32_t wanted,
+int32_t hs_assigner_next(const struct hs_place *place, uint64_t at, const struct hs_phase *phase, uint32_t wanted,
                          uint32_t *action, uint64_t *number);
 
 /* Plans the assignment of the next generation for `tasks`, which rise strictly, from a load of each
- * slice of `assignment`, and writes its message. Message codes, then HS_WRONG_FORM (also if there
- * is no next generation), HS_NO_TASKS, HS_LOADS_LENGTH, HS_LOAD_RANGE, then HS_NO_ROOM or
- * HS_NO_MEMORY. */
-int32_t hs_plan(const uint8_t *assignment, size_t assignment_len, const uint64_t *loads, size_t loads_len,
-                const uint64_t *tasks, size_t tasks_len, const struct hs_plan_policy *policy, uint8_t *out,
-                size_t out_len, size_t *needed);
+ * slice of `assignment`, and writes its message. Both are messages of the job. HS_WRONG_FORM if `job`
+ * is not the name of a job, message codes, then HS_WRONG_FORM (also if there is no next generation),
+ * HS_NO_TASKS, HS_LOADS_LENGTH, HS_LOAD_RANGE, then HS_NO_ROOM or HS_NO_MEMORY. */
+int32_t hs_plan(const uint8_t *job, size_t job_len, const uint8_t *assignment, size_t assignment_len,
+                const uint64_t *loads, size_t loads_len, const uint64_t *tasks, size_t tasks_len,
+                const struct hs_plan_policy *policy, uint8_t *out, size_t out_len, size_t *needed);
 
 /* Clocks. --------------------------------------------------------------------------------------------------------- */
 
@@ -527,13 +701,13 @@ int32_t hs_table_clock_open(struct hs_table_clock *clock, uint64_t kept, uint64_
  * HS_TOO_LARGE, HS_NOT_YET: for at most `ahead` ticks after hs_table_clock_open. */
 int32_t hs_table_clock_read(struct hs_table_clock *clock, uint64_t now, uint64_t *out);
 
-/* Writes 1 if a grant, given as its message, shows at the reading `at` of its task that clocks are
- * not timely: it was made at a reading of the table that is more than the skew above `at`.
+/* Writes 1 if a grant of a job, given as its message, shows at the reading `at` of its task that
+ * clocks are not timely: it was made at a reading of the table that is more than the skew above `at`.
  * Otherwise writes 0, which shows nothing. `policy` is that of the table. Needs no place, and the
- * grant need not be heard. HS_WRONG_FORM if a number of the policy is outside its limits, then
- * message codes. */
-int32_t hs_clock_evidence(const uint8_t *grant, size_t grant_len, uint64_t at, const struct hs_policy *policy,
-                          uint32_t *out);
+ * grant need not be heard. HS_WRONG_FORM if `job` is not the name of a job or a number of the policy
+ * is outside its limits, then message codes. */
+int32_t hs_clock_evidence(const uint8_t *job, size_t job_len, const uint8_t *grant, size_t grant_len, uint64_t at,
+                          const struct hs_policy *policy, uint32_t *out);
 
 /* Sessions. ------------------------------------------------------------------------------------------------------- */
 
@@ -550,7 +724,7 @@ int32_t hs_session_answer(struct hs_place *place, const uint8_t *line, size_t li
 
 /* Writes the last reply of hs_session_answer, even one that found no room; nothing before the
  * first. HS_NO_ROOM. */
-int32_t hs_session_last(struct hs_place *place, uint8_t *out, size_t out_len, size_t *needed);
+int32_t hs_session_last(const struct hs_place *place, uint8_t *out, size_t out_len, size_t *needed);
 
 #ifdef __cplusplus
 }

@@ -118,7 +118,7 @@ uint64_t table_state(struct hs_place *place) {
 
 struct hs_place serving_task(void) {
     struct hs_place task = new_place();
-    IS(hs_slicelet_open(&task, 2), HS_DONE);
+    IS(hs_slicelet_open(&task, JOB, 2), HS_DONE);
     IS(hs_slicelet_start(&task, 1, 3), HS_DONE);
     IS(hear(&task, GRANT("guard", "1", "7", ALL_KEYS, "2"), 5), HS_DONE);
     return task;
@@ -126,7 +126,7 @@ struct hs_place serving_task(void) {
 
 struct hs_place knowing_clerk(void) {
     struct hs_place clerk = new_place();
-    IS(hs_clerk_open(&clerk), HS_DONE);
+    IS(hs_clerk_open(&clerk, JOB), HS_DONE);
     IS(learn(&clerk, ASSIGNMENT("1", HALVES)), HS_DONE);
     return clerk;
 }
@@ -134,7 +134,7 @@ struct hs_place knowing_clerk(void) {
 struct hs_place steady_table(void) {
     struct hs_place table = new_place();
     struct hs_job_term term = {0, 0, 0};
-    IS(hs_table_open(&table, &policy), HS_DONE);
+    IS(hs_table_open(&table, JOB, &policy), HS_DONE);
     IS(hs_table_take(&table, 1, 0, &term, fresh_told()), HS_DONE);
     IS(propose(&table, 1, ASSIGNMENT("1", HALVES), 1), HS_DONE);
     IS(hs_table_commit(&table, 1, 2, fresh_told()), HS_DONE);

@@ -4,8 +4,8 @@
 #include <stdio.h>
 #include <stdlib.h>
 
-#define LOWEST HS_NO_JOB
-#define HIGHEST HS_NOT_YET
+#define LOWEST HS_OTHER_JOB
+#define HIGHEST HS_DEADLINE_RANGE
 
 const struct hs_policy policy = {
     .low = 1, .high = 1, .skew = 10, .guard = 100, .bridge = 200, .job = 1000, .numbers = 1000};
@@ -74,6 +74,9 @@ int main(void) {
     check("clocks", check_clocks);
     check("sessions", check_sessions);
     check("memory", check_memory);
+    check("readers", check_readers);
+    check("jobs", check_jobs);
+    check("kept values", check_keeping);
     for (int32_t code = LOWEST; code <= HIGHEST; code++) {
         if (!was_seen[code - LOWEST])
             printf("code %d was never returned\n", (int)code);

@@ -18,15 +18,26 @@
         told = told_then;                                                                                              \
     } while (0)
 
+/* The name of the job of most checks, which is empty: it reads messages of version 1, which name no job. */
+#define JOB (const uint8_t *)"", 0
+/* A message of version 1. The library writes version 2, in which numbers that may be 2^53 or more are texts. */
 #define MESSAGE(type, members) "{\"type\":\"" type "\",\"value\":{" members "},\"version\":1}"
 #define GRANT(kind, life, number, ranges, task)                                                                        \
     MESSAGE("grant", "\"ends\":95,\"generation\":3,\"kind\":\"" kind "\",\"life\":" life ",\"number\":" number         \
                      ",\"ranges\":" ranges ",\"task\":" task ",\"until\":105")
+#define WRITTEN_OF(job, type, members)                                                                                 \
+    "{\"job\":\"" job "\",\"type\":\"" type "\",\"value\":{" members "},\"version\":2}"
+#define WRITTEN_MESSAGE(type, members) WRITTEN_OF("", type, members)
+#define WRITTEN_NOTE(kind, life, number, task)                                                                         \
+    WRITTEN_MESSAGE("note", "\"kind\":\"" kind "\",\"life\":" life ",\"number\":\"" number "\",\"task\":" task)
+#define WRITTEN_ASSIGNMENT(generation, slices)                                                                         \
+    WRITTEN_MESSAGE("assignment", "\"generation\":\"" generation "\",\"slices\":" slices)
 #define NOTE(kind, life, number, task)                                                                                 \
     MESSAGE("note", "\"kind\":\"" kind "\",\"life\":" life ",\"number\":" number ",\"task\":" task)
 #define ASSIGNMENT(generation, slices) MESSAGE("assignment", "\"generation\":" generation ",\"slices\":" slices)
 
 #define ALL_KEYS "[[0,9223372036854775808]]"
+#define WRITTEN_HALVES "[[\"0\",[1]],[\"4611686018427387904\",[2]]]"
 #define HALVES "[[0,[1]],[4611686018427387904,[2]]]"
 
 /* The key "hello" is in the lower half of the keys, "abc" in the upper one. */
@@ -65,6 +76,15 @@ extern size_t allocations;
 void refuse_allocation(size_t number);
 int was_refused(void);
 
+/* From set_memory_apart to protect_memory, every allocation is made in memory of its own of this many bytes, which
+ * begins with a block of `first` bytes. protect_memory sets how it may be accessed, as mprotect does. */
+void *set_memory_apart(size_t size, size_t first);
+void protect_memory(int protection);
+void drop_memory(void);
+int is_apart(const void *block);
+void *allocate_apart(size_t size);
+void *reallocate_apart(void *block, size_t size);
+
 /* Make a call with the text of a message, of which the library reads a copy of exactly its length. */
 int32_t hear(struct hs_place *place, const char *grant, uint64_t at);
 int32_t hear_bytes(struct hs_place *place, const char *grant, size_t length, uint64_t at);
@@ -98,5 +118,8 @@ void check_plans(void);
 void check_clocks(void);
 void check_sessions(void);
 void check_memory(void);
+void check_readers(void);
+void check_jobs(void);
+void check_keeping(void);
 
 #endif

@@ -89,7 +89,7 @@ static void keeps(struct hs_place *place) {
 
 void check_clerks(void) {
     struct hs_place place = new_place();
-    IS(hs_clerk_open(&place), HS_DONE);
+    IS(hs_clerk_open(&place, JOB), HS_DONE);
     unread(&place);
     refused_slices(&place);
     looks(&place);

@@ -291,7 +291,7 @@ static void table_edges(void) {
 static int32_t weigh_bytes(const char *grant, size_t length, uint64_t at, const struct hs_policy *by, uint32_t *out) {
     uint8_t *copy = block_of(grant, length);
     *out = UNTOLD;
-    int32_t code = hs_clock_evidence(copy, length, at, by, out);
+    int32_t code = hs_clock_evidence(JOB, copy, length, at, by, out);
     drop_block(copy);
     HOLDS(code == HS_DONE ? *out <= 1 : *out == UNTOLD);
     return code;

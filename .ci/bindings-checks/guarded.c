@@ -40,6 +40,8 @@ static int32_t returned(int32_t code) {
 #define WRITTEN(pointer) lend((pointer), (pointer), sizeof *(pointer))
 #define WRITTEN_ALL(pointer, count) lend((pointer), (pointer), (count) * sizeof *(pointer)), (count)
 #define PLACE WRITTEN(place)
+#define READ_PLACE READ(place)
+#define NAME READ_ALL(job, job_len)
 #define KEY READ_ALL(key, key_len)
 #define TOLD WRITTEN(told)
 #define OUT WRITTEN_ALL(out, out_len), WRITTEN(needed)
@@ -84,28 +86,31 @@ int32_t guarded_session_close(struct hs_place *place) {
     return returned(hs_session_close(PLACE));
 }
 
-int32_t guarded_slicelet_open(struct hs_place *place, uint64_t task) {
-    return returned(hs_slicelet_open(PLACE, task));
+int32_t guarded_slicelet_open(struct hs_place *place, const uint8_t *job, size_t job_len, uint64_t task) {
+    return returned(hs_slicelet_open(PLACE, NAME, task));
 }
 
-int32_t guarded_slicelet_resume(struct hs_place *place, uint64_t task, uint32_t life) {
-    return returned(hs_slicelet_resume(PLACE, task, life));
+int32_t guarded_slicelet_resume(struct hs_place *place, const uint8_t *job, size_t job_len, uint64_t task,
+                                uint32_t life) {
+    return returned(hs_slicelet_resume(PLACE, NAME, task, life));
 }
 
-int32_t guarded_ended_note(uint64_t task, uint32_t life, uint32_t kind, uint8_t *out, size_t out_len, size_t *needed) {
-    return returned(hs_ended_note(task, life, kind, OUT));
+int32_t guarded_ended_note(const uint8_t *job, size_t job_len, uint64_t task, uint32_t life, uint32_t kind,
+                           uint8_t *out, size_t out_len, size_t *needed) {
+    return returned(hs_ended_note(NAME, task, life, kind, OUT));
 }
 
-int32_t guarded_slicelet_held(struct hs_place *place, uint32_t kind, struct hs_held_lease *out) {
-    return returned(hs_slicelet_held(PLACE, kind, WRITTEN(out)));
+int32_t guarded_slicelet_held(const struct hs_place *place, uint32_t kind, struct hs_held_lease *out) {
+    return returned(hs_slicelet_held(READ_PLACE, kind, WRITTEN(out)));
 }
 
-int32_t guarded_slicelet_next(struct hs_place *place, const struct hs_phase *phase, uint64_t at, uint32_t *action) {
-    return returned(hs_slicelet_next(PLACE, READ(phase), at, WRITTEN(action)));
+int32_t guarded_slicelet_next(const struct hs_place *place, const struct hs_phase *phase, uint64_t at,
+                              uint32_t *action) {
+    return returned(hs_slicelet_next(READ_PLACE, READ(phase), at, WRITTEN(action)));
 }
 
-int32_t guarded_slicelet_calls_left(struct hs_place *place, uint64_t *left) {
-    return returned(hs_slicelet_calls_left(PLACE, WRITTEN(left)));
+int32_t guarded_slicelet_calls_left(const struct hs_place *place, uint64_t *left) {
+    return returned(hs_slicelet_calls_left(READ_PLACE, WRITTEN(left)));
 }
 
 int32_t guarded_slicelet_start(struct hs_place *place, uint32_t life, uint64_t at) {
@@ -122,31 +127,31 @@ int32_t guarded_slicelet_release(struct hs_place *place, uint32_t kind, uint64_t
     return returned(hs_slicelet_release(PLACE, kind, at, OUT));
 }
 
-int32_t guarded_slicelet_serve(struct hs_place *place, const uint8_t *key, size_t key_len, uint64_t at,
+int32_t guarded_slicelet_serve(const struct hs_place *place, const uint8_t *key, size_t key_len, uint64_t at,
                                struct hs_told *told) {
-    return returned(hs_slicelet_serve(PLACE, KEY, at, TOLD));
+    return returned(hs_slicelet_serve(READ_PLACE, KEY, at, TOLD));
 }
 
-int32_t guarded_slicelet_hold(struct hs_place *place, const uint8_t *key, size_t key_len, uint64_t at,
+int32_t guarded_slicelet_hold(const struct hs_place *place, const uint8_t *key, size_t key_len, uint64_t at,
                               struct hs_key_handle *out, struct hs_told *told) {
-    return returned(hs_slicelet_hold(PLACE, KEY, at, WRITTEN(out), TOLD));
+    return returned(hs_slicelet_hold(READ_PLACE, KEY, at, WRITTEN(out), TOLD));
 }
 
-int32_t guarded_slicelet_serve_at(struct hs_place *place, uint64_t slice_key, uint64_t at, struct hs_told *told) {
-    return returned(hs_slicelet_serve_at(PLACE, slice_key, at, TOLD));
+int32_t guarded_slicelet_serve_at(const struct hs_place *place, uint64_t slice_key, uint64_t at, struct hs_told *told) {
+    return returned(hs_slicelet_serve_at(READ_PLACE, slice_key, at, TOLD));
 }
 
-int32_t guarded_slicelet_hold_at(struct hs_place *place, uint64_t slice_key, uint64_t at, struct hs_key_handle *out,
-                                 struct hs_told *told) {
-    return returned(hs_slicelet_hold_at(PLACE, slice_key, at, WRITTEN(out), TOLD));
+int32_t guarded_slicelet_hold_at(const struct hs_place *place, uint64_t slice_key, uint64_t at,
+                                 struct hs_key_handle *out, struct hs_told *told) {
+    return returned(hs_slicelet_hold_at(READ_PLACE, slice_key, at, WRITTEN(out), TOLD));
 }
 
-int32_t guarded_slicelet_check(struct hs_place *place, const struct hs_key_handle *handle, uint64_t at) {
-    return returned(hs_slicelet_check(PLACE, READ(handle), at));
+int32_t guarded_slicelet_check(const struct hs_place *place, const struct hs_key_handle *handle, uint64_t at) {
+    return returned(hs_slicelet_check(READ_PLACE, READ(handle), at));
 }
 
-int32_t guarded_clerk_open(struct hs_place *place) {
-    return returned(hs_clerk_open(PLACE));
+int32_t guarded_clerk_open(struct hs_place *place, const uint8_t *job, size_t job_len) {
+    return returned(hs_clerk_open(PLACE, NAME));
 }
 
 int32_t guarded_clerk_learn(struct hs_place *place, const uint8_t *assignment, size_t assignment_len,
@@ -154,20 +159,29 @@ int32_t guarded_clerk_learn(struct hs_place *place, const uint8_t *assignment, s
     return returned(hs_clerk_learn(PLACE, READ_ALL(assignment, assignment_len), TOLD));
 }
 
-int32_t guarded_clerk_look(struct hs_place *place, const uint8_t *key, size_t key_len, struct hs_owners *out) {
-    return returned(hs_clerk_look(PLACE, KEY, WRITTEN(out)));
+int32_t guarded_clerk_look(const struct hs_place *place, const uint8_t *key, size_t key_len, struct hs_owners *out) {
+    return returned(hs_clerk_look(READ_PLACE, KEY, WRITTEN(out)));
 }
 
-int32_t guarded_clerk_look_at(struct hs_place *place, uint64_t slice_key, struct hs_owners *out) {
-    return returned(hs_clerk_look_at(PLACE, slice_key, WRITTEN(out)));
+int32_t guarded_clerk_look_at(const struct hs_place *place, uint64_t slice_key, struct hs_owners *out) {
+    return returned(hs_clerk_look_at(READ_PLACE, slice_key, WRITTEN(out)));
 }
 
 int32_t guarded_clerk_forget(struct hs_place *place) {
     return returned(hs_clerk_forget(PLACE));
 }
 
-int32_t guarded_table_open(struct hs_place *place, const struct hs_policy *policy) {
-    return returned(hs_table_open(PLACE, READ(policy)));
+int32_t guarded_table_open(struct hs_place *place, const uint8_t *job, size_t job_len, const struct hs_policy *policy) {
+    return returned(hs_table_open(PLACE, NAME, READ(policy)));
+}
+
+int32_t guarded_table_kept(const struct hs_place *place, uint8_t *out, size_t out_len, size_t *needed) {
+    return returned(hs_table_kept(READ_PLACE, OUT));
+}
+
+int32_t guarded_table_restore(struct hs_place *place, const uint8_t *job, size_t job_len, const struct hs_policy *policy,
+                              const uint8_t *kept, size_t kept_len, struct hs_told *told) {
+    return returned(hs_table_restore(PLACE, NAME, READ(policy), READ_ALL(kept, kept_len), TOLD));
 }
 
 int32_t guarded_table_take(struct hs_place *place, uint64_t assigner, uint64_t at, struct hs_job_term *out,
@@ -203,16 +217,16 @@ int32_t guarded_table_restart(struct hs_place *place, uint64_t *lost) {
     return returned(hs_table_restart(PLACE, WRITTEN(lost)));
 }
 
-int32_t guarded_table_phase(struct hs_place *place, struct hs_phase *out) {
-    return returned(hs_table_phase(PLACE, WRITTEN(out)));
+int32_t guarded_table_phase(const struct hs_place *place, struct hs_phase *out) {
+    return returned(hs_table_phase(READ_PLACE, WRITTEN(out)));
 }
 
-int32_t guarded_table_rows(struct hs_place *place, struct hs_row *out, size_t out_len, size_t *needed) {
-    return returned(hs_table_rows(PLACE, OUT));
+int32_t guarded_table_rows(const struct hs_place *place, struct hs_row *out, size_t out_len, size_t *needed) {
+    return returned(hs_table_rows(READ_PLACE, OUT));
 }
 
-int32_t guarded_table_committed(struct hs_place *place, uint8_t *out, size_t out_len, size_t *needed) {
-    return returned(hs_table_committed(PLACE, OUT));
+int32_t guarded_table_committed(const struct hs_place *place, uint8_t *out, size_t out_len, size_t *needed) {
+    return returned(hs_table_committed(READ_PLACE, OUT));
 }
 
 int32_t guarded_assigner_open(struct hs_place *place, uint64_t id, uint64_t job) {
@@ -227,15 +241,15 @@ int32_t guarded_assigner_restart(struct hs_place *place) {
     return returned(hs_assigner_restart(PLACE));
 }
 
-int32_t guarded_assigner_next(struct hs_place *place, uint64_t at, const struct hs_phase *phase, uint32_t wanted,
+int32_t guarded_assigner_next(const struct hs_place *place, uint64_t at, const struct hs_phase *phase, uint32_t wanted,
                               uint32_t *action, uint64_t *number) {
-    return returned(hs_assigner_next(PLACE, at, READ(phase), wanted, WRITTEN(action), WRITTEN(number)));
+    return returned(hs_assigner_next(READ_PLACE, at, READ(phase), wanted, WRITTEN(action), WRITTEN(number)));
 }
 
-int32_t guarded_plan(const uint8_t *assignment, size_t assignment_len, const uint64_t *loads, size_t loads_len,
-                     const uint64_t *tasks, size_t tasks_len, const struct hs_plan_policy *policy, uint8_t *out,
-                     size_t out_len, size_t *needed) {
-    return returned(hs_plan(READ_ALL(assignment, assignment_len), READ_ALL(loads, loads_len),
+int32_t guarded_plan(const uint8_t *job, size_t job_len, const uint8_t *assignment, size_t assignment_len,
+                     const uint64_t *loads, size_t loads_len, const uint64_t *tasks, size_t tasks_len,
+                     const struct hs_plan_policy *policy, uint8_t *out, size_t out_len, size_t *needed) {
+    return returned(hs_plan(NAME, READ_ALL(assignment, assignment_len), READ_ALL(loads, loads_len),
                             READ_ALL(tasks, tasks_len), READ(policy), OUT));
 }
 
@@ -260,9 +274,9 @@ int32_t guarded_table_clock_read(struct hs_table_clock *clock, uint64_t now, uin
     return returned(hs_table_clock_read(WRITTEN(clock), now, WRITTEN(out)));
 }
 
-int32_t guarded_clock_evidence(const uint8_t *grant, size_t grant_len, uint64_t at, const struct hs_policy *policy,
-                               uint32_t *out) {
-    return returned(hs_clock_evidence(READ_ALL(grant, grant_len), at, READ(policy), WRITTEN(out)));
+int32_t guarded_clock_evidence(const uint8_t *job, size_t job_len, const uint8_t *grant, size_t grant_len, uint64_t at,
+                               const struct hs_policy *policy, uint32_t *out) {
+    return returned(hs_clock_evidence(NAME, READ_ALL(grant, grant_len), at, READ(policy), WRITTEN(out)));
 }
 
 int32_t guarded_session_open(struct hs_place *place, const uint8_t *line, size_t line_len, uint32_t json) {
@@ -274,6 +288,6 @@ int32_t guarded_session_answer(struct hs_place *place, const uint8_t *line, size
     return returned(hs_session_answer(PLACE, READ_ALL(line, line_len), OUT));
 }
 
-int32_t guarded_session_last(struct hs_place *place, uint8_t *out, size_t out_len, size_t *needed) {
-    return returned(hs_session_last(PLACE, OUT));
+int32_t guarded_session_last(const struct hs_place *place, uint8_t *out, size_t out_len, size_t *needed) {
+    return returned(hs_session_last(READ_PLACE, OUT));
 }

@@ -13,32 +13,38 @@ int32_t guarded_clerk_close(struct hs_place *place);
 int32_t guarded_table_close(struct hs_place *place);
 int32_t guarded_assigner_close(struct hs_place *place);
 int32_t guarded_session_close(struct hs_place *place);
-int32_t guarded_slicelet_open(struct hs_place *place, uint64_t task);
-int32_t guarded_slicelet_resume(struct hs_place *place, uint64_t task, uint32_t life);
-int32_t guarded_ended_note(uint64_t task, uint32_t life, uint32_t kind, uint8_t *out, size_t out_len, size_t *needed);
-int32_t guarded_slicelet_held(struct hs_place *place, uint32_t kind, struct hs_held_lease *out);
-int32_t guarded_slicelet_next(struct hs_place *place, const struct hs_phase *phase, uint64_t at, uint32_t *action);
-int32_t guarded_slicelet_calls_left(struct hs_place *place, uint64_t *left);
+int32_t guarded_slicelet_open(struct hs_place *place, const uint8_t *job, size_t job_len, uint64_t task);
+int32_t guarded_slicelet_resume(struct hs_place *place, const uint8_t *job, size_t job_len, uint64_t task,
+                                uint32_t life);
+int32_t guarded_ended_note(const uint8_t *job, size_t job_len, uint64_t task, uint32_t life, uint32_t kind,
+                           uint8_t *out, size_t out_len, size_t *needed);
+int32_t guarded_slicelet_held(const struct hs_place *place, uint32_t kind, struct hs_held_lease *out);
+int32_t guarded_slicelet_next(const struct hs_place *place, const struct hs_phase *phase, uint64_t at,
+                              uint32_t *action);
+int32_t guarded_slicelet_calls_left(const struct hs_place *place, uint64_t *left);
 int32_t guarded_slicelet_start(struct hs_place *place, uint32_t life, uint64_t at);
 int32_t guarded_slicelet_hear(struct hs_place *place, const uint8_t *grant, size_t grant_len, uint64_t at,
                               struct hs_told *told);
 int32_t guarded_slicelet_release(struct hs_place *place, uint32_t kind, uint64_t at, uint8_t *out, size_t out_len,
                                  size_t *needed);
-int32_t guarded_slicelet_serve(struct hs_place *place, const uint8_t *key, size_t key_len, uint64_t at,
+int32_t guarded_slicelet_serve(const struct hs_place *place, const uint8_t *key, size_t key_len, uint64_t at,
                                struct hs_told *told);
-int32_t guarded_slicelet_hold(struct hs_place *place, const uint8_t *key, size_t key_len, uint64_t at,
+int32_t guarded_slicelet_hold(const struct hs_place *place, const uint8_t *key, size_t key_len, uint64_t at,
                               struct hs_key_handle *out, struct hs_told *told);
-int32_t guarded_slicelet_serve_at(struct hs_place *place, uint64_t slice_key, uint64_t at, struct hs_told *told);
-int32_t guarded_slicelet_hold_at(struct hs_place *place, uint64_t slice_key, uint64_t at, struct hs_key_handle *out,
-                                 struct hs_told *told);
-int32_t guarded_slicelet_check(struct hs_place *place, const struct hs_key_handle *handle, uint64_t at);
-int32_t guarded_clerk_open(struct hs_place *place);
+int32_t guarded_slicelet_serve_at(const struct hs_place *place, uint64_t slice_key, uint64_t at, struct hs_told *told);
+int32_t guarded_slicelet_hold_at(const struct hs_place *place, uint64_t slice_key, uint64_t at,
+                                 struct hs_key_handle *out, struct hs_told *told);
+int32_t guarded_slicelet_check(const struct hs_place *place, const struct hs_key_handle *handle, uint64_t at);
+int32_t guarded_clerk_open(struct hs_place *place, const uint8_t *job, size_t job_len);
 int32_t guarded_clerk_learn(struct hs_place *place, const uint8_t *assignment, size_t assignment_len,
                             struct hs_told *told);
-int32_t guarded_clerk_look(struct hs_place *place, const uint8_t *key, size_t key_len, struct hs_owners *out);
-int32_t guarded_clerk_look_at(struct hs_place *place, uint64_t slice_key, struct hs_owners *out);
+int32_t guarded_clerk_look(const struct hs_place *place, const uint8_t *key, size_t key_len, struct hs_owners *out);
+int32_t guarded_clerk_look_at(const struct hs_place *place, uint64_t slice_key, struct hs_owners *out);
 int32_t guarded_clerk_forget(struct hs_place *place);
-int32_t guarded_table_open(struct hs_place *place, const struct hs_policy *policy);
+int32_t guarded_table_open(struct hs_place *place, const uint8_t *job, size_t job_len, const struct hs_policy *policy);
+int32_t guarded_table_kept(const struct hs_place *place, uint8_t *out, size_t out_len, size_t *needed);
+int32_t guarded_table_restore(struct hs_place *place, const uint8_t *job, size_t job_len, const struct hs_policy *policy,
+                              const uint8_t *kept, size_t kept_len, struct hs_told *told);
 int32_t guarded_table_take(struct hs_place *place, uint64_t assigner, uint64_t at, struct hs_job_term *out,
                            struct hs_told *told);
 int32_t guarded_table_renew(struct hs_place *place, uint64_t number, uint64_t at, struct hs_job_term *out,
@@ -51,29 +57,29 @@ int32_t guarded_table_grant(struct hs_place *place, uint64_t task, uint32_t life
 int32_t guarded_table_free(struct hs_place *place, const uint8_t *note, size_t note_len, uint64_t at, uint64_t *freed,
                            struct hs_told *told);
 int32_t guarded_table_restart(struct hs_place *place, uint64_t *lost);
-int32_t guarded_table_phase(struct hs_place *place, struct hs_phase *out);
-int32_t guarded_table_rows(struct hs_place *place, struct hs_row *out, size_t out_len, size_t *needed);
-int32_t guarded_table_committed(struct hs_place *place, uint8_t *out, size_t out_len, size_t *needed);
+int32_t guarded_table_phase(const struct hs_place *place, struct hs_phase *out);
+int32_t guarded_table_rows(const struct hs_place *place, struct hs_row *out, size_t out_len, size_t *needed);
+int32_t guarded_table_committed(const struct hs_place *place, uint8_t *out, size_t out_len, size_t *needed);
 int32_t guarded_assigner_open(struct hs_place *place, uint64_t id, uint64_t job);
 int32_t guarded_assigner_adopt(struct hs_place *place, const struct hs_job_term *term);
 int32_t guarded_assigner_restart(struct hs_place *place);
-int32_t guarded_assigner_next(struct hs_place *place, uint64_t at, const struct hs_phase *phase, uint32_t wanted,
+int32_t guarded_assigner_next(const struct hs_place *place, uint64_t at, const struct hs_phase *phase, uint32_t wanted,
                               uint32_t *action, uint64_t *number);
-int32_t guarded_plan(const uint8_t *assignment, size_t assignment_len, const uint64_t *loads, size_t loads_len,
-                     const uint64_t *tasks, size_t tasks_len, const struct hs_plan_policy *policy, uint8_t *out,
-                     size_t out_len, size_t *needed);
+int32_t guarded_plan(const uint8_t *job, size_t job_len, const uint8_t *assignment, size_t assignment_len,
+                     const uint64_t *loads, size_t loads_len, const uint64_t *tasks, size_t tasks_len,
+                     const struct hs_plan_policy *policy, uint8_t *out, size_t out_len, size_t *needed);
 int32_t guarded_task_clock_new(struct hs_task_clock *clock, uint64_t extra, uint64_t per, uint64_t grain,
                                uint64_t oldest);
 int32_t guarded_task_clock_sample(struct hs_task_clock *clock, uint64_t sent, uint64_t reading, uint64_t now);
 int32_t guarded_task_clock_read(struct hs_task_clock *clock, uint64_t now, uint64_t *out);
 int32_t guarded_table_clock_open(struct hs_table_clock *clock, uint64_t kept, uint64_t ahead, uint64_t now);
 int32_t guarded_table_clock_read(struct hs_table_clock *clock, uint64_t now, uint64_t *out);
-int32_t guarded_clock_evidence(const uint8_t *grant, size_t grant_len, uint64_t at, const struct hs_policy *policy,
-                               uint32_t *out);
+int32_t guarded_clock_evidence(const uint8_t *job, size_t job_len, const uint8_t *grant, size_t grant_len, uint64_t at,
+                               const struct hs_policy *policy, uint32_t *out);
 int32_t guarded_session_open(struct hs_place *place, const uint8_t *line, size_t line_len, uint32_t json);
 int32_t guarded_session_answer(struct hs_place *place, const uint8_t *line, size_t line_len, uint8_t *out,
                                size_t out_len, size_t *needed);
-int32_t guarded_session_last(struct hs_place *place, uint8_t *out, size_t out_len, size_t *needed);
+int32_t guarded_session_last(const struct hs_place *place, uint8_t *out, size_t out_len, size_t *needed);
 
 #ifndef GUARDED_ITSELF
 /* Takes its parameter, since a struct has the same name. */
@@ -106,6 +112,8 @@ int32_t guarded_session_last(struct hs_place *place, uint8_t *out, size_t out_le
 #define hs_clerk_look_at guarded_clerk_look_at
 #define hs_clerk_forget guarded_clerk_forget
 #define hs_table_open guarded_table_open
+#define hs_table_kept guarded_table_kept
+#define hs_table_restore guarded_table_restore
 #define hs_table_take guarded_table_take
 #define hs_table_renew guarded_table_renew
 #define hs_table_propose guarded_table_propose

@@ -1,7 +1,7 @@
 /* Memory: each allocation of a call fails in turn, and some calls allocate nothing.
  *
  * The program is linked with --wrap for the functions below, so that every allocation comes here, those
- * of the library too. */
+ * of the library too. Blocks that are set apart (apart.c) are not freed one by one. */
 #include "checks.h"
 
 #include <string.h>
@@ -11,11 +11,13 @@ void *__real_calloc(size_t count, size_t size);
 void *__real_realloc(void *block, size_t size);
 void *__real_aligned_alloc(size_t alignment, size_t size);
 int __real_posix_memalign(void **block, size_t alignment, size_t size);
+void __real_free(void *block);
 void *__wrap_malloc(size_t size);
 void *__wrap_calloc(size_t count, size_t size);
 void *__wrap_realloc(void *block, size_t size);
 void *__wrap_aligned_alloc(size_t alignment, size_t size);
 int __wrap_posix_memalign(void **block, size_t alignment, size_t size);
+void __wrap_free(void *block);
 
 size_t allocations;
 static size_t refused;
@@ -33,7 +35,10 @@ static int is_refused(void) {
 }
 
 void *__wrap_malloc(size_t size) {
-    return is_refused() ? NULL : __real_malloc(size);
+    if (is_refused())
+        return NULL;
+    void *block = allocate_apart(size);
+    return block ? block : __real_malloc(size);
 }
 
 void *__wrap_calloc(size_t count, size_t size) {
@@ -41,7 +46,9 @@ void *__wrap_calloc(size_t count, size_t size) {
 }
 
 void *__wrap_realloc(void *block, size_t size) {
-    return is_refused() ? NULL : __real_realloc(block, size);
+    if (is_refused())
+        return NULL;
+    return is_apart(block) ? reallocate_apart(block, size) : __real_realloc(block, size);
 }
 
 void *__wrap_aligned_alloc(size_t alignment, size_t size) {
@@ -50,6 +57,11 @@ void *__wrap_aligned_alloc(size_t alignment, size_t size) {
 
 int __wrap_posix_memalign(void **block, size_t alignment, size_t size) {
     return is_refused() ? 12 : __real_posix_memalign(block, alignment, size);
+}
+
+void __wrap_free(void *block) {
+    if (!is_apart(block))
+        __real_free(block);
 }
 
 static const char job[] = "{\"job\":{\"redundancy\":1,\"skew\":10,\"guard\":100,\"bridge\":100,\"job\":1000,"
@@ -128,6 +140,22 @@ static int32_t give_committed(struct hs_place *place) {
     return code;
 }
 
+static int32_t give_kept(struct hs_place *place) {
+    static uint8_t out[512];
+    size_t needed = 0;
+    memset(out, '-', sizeof out);
+    int32_t code = hs_table_kept(place, out, sizeof out, &needed);
+    HOLDS(code == HS_DONE || are_dashes(out, sizeof out));
+    return code;
+}
+
+static int32_t restore_table(struct hs_place *place) {
+    const char *text = MESSAGE("kept", "\"committed\":null,\"deadline\":0,\"granted\":0,\"last\":0,\"pending\":null,"
+                                       "\"policy\":{\"bridge\":200,\"guard\":100,\"job\":1000,\"numbers\":1000,"
+                                       "\"redundancy\":[1,1],\"skew\":10},\"term\":null");
+    return hs_table_restore(place, JOB, &policy, (const uint8_t *)text, strlen(text), fresh_told());
+}
+
 static int32_t open_session(struct hs_place *place) {
     return hs_session_open(place, (const uint8_t *)job, strlen(job), 0);
 }
@@ -140,7 +168,7 @@ static int32_t plan(struct hs_place *place) {
     size_t needed = 0;
     (void)place;
     memset(out, '-', sizeof out);
-    int32_t code = hs_plan((const uint8_t *)text, strlen(text), loads, 2, tasks, 2, &bounds, out, sizeof out, &needed);
+    int32_t code = hs_plan(JOB, (const uint8_t *)text, strlen(text), loads, 2, tasks, 2, &bounds, out, sizeof out, &needed);
     HOLDS(code == HS_DONE || are_dashes(out, sizeof out));
     return code;
 }
@@ -149,7 +177,7 @@ static int32_t weigh(struct hs_place *place) {
     const char *text = GRANT("guard", "1", "7", ALL_KEYS, "2");
     uint32_t shown = UNTOLD;
     (void)place;
-    int32_t code = hs_clock_evidence((const uint8_t *)text, strlen(text), 5, &policy, &shown);
+    int32_t code = hs_clock_evidence(JOB, (const uint8_t *)text, strlen(text), 5, &policy, &shown);
     HOLDS(shown == (code == HS_DONE ? 0 : UNTOLD));
     return code;
 }
@@ -263,6 +291,8 @@ void check_memory(void) {
         {"free", granted_table, free_row, table_state},
         {"rows", granted_table, list_rows, table_state},
         {"committed", granted_table, give_committed, table_state},
+        {"kept", granted_table, give_kept, table_state},
+        {"restore", steady_table, restore_table, table_state},
         {"session", knowing_clerk, open_session, clerk_state},
         {"plan", knowing_clerk, plan, clerk_state},
         {"evidence", knowing_clerk, weigh, clerk_state},

@@ -1,5 +1,6 @@
 """The codes, the functions with their parameters, the structs and the words of the header are those of
-examples/python/hourstable.py, and the codes those of docs/BINDINGS.md. The version of the header is that of the library.
+examples/python/hourstable.py, and the codes those of docs/BINDINGS.md. hs_code_name names each code of the header. The
+version of the header is that of the library.
 
 Run at the top of the repository, with HOURSTABLE_LIBRARY set.
 """
@@ -19,6 +20,7 @@ in_header = {name: int(number) for name, number in re.findall(r"HS_(\w+) = (-?\d
 in_python = {name: number for number, name in enumerate(hourstable.REFUSALS)}
 in_python.update({name: -number for number, name in enumerate(hourstable.UNREAD)})
 in_page = {name: int(number) for number, name in re.findall(r"^\| (-?\d+) \| `HS_(\w+)`", page, re.M)}
+named = {name: text for name, text in re.findall(r'case HS_(\w+):\s*return "HS_(\w+)";', header)}
 version = tuple(int(number) for number in re.findall(r"^#define HS_LIBRARY_(?:MAJOR|MINOR|PATCH) (\d+)$", header, re.M))
 version_text = re.findall(r'^#define HS_LIBRARY_VERSION "(.*)"$', header, re.M)
 kinds, actions = ({word.lower(): int(number) for word, number in re.findall(r"HS_(\w+) = (\d+)", words)}
@@ -63,6 +65,7 @@ for name, members in re.findall(r"^struct hs_(\w+) \{(.*?)^\};", header, re.M | 
     found = re.findall(r"^    (uint\d+_t |void \*)(\w+)(?:\[(\d+)\])?;", members, re.M)
     structs[name] = [(member, member_of(c_type, length)) for c_type, member, length in found]
 faults = [what for what, same in [
+    ("names of hs_code_name", named == {name: name for name in in_header}),
     ("codes in Python", in_python == in_header),
     ("codes in docs/BINDINGS.md", in_page == in_header),
     ("functions in Python", set(declared) == set(functions)),

@@ -15,8 +15,8 @@ sys.path.insert(0, "examples/python")
 import handover
 import hourstable
 from hourstable import (
-    Clerk, HeldLease, JobTerm, KeyHandle, Phase, PlanPolicy, Policy, Refused, TableClock, TaskClock, Told, boottime_ticks,
-    clock_evidence,
+    Clerk, HeldLease, JobTerm, KeyHandle, Phase, PlanPolicy, Policy, Refused, Table, TableClock, TaskClock, Told,
+    boottime_ticks, clock_evidence,
 )
 
 U32, U64 = 1 << 32, 1 << 64
@@ -34,6 +34,14 @@ def raises(error, what, call, *given):
     except error:
         return
     faults.append(what)
+
+
+def refuses(text, what, call, *given):
+    """The call is refused with this text."""
+    try:
+        holds(False, f"{what} is refused: {call(*given)}")
+    except Refused as refusal:
+        holds(str(refusal) == text, f"{what} is refused as {text}: {refusal}")
 
 
 def refused(code, **told):
@@ -100,7 +108,7 @@ def check_replies():
 
 
 def check_places():
-    with Clerk() as clerk:
+    with Clerk("") as clerk:
         raises(TypeError, "a place is not copied", copy.copy, clerk)
         raises(TypeError, "a place is not copied deeply", copy.deepcopy, clerk)
         raises(TypeError, "a place is not pickled", pickle.dumps, clerk)
@@ -162,11 +170,26 @@ def check_table_clocks():
 
 def check_evidence():
     policy = Policy(1, 1, 10, 100, 200, 1000, 1000)
-    holds(clock_evidence(GRANT, 29, policy) is True, "a grant that was made at 40 is evidence at 29, with a skew of 10")
-    holds(clock_evidence(GRANT, 30, policy) is False, "a grant that was made at 40 is no evidence at 30")
-    raises(Refused, "evidence of bytes that are no grant", clock_evidence, b"{", 30, policy)
-    raises(Refused, "evidence by numbers that are no policy", clock_evidence, GRANT, 30, Policy())
-    raises((ValueError, ctypes.ArgumentError), "evidence at -1", clock_evidence, GRANT, -1, policy)
+    holds(clock_evidence("", GRANT, 29, policy) is True, "a grant made at 40 is evidence at 29, with a skew of 10")
+    holds(clock_evidence("", GRANT, 30, policy) is False, "a grant that was made at 40 is no evidence at 30")
+    raises(Refused, "evidence of bytes that are no grant", clock_evidence, "", b"{", 30, policy)
+    raises(Refused, "evidence by numbers that are no policy", clock_evidence, "", GRANT, 30, Policy())
+    raises((ValueError, ctypes.ArgumentError), "evidence at -1", clock_evidence, "", GRANT, -1, policy)
+    refuses("other-job", "evidence of a grant of another job", clock_evidence, "shop", GRANT, 30, policy)
+
+
+def check_keeping():
+    policy = Policy(1, 1, 10, 100, 200, 1000, 1000)
+    with Table("shop", policy) as table:
+        term = table.take(1, at=5)
+        kept = table.kept()
+    with Table.restore("shop", policy, kept) as restored:
+        holds(restored.kept() == kept, "a restored table keeps the values that it was restored from")
+        holds(restored.renew(term.number, at=6).number == term.number, "a restored table renews the term")
+    refuses("other-job", "kept values of another job", Table.restore, "store", policy, kept)
+    other = Policy(1, 1, 9, 100, 200, 1000, 1000)
+    refuses("other-policy", "kept values of another policy", Table.restore, "shop", other, kept)
+    refuses("wrong-form", "a name of more than 64 bytes", Table, "j" * 65, policy)
 
 
 def check_ticks():
@@ -183,6 +206,7 @@ check_places()
 check_task_clocks()
 check_table_clocks()
 check_evidence()
+check_keeping()
 check_ticks()
 for fault in faults:
     print(f"not so: {fault}")

@@ -10,11 +10,11 @@ enum standing { NOTHING, SLICELET, CLERK, TABLE, ASSIGNER, SESSION, KINDS };
 
 static void open_as(struct hs_place *place, enum standing kind) {
     if (kind == SLICELET)
-        IS(hs_slicelet_open(place, 2), HS_DONE);
+        IS(hs_slicelet_open(place, JOB, 2), HS_DONE);
     else if (kind == CLERK)
-        IS(hs_clerk_open(place), HS_DONE);
+        IS(hs_clerk_open(place, JOB), HS_DONE);
     else if (kind == TABLE)
-        IS(hs_table_open(place, &policy), HS_DONE);
+        IS(hs_table_open(place, JOB, &policy), HS_DONE);
     else if (kind == ASSIGNER)
         IS(hs_assigner_open(place, 1, 1000), HS_DONE);
     else if (kind == SESSION)
@@ -138,9 +138,9 @@ static void refused_open(void) {
     struct hs_place clerk = knowing_clerk();
     struct hs_policy none = policy;
     none.low = 0;
-    STAYS(clerk_state(&clerk), hs_slicelet_open(&clerk, 0), HS_WRONG_FORM);
-    STAYS(clerk_state(&clerk), hs_slicelet_open(&clerk, 65), HS_WRONG_FORM);
-    STAYS(clerk_state(&clerk), hs_table_open(&clerk, &none), HS_WRONG_FORM);
+    STAYS(clerk_state(&clerk), hs_slicelet_open(&clerk, JOB, 0), HS_WRONG_FORM);
+    STAYS(clerk_state(&clerk), hs_slicelet_open(&clerk, JOB, 65), HS_WRONG_FORM);
+    STAYS(clerk_state(&clerk), hs_table_open(&clerk, JOB, &none), HS_WRONG_FORM);
     STAYS(clerk_state(&clerk), hs_assigner_open(&clerk, 0, 1000), HS_WRONG_FORM);
     STAYS(clerk_state(&clerk), hs_session_open(&clerk, (const uint8_t *)"{}", 2, 0), HS_NO_JOB);
     hs_place_free(&clerk);
@@ -149,10 +149,10 @@ static void refused_open(void) {
 /* A zeroed place holds nothing and takes nothing, and so does one that was freed. */
 static void nowhere(struct hs_place *place) {
     refuse_others(place, NOTHING);
-    IS(hs_slicelet_open(place, 2), HS_OTHER_PLACE);
-    IS(hs_slicelet_open(place, 0), HS_OTHER_PLACE);
-    IS(hs_clerk_open(place), HS_OTHER_PLACE);
-    IS(hs_table_open(place, &policy), HS_OTHER_PLACE);
+    IS(hs_slicelet_open(place, JOB, 2), HS_OTHER_PLACE);
+    IS(hs_slicelet_open(place, JOB, 0), HS_OTHER_PLACE);
+    IS(hs_clerk_open(place, JOB), HS_OTHER_PLACE);
+    IS(hs_table_open(place, JOB, &policy), HS_OTHER_PLACE);
     IS(hs_assigner_open(place, 1, 1000), HS_OTHER_PLACE);
     IS(hs_session_open(place, (const uint8_t *)job, strlen(job), 0), HS_OTHER_PLACE);
     HOLDS(!place->at);
@@ -165,7 +165,7 @@ static void made_and_freed(void) {
     nowhere(&place);
     IS(hs_place_new(&place), HS_DONE);
     HOLDS(place.at);
-    IS(hs_clerk_open(&place), HS_DONE);
+    IS(hs_clerk_open(&place, JOB), HS_DONE);
     void *at = place.at;
     IS(hs_place_new(&place), HS_DONE);
     HOLDS(place.at == at);

@@ -7,7 +7,8 @@
 #define MOST_LOAD ((uint64_t)1 << 40)
 
 static const char before[] = ASSIGNMENT("1", "[[0,[1]],[2305843009213693952,[1]],[4611686018427387904,[2]]]");
-static const char after[] = ASSIGNMENT("2", "[[0,[1]],[2305843009213693952,[2]],[4611686018427387904,[2]]]");
+static const char after[] =
+    WRITTEN_ASSIGNMENT("2", "[[\"0\",[1]],[\"2305843009213693952\",[2]],[\"4611686018427387904\",[2]]]");
 static const struct hs_plan_policy bounds = {.low = 1, .high = 1, .churn = KEYS, .cold = 0, .hot = 100, .most = 1024};
 
 /* The arguments of a plan. */
@@ -27,7 +28,7 @@ static struct question good_question(void) {
 
 static int32_t plan(const struct question *question, uint8_t *out, size_t out_len, size_t *needed) {
     uint8_t *copy = block_of(question->assignment, strlen(question->assignment));
-    int32_t code = hs_plan(copy, strlen(question->assignment), question->loads, question->loads_len, question->tasks,
+    int32_t code = hs_plan(JOB, copy, strlen(question->assignment), question->loads, question->loads_len, question->tasks,
                            question->tasks_len, &question->policy, out, out_len, needed);
     drop_block(copy);
     return code;

@@ -4,7 +4,7 @@
 #include <string.h>
 
 static const char all_keys[] = GRANT("guard", "1", "7", ALL_KEYS, "2");
-static const char note[] = NOTE("guard", "1", "7", "2");
+static const char note[] = WRITTEN_NOTE("guard", "1", "7", "2");
 
 static int32_t serve(struct hs_place *place, uint64_t at) {
     return hs_slicelet_serve(place, HELLO, at, fresh_told());
@@ -12,12 +12,12 @@ static int32_t serve(struct hs_place *place, uint64_t at) {
 
 static struct hs_place opened(void) {
     struct hs_place place = new_place();
-    IS(hs_slicelet_open(&place, 0), HS_WRONG_FORM);
-    IS(hs_slicelet_open(&place, 65), HS_WRONG_FORM);
-    IS(hs_slicelet_open(&place, UINT64_MAX), HS_WRONG_FORM);
-    IS(hs_slicelet_open(&place, 64), HS_DONE);
-    IS(hs_slicelet_open(&place, 1), HS_DONE);
-    IS(hs_slicelet_open(&place, 2), HS_DONE);
+    IS(hs_slicelet_open(&place, JOB, 0), HS_WRONG_FORM);
+    IS(hs_slicelet_open(&place, JOB, 65), HS_WRONG_FORM);
+    IS(hs_slicelet_open(&place, JOB, UINT64_MAX), HS_WRONG_FORM);
+    IS(hs_slicelet_open(&place, JOB, 64), HS_DONE);
+    IS(hs_slicelet_open(&place, JOB, 1), HS_DONE);
+    IS(hs_slicelet_open(&place, JOB, 2), HS_DONE);
     return place;
 }
 
@@ -152,8 +152,8 @@ static void releases(struct hs_place *place, const struct hs_key_handle *handle)
     STAYS(slicelet_state(place), hs_slicelet_release(place, HS_GUARD, 7, longer, 300, &needed), HS_NOTHING_HELD);
     HOLDS(are_dashes(longer, 300));
     IS(hs_slicelet_release(place, HS_BRIDGE, 7, longer, 300, &needed), HS_DONE);
-    HOLDS(needed == strlen(NOTE("bridge", "1", "8", "2")) && are_dashes(longer + needed, 300 - needed));
-    HOLDS(memcmp(longer, NOTE("bridge", "1", "8", "2"), needed) == 0);
+    HOLDS(needed == strlen(WRITTEN_NOTE("bridge", "1", "8", "2")) && are_dashes(longer + needed, 300 - needed));
+    HOLDS(memcmp(longer, WRITTEN_NOTE("bridge", "1", "8", "2"), needed) == 0);
     drop_block(longer);
     IS(hs_slicelet_check(place, handle, 7), HS_BROKEN);
     IS(serve(place, 7), HS_NO_LEASE);
@@ -187,7 +187,7 @@ static void fills_up(void) {
     uint8_t out[256];
     size_t needed = 0;
     struct hs_key_handle handle = {0, 0, 0, 0};
-    IS(hs_slicelet_open(&place, 2), HS_DONE);
+    IS(hs_slicelet_open(&place, JOB, 2), HS_DONE);
     for (uint32_t life = 1; life < 65536; life++)
         IS(hs_slicelet_start(&place, life, 3), HS_DONE);
     IS(hear(&place, GRANT("guard", "65535", "7", ALL_KEYS, "2"), 5), HS_DONE);
@@ -252,9 +252,9 @@ static void resumes(void) {
     IS(hs_slicelet_hold(&task, HELLO, 6, &handle, fresh_told()), HS_DONE);
     IS(hs_slicelet_calls_left(&task, &left), HS_DONE);
     HOLDS(left == 65534);
-    IS(hs_slicelet_resume(&task, 65, 1), HS_WRONG_FORM);
+    IS(hs_slicelet_resume(&task, JOB, 65, 1), HS_WRONG_FORM);
     IS(hs_slicelet_check(&task, &handle, 6), HS_DONE);
-    IS(hs_slicelet_resume(&task, 2, 1), HS_DONE);
+    IS(hs_slicelet_resume(&task, JOB, 2, 1), HS_DONE);
     IS(hs_slicelet_calls_left(&task, &left), HS_DONE);
     HOLDS(left == 65536);
     IS(serve(&task, 6), HS_DOWN);
@@ -263,12 +263,12 @@ static void resumes(void) {
     IS(hs_slicelet_start(&task, 2, 0), HS_DONE);
     IS(hear(&task, GRANT("guard", "1", "7", ALL_KEYS, "2"), 1), HS_OTHER_LIFE);
     IS(hs_slicelet_check(&task, &handle, 6), HS_STRANGER);
-    IS(hs_ended_note(2, 1, HS_GUARD, out, sizeof out, &needed), HS_DONE);
+    IS(hs_ended_note(JOB, 2, 1, HS_GUARD, out, sizeof out, &needed), HS_DONE);
     HOLDS(needed == strlen(guard) && memcmp(out, guard, needed) == 0);
-    IS(hs_ended_note(2, 1, HS_GUARD, out, needed - 1, &needed), HS_NO_ROOM);
+    IS(hs_ended_note(JOB, 2, 1, HS_GUARD, out, needed - 1, &needed), HS_NO_ROOM);
     HOLDS(needed == strlen(guard));
-    IS(hs_ended_note(0, 1, HS_GUARD, out, sizeof out, &needed), HS_WRONG_FORM);
-    IS(hs_ended_note(2, 1, 3, out, sizeof out, &needed), HS_WRONG_FORM);
+    IS(hs_ended_note(JOB, 0, 1, HS_GUARD, out, sizeof out, &needed), HS_WRONG_FORM);
+    IS(hs_ended_note(JOB, 2, 1, 3, out, sizeof out, &needed), HS_WRONG_FORM);
     hs_place_free(&task);
 }
 
@@ -297,7 +297,7 @@ static void goes_on(void) {
     IS(hear(&task, bridge, 6), HS_DONE);
     IS(hs_slicelet_next(&task, &bridging, 6, &action), HS_DONE);
     HOLDS(action == HS_GIVE_UP_GUARD);
-    IS(hs_slicelet_resume(&task, 2, 1), HS_DONE);
+    IS(hs_slicelet_resume(&task, JOB, 2, 1), HS_DONE);
     IS(hs_slicelet_next(&task, &steady, 6, &action), HS_DONE);
     HOLDS(action == HS_START);
     hs_place_free(&task);

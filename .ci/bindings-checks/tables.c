@@ -7,16 +7,17 @@
 #define LONGEST ((uint64_t)1 << 32)
 
 static const char first_grant[] =
-    MESSAGE("grant", "\"ends\":95,\"generation\":1,\"kind\":\"guard\",\"life\":1,\"number\":1,"
-                     "\"ranges\":[[0,4611686018427387904]],\"task\":1,\"until\":105");
-static const char bridge_grant[] = MESSAGE("grant", "\"ends\":214,\"generation\":2,\"kind\":\"bridge\",\"life\":1,"
-                                                    "\"number\":2,\"ranges\":[],\"task\":1,\"until\":224");
+    WRITTEN_MESSAGE("grant", "\"ends\":\"95\",\"generation\":\"1\",\"kind\":\"guard\",\"life\":1,\"number\":\"1\","
+                             "\"ranges\":[[\"0\",\"4611686018427387904\"]],\"task\":1,\"until\":\"105\"");
+static const char bridge_grant[] =
+    WRITTEN_MESSAGE("grant", "\"ends\":\"214\",\"generation\":\"2\",\"kind\":\"bridge\",\"life\":1,\"number\":\"2\","
+                             "\"ranges\":[],\"task\":1,\"until\":\"224\"");
 
 static int32_t open_with(uint64_t *member, uint64_t value, struct hs_policy *changed) {
     struct hs_place place = new_place();
     uint64_t kept = *member;
     *member = value;
-    int32_t code = hs_table_open(&place, changed);
+    int32_t code = hs_table_open(&place, JOB, changed);
     *member = kept;
     hs_place_free(&place);
     return code;
@@ -118,7 +119,7 @@ static void proposes(struct hs_place *table) {
 }
 
 static void gives_committed(struct hs_place *table) {
-    const char *wanted = ASSIGNMENT("1", HALVES);
+    const char *wanted = WRITTEN_ASSIGNMENT("1", WRITTEN_HALVES);
     size_t needed = 0, length = strlen(wanted);
     uint8_t *shorter = dashes(length - 1), *out = dashes(length);
     IS(hs_table_committed(table, shorter, length - 1, &needed), HS_NO_ROOM);
@@ -261,7 +262,7 @@ static void spends_numbers(void) {
     uint8_t out[256];
     size_t needed = 0;
     one.numbers = 1;
-    IS(hs_table_open(&table, &one), HS_DONE);
+    IS(hs_table_open(&table, JOB, &one), HS_DONE);
     IS(hs_table_take(&table, 1, 0, &term, fresh_told()), HS_DONE);
     IS(propose(&table, 1, ASSIGNMENT("1", HALVES), 1), HS_DONE);
     IS(hs_table_commit(&table, 1, 2, fresh_told()), HS_DONE);
@@ -274,9 +275,9 @@ void check_tables(void) {
     struct hs_place table = new_place();
     struct hs_job_term term = {0, 0, 0};
     opens();
-    IS(hs_table_open(&table, &policy), HS_DONE);
+    IS(hs_table_open(&table, JOB, &policy), HS_DONE);
     terms(&table);
-    IS(hs_table_open(&table, &policy), HS_DONE);
+    IS(hs_table_open(&table, JOB, &policy), HS_DONE);
     IS(hs_table_take(&table, 1, 1, &term, fresh_told()), HS_DONE);
     empties(&table);
     proposes(&table);

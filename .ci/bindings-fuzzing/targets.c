@@ -4,6 +4,8 @@
 
 #include <string.h>
 
+/* The job with the empty name, which reads messages of version 1. */
+#define NO_NAME (const uint8_t *)"", 0
 #define MESSAGE(type, members) "{\"type\":\"" type "\",\"value\":{" members "},\"version\":1}"
 #define GRANT(kind, number, ranges)                                                                                    \
     MESSAGE("grant", "\"ends\":95,\"generation\":3,\"kind\":\"" kind "\",\"life\":1,\"number\":" number                \
@@ -59,7 +61,7 @@ static uint64_t sum_number(uint64_t sum, uint64_t number) {
 
 static void begin_slicelet(struct hs_place *place) {
     struct hs_told told = {0};
-    MUST(hs_slicelet_open(place, 2) == HS_DONE);
+    MUST(hs_slicelet_open(place, NO_NAME, 2) == HS_DONE);
     MUST(hs_slicelet_start(place, 1, 3) == HS_DONE);
     if (draw(2))
         MUST(hs_slicelet_hear(place, (const uint8_t *)grants[0], strlen(grants[0]), 4, &told) == HS_DONE);
@@ -90,7 +92,7 @@ static uint64_t slicelet_state(struct hs_place *place) {
 
 static void begin_clerk(struct hs_place *place) {
     struct hs_told told = {0};
-    MUST(hs_clerk_open(place) == HS_DONE);
+    MUST(hs_clerk_open(place, NO_NAME) == HS_DONE);
     if (draw(2))
         MUST(hs_clerk_learn(place, (const uint8_t *)assignments[0], strlen(assignments[0]), &told) == HS_DONE);
 }
@@ -113,7 +115,7 @@ static void begin_table(struct hs_place *place) {
     struct hs_told told = {0};
     struct hs_job_term term;
     size_t needed = 0;
-    MUST(hs_table_open(place, &policy) == HS_DONE);
+    MUST(hs_table_open(place, NO_NAME, &policy) == HS_DONE);
     MUST(hs_table_take(place, 1, 0, &term, &told) == HS_DONE);
     MUST(hs_table_propose(place, 1, (const uint8_t *)assignments[0], strlen(assignments[0]), 1, &told) == HS_DONE);
     MUST(hs_table_commit(place, 1, 2, &told) == HS_DONE);
@@ -146,7 +148,7 @@ static int32_t plan(struct hs_place *place, struct input input, struct hs_told *
         loads[at] = draw_number(100);
     for (size_t at = 0; at < tasks_len; at++)
         tasks[at] = draw(32) ? 1 + at : draw_number(66);
-    int32_t code = hs_plan(input.bytes, input.length, loads, loads_len, tasks, tasks_len, &policy, out, room, &needed);
+    int32_t code = hs_plan(NO_NAME, input.bytes, input.length, loads, loads_len, tasks, tasks_len, &policy, out, room, &needed);
     MUST(code != HS_NO_ROOM || needed > room);
     if (code == HS_DONE) {
         MUST(needed <= room && hs_clerk_forget(place) == HS_DONE);
@@ -162,7 +164,7 @@ static int32_t weigh(struct hs_place *place, struct input input, struct hs_told 
     (void)place, (void)told;
     if (draw(16) == 0)
         weighed.high = draw(9);
-    int32_t code = hs_clock_evidence(input.bytes, input.length, draw(120), &weighed, &shown);
+    int32_t code = hs_clock_evidence(NO_NAME, input.bytes, input.length, draw(120), &weighed, &shown);
     MUST(code == HS_DONE ? shown <= 1 : shown == 99);
     return code;
 }

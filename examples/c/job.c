@@ -9,10 +9,12 @@
 #include <stdlib.h>
 #include <string.h>
 
-static const char first[] =
-    "{\"type\":\"assignment\",\"value\":{\"generation\":1,\"slices\":[[0,[1]]]},\"version\":1}";
-static const char second[] =
-    "{\"type\":\"assignment\",\"value\":{\"generation\":2,\"slices\":[[0,[2]]]},\"version\":1}";
+#define JOB (const uint8_t *)"shop", 4
+
+static const char first[] = "{\"job\":\"shop\",\"type\":\"assignment\",\"value\":{\"generation\":\"1\","
+                            "\"slices\":[[\"0\",[1]]]},\"version\":2}";
+static const char second[] = "{\"job\":\"shop\",\"type\":\"assignment\",\"value\":{\"generation\":\"2\","
+                             "\"slices\":[[\"0\",[2]]]},\"version\":2}";
 /* `numbers` is for good: a job that renews its leases needs more than 1,000 grants, up to 2^32. */
 static const struct hs_policy policy = {
     .low = 1, .high = 1, .skew = 10, .guard = 100, .bridge = 100, .job = 1000, .numbers = 1000};
@@ -74,8 +76,8 @@ int main(void) {
     struct hs_place table = new_place(), task = new_place();
     struct hs_job_term term;
     struct hs_told told = {0};
-    wants("open", hs_table_open(&table, &policy), HS_DONE);
-    wants("open", hs_slicelet_open(&task, 1), HS_DONE);
+    wants("open", hs_table_open(&table, JOB, &policy), HS_DONE);
+    wants("open", hs_slicelet_open(&task, JOB, 1), HS_DONE);
     wants("start", hs_slicelet_start(&task, 1, 0), HS_DONE);
     wants("take", hs_table_take(&table, 1, 0, &term, &told), HS_DONE);
     wants("propose", propose(&table, first, 1), HS_DONE);

@@ -9,8 +9,9 @@
 #include <stdio.h>
 #include <string.h>
 
-static const char grant[] = "{\"type\":\"grant\",\"value\":{\"ends\":8,\"generation\":3,\"kind\":\"guard\",\"life\":1,"
-                            "\"number\":7,\"ranges\":[[0,9223372036854775808]],\"task\":2,\"until\":10},\"version\":1}";
+static const char grant[] =
+    "{\"job\":\"shop\",\"type\":\"grant\",\"value\":{\"ends\":\"8\",\"generation\":\"3\",\"kind\":\"guard\",\"life\":1,"
+    "\"number\":\"7\",\"ranges\":[[\"0\",\"9223372036854775808\"]],\"task\":2,\"until\":\"10\"},\"version\":2}";
 
 static const uint8_t *bytes_of(const char *text) {
     return (const uint8_t *)text;
@@ -29,7 +30,7 @@ static int32_t answer_questions(struct hs_place *task, uint64_t now) {
 }
 
 /* Releases the guard lease and prints its note, which a service would send to the table. A note has
- * at most 120 bytes. If the code is not HS_DONE, the lease is still held. */
+ * at most 122 bytes beside the name of its job. If the code is not HS_DONE, the lease is still held. */
 static int32_t give_back(struct hs_place *task, uint64_t now) {
     uint8_t note[256];
     size_t needed = 0;
@@ -41,7 +42,7 @@ static int32_t give_back(struct hs_place *task, uint64_t now) {
 
 static int32_t run_task(struct hs_place *task) {
     struct hs_told told = {0};
-    int32_t code = hs_slicelet_open(task, 2);
+    int32_t code = hs_slicelet_open(task, bytes_of("shop"), 4, 2);
     if (code == HS_DONE)
         code = hs_slicelet_start(task, 1, 3);
     if (code == HS_DONE)

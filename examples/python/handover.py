@@ -25,6 +25,7 @@ from hourstable import Assigner, Policy, Refused, Slicelet, Table
 
 JOB = {"redundancy": 1, "skew": 50, "guard": 10000, "bridge": 10000, "job": 60000, "numbers": 1000,
        "assigners": 1, "tasks": 2, "clerks": 1}
+NAME = "shop"  # the name of the job, in each message
 TASKS = (1, 2)
 HALF = 1 << 62
 PLANS = [[[0, [1]], [HALF, [2]]], [[0, [2]]]]  # "hello" is in the lower half of the keys, "abc" in the upper half
@@ -107,10 +108,11 @@ class Control:
             self.log.call("commit", self.table.commit, [term], "committed {}".format, term=term)
 
     def propose(self, term, generation):
-        value = {"generation": generation, "slices": PLANS[generation - 1]}
-        message = json.dumps({"type": "assignment", "value": value, "version": 1}).encode()
-        tell = f"proposed {generation}".format
-        self.log.call("propose", self.table.propose, [term, message], tell, term=term, **value)
+        slices = PLANS[generation - 1]
+        value = {"generation": str(generation), "slices": [[str(start), owners] for start, owners in slices]}
+        message = json.dumps({"job": NAME, "type": "assignment", "value": value, "version": 2}).encode()
+        members = {"term": term, "generation": generation, "slices": slices}
+        self.log.call("propose", self.table.propose, [term, message], f"proposed {generation}".format, **members)
 
     def answer(self, do, task, asked):
         if do == "phase":
@@ -189,7 +191,7 @@ class Task:
             return
         grant = value_of(message)
         self.call("hear", [message.encode()], f"heard {grant['number']}".format, grant=grant)
-        self.held[grant["kind"]], self.asks = grant["generation"], 0
+        self.held[grant["kind"]], self.asks = int(grant["generation"]), 0
         self.give_back("guard" if grant["kind"] == "bridge" else "bridge")
 
     def give_back(self, kind):
@@ -228,12 +230,12 @@ class Task:
 
 def run_control(path, server):
     policy = Policy(1, 1, JOB["skew"], JOB["guard"], JOB["bridge"], JOB["job"], JOB["numbers"])
-    with Log(path, 0) as log, Table(policy) as table, Assigner(1, JOB["job"]) as assigner, server:
+    with Log(path, 0) as log, Table(NAME, policy) as table, Assigner(1, JOB["job"]) as assigner, server:
         Control(log, table, assigner).serve(server)
 
 
 def run_task(path, number, address):
-    with Log(path, number) as log, Slicelet(number) as slicelet, socket.create_connection(address) as connection:
+    with Log(path, number) as log, Slicelet(NAME, number) as slicelet, socket.create_connection(address) as connection:
         with connection.makefile("rwb") as stream:
             Task(number, log, slicelet, stream).run()
 

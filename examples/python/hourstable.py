@@ -17,11 +17,12 @@ REFUSALS = (
     "DONE DOWN CLOCK_BACK ENDED NOT_OWNED NO_LEASE NOT_STARTED OLD_LIFE OTHER_TASK OTHER_LIFE OLD TOO_LATE NOTHING_HELD"
     " HISTORY_FULL BROKEN STRANGER READING_RANGE JOB_HELD NOT_HOLDER STALE_BASE PENDING NOTHING_PENDING"
     " TOO_MANY_OWNERS_FOR_JOB GRACE HELD NO_ROW NO_ASSIGNMENT NUMBERS_SPENT OLD_GENERATION UNKNOWN NOT_ADOPTED NO_TASKS"
-    " LOADS_LENGTH LOAD_RANGE SENT_AHEAD NO_SAMPLE TOO_OLD TOO_LARGE NOT_YET"
+    " LOADS_LENGTH LOAD_RANGE SENT_AHEAD NO_SAMPLE TOO_OLD TOO_LARGE NOT_YET OTHER_POLICY NO_TERM TERM_RANGE"
+    " KEPT_GENERATION TOO_MANY_GRANTS DEADLINE_RANGE"
 ).split()
 UNREAD = (
     "DONE NO_MEMORY NO_ROOM NOT_JSON VERSION OTHER_TYPE WRONG_FORM PAST_END UNSORTED EMPTY NO_SLICES FIRST_NOT_ZERO"
-    " NOT_RISING NO_OWNER TOO_MANY_OWNERS OWNER_TWICE BAD_TASK TOO_MANY_SLICES OTHER_PLACE NO_JOB"
+    " NOT_RISING NO_OWNER TOO_MANY_OWNERS OWNER_TWICE BAD_TASK TOO_MANY_SLICES OTHER_PLACE NO_JOB OTHER_JOB"
 ).split()
 CARRIED = {
     "NOT_OWNED": ["generation"], "OLD": ["number"], "JOB_HELD": ["until"], "NOT_HOLDER": ["number"],
@@ -208,9 +209,9 @@ DECLARED = {
     "place_new": [P(Place)],
     "slicelet_close": [P(Place)], "clerk_close": [P(Place)], "table_close": [P(Place)],
     "assigner_close": [P(Place)], "session_close": [P(Place)],
-    "slicelet_open": [P(Place), U64],
-    "slicelet_resume": [P(Place), U64, U32],
-    "ended_note": [U64, U32, U32, *OUT],
+    "slicelet_open": [P(Place), *BYTES, U64],
+    "slicelet_resume": [P(Place), *BYTES, U64, U32],
+    "ended_note": [*BYTES, U64, U32, U32, *OUT],
     "slicelet_held": [P(Place), U32, P(HeldLease)],
     "slicelet_next": [P(Place), P(Phase), U64, P(ctypes.c_uint32)],
     "slicelet_calls_left": [P(Place), P(ctypes.c_uint64)],
@@ -222,12 +223,14 @@ DECLARED = {
     "slicelet_serve_at": [P(Place), U64, U64, P(Told)],
     "slicelet_hold_at": [P(Place), U64, U64, P(KeyHandle), P(Told)],
     "slicelet_check": [P(Place), P(KeyHandle), U64],
-    "clerk_open": [P(Place)],
+    "clerk_open": [P(Place), *BYTES],
     "clerk_learn": [P(Place), *BYTES, P(Told)],
     "clerk_look": [P(Place), *BYTES, P(Owners)],
     "clerk_look_at": [P(Place), U64, P(Owners)],
     "clerk_forget": [P(Place)],
-    "table_open": [P(Place), P(Policy)],
+    "table_open": [P(Place), *BYTES, P(Policy)],
+    "table_kept": [P(Place), *OUT],
+    "table_restore": [P(Place), *BYTES, P(Policy), *BYTES, P(Told)],
     "table_take": [P(Place), U64, U64, P(JobTerm), P(Told)],
     "table_renew": [P(Place), U64, U64, P(JobTerm), P(Told)],
     "table_propose": [P(Place), U64, *BYTES, U64, P(Told)],
@@ -247,8 +250,8 @@ DECLARED = {
     "task_clock_read": [P(TaskClock), U64, P(ctypes.c_uint64)],
     "table_clock_open": [P(TableClock), U64, U64, U64],
     "table_clock_read": [P(TableClock), U64, P(ctypes.c_uint64)],
-    "clock_evidence": [*BYTES, U64, P(Policy), P(ctypes.c_uint32)],
-    "plan": [*BYTES, ctypes.c_void_p, SIZE, ctypes.c_void_p, SIZE, P(PlanPolicy), *OUT],
+    "clock_evidence": [*BYTES, *BYTES, U64, P(Policy), P(ctypes.c_uint32)],
+    "plan": [*BYTES, *BYTES, ctypes.c_void_p, SIZE, ctypes.c_void_p, SIZE, P(PlanPolicy), *OUT],
     "session_open": [P(Place), *BYTES, U32],
     "session_answer": [P(Place), *BYTES, *OUT],
     "session_last": [P(Place), *OUT],
@@ -300,15 +303,21 @@ def slice_key(key):
     return library.hs_slice_key(key, len(key))
 
 
-def ended_note(task, life, kind):
-    """Returns the note that gives back all leases of a kind of a life that ended with its process."""
-    return text_of(library.hs_ended_note, task, life, KINDS[kind])
+def named(job):
+    """Returns the name of a job as the library takes it."""
+    name = job.encode()
+    return name, len(name)
 
 
-def plan(assignment, loads, tasks, policy):
-    """Returns the message of the assignment of the next generation."""
+def ended_note(job, task, life, kind):
+    """Returns the note of a job that gives back all leases of a kind of a life that ended with its process."""
+    return text_of(library.hs_ended_note, *named(job), task, life, KINDS[kind])
+
+
+def plan(job, assignment, loads, tasks, policy):
+    """Returns the message of the assignment of the next generation of a job."""
     loads, tasks = array_of(ctypes.c_uint64, loads), array_of(ctypes.c_uint64, tasks)
-    given = (assignment, len(assignment), loads, len(loads), tasks, len(tasks), ctypes.byref(policy))
+    given = (*named(job), assignment, len(assignment), loads, len(loads), tasks, len(tasks), ctypes.byref(policy))
     return text_of(library.hs_plan, *given)
 
 
@@ -318,10 +327,11 @@ def boottime_ticks():
     return time.clock_gettime_ns(time.CLOCK_BOOTTIME) // 1_000_000
 
 
-def clock_evidence(grant, at, policy):
-    """Whether a grant shows at the reading `at` of its task that clocks are not timely. False shows nothing."""
+def clock_evidence(job, grant, at, policy):
+    """Whether a grant of a job shows at the reading `at` of its task that clocks are not timely. False shows nothing.
+    """
     shown = ctypes.c_uint32()
-    done(library.hs_clock_evidence(grant, len(grant), at, ctypes.byref(policy), ctypes.byref(shown)))
+    done(library.hs_clock_evidence(*named(job), grant, len(grant), at, ctypes.byref(policy), ctypes.byref(shown)))
     return shown.value == 1
 
 
@@ -375,20 +385,20 @@ class Standing:
 
 
 class Slicelet(Standing):
-    """A slicelet: knows the leases of a server task and decides whether the task may serve a key.
+    """A slicelet of a job: knows the leases of a server task and decides whether the task may serve a key.
 
     Readings are in ticks of the task's clock.
     """
 
-    def __init__(self, task):
-        super().__init__("slicelet", task)
+    def __init__(self, job, task):
+        super().__init__("slicelet", *named(job), task)
 
     @classmethod
-    def resume(cls, task, life):
+    def resume(cls, job, task, life):
         """Returns the slicelet of the task's new process. `life` is the greatest life that the task ever started. Never
         call it beside a process of the task that may still run."""
-        slicelet = cls(task)
-        slicelet.do("resume", task, life)
+        slicelet = cls(job, task)
+        slicelet.do("resume", *named(job), task, life)
         return slicelet
 
     def start(self, life, at):
@@ -443,10 +453,10 @@ class Slicelet(Standing):
 
 
 class Clerk(Standing):
-    """A clerk: knows the newest assignment that a client was given."""
+    """A clerk of a job: knows the newest assignment that a client was given."""
 
-    def __init__(self):
-        super().__init__("clerk")
+    def __init__(self, job):
+        super().__init__("clerk", *named(job))
 
     def learn(self, assignment):
         self.do("learn", assignment, len(assignment), self.told_by())
@@ -469,8 +479,23 @@ class Clerk(Standing):
 class Table(Standing):
     """The lease table of a job. Readings are in ticks of the table's clock."""
 
-    def __init__(self, policy):
-        super().__init__("table", ctypes.byref(policy))
+    def __init__(self, job, policy):
+        super().__init__("table", *named(job), ctypes.byref(policy))
+
+    @classmethod
+    def restore(cls, job, policy, kept):
+        """Returns the table that kept these values, as a restart leaves it."""
+        table = cls(job, policy)
+        try:
+            table.do("restore", *named(job), ctypes.byref(policy), kept, len(kept), table.told_by())
+        except BaseException:
+            table.close()
+            raise
+        return table
+
+    def kept(self):
+        """Returns the values to save before the reply to a call that changed the table leaves the process."""
+        return self.text("kept")
 
     def term(self, name, number, at):
         term = JobTerm()

@@ -7,10 +7,10 @@ const grant = `{"type":"grant","value":{"ends":8,"generation":3,"kind":"guard","
 	`"ranges":[[0,9223372036854775808]],"task":2,"until":10},"version":1}`
 
 func TestSlicelet(t *testing.T) {
-	if _, code := NewSlicelet(65); code != -6 {
+	if _, code := NewSlicelet("", 65); code != -6 {
 		t.Fatal("a task above 64: code", code)
 	}
-	slicelet, code := NewSlicelet(2)
+	slicelet, code := NewSlicelet("", 2)
 	if code != 0 {
 		t.Fatal("a slicelet: code", code)
 	}

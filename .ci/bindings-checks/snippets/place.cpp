@@ -9,7 +9,7 @@ int main() {
     const std::uint8_t key[] = {'a'};
     if (hs_slicelet_serve(place.get(), key, 1, 1, &told) != HS_OTHER_PLACE)
         return 1;
-    if (hs_slicelet_open(place.get(), 2) != HS_DONE)
+    if (hs_slicelet_open(place.get(), key, 1, 2) != HS_DONE)
         return 2;
     if (hs_slicelet_serve(place.get(), key, 1, 1, &told) != HS_DOWN)
         return 3;

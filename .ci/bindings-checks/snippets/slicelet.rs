@@ -7,8 +7,8 @@ const GRANT: &[u8] = br#"{"type":"grant","value":{"ends":8,"generation":3,"kind"
 "ranges":[[0,9223372036854775808]],"task":2,"until":10},"version":1}"#;
 
 fn main() {
-    assert_eq!(Slicelet::new(65).err(), Some(-6));
-    let mut slicelet = Slicelet::new(2).expect("a slicelet");
+    assert_eq!(Slicelet::new("", 65).err(), Some(-6));
+    let mut slicelet = Slicelet::new("", 2).expect("a slicelet");
     assert_eq!(slicelet.serve(b"apples", 1).err(), Some(1));
     slicelet.start(1, 2).expect("a start");
     assert_eq!(slicelet.serve(b"", 3).err(), Some(5));

@@ -1,5 +1,5 @@
 -- What is returned of a grant that may show that clocks are not timely.
-use Rattle.std.specs.Prelude.{◌≡◌, ℕ, List, codes, Bool, true, false, Result, Ok, Err, ◌↔◌}
+use Rattle.std.specs.Prelude.{◌≡◌, ℕ, List, codes, Bool, true, false, Option, Some, None, Result, Ok, Err, ◌↔◌}
 use Rattle.lease_table.specs.declared.values.Grant.{Grant}
 use Rattle.lease_table.specs.Policies.{Terms, is_policy}
 use Rattle.wire.specs.Grants.{grant_of}
@@ -21,13 +21,18 @@ abbrev pub IsWeighedAs : Terms → ℕ → ℕ → ℕ → Answer → Result Gra
 IsWeighedAs policy at was out answer (Ok grant) = (answer ≡ Done) × IsWeight policy grant at out
 IsWeighedAs policy at was out answer (Err why) = (answer ≡ unread_answer why) × (out ≡ was)
 
-abbrev pub IsWeighedBy : Terms → List ℕ → ℕ → ℕ → ℕ → Answer → Type 0
-IsWeighedBy policy bytes at was out answer = IsReadFrom (codes "grant") grant_of bytes (IsWeighedAs policy at was out answer)
+abbrev pub IsWeighedBy : List ℕ → Terms → List ℕ → ℕ → ℕ → ℕ → Answer → Type 0
+IsWeighedBy job policy bytes at was out answer = IsReadFrom job (codes "grant") grant_of bytes (IsWeighedAs policy at was out answer)
 
 -- numbers that are no policy change nothing
-abbrev pub IsWeighedIn : Bool → Terms → List ℕ → ℕ → ℕ → ℕ → Answer → Type 0
-IsWeighedIn true policy bytes at was out answer = IsWeighedBy policy bytes at was out answer
-IsWeighedIn false policy bytes at was out answer = (answer ≡ WrongForm) × (out ≡ was)
+abbrev pub IsWeighedIn : List ℕ → Bool → Terms → List ℕ → ℕ → ℕ → ℕ → Answer → Type 0
+IsWeighedIn job true policy bytes at was out answer = IsWeighedBy job policy bytes at was out answer
+IsWeighedIn job false policy bytes at was out answer = (answer ≡ WrongForm) × (out ≡ was)
 
-abbrev pub IsWeighed : List ℕ → ℕ → PolicyNumbers → ℕ → ℕ → Answer → Type 0
-IsWeighed bytes at numbers was out answer = IsWeighedIn (is_policy (terms_of numbers)) (terms_of numbers) bytes at was out answer
+abbrev pub IsWeighed : List ℕ → List ℕ → ℕ → PolicyNumbers → ℕ → ℕ → Answer → Type 0
+IsWeighed job bytes at numbers was out answer = IsWeighedIn job (is_policy (terms_of numbers)) (terms_of numbers) bytes at was out answer
+
+-- of no job nothing is written
+abbrev pub IsWeighedFor : Option (List ℕ) → List ℕ → ℕ → PolicyNumbers → ℕ → ℕ → Answer → Type 0
+IsWeighedFor None bytes at numbers was out answer = (answer ≡ WrongForm) × (out ≡ was)
+IsWeighedFor (Some job) bytes at numbers was out answer = IsWeighed job bytes at numbers was out answer

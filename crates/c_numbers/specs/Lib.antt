@@ -1,3 +1,4 @@
+pub mod Jobs
 pub mod Numbers
 pub mod Told
 pub mod Outputs

@@ -11,6 +11,8 @@ use Rattle.slicelet.specs.declared.error.SliceletError.{SliceletError}
 use Rattle.slicelet.specs.declared.error.SliceletError.TheVariants as task
 use Rattle.lease_table.specs.declared.error.TableError.{TableError}
 use Rattle.lease_table.specs.declared.error.TableError.TheVariants as table
+use Rattle.lease_table.specs.declared.kept.KeptFault.{KeptFault}
+use Rattle.lease_table.specs.declared.kept.KeptFault.TheVariants as kept
 use Rattle.weighted_move.specs.declared.error.PlanError.{PlanError}
 use Rattle.weighted_move.specs.declared.error.PlanError.TheVariants as planning
 use Rattle.clocks.specs.declared.refusal.ClockRefusal.{ClockRefusal}
@@ -71,6 +73,18 @@ clock_number clock.TooOld = pos 36
 clock_number clock.TooLarge = pos 37
 clock_number (clock.NotYet until) = pos 38
 
+-- why no table is restored from kept values
+abbrev pub kept_number : KeptFault → ℤ
+kept_number kept.ReadingRange = pos 16
+kept_number kept.TooManyOwnersForJob = pos 22
+kept_number kept.NoAssignment = pos 26
+kept_number kept.OtherPolicy = pos 39
+kept_number kept.NoTerm = pos 40
+kept_number kept.TermRange = pos 41
+kept_number kept.Generation = pos 42
+kept_number kept.TooManyGrants = pos 43
+kept_number kept.DeadlineRange = pos 44
+
 -- why pairs make no set of keys
 abbrev pub ranges_number : RangesError → ℤ
 ranges_number pairs.PastEnd = negsuc 6
@@ -97,6 +111,7 @@ unread_number refusal.OtherType = negsuc 4
 unread_number refusal.TooLong = negsuc 5
 unread_number refusal.RepeatedMember = negsuc 5
 unread_number refusal.WrongForm = negsuc 5
+unread_number refusal.OtherJob = negsuc 19
 unread_number (refusal.Slices why) = slices_number why
 unread_number (refusal.Ranges why) = ranges_number why
 
@@ -110,6 +125,7 @@ answer_number answer.Stranger = pos 15
 answer_number (answer.Committed generation) = pos 0
 answer_number (answer.Table why) = table_number why
 answer_number (answer.Clock why) = clock_number why
+answer_number (answer.Kept why) = kept_number why
 answer_number (answer.OldGeneration generation) = pos 28
 answer_number answer.Unknown = pos 29
 answer_number answer.NotAdopted = pos 30

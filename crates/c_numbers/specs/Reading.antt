@@ -1,10 +1,11 @@
 -- What a call does with bytes.
-use Rattle.std.specs.Prelude.{ℕ, List, Result, Ok, Err}
+use Rattle.std.specs.Prelude.{◌≢◌, ℕ, List, Result, Ok, Err}
 use Rattle.serde_json.specs.Data.{Data}
 use Rattle.wire.specs.declared.fault.DecodeError.{DecodeError}
 use Rattle.wire.specs.declared.fault.DecodeError.TheVariants as failed
 use Rattle.wire.specs.declared.fault.Refusal.{Refusal}
-use Rattle.wire.specs.Messages.{IsDecodedAs, IsMessage, IsShort, IsUndecoded}
+use Rattle.wire.specs.declared.numerals.Numerals.{Numerals}
+use Rattle.wire.specs.Messages.{IsDecodedAs, IsMessage, IsOfOtherJob, IsShort, IsUndecoded}
 use Rattle.c_numbers.specs.declared.answer.Answer.{Answer}
 use Rattle.c_numbers.specs.declared.answer.Answer.TheVariants.{Unread, NoMemory}
 
@@ -13,14 +14,15 @@ abbrev pub unread_answer : DecodeError → Answer
 unread_answer (failed.Refused why) = Unread why
 unread_answer failed.NoMemory = NoMemory
 
--- the bytes are a message of this value that is not too long, or they are refused for this reason, or memory ran out
-abbrev pub IsDecoded : {A : Type 0} → List ℕ → (Data → Result A Refusal) → List ℕ → Result A DecodeError → Type 0
-IsDecoded name form bytes (Ok value) = IsShort bytes × IsMessage name form bytes value
-IsDecoded name form bytes (Err why) = IsUndecoded name form bytes why
+-- the bytes are a message of the job of this value that is not too long, or they are refused for this reason, or memory ran out
+abbrev pub IsDecoded : {A : Type 0} → List ℕ → List ℕ → (Numerals → Data → Result A Refusal) → List ℕ → Result A DecodeError → Type 0
+IsDecoded job name form bytes (Ok value) = IsShort bytes × IsMessage job name form bytes value
+IsDecoded job name form bytes (Err why) = IsUndecoded job name form bytes why
 
--- what was read of the bytes, which are a message of no other value, and what the call did with it
-pub record IsReadFrom {A : Type 0} (name : List ℕ) (form : Data → Result A Refusal) (bytes : List ℕ) (does : Result A DecodeError → Type 0) : Type 0 where
+-- what was read of the bytes, which are a message of the job of no other value, and of no other job, and what the call did with it
+pub record IsReadFrom {A : Type 0} (job name : List ℕ) (form : Numerals → Data → Result A Refusal) (bytes : List ℕ) (does : Result A DecodeError → Type 0) : Type 0 where
   pub read : Result A DecodeError
-  pub decoded : IsDecoded name form bytes read
-  pub only : (value : A) → IsMessage name form bytes value → IsDecodedAs bytes value read
+  pub decoded : IsDecoded job name form bytes read
+  pub only : (value : A) → IsMessage job name form bytes value → IsDecodedAs bytes value read
+  pub other : (other : List ℕ) (value : A) → other ≢ job → IsMessage other name form bytes value → IsOfOtherJob bytes read
   pub done : does read

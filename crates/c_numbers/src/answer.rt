@@ -4,11 +4,13 @@ ghost use Rattle.std.specs.Prelude.{◌≡◌};
 ghost use Rattle.c_numbers.specs.Numbers.{answer_number};
 ghost use Rattle.c_numbers.specs.Told.{answer_told, ground_told, slicelet_told, table_told};
 
-use crate::refusals::{clock_number, ground_number, plan_number, slicelet_number, table_number};
+use crate::refusals::{
+    clock_number, ground_number, kept_number, plan_number, slicelet_number, table_number,
+};
 use crate::told::{Told, kind_number};
 use crate::unread::unread_number;
 use clocks::ClockRefusal;
-use lease_table::TableError;
+use lease_table::{KeptFault, TableError};
 use policy_rules::{Ground, Verdict};
 use slicelet::SliceletError;
 use weighted_move::PlanError;
@@ -33,6 +35,8 @@ pub enum Answer {
     Table(TableError),
     /// A clock refused the call.
     Clock(ClockRefusal),
+    /// No table is restored from the kept values.
+    Kept(KeptFault),
     /// The assignment is not newer than the one that the clerk keeps, which has this generation.
     OldGeneration(u64),
     /// The clerk keeps no assignment.
@@ -75,6 +79,7 @@ impl Answer {
             Answer::Stranger => 15,
             Answer::Table(error) => table_number(error),
             Answer::Clock(refusal) => clock_number(refusal),
+            Answer::Kept(fault) => kept_number(fault),
             Answer::OldGeneration(_) => 28,
             Answer::Unknown => 29,
             Answer::NotAdopted => 30,

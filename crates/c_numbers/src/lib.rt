@@ -5,12 +5,14 @@
 #![tactic(auto)]
 
 mod answer;
+mod job;
 mod output;
 mod refusals;
 mod told;
 mod unread;
 
 pub use answer::Answer;
+pub use job::job_of;
 pub use output::give;
 pub use told::{Told, kind_number};
 pub use unread::unread_answer;

@@ -1,10 +1,10 @@
 //! Codes for refusals.
 
 ghost use Rattle.std.specs.Prelude.{◌≡◌};
-ghost use Rattle.c_numbers.specs.Numbers.{clock_number, ground_number, plan_number, slicelet_number, table_number};
+ghost use Rattle.c_numbers.specs.Numbers.{clock_number, ground_number, kept_number, plan_number, slicelet_number, table_number};
 
 use clocks::ClockRefusal;
-use lease_table::TableError;
+use lease_table::{KeptFault, TableError};
 use policy_rules::Ground;
 use slicelet::SliceletError;
 use weighted_move::PlanError;
@@ -72,6 +72,23 @@ pub fn plan_number(error: PlanError) -> i32
         PlanError::NoTasks => 31,
         PlanError::LoadsLength => 32,
         PlanError::LoadRange => 33,
+    }
+}
+
+/// Returns the code for why no table is restored from kept values.
+pub fn kept_number(fault: KeptFault) -> i32
+    ensures { result ≡ kept_number fault }
+{
+    match fault {
+        KeptFault::ReadingRange => 16,
+        KeptFault::TooManyOwnersForJob => 22,
+        KeptFault::NoAssignment => 26,
+        KeptFault::OtherPolicy => 39,
+        KeptFault::NoTerm => 40,
+        KeptFault::TermRange => 41,
+        KeptFault::Generation => 42,
+        KeptFault::TooManyGrants => 43,
+        KeptFault::DeadlineRange => 44,
     }
 }
 

@@ -17,6 +17,7 @@ pub fn unread_number(refusal: Refusal) -> i32
         Refusal::NotJson => -3,
         Refusal::Version(_) => -4,
         Refusal::OtherType => -5,
+        Refusal::OtherJob => -20,
         Refusal::TooLong | Refusal::RepeatedMember | Refusal::WrongForm => -6,
         Refusal::Slices(why) => slices_number(why),
         Refusal::Ranges(why) => ranges_number(why),

@@ -1,24 +1,27 @@
 //! What a place holds.
 
 ghost use Rattle.std.specs.Prelude.{◌≡◌};
+ghost use Rattle.std.specs.Thread.{IsSync};
+ghost use Rattle.c_place.specs.contracts.held.Held.{the_row};
 
 use assigner::Assigner;
 use c_session::Conversation;
 use clerk::Clerk;
 use lease_table::LeaseTable;
 use slicelet::Slicelet;
+use wire::JobName;
 
 /// What a place holds.
 #[derive(Drop)]
 pub enum Held {
     /// Nothing.
     Nothing,
-    /// A slicelet.
-    Slicelet(Slicelet),
-    /// A clerk.
-    Clerk(Clerk),
-    /// A table.
-    Table(LeaseTable),
+    /// A slicelet of a job.
+    Slicelet(JobName, Slicelet),
+    /// A clerk of a job.
+    Clerk(JobName, Clerk),
+    /// The table of a job.
+    Table(JobName, LeaseTable),
     /// An assigner.
     Assigner(Assigner),
     /// A session.
@@ -32,4 +35,9 @@ impl Held {
     {
         *self = value;
     }
+
+    /// Threads may read what is held through a `&` at the same time.
+    pub fn sharing_law()
+        ensures { IsSync the_row }
+    {}
 }

@@ -29,7 +29,7 @@ impl Model for Place {
 unsafe impl Send for Place {}
 
 impl Place {
-    ghost use Rattle.c_place.specs.Lending.{LendsValue, LendsIfThere};
+    ghost use Rattle.c_place.specs.Lending.{LendsValue, LendsIfThere, Stays};
 
     /// Creates a place at which no value is.
     pub fn nowhere(alloc: Global) -> Place
@@ -73,6 +73,17 @@ impl Place {
             None
         } else {
             Some(self.lend())
+        }
+    }
+
+    /// Lends the value for reading, if there is one.
+    pub fn read(&mut self) -> Option<&Held>
+        ensures* stays { sem 𝓛 (Stays self.entry) }
+        ensures value { self.old.value ≡ option_map (λ held. held.now) result }
+    {
+        match self.held() {
+            Some(held) => Some(&*held),
+            None => None,
         }
     }
 

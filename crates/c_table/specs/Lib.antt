@@ -5,3 +5,4 @@ pub mod Calls
 pub mod Texts
 pub mod Assigners
 pub mod Plans
+pub mod Keeping

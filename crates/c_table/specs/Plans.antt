@@ -1,5 +1,5 @@
 -- Plans of the assignment of the next generation, by numbers.
-use Rattle.std.specs.Prelude.{◌≡◌, ◌⊎◌, ℕ, ◌+◌, ◌^◌, ◌&&◌, nat_lt, Bool, true, false, List, Option, Some, None, Result, Ok, Err}
+use Rattle.std.specs.Prelude.{◌≡◌, ◌⊎◌, ℕ, ◌+◌, ◌^◌, ◌&&◌, nat_lt, Bool, true, false, List, codes, Option, Some, None, Result, Ok, Err}
 use Rattle.std.specs.List.{list_all}
 use Rattle.assignment.specs.declared.slice.Slice.{Slice}
 use Rattle.assignment.specs.Slices.{Slicing, is_task}
@@ -9,11 +9,12 @@ use Rattle.weighted_move.specs.declared.made.Plan.{Plan}
 use Rattle.weighted_move.specs.Owning.{rise_from}
 use Rattle.weighted_move.specs.Plans.{IsPlan, plan_refusal}
 use Rattle.weighted_move.specs.Policies.{Limits, is_policy}
+use Rattle.wire.specs.Assignments.{assignment_of}
 use Rattle.wire.specs.declared.fault.DecodeError.{DecodeError}
 use Rattle.c_numbers.specs.declared.answer.Answer.{Answer}
 use Rattle.c_numbers.specs.declared.answer.Answer.TheVariants as answers
 use Rattle.c_numbers.specs.Outputs.{Output, IsGivenWhole}
-use Rattle.c_numbers.specs.Reading.{unread_answer}
+use Rattle.c_numbers.specs.Reading.{unread_answer, IsReadFrom}
 use Rattle.c_table.specs.Texts.{IsAssignmentText}
 
 -- what a plan is asked for: the load of each slice, the tasks, and what it is held to
@@ -40,15 +41,15 @@ pub record IsPlanMade (generation : ℕ) (slices : List Slice) (w : Wanted) (nex
   pub is : next ≡ built generation plan.slices
 
 -- an assignment of the next generation that a plan makes, and its message
-pub record IsNextText (slicing : Slicing) (w : Wanted) (text : List ℕ) : Type 0 where
+pub record IsNextText (job : List ℕ) (slicing : Slicing) (w : Wanted) (text : List ℕ) : Type 0 where
   pub next : Slicing
   pub made : IsPlanMade (slicing.generation + 1) slicing.slices w next
-  pub is : IsAssignmentText next text
+  pub is : IsAssignmentText job next text
 
 -- the message of one is given, or there is no room for it
-pub record IsPlanGiven (slicing : Slicing) (w : Wanted) (was now : Output ℕ) (answer : Answer) : Type 0 where
+pub record IsPlanGiven (job : List ℕ) (slicing : Slicing) (w : Wanted) (was now : Output ℕ) (answer : Answer) : Type 0 where
   pub text : List ℕ
-  pub is : IsNextText slicing w text
+  pub is : IsNextText job slicing w text
   pub given : IsGivenWhole text was now answer
 
 -- why there is no plan, if there is none: a number is not within its limits, or the planner refuses
@@ -69,11 +70,16 @@ abbrev pub IsUnplanned : Slicing → Wanted → Answer → Type 0
 IsUnplanned slicing w answer = answer ≡ unless_planned (no_plan slicing w)
 
 -- there is no plan for this reason; or it is given, or memory ran out and nothing is written
-abbrev pub IsPlanAnswer : Option Answer → Slicing → Wanted → Output ℕ → Output ℕ → Answer → Type 0
-IsPlanAnswer (Some why) slicing w was now answer = (answer ≡ why) × (now ≡ was)
-IsPlanAnswer None slicing w was now answer = IsPlanGiven slicing w was now answer ⊎ ((answer ≡ answers.NoMemory) × (now ≡ was))
+abbrev pub IsPlanAnswer : List ℕ → Option Answer → Slicing → Wanted → Output ℕ → Output ℕ → Answer → Type 0
+IsPlanAnswer job (Some why) slicing w was now answer = (answer ≡ why) × (now ≡ was)
+IsPlanAnswer job None slicing w was now answer = IsPlanGiven job slicing w was now answer ⊎ ((answer ≡ answers.NoMemory) × (now ≡ was))
 
 -- a plan of the assignment that was read; of bytes that are none nothing is planned
-abbrev pub IsPlanned : Wanted → Output ℕ → Output ℕ → Answer → Result Slicing DecodeError → Type 0
-IsPlanned w was now answer (Ok slicing) = IsPlanAnswer (no_plan slicing w) slicing w was now answer
-IsPlanned w was now answer (Err why) = (answer ≡ unread_answer why) × (now ≡ was)
+abbrev pub IsPlanned : List ℕ → Wanted → Output ℕ → Output ℕ → Answer → Result Slicing DecodeError → Type 0
+IsPlanned job w was now answer (Ok slicing) = IsPlanAnswer job (no_plan slicing w) slicing w was now answer
+IsPlanned job w was now answer (Err why) = (answer ≡ unread_answer why) × (now ≡ was)
+
+-- the same of bytes of a job; of no job nothing is planned
+abbrev pub IsPlannedFor : Option (List ℕ) → List ℕ → Wanted → Output ℕ → Output ℕ → Answer → Type 0
+IsPlannedFor None bytes w was now answer = (answer ≡ answers.WrongForm) × (now ≡ was)
+IsPlannedFor (Some job) bytes w was now answer = IsReadFrom job (codes "assignment") assignment_of bytes (IsPlanned job w was now answer)

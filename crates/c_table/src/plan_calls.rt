@@ -7,19 +7,20 @@ ghost use Rattle.assignment.specs.Slices.{is_task};
 ghost use Rattle.weighted_move.specs.Owning.{rise_from};
 ghost use Rattle.weighted_move.specs.Plans.{plan_refusal};
 ghost use Rattle.wire.specs.Assignments.{assignment_of};
+ghost use Rattle.c_numbers.specs.Jobs.{job_of};
 ghost use Rattle.c_numbers.specs.Outputs.{output};
-ghost use Rattle.c_table.specs.Plans.{IsNextText, IsPlanMade, IsPlanned, IsUnplanned, are_tasks, no_plan, wanted};
+ghost use Rattle.c_table.specs.Plans.{IsNextText, IsPlanMade, IsPlanned, IsPlannedFor, IsUnplanned, are_tasks, no_plan, wanted};
 ghost use Rattle.c_table.specs.PolicyNumbers.{limits_of};
 ghost use Rattle.c_numbers.specs.Reading.{IsReadFrom};
 
 use crate::policy_numbers::PlanPolicyNumbers;
 use arrayvec::ArrayVec;
 use assignment::{Assignment, TASKS, TaskId};
-use c_numbers::{Answer, give, unread_answer};
+use c_numbers::{Answer, give, job_of, unread_answer};
 use machines::Trouble;
 use std::alloc::Global;
 use weighted_move::{PlanError, PlanPolicy, TaskSet, plan_law};
-use wire::{decode, encode};
+use wire::{JobName, decode, encode};
 
 // Whether numbers are tasks in strictly rising order.
 fn are_tasks(numbers: &[u64]) -> bool
@@ -89,12 +90,13 @@ fn next_assignment(
 // Returns the message of the next assignment, or why there is none.
 fn next_text(
     alloc: Global,
+    job: &JobName,
     assignment: &Assignment,
     loads: &[u64],
     tasks: &[u64],
     policy: &PlanPolicyNumbers,
 ) -> Result<Vec<u8>, Answer>
-    ensures text { IfOk result (λ text. IsNextText assignment.now (wanted loads.now tasks.now (limits_of policy.now)) text.items) }
+    ensures text { IfOk result (λ text. IsNextText job.now assignment.now (wanted loads.now tasks.now (limits_of policy.now)) text.items) }
     ensures planned { OnOk result (no_plan assignment.now (wanted loads.now tasks.now (limits_of policy.now)) ≡ None) }
     ensures unplanned { IfErr result (IsUnplanned assignment.now (wanted loads.now tasks.now (limits_of policy.now))) }
 {
@@ -109,18 +111,16 @@ fn next_text(
     }
     let tasks = set_of(tasks);
     match next_assignment(alloc, assignment, loads, &tasks, &policy, generation) {
-        Ok(next) => encode(alloc, &next).map_err(|_| Answer::NoMemory),
+        Ok(next) => encode(alloc, job, &next).map_err(|_| Answer::NoMemory),
         Err(Trouble::Refused(why)) => Err(Answer::Plan(why)),
         Err(Trouble::NoMemory) => Err(Answer::NoMemory),
     }
 }
 
-/// Plans the assignment of the next generation, and writes its message to `out`.
-///
-/// `assignment` is the message of the assignment to start from, `loads` has a load for each of its
-/// slices, and `tasks` has the tasks in strictly rising order.
-pub fn plan(
+// Plans for the assignment that the bytes are a message of.
+fn plan_for(
     alloc: Global,
+    job: &JobName,
     assignment: &[u8],
     loads: &[u64],
     tasks: &[u64],
@@ -128,15 +128,39 @@ pub fn plan(
     out: &mut [u8],
     needed: &mut usize,
 ) -> Answer
-    ensures { IsReadFrom (codes "assignment") assignment_of assignment.now
-        (IsPlanned (wanted loads.now tasks.now (limits_of policy.now)) (output out.old needed.old) (output out.new needed.new) result) }
+    ensures { IsReadFrom job.now (codes "assignment") assignment_of assignment.now
+        (IsPlanned job.now (wanted loads.now tasks.now (limits_of policy.now)) (output out.old needed.old) (output out.new needed.new) result) }
 {
-    let assignment = match decode::<Assignment>(alloc, assignment) {
+    let assignment = match decode::<Assignment>(alloc, job, assignment) {
         Ok(assignment) => assignment,
         Err(error) => return unread_answer(error),
     };
-    match next_text(alloc, &assignment, loads, tasks, policy) {
+    match next_text(alloc, job, &assignment, loads, tasks, policy) {
         Ok(text) => give(&text, out, needed),
         Err(answer) => answer,
+    }
+}
+
+/// Plans the assignment of the next generation, and writes its message to `out`.
+///
+/// `job` is the name of the job, `assignment` the message of the assignment to start from, `loads`
+/// has a load for each of its slices, and `tasks` has the tasks in strictly rising order.
+/// `WrongForm` if the bytes of `job` are not the name of a job.
+pub fn plan(
+    alloc: Global,
+    job: &[u8],
+    assignment: &[u8],
+    loads: &[u64],
+    tasks: &[u64],
+    policy: &PlanPolicyNumbers,
+    out: &mut [u8],
+    needed: &mut usize,
+) -> Answer
+    ensures { IsPlannedFor (job_of job.now) assignment.now (wanted loads.now tasks.now (limits_of policy.now))
+        (output out.old needed.old) (output out.new needed.new) result }
+{
+    match job_of(job) {
+        Some(job) => plan_for(alloc, &job, assignment, loads, tasks, policy, out, needed),
+        None => Answer::WrongForm,
     }
 }

@@ -22,7 +22,7 @@ use c_numbers::{Answer, unread_answer};
 use lease_table::{LeaseTable, ReleaseNote, generations_law};
 use machines::Trouble;
 use std::alloc::Global;
-use wire::decode;
+use wire::{JobName, decode};
 
 /// Creates a table with a policy, or returns `None` if a number is outside its limits.
 pub fn open_table(alloc: Global, policy: &PolicyNumbers) -> Option<LeaseTable>
@@ -71,15 +71,16 @@ pub fn renew(table: &mut LeaseTable, number: u64, at: u64, out: &mut TermNumbers
 /// Decodes an assignment from its message and proposes it under the term with this number.
 pub fn propose(
     alloc: Global,
+    job: &JobName,
     table: &mut LeaseTable,
     number: u64,
     assignment: &[u8],
     at: u64,
 ) -> Answer
-    ensures { IsReadFrom (codes "assignment") assignment_of assignment.now
+    ensures { IsReadFrom job.now (codes "assignment") assignment_of assignment.now
         (IsProposed number at table.old table.new result) }
 {
-    match decode::<Assignment>(alloc, assignment) {
+    match decode::<Assignment>(alloc, job, assignment) {
         Ok(assignment) => match table.propose(number, &assignment, at) {
             Ok(()) => Answer::Done,
             Err(Trouble::Refused(why)) => Answer::Table(why),
@@ -100,11 +101,18 @@ pub fn commit(table: &mut LeaseTable, number: u64, at: u64) -> Answer
 }
 
 /// Decodes a note from its message, frees the rows that it closes, and writes how many to `freed`.
-pub fn free(alloc: Global, table: &mut LeaseTable, note: &[u8], at: u64, freed: &mut u64) -> Answer
-    ensures { IsReadFrom (codes "note") (λ d. or_wrong (note_of d)) note.now
+pub fn free(
+    alloc: Global,
+    job: &JobName,
+    table: &mut LeaseTable,
+    note: &[u8],
+    at: u64,
+    freed: &mut u64,
+) -> Answer
+    ensures { IsReadFrom job.now (codes "note") (λ numerals d. or_wrong (note_of numerals d)) note.now
         (IsFreed at table.old table.new freed.old freed.new result) }
 {
-    match decode::<ReleaseNote>(alloc, note) {
+    match decode::<ReleaseNote>(alloc, job, note) {
         Ok(note) => match table.free(&note, at) {
             Ok(count) => {
                 *freed = count;

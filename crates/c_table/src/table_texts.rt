@@ -14,7 +14,7 @@ use c_numbers::{Answer, give};
 use lease_table::{LeaseTable, TableError};
 use machines::Trouble;
 use std::alloc::{AllocError, Global};
-use wire::encode;
+use wire::{JobName, encode};
 
 fn task_of(number: u64) -> Option<TaskId>
     ensures { result ≡ task_of number }
@@ -31,18 +31,19 @@ fn life_of(number: u32) -> Option<u32>
 // Returns the message of the grant that would be made next. The table is unchanged.
 fn next_text(
     alloc: Global,
+    job: &JobName,
     table: &mut LeaseTable,
     task: TaskId,
     life: u32,
     at: u64,
 ) -> Result<Vec<u8>, Trouble<TableError>>
-    ensures text { IfOk result (λ text. IsGrantText (grant_with table.old table.old.pending task life at) text.items) }
+    ensures text { IfOk result (λ text. IsGrantText job.now (grant_with table.old table.old.pending task life at) text.items) }
     ensures accepted { OnOk result (first_of (grant_checks table.old at) ≡ None) }
     ensures refused { IfErr result (λ trouble. trouble ≡ trouble_of (first_of (grant_checks table.old at))) }
     ensures same { table.new ≡ table.old }
 {
     let grant = table.next_grant(task, life, at)?;
-    Ok(encode(alloc, &grant)?)
+    Ok(encode(alloc, job, &grant)?)
 }
 
 // Returns the answer if no grant is made.
@@ -61,6 +62,7 @@ fn refused(trouble: Trouble<TableError>) -> Answer
 /// made.
 pub fn grant(
     alloc: Global,
+    job: &JobName,
     table: &mut LeaseTable,
     task: u64,
     life: u32,
@@ -68,7 +70,7 @@ pub fn grant(
     out: &mut [u8],
     needed: &mut usize,
 ) -> Answer
-    ensures { IsGranted (task_of task) (life_of life) at table.old table.new
+    ensures { IsGranted job.now (task_of task) (life_of life) at table.old table.new
         (output out.old needed.old) (output out.new needed.new) result }
 {
     let Some(task) = task_of(task) else {
@@ -77,7 +79,7 @@ pub fn grant(
     let Some(life) = life_of(life) else {
         return Answer::WrongForm;
     };
-    let text = match next_text(alloc, table, task, life, at) {
+    let text = match next_text(alloc, job, table, task, life, at) {
         Ok(text) => text,
         Err(trouble) => return refused(trouble),
     };
@@ -108,14 +110,20 @@ fn written_rows(alloc: Global, table: &LeaseTable) -> Result<Vec<RowNumbers>, Al
 }
 
 /// Writes the message of the committed assignment to `out`.
-pub fn committed(alloc: Global, table: &LeaseTable, out: &mut [u8], needed: &mut usize) -> Answer
-    ensures { IsCommittedGiven table.now.committed
+pub fn committed(
+    alloc: Global,
+    job: &JobName,
+    table: &LeaseTable,
+    out: &mut [u8],
+    needed: &mut usize,
+) -> Answer
+    ensures { IsCommittedGiven job.now table.now.committed
         (output out.old needed.old) (output out.new needed.new) result }
 {
     let Some(assignment) = table.committed() else {
         return Answer::Table(TableError::NoAssignment);
     };
-    match encode(alloc, assignment) {
+    match encode(alloc, job, assignment) {
         Ok(text) => give(&text, out, needed),
         Err(_) => Answer::NoMemory,
     }

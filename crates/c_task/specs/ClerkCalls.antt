@@ -24,9 +24,9 @@ abbrev pub IsLearnt : Option Slicing → Option Slicing → Answer → Result Sl
 IsLearnt old new answer (Ok assignment) = IsTaken (λ _. Done) old_answer (learn_step old assignment) old new answer
 IsLearnt old new answer (Err why) = (answer ≡ unread_answer why) × (new ≡ old)
 
--- the bytes were read as an assignment
-abbrev pub IsAssignmentLearnt : List ℕ → Option Slicing → Option Slicing → Answer → Type 0
-IsAssignmentLearnt bytes old new answer = IsReadFrom (codes "assignment") assignment_of bytes (IsLearnt old new answer)
+-- the bytes were read as an assignment of the job
+abbrev pub IsAssignmentLearnt : List ℕ → List ℕ → Option Slicing → Option Slicing → Answer → Type 0
+IsAssignmentLearnt job bytes old new answer = IsReadFrom job (codes "assignment") assignment_of bytes (IsLearnt old new answer)
 
 -- the owners that were found are written, and nothing where no assignment is kept
 abbrev pub IsLookedUp : Result Found unknown.Unknown → OwnersNumbers → OwnersNumbers → Answer → Type 0

@@ -1,5 +1,5 @@
 -- A task's processes, what it holds and what it does next, by numbers.
-use Rattle.std.specs.Prelude.{◌≡◌, ℕ, Option, Some, None, if◌then◌else◌}
+use Rattle.std.specs.Prelude.{◌≡◌, ℕ, List, Option, Some, None, if◌then◌else◌}
 use Rattle.machines.specs.Numbers.{is_within}
 use Rattle.policy_rules.specs.declared.lease.Kind.{Kind}
 use Rattle.policy_rules.specs.declared.lease.Kind.TheVariants.{Guard, Bridge}
@@ -28,10 +28,11 @@ abbrev pub note_for : ℕ → ℕ → Option Kind → Option ReleaseNote
 note_for task life None = None
 note_for task life (Some kind) = if is_within task TASKS then Some (ended_note task life kind) else None
 
--- its message is given, or memory ran out and nothing is written; of other numbers nothing is written
-abbrev pub IsNoteFor : Option ReleaseNote → Output ℕ → Output ℕ → Answer → Type 0
-IsNoteFor None was now answer = (answer ≡ WrongForm) × (now ≡ was)
-IsNoteFor (Some note) was now answer = IsGivenUnlessMemory (note_text note) was now answer
+-- its message is given, or memory ran out and nothing is written; of no job and of other numbers nothing is written
+abbrev pub IsNoteFor : Option (List ℕ) → Option ReleaseNote → Output ℕ → Output ℕ → Answer → Type 0
+IsNoteFor None _ was now answer = (answer ≡ WrongForm) × (now ≡ was)
+IsNoteFor (Some job) None was now answer = (answer ≡ WrongForm) × (now ≡ was)
+IsNoteFor (Some job) (Some note) was now answer = IsGivenUnlessMemory (note_text job note) was now answer
 
 -- a lease as numbers
 abbrev pub held_numbers_of : Grant → HeldNumbers

@@ -8,6 +8,7 @@ use Rattle.lease_table.specs.declared.values.ReleaseNote.{ReleaseNote}
 use Rattle.slicelet.specs.declared.error.SliceletError.{SliceletError}
 use Rattle.slicelet.specs.States.{SliceletState}
 use Rattle.slicelet.specs.Steps.{release_step}
+use Rattle.wire.specs.declared.numerals.Numerals.TheVariants.{Quoted}
 use Rattle.wire.specs.Messages.{IsMessage, message_text}
 use Rattle.wire.specs.Notes.{note_data, note_of}
 use Rattle.wire.specs.Refusals.{or_wrong}
@@ -19,31 +20,31 @@ use Rattle.c_numbers.specs.Outputs.{IsGiven, IsTooLong, Output}
 abbrev pub kind_of : ℕ → Option Kind
 kind_of number = if number == 1 then Some Guard else (if number == 2 then Some Bridge else None)
 
--- a note as bytes
-abbrev pub note_text : ReleaseNote → List ℕ
-note_text note = message_text (codes "note") (note_data note)
+-- a note of a job as bytes
+abbrev pub note_text : List ℕ → ReleaseNote → List ℕ
+note_text job note = message_text job (codes "note") (note_data Quoted note)
 
 -- what is read from the bytes of a note is the note
-abbrev pub IsReadable : ReleaseNote → Type 0
-IsReadable note = IsMessage (codes "note") (λ d. or_wrong (note_of d)) (note_text note) note
+abbrev pub IsReadable : List ℕ → ReleaseNote → Type 0
+IsReadable job note = IsMessage job (codes "note") (λ numerals d. or_wrong (note_of numerals d)) (note_text job note) note
 
 -- a release that is not refused: it was made and its note given; or there was no room for the note, or no memory, and the lease is still held
-abbrev pub IsNoteGiven : SliceletState × ReleaseNote → SliceletState → SliceletState → Output ℕ → Output ℕ → Answer → Type 0
-IsNoteGiven p old new was now Done = (new ≡ p.0) × IsGiven (note_text p.1) was.buffer now.buffer now.needed × IsReadable p.1
-IsNoteGiven p old new was now NoRoom = (new ≡ old) × IsTooLong (note_text p.1) was.buffer now.buffer now.needed
-IsNoteGiven p old new was now NoMemory = (new ≡ old) × (now ≡ was)
-IsNoteGiven p old new was now _ = ⊥
+abbrev pub IsNoteGiven : List ℕ → SliceletState × ReleaseNote → SliceletState → SliceletState → Output ℕ → Output ℕ → Answer → Type 0
+IsNoteGiven job p old new was now Done = (new ≡ p.0) × IsGiven (note_text job p.1) was.buffer now.buffer now.needed × IsReadable job p.1
+IsNoteGiven job p old new was now NoRoom = (new ≡ old) × IsTooLong (note_text job p.1) was.buffer now.buffer now.needed
+IsNoteGiven job p old new was now NoMemory = (new ≡ old) × (now ≡ was)
+IsNoteGiven job p old new was now _ = ⊥
 
 -- one that is refused changes nothing
-abbrev pub IsStepGiven : Result (SliceletState × ReleaseNote) SliceletError → SliceletState → SliceletState → Output ℕ → Output ℕ → Answer
+abbrev pub IsStepGiven : List ℕ → Result (SliceletState × ReleaseNote) SliceletError → SliceletState → SliceletState → Output ℕ → Output ℕ → Answer
     → Type 0
-IsStepGiven (Ok p) old new was now answer = IsNoteGiven p old new was now answer
-IsStepGiven (Err why) old new was now answer = (answer ≡ Slicelet why) × (new ≡ old) × (now ≡ was)
+IsStepGiven job (Ok p) old new was now answer = IsNoteGiven job p old new was now answer
+IsStepGiven job (Err why) old new was now answer = (answer ≡ Slicelet why) × (new ≡ old) × (now ≡ was)
 
 -- a number that is no kind is refused, and changes nothing
-abbrev pub IsReleased : Option Kind → ℕ → SliceletState → SliceletState → Output ℕ → Output ℕ → Answer → Type 0
-IsReleased None at old new was now answer = (answer ≡ WrongForm) × (new ≡ old) × (now ≡ was)
-IsReleased (Some kind) at old new was now answer = IsStepGiven (release_step old kind at) old new was now answer
+abbrev pub IsReleased : List ℕ → Option Kind → ℕ → SliceletState → SliceletState → Output ℕ → Output ℕ → Answer → Type 0
+IsReleased job None at old new was now answer = (answer ≡ WrongForm) × (new ≡ old) × (now ≡ was)
+IsReleased job (Some kind) at old new was now answer = IsStepGiven job (release_step old kind at) old new was now answer
 
 -- why a release was not prepared: its refusal, or that memory ran out where it is not refused
 abbrev pub IsFailure : {A F : Type 0} → Result A F → Trouble F → Type 0

@@ -25,6 +25,6 @@ abbrev pub IsHeard : ℕ → SliceletState → SliceletState → Answer → Resu
 IsHeard at old new answer (Ok grant) = IsTaken (λ _. Done) Slicelet (hear_step old grant at) old new answer
 IsHeard at old new answer (Err why) = (answer ≡ unread_answer why) × (new ≡ old)
 
--- the bytes were read as a grant
-abbrev pub IsGrantHeard : List ℕ → ℕ → SliceletState → SliceletState → Answer → Type 0
-IsGrantHeard bytes at old new answer = IsReadFrom (codes "grant") grant_of bytes (IsHeard at old new answer)
+-- the bytes were read as a grant of the job
+abbrev pub IsGrantHeard : List ℕ → List ℕ → ℕ → SliceletState → SliceletState → Answer → Type 0
+IsGrantHeard job bytes at old new answer = IsReadFrom job (codes "grant") grant_of bytes (IsHeard at old new answer)

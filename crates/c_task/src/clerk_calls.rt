@@ -14,14 +14,14 @@ use c_numbers::{Answer, unread_answer};
 use clerk::{Clerk, Unknown};
 use slice_ranges::{SliceKey, slice_key};
 use std::alloc::Global;
-use wire::decode;
+use wire::{JobName, decode};
 
-/// Decodes an assignment from its message and keeps it.
+/// Decodes an assignment from its message, which is one of the job, and keeps it.
 #[tactic(auto, using(crate::proofs::Steps::taken))]
-pub fn learn(alloc: Global, clerk: &mut Clerk, assignment: &[u8]) -> Answer
-    ensures { IsAssignmentLearnt assignment.now clerk.old clerk.new result }
+pub fn learn(alloc: Global, job: &JobName, clerk: &mut Clerk, assignment: &[u8]) -> Answer
+    ensures { IsAssignmentLearnt job.now assignment.now clerk.old clerk.new result }
 {
-    match decode::<Assignment>(alloc, assignment) {
+    match decode::<Assignment>(alloc, job, assignment) {
         Ok(assignment) => clerk_answer(clerk.learn(&assignment)),
         Err(why) => unread_answer(why),
     }

@@ -20,7 +20,7 @@ use policy_rules::Verdict;
 use slice_ranges::{SliceKey, slice_key};
 use slicelet::{Slicelet, Stranger};
 use std::alloc::Global;
-use wire::decode;
+use wire::{JobName, decode};
 
 /// Creates the slicelet of a task, or returns `None` if the number is not a task's.
 pub fn open_slicelet(alloc: Global, task: u64) -> Option<Slicelet>
@@ -40,12 +40,12 @@ pub fn start(slicelet: &mut Slicelet, life: u32, at: u64) -> Answer
     }
 }
 
-/// Decodes a grant from its message and hears it.
+/// Decodes a grant from its message, which is one of the job, and hears it.
 #[tactic(auto, using(crate::proofs::Steps::taken))]
-pub fn hear(alloc: Global, slicelet: &mut Slicelet, grant: &[u8], at: u64) -> Answer
-    ensures { IsGrantHeard grant.now at slicelet.old slicelet.new result }
+pub fn hear(alloc: Global, job: &JobName, slicelet: &mut Slicelet, grant: &[u8], at: u64) -> Answer
+    ensures { IsGrantHeard job.now grant.now at slicelet.old slicelet.new result }
 {
-    match decode::<Grant>(alloc, grant) {
+    match decode::<Grant>(alloc, job, grant) {
         Ok(grant) => slicelet_answer(slicelet.hear(&grant, at)),
         Err(why) => unread_answer(why),
     }

@@ -3,13 +3,14 @@
 ghost use Rattle.std.specs.Prelude.{◌≡◌, ◌-◌};
 ghost use Rattle.slicelet.specs.declared.slicelet.TheConstants.{CALLS};
 ghost use Rattle.slicelet.specs.Steps.{ended_note as note_of};
+ghost use Rattle.c_numbers.specs.Jobs.{job_of};
 ghost use Rattle.c_numbers.specs.Outputs.{output};
 ghost use Rattle.c_task.specs.Processes.{IsHeldTold, IsNextTold, IsNoteFor, action_number, note_for, opened_anew};
 ghost use Rattle.c_task.specs.Releases.{kind_of};
 
 use crate::slicelet_release::kind_of;
 use assignment::TaskId;
-use c_numbers::{Answer, give};
+use c_numbers::{Answer, give, job_of};
 use lease_table::{Phase, ReleaseNote};
 use policy_rules::Kind;
 use slicelet::{EndedNotes, Slicelet, SliceletError, TaskAction};
@@ -49,26 +50,32 @@ fn note_of_kind(task: TaskId, life: u32, kind: Kind) -> ReleaseNote
     }
 }
 
-/// Writes the message of the note that gives back all leases of a kind of a life that ended.
+/// Writes the message, of the job, of the note that gives back all leases of a kind of a life that
+/// ended.
 ///
-/// `WrongForm` if the numbers are not those of a task and a kind.
+/// `WrongForm` if the bytes are not the name of a job, or the numbers not those of a task and a
+/// kind.
 pub fn ended_note(
     alloc: Global,
+    job: &[u8],
     task: u64,
     life: u32,
     kind: u32,
     out: &mut [u8],
     needed: &mut usize,
 ) -> Answer
-    ensures { IsNoteFor (note_for task life (kind_of kind)) (output out.old needed.old) (output out.new needed.new) result }
+    ensures { IsNoteFor (job_of job.now) (note_for task life (kind_of kind)) (output out.old needed.old) (output out.new needed.new) result }
 {
+    let Some(job) = job_of(job) else {
+        return Answer::WrongForm;
+    };
     let Some(kind) = kind_of(kind) else {
         return Answer::WrongForm;
     };
     let Some(task) = TaskId::new(task) else {
         return Answer::WrongForm;
     };
-    match encode(alloc, &note_of_kind(task, life, kind)) {
+    match encode(alloc, &job, &note_of_kind(task, life, kind)) {
         Ok(message) => give(&message, out, needed),
         Err(_) => Answer::NoMemory,
     }

@@ -11,7 +11,7 @@ use machines::Trouble;
 use policy_rules::Kind;
 use slicelet::{Slicelet, SliceletError};
 use std::alloc::Global;
-use wire::encode;
+use wire::{JobName, encode};
 
 // The slicelet after a release, the note, and the note's message.
 #[derive(Drop)]
@@ -21,25 +21,26 @@ struct Prepared {
     message: Vec<u8>,
 }
 
-/// Releases the lease of a kind, and writes the message of its note to `out`.
+/// Releases the lease of a kind, and writes the message of its note, of the job, to `out`.
 ///
 /// The message is encoded before the lease is released, so a buffer that is too short loses
 /// nothing.
 pub fn release(
     alloc: Global,
+    job: &JobName,
     slicelet: &mut Slicelet,
     kind: u32,
     at: u64,
     out: &mut [u8],
     needed: &mut usize,
 ) -> Answer
-    ensures { IsReleased (kind_of kind) at slicelet.old slicelet.new (output out.old needed.old) (output out.new needed.new) result }
+    ensures { IsReleased job.now (kind_of kind) at slicelet.old slicelet.new (output out.old needed.old) (output out.new needed.new) result }
 {
     let Some(kind) = kind_of(kind) else {
         return Answer::WrongForm;
     };
-    match prepare(alloc, slicelet, kind, at) {
-        Ok(prepared) => put_prepared(slicelet, prepared, out, needed),
+    match prepare(alloc, job, slicelet, kind, at) {
+        Ok(prepared) => put_prepared(job, slicelet, prepared, out, needed),
         Err(Trouble::Refused(why)) => Answer::Slicelet(why),
         Err(Trouble::NoMemory) => Answer::NoMemory,
     }
@@ -58,13 +59,14 @@ pub(crate) fn kind_of(number: u32) -> Option<Kind>
 // Computes what a release would leave and return, without changing the slicelet.
 fn prepare(
     alloc: Global,
+    job: &JobName,
     slicelet: &Slicelet,
     kind: Kind,
     at: u64,
 ) -> Result<Prepared, Trouble<SliceletError>>
     ensures step { IfOk result (λ r. release_step slicelet.now kind at ≡ Ok (r.slicelet, r.note)) }
-    ensures message { IfOk result (λ r. r.message.items ≡ note_text r.note) }
-    ensures readable { IfOk result (λ r. IsReadable r.note) }
+    ensures message { IfOk result (λ r. r.message.items ≡ note_text job.now r.note) }
+    ensures readable { IfOk result (λ r. IsReadable job.now r.note) }
     ensures failure { IfErr result (IsFailure (release_step slicelet.now kind at)) }
 {
     if let Some(why) = slicelet.release_refusal(kind, at) {
@@ -72,7 +74,7 @@ fn prepare(
     }
     let mut left = slicelet.copy()?;
     let note = left.release(kind, at)?;
-    let message = encode(alloc, &note)?;
+    let message = encode(alloc, job, &note)?;
     Ok(Prepared {
         slicelet: left,
         note,
@@ -82,16 +84,18 @@ fn prepare(
 
 // Replaces the slicelet with the prepared one, if the note fits in `out`.
 fn put_prepared(
+    job: &JobName,
     slicelet: &mut Slicelet,
     prepared: Prepared,
     out: &mut [u8],
     needed: &mut usize,
 ) -> Answer
-    requires message { prepared.message.items ≡ note_text prepared.note }
-    requires readable { IsReadable prepared.note }
-    ensures { IsNoteGiven (prepared.slicelet, prepared.note) slicelet.old slicelet.new
+    requires message { prepared.message.items ≡ note_text job.now prepared.note }
+    requires readable { IsReadable job.now prepared.note }
+    ensures { IsNoteGiven job.now (prepared.slicelet, prepared.note) slicelet.old slicelet.new
         (output out.old needed.old) (output out.new needed.new) result }
 {
+    let _ = job;
     let Prepared {
         slicelet: left,
         note: _,

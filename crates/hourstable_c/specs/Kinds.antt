@@ -4,15 +4,15 @@ use Rattle.c_place.specs.declared.held.Held.{Held}
 use Rattle.c_place.specs.declared.held.Held.TheVariants as held
 
 abbrev pub is_slicelet : Held → Bool
-is_slicelet (held.Slicelet slicelet) = true
+is_slicelet (held.Slicelet job slicelet) = true
 is_slicelet _ = false
 
 abbrev pub is_clerk : Held → Bool
-is_clerk (held.Clerk clerk) = true
+is_clerk (held.Clerk job clerk) = true
 is_clerk _ = false
 
 abbrev pub is_table : Held → Bool
-is_table (held.Table table) = true
+is_table (held.Table job table) = true
 is_table _ = false
 
 abbrev pub is_assigner : Held → Bool

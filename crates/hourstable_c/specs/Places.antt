@@ -1,5 +1,5 @@
--- A call on what stands in a place: what it left there, or that another thing stands there, and then nothing changed.
-use Rattle.std.specs.Prelude.{◌≡◌, ℤ, Option, Some}
+-- A call on what stands in a place: what it left there, of the same job, or that another thing stands there, and then nothing changed.
+use Rattle.std.specs.Prelude.{◌≡◌, ℕ, ℤ, List, Option, Some}
 use Rattle.assignment.specs.Slices.{Slicing}
 use Rattle.slicelet.specs.States.{SliceletState}
 use Rattle.lease_table.specs.Tables.{Standing}
@@ -14,19 +14,19 @@ use Rattle.c_place.specs.declared.held.Held.TheVariants as held
 abbrev pub IsOtherPlace : Option Held → Option Held → Type 0 → ℤ → Type 0
 IsOtherPlace was now same number = (number ≡ answer_number OtherPlace) × (now ≡ was) × same
 
-abbrev pub OnSlicelet : Option Held → Option Held → Type 0 → ℤ → (SliceletState → SliceletState → Type 0) → Type 0
-OnSlicelet (Some (held.Slicelet old)) (Some (held.Slicelet new)) same number does = does old new
-OnSlicelet (Some (held.Slicelet old)) now same number does = ⊥
+abbrev pub OnSlicelet : Option Held → Option Held → Type 0 → ℤ → (List ℕ → SliceletState → SliceletState → Type 0) → Type 0
+OnSlicelet (Some (held.Slicelet job old)) (Some (held.Slicelet still new)) same number does = (still ≡ job) × does job old new
+OnSlicelet (Some (held.Slicelet job old)) now same number does = ⊥
 OnSlicelet was now same number does = IsOtherPlace was now same number
 
-abbrev pub OnClerk : Option Held → Option Held → Type 0 → ℤ → (Option Slicing → Option Slicing → Type 0) → Type 0
-OnClerk (Some (held.Clerk old)) (Some (held.Clerk new)) same number does = does old new
-OnClerk (Some (held.Clerk old)) now same number does = ⊥
+abbrev pub OnClerk : Option Held → Option Held → Type 0 → ℤ → (List ℕ → Option Slicing → Option Slicing → Type 0) → Type 0
+OnClerk (Some (held.Clerk job old)) (Some (held.Clerk still new)) same number does = (still ≡ job) × does job old new
+OnClerk (Some (held.Clerk job old)) now same number does = ⊥
 OnClerk was now same number does = IsOtherPlace was now same number
 
-abbrev pub OnTable : Option Held → Option Held → Type 0 → ℤ → (Standing → Standing → Type 0) → Type 0
-OnTable (Some (held.Table old)) (Some (held.Table new)) same number does = does old new
-OnTable (Some (held.Table old)) now same number does = ⊥
+abbrev pub OnTable : Option Held → Option Held → Type 0 → ℤ → (List ℕ → Standing → Standing → Type 0) → Type 0
+OnTable (Some (held.Table job old)) (Some (held.Table still new)) same number does = (still ≡ job) × does job old new
+OnTable (Some (held.Table job old)) now same number does = ⊥
 OnTable was now same number does = IsOtherPlace was now same number
 
 abbrev pub OnAssigner : Option Held → Option Held → Type 0 → ℤ → (Keeping → Keeping → Type 0) → Type 0

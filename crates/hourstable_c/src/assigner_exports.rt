@@ -1,15 +1,14 @@
 //! Exports for assigners and plans.
 
-ghost use Rattle.std.specs.Prelude.{◌≡◌, codes, None, ⊤};
-ghost use Rattle.wire.specs.Assignments.{assignment_of};
+ghost use Rattle.std.specs.Prelude.{◌≡◌, None, ⊤};
 ghost use Rattle.assigner.specs.Terms.{adopted_term};
 ghost use Rattle.c_numbers.specs.declared.answer.Answer.TheVariants.{Done};
+ghost use Rattle.c_numbers.specs.Jobs.{job_of};
 ghost use Rattle.c_numbers.specs.Numbers.{answer_number};
 ghost use Rattle.c_numbers.specs.Outputs.{output};
-ghost use Rattle.c_numbers.specs.Reading.{IsReadFrom};
 ghost use Rattle.c_place.specs.declared.held.Held.TheVariants as held;
 ghost use Rattle.c_table.specs.Assigners.{IsNext, adopt_answer, next_numbers, opened};
-ghost use Rattle.c_table.specs.Plans.{IsPlanned, wanted};
+ghost use Rattle.c_table.specs.Plans.{IsPlannedFor, wanted};
 ghost use Rattle.c_table.specs.PolicyNumbers.{limits_of};
 ghost use Rattle.c_table.specs.Terms.{phase_of, term_of};
 ghost use Rattle.hourstable_c.specs.Kinds.{is_assigner};
@@ -89,7 +88,7 @@ pub extern "C" fn hs_assigner_next(
         (λ old new. (new ≡ old) × Returns (IsNext (phase_of phase.now) old at wanted (next_numbers action.old number.old)
         (next_numbers action.new number.new)) result) }
 {
-    let Some(held) = place.held() else {
+    let Some(held) = place.read() else {
         return Answer::OtherPlace.number();
     };
     match held {
@@ -115,6 +114,7 @@ pub extern "C" fn hs_assigner_close(place: &mut Place) -> i32
 #[tactic(auto, using(crate::proofs::Returning::returns))]
 pub extern "C" fn hs_plan(
     alloc: Global,
+    job: &[u8],
     assignment: &[u8],
     loads: &[u64],
     tasks: &[u64],
@@ -122,8 +122,8 @@ pub extern "C" fn hs_plan(
     out: &mut [u8],
     needed: &mut usize,
 ) -> i32
-    ensures { Returns (λ answer. IsReadFrom (codes "assignment") assignment_of assignment.now
-        (IsPlanned (wanted loads.now tasks.now (limits_of policy.now)) (output out.old needed.old) (output out.new needed.new) answer)) result }
+    ensures { Returns (IsPlannedFor (job_of job.now) assignment.now (wanted loads.now tasks.now (limits_of policy.now))
+        (output out.old needed.old) (output out.new needed.new)) result }
 {
-    plan(alloc, assignment, loads, tasks, policy, out, needed).number()
+    plan(alloc, job, assignment, loads, tasks, policy, out, needed).number()
 }

@@ -4,32 +4,36 @@ ghost use Rattle.std.specs.Prelude.{◌≡◌, None, ⊤};
 ghost use Rattle.slice_ranges.specs.Hash.{slice_key};
 ghost use Rattle.clerk.specs.Steps.{look_at};
 ghost use Rattle.c_numbers.specs.declared.answer.Answer.TheVariants.{Done};
+ghost use Rattle.c_numbers.specs.Jobs.{job_of};
 ghost use Rattle.c_numbers.specs.Numbers.{answer_number};
 ghost use Rattle.c_place.specs.declared.held.Held.TheVariants as held;
 ghost use Rattle.c_task.specs.ClerkCalls.{IsAssignmentLearnt, IsLookedUp};
 ghost use Rattle.c_task.specs.Keys.{slice_key_of};
 ghost use Rattle.c_task.specs.SliceKeys.{IsLookedUpAt};
 ghost use Rattle.hourstable_c.specs.Kinds.{is_clerk};
-ghost use Rattle.hourstable_c.specs.Opened.{AtPlace, IsClosed};
+ghost use Rattle.hourstable_c.specs.Opened.{AtPlace, IsClosed, IsOpened};
 ghost use Rattle.hourstable_c.specs.Places.{OnClerk};
 ghost use Rattle.hourstable_c.specs.Returned.{Returns, Tells};
 
 use crate::place_exports::close_where;
-use c_numbers::{Answer, Told};
+use c_numbers::{Answer, Told, job_of};
 use c_place::{Held, Place};
 use c_task::{OwnersNumbers, learn, look, look_at};
 use clerk::Clerk;
 use std::alloc::Global;
 
-/// Creates a new clerk in `place`, destroying what was there. It keeps no assignment.
+/// Creates a new clerk of a job in `place`, destroying what was there. It keeps no assignment.
 #[unsafe(no_mangle)]
-pub extern "C" fn hs_clerk_open(place: &mut Place) -> i32
-    ensures { AtPlace (λ was now number. (number ≡ answer_number Done) × (now ≡ held.Clerk None)) place.old.value place.new.value result }
+pub extern "C" fn hs_clerk_open(place: &mut Place, job: &[u8]) -> i32
+    ensures { AtPlace (IsOpened (λ name. held.Clerk name None) (job_of job.now)) place.old.value place.new.value result }
 {
     let Some(held) = place.held() else {
         return Answer::OtherPlace.number();
     };
-    held.put(Held::Clerk(Clerk::new()));
+    let Some(job) = job_of(job) else {
+        return Answer::WrongForm.number();
+    };
+    held.put(Held::Clerk(job, Clerk::new()));
     Answer::Done.number()
 }
 
@@ -43,13 +47,13 @@ pub extern "C" fn hs_clerk_learn(
     told: &mut Told,
 ) -> i32
     ensures { OnClerk place.old.value place.new.value (told.new ≡ told.old) result
-        (λ old new. Tells (IsAssignmentLearnt assignment.now old new) told.old told.new result) }
+        (λ job old new. Tells (IsAssignmentLearnt job assignment.now old new) told.old told.new result) }
 {
     let Some(held) = place.held() else {
         return Answer::OtherPlace.number();
     };
     match held {
-        Held::Clerk(clerk) => learn(alloc, clerk, assignment).tell(told),
+        Held::Clerk(job, clerk) => learn(alloc, job, clerk, assignment).tell(told),
         _ => Answer::OtherPlace.number(),
     }
 }
@@ -59,13 +63,13 @@ pub extern "C" fn hs_clerk_learn(
 #[tactic(auto, using(crate::proofs::Returning::returns))]
 pub extern "C" fn hs_clerk_look(place: &mut Place, key: &[u8], out: &mut OwnersNumbers) -> i32
     ensures { OnClerk place.old.value place.new.value (out.new ≡ out.old) result
-        (λ old new. (new ≡ old) × Returns (IsLookedUp (look_at old (slice_key key.now)) out.old out.new) result) }
+        (λ job old new. (new ≡ old) × Returns (IsLookedUp (look_at old (slice_key key.now)) out.old out.new) result) }
 {
-    let Some(held) = place.held() else {
+    let Some(held) = place.read() else {
         return Answer::OtherPlace.number();
     };
     match held {
-        Held::Clerk(clerk) => look(clerk, key, out).number(),
+        Held::Clerk(_, clerk) => look(clerk, key, out).number(),
         _ => Answer::OtherPlace.number(),
     }
 }
@@ -79,13 +83,13 @@ pub extern "C" fn hs_clerk_look_at(
     out: &mut OwnersNumbers,
 ) -> i32
     ensures { OnClerk place.old.value place.new.value (out.new ≡ out.old) result
-        (λ old new. (new ≡ old) × Returns (IsLookedUpAt (slice_key_of slice_key) old out.old out.new) result) }
+        (λ job old new. (new ≡ old) × Returns (IsLookedUpAt (slice_key_of slice_key) old out.old out.new) result) }
 {
-    let Some(held) = place.held() else {
+    let Some(held) = place.read() else {
         return Answer::OtherPlace.number();
     };
     match held {
-        Held::Clerk(clerk) => look_at(clerk, slice_key, out).number(),
+        Held::Clerk(_, clerk) => look_at(clerk, slice_key, out).number(),
         _ => Answer::OtherPlace.number(),
     }
 }
@@ -93,13 +97,13 @@ pub extern "C" fn hs_clerk_look_at(
 /// Forgets the kept assignment.
 #[unsafe(no_mangle)]
 pub extern "C" fn hs_clerk_forget(place: &mut Place) -> i32
-    ensures { OnClerk place.old.value place.new.value ⊤ result (λ old new. (result ≡ answer_number Done) × (new ≡ None)) }
+    ensures { OnClerk place.old.value place.new.value ⊤ result (λ job old new. (result ≡ answer_number Done) × (new ≡ None)) }
 {
     let Some(held) = place.held() else {
         return Answer::OtherPlace.number();
     };
     match held {
-        Held::Clerk(clerk) => {
+        Held::Clerk(_, clerk) => {
             clerk.forget();
             Answer::Done.number()
         }
@@ -115,6 +119,6 @@ pub extern "C" fn hs_clerk_close(place: &mut Place) -> i32
     let Some(held) = place.held() else {
         return Answer::OtherPlace.number();
     };
-    let is_clerk = matches!(held, Held::Clerk(_));
+    let is_clerk = matches!(held, Held::Clerk(_, _));
     close_where(is_clerk, held)
 }

@@ -4,8 +4,9 @@ ghost use Rattle.std.specs.Prelude.{◌≡◌, ⊤};
 ghost use Rattle.clocks.specs.TableClocks.{opened, table_answer, after_table_read};
 ghost use Rattle.clocks.specs.TaskClocks.{sample_answer, read_answer};
 ghost use Rattle.c_numbers.specs.declared.answer.Answer.TheVariants.{Done};
+ghost use Rattle.c_numbers.specs.Jobs.{job_of};
 ghost use Rattle.c_numbers.specs.Numbers.{answer_number};
-ghost use Rattle.c_clocks.specs.Evidence.{IsWeighed};
+ghost use Rattle.c_clocks.specs.Evidence.{IsWeighedFor};
 ghost use Rattle.c_clocks.specs.TableClocks.{read_code, read_out};
 ghost use Rattle.c_clocks.specs.TaskClocks.{IsNew, OnTaskClock, IsSampled, IsRead};
 ghost use Rattle.hourstable_c.specs.Returned.{Returns};
@@ -87,12 +88,13 @@ pub extern "C" fn hs_table_clock_read(clock: &mut TableClock, now: u64, out: &mu
 #[tactic(auto, using(crate::proofs::Returning::returns))]
 pub extern "C" fn hs_clock_evidence(
     alloc: Global,
+    job: &[u8],
     grant: &[u8],
     at: u64,
     policy: &PolicyNumbers,
     out: &mut u32,
 ) -> i32
-    ensures { Returns (IsWeighed grant.now at policy.now out.old out.new) result }
+    ensures { Returns (IsWeighedFor (job_of job.now) grant.now at policy.now out.old out.new) result }
 {
-    evidence(alloc, grant, at, policy, out).number()
+    evidence(alloc, job, grant, at, policy, out).number()
 }

@@ -1,17 +1,18 @@
 //! Exports for a task's processes, what it holds and what it does next.
 
 ghost use Rattle.std.specs.Prelude.{◌≡◌, ◌-◌};
+ghost use Rattle.c_numbers.specs.Jobs.{job_of};
 ghost use Rattle.c_numbers.specs.Outputs.{output};
 ghost use Rattle.c_place.specs.declared.held.Held.TheVariants as held;
 ghost use Rattle.c_table.specs.Terms.{phase_of};
 ghost use Rattle.c_task.specs.Processes.{IsHeldTold, IsNextTold, IsNoteFor, note_for, opened_anew};
 ghost use Rattle.c_task.specs.Releases.{kind_of};
-ghost use Rattle.hourstable_c.specs.Opened.{AtPlace, IsOpened};
+ghost use Rattle.hourstable_c.specs.Opened.{AtPlace, IsOpened, with_job};
 ghost use Rattle.hourstable_c.specs.Places.{OnSlicelet};
 ghost use Rattle.hourstable_c.specs.Returned.{Returns};
 ghost use Rattle.slicelet.specs.declared.slicelet.TheConstants.{CALLS};
 
-use c_numbers::Answer;
+use c_numbers::{Answer, job_of};
 use c_place::{Held, Place};
 use c_table::PhaseNumbers;
 use c_task::{HeldNumbers, calls_left, ended_note, held, next, resume_slicelet};
@@ -19,15 +20,25 @@ use std::alloc::Global;
 
 /// Creates the slicelet of a task's new process in `place`, destroying what was there.
 #[unsafe(no_mangle)]
-pub extern "C" fn hs_slicelet_resume(alloc: Global, place: &mut Place, task: u64, life: u32) -> i32
-    ensures { AtPlace (IsOpened held.Slicelet (opened_anew task life)) place.old.value place.new.value result }
+pub extern "C" fn hs_slicelet_resume(
+    alloc: Global,
+    place: &mut Place,
+    job: &[u8],
+    task: u64,
+    life: u32,
+) -> i32
+    ensures { AtPlace (IsOpened (λ p. held.Slicelet p.0 p.1) (with_job (job_of job.now) (opened_anew task life)))
+        place.old.value place.new.value result }
 {
     let Some(held) = place.held() else {
         return Answer::OtherPlace.number();
     };
+    let Some(job) = job_of(job) else {
+        return Answer::WrongForm.number();
+    };
     match resume_slicelet(alloc, task, life) {
         Some(slicelet) => {
-            held.put(Held::Slicelet(slicelet));
+            held.put(Held::Slicelet(job, slicelet));
             Answer::Done.number()
         }
         None => Answer::WrongForm.number(),
@@ -39,16 +50,17 @@ pub extern "C" fn hs_slicelet_resume(alloc: Global, place: &mut Place, task: u64
 #[tactic(auto, using(crate::proofs::Returning::returns))]
 pub extern "C" fn hs_ended_note(
     alloc: Global,
+    job: &[u8],
     task: u64,
     life: u32,
     kind: u32,
     out: &mut [u8],
     needed: &mut usize,
 ) -> i32
-    ensures { Returns (IsNoteFor (note_for task life (kind_of kind))
+    ensures { Returns (IsNoteFor (job_of job.now) (note_for task life (kind_of kind))
         (output out.old needed.old) (output out.new needed.new)) result }
 {
-    ended_note(alloc, task, life, kind, out, needed).number()
+    ended_note(alloc, job, task, life, kind, out, needed).number()
 }
 
 /// Writes how many more calls the slicelet accepts.
@@ -56,13 +68,13 @@ pub extern "C" fn hs_ended_note(
 #[tactic(auto, using(crate::proofs::Returning::returns))]
 pub extern "C" fn hs_slicelet_calls_left(place: &mut Place, left: &mut u64) -> i32
     ensures { OnSlicelet place.old.value place.new.value (left.new ≡ left.old) result
-        (λ old new. (new ≡ old) × (left.new ≡ CALLS - old.count) × Returns (λ answer. answer ≡ Answer.Done) result) }
+        (λ job old new. (new ≡ old) × (left.new ≡ CALLS - old.count) × Returns (λ answer. answer ≡ Answer.Done) result) }
 {
-    let Some(held) = place.held() else {
+    let Some(held) = place.read() else {
         return Answer::OtherPlace.number();
     };
     match held {
-        Held::Slicelet(slicelet) => calls_left(slicelet, left).number(),
+        Held::Slicelet(_, slicelet) => calls_left(slicelet, left).number(),
         _ => Answer::OtherPlace.number(),
     }
 }
@@ -72,13 +84,13 @@ pub extern "C" fn hs_slicelet_calls_left(place: &mut Place, left: &mut u64) -> i
 #[tactic(auto, using(crate::proofs::Returning::returns))]
 pub extern "C" fn hs_slicelet_held(place: &mut Place, kind: u32, out: &mut HeldNumbers) -> i32
     ensures { OnSlicelet place.old.value place.new.value (out.new ≡ out.old) result
-        (λ old new. (new ≡ old) × Returns (IsHeldTold (kind_of kind) old out.old out.new) result) }
+        (λ job old new. (new ≡ old) × Returns (IsHeldTold (kind_of kind) old out.old out.new) result) }
 {
-    let Some(thing) = place.held() else {
+    let Some(thing) = place.read() else {
         return Answer::OtherPlace.number();
     };
     match thing {
-        Held::Slicelet(slicelet) => held(slicelet, kind, out).number(),
+        Held::Slicelet(_, slicelet) => held(slicelet, kind, out).number(),
         _ => Answer::OtherPlace.number(),
     }
 }
@@ -93,13 +105,13 @@ pub extern "C" fn hs_slicelet_next(
     action: &mut u32,
 ) -> i32
     ensures { OnSlicelet place.old.value place.new.value (action.new ≡ action.old) result
-        (λ old new. (new ≡ old) × Returns (IsNextTold (phase_of phase.now) old at action.old action.new) result) }
+        (λ job old new. (new ≡ old) × Returns (IsNextTold (phase_of phase.now) old at action.old action.new) result) }
 {
-    let Some(held) = place.held() else {
+    let Some(held) = place.read() else {
         return Answer::OtherPlace.number();
     };
     match held {
-        Held::Slicelet(slicelet) => next(slicelet, phase.phase(), at, action).number(),
+        Held::Slicelet(_, slicelet) => next(slicelet, phase.phase(), at, action).number(),
         _ => Answer::OtherPlace.number(),
     }
 }

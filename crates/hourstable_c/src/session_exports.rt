@@ -83,7 +83,7 @@ pub extern "C" fn hs_session_last(place: &mut Place, out: &mut [u8], needed: &mu
     ensures { OnSession place.old.value place.new.value (output out.new needed.new ≡ output out.old needed.old) result
         (λ old new. (new ≡ old) × Returns (IsGivenWhole (string_bytes old.line) (output out.old needed.old) (output out.new needed.new)) result) }
 {
-    let Some(held) = place.held() else {
+    let Some(held) = place.read() else {
         return Answer::OtherPlace.number();
     };
     match held {

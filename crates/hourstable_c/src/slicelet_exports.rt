@@ -1,6 +1,7 @@
 //! Exports for slicelets.
 
 ghost use Rattle.std.specs.Prelude.{◌≡◌, ⊤};
+ghost use Rattle.c_numbers.specs.Jobs.{job_of};
 ghost use Rattle.c_numbers.specs.Outputs.{output};
 ghost use Rattle.c_place.specs.declared.held.Held.TheVariants as held;
 ghost use Rattle.c_task.specs.Keys.{rule_for, slice_key_of, taken_by};
@@ -9,29 +10,32 @@ ghost use Rattle.c_task.specs.Releases.{IsReleased, kind_of};
 ghost use Rattle.c_task.specs.SliceKeys.{held_at, numbers_at, served_at};
 ghost use Rattle.c_task.specs.SliceletCalls.{IsGrantHeard, IsStarted, opened};
 ghost use Rattle.hourstable_c.specs.Kinds.{is_slicelet};
-ghost use Rattle.hourstable_c.specs.Opened.{AtPlace, IsClosed, IsOpened};
+ghost use Rattle.hourstable_c.specs.Opened.{AtPlace, IsClosed, IsOpened, with_job};
 ghost use Rattle.hourstable_c.specs.Places.{OnSlicelet};
 ghost use Rattle.hourstable_c.specs.Returned.{Returns, Tells};
 
 use crate::place_exports::close_where;
-use c_numbers::{Answer, Told};
+use c_numbers::{Answer, Told, job_of};
 use c_place::{Held, Place};
 use c_task::{
     HandleNumbers, check, hear, hold, hold_at, open_slicelet, release, serve, serve_at, start,
 };
 use std::alloc::Global;
 
-/// Creates a new slicelet in `place`, destroying what was there.
+/// Creates a new slicelet of a job in `place`, destroying what was there.
 #[unsafe(no_mangle)]
-pub extern "C" fn hs_slicelet_open(alloc: Global, place: &mut Place, task: u64) -> i32
-    ensures { AtPlace (IsOpened held.Slicelet (opened task)) place.old.value place.new.value result }
+pub extern "C" fn hs_slicelet_open(alloc: Global, place: &mut Place, job: &[u8], task: u64) -> i32
+    ensures { AtPlace (IsOpened (λ p. held.Slicelet p.0 p.1) (with_job (job_of job.now) (opened task))) place.old.value place.new.value result }
 {
     let Some(held) = place.held() else {
         return Answer::OtherPlace.number();
     };
+    let Some(job) = job_of(job) else {
+        return Answer::WrongForm.number();
+    };
     match open_slicelet(alloc, task) {
         Some(slicelet) => {
-            held.put(Held::Slicelet(slicelet));
+            held.put(Held::Slicelet(job, slicelet));
             Answer::Done.number()
         }
         None => Answer::WrongForm.number(),
@@ -43,13 +47,13 @@ pub extern "C" fn hs_slicelet_open(alloc: Global, place: &mut Place, task: u64) 
 #[tactic(auto, using(crate::proofs::Returning::returns))]
 pub extern "C" fn hs_slicelet_start(place: &mut Place, life: u32, at: u64) -> i32
     ensures { OnSlicelet place.old.value place.new.value ⊤ result
-        (λ old new. Returns (IsStarted life at old new) result) }
+        (λ job old new. Returns (IsStarted life at old new) result) }
 {
     let Some(held) = place.held() else {
         return Answer::OtherPlace.number();
     };
     match held {
-        Held::Slicelet(slicelet) => start(slicelet, life, at).number(),
+        Held::Slicelet(_, slicelet) => start(slicelet, life, at).number(),
         _ => Answer::OtherPlace.number(),
     }
 }
@@ -65,13 +69,13 @@ pub extern "C" fn hs_slicelet_hear(
     told: &mut Told,
 ) -> i32
     ensures { OnSlicelet place.old.value place.new.value (told.new ≡ told.old) result
-        (λ old new. Tells (IsGrantHeard grant.now at old new) told.old told.new result) }
+        (λ job old new. Tells (IsGrantHeard job grant.now at old new) told.old told.new result) }
 {
     let Some(held) = place.held() else {
         return Answer::OtherPlace.number();
     };
     match held {
-        Held::Slicelet(slicelet) => hear(alloc, slicelet, grant, at).tell(told),
+        Held::Slicelet(job, slicelet) => hear(alloc, job, slicelet, grant, at).tell(told),
         _ => Answer::OtherPlace.number(),
     }
 }
@@ -88,13 +92,15 @@ pub extern "C" fn hs_slicelet_release(
     needed: &mut usize,
 ) -> i32
     ensures { OnSlicelet place.old.value place.new.value (output out.new needed.new ≡ output out.old needed.old) result
-        (λ old new. Returns (IsReleased (kind_of kind) at old new (output out.old needed.old) (output out.new needed.new)) result) }
+        (λ job old new. Returns (IsReleased job (kind_of kind) at old new (output out.old needed.old) (output out.new needed.new)) result) }
 {
     let Some(held) = place.held() else {
         return Answer::OtherPlace.number();
     };
     match held {
-        Held::Slicelet(slicelet) => release(alloc, slicelet, kind, at, out, needed).number(),
+        Held::Slicelet(job, slicelet) => {
+            release(alloc, job, slicelet, kind, at, out, needed).number()
+        }
         _ => Answer::OtherPlace.number(),
     }
 }
@@ -104,14 +110,14 @@ pub extern "C" fn hs_slicelet_release(
 #[tactic(auto, using(crate::proofs::Returning::tells))]
 pub extern "C" fn hs_slicelet_serve(place: &mut Place, key: &[u8], at: u64, told: &mut Told) -> i32
     ensures { OnSlicelet place.old.value place.new.value (told.new ≡ told.old) result
-        (λ old new. (new ≡ old) × Tells (λ answer. answer ≡ Answer.Judged (rule_for key.now old at))
+        (λ job old new. (new ≡ old) × Tells (λ answer. answer ≡ Answer.Judged (rule_for key.now old at))
         told.old told.new result) }
 {
-    let Some(held) = place.held() else {
+    let Some(held) = place.read() else {
         return Answer::OtherPlace.number();
     };
     match held {
-        Held::Slicelet(slicelet) => serve(slicelet, key, at).tell(told),
+        Held::Slicelet(_, slicelet) => serve(slicelet, key, at).tell(told),
         _ => Answer::OtherPlace.number(),
     }
 }
@@ -126,14 +132,14 @@ pub extern "C" fn hs_slicelet_serve_at(
     told: &mut Told,
 ) -> i32
     ensures { OnSlicelet place.old.value place.new.value (told.new ≡ told.old) result
-        (λ old new. (new ≡ old) × Tells (λ answer. answer ≡ served_at (slice_key_of slice_key) old at)
+        (λ job old new. (new ≡ old) × Tells (λ answer. answer ≡ served_at (slice_key_of slice_key) old at)
         told.old told.new result) }
 {
-    let Some(held) = place.held() else {
+    let Some(held) = place.read() else {
         return Answer::OtherPlace.number();
     };
     match held {
-        Held::Slicelet(slicelet) => serve_at(slicelet, slice_key, at).tell(told),
+        Held::Slicelet(_, slicelet) => serve_at(slicelet, slice_key, at).tell(told),
         _ => Answer::OtherPlace.number(),
     }
 }
@@ -149,15 +155,15 @@ pub extern "C" fn hs_slicelet_hold(
     told: &mut Told,
 ) -> i32
     ensures { OnSlicelet place.old.value place.new.value ((told.new ≡ told.old) × (out.new ≡ out.old)) result
-        (λ old new. (new ≡ old)
+        (λ job old new. (new ≡ old)
         × (out.new ≡ held_numbers (taken_by (rule_for key.now old at) key.now old) out.old)
         × Tells (λ answer. answer ≡ held_answer (taken_by (rule_for key.now old at) key.now old)) told.old told.new result) }
 {
-    let Some(held) = place.held() else {
+    let Some(held) = place.read() else {
         return Answer::OtherPlace.number();
     };
     match held {
-        Held::Slicelet(slicelet) => hold(slicelet, key, at, out).tell(told),
+        Held::Slicelet(_, slicelet) => hold(slicelet, key, at, out).tell(told),
         _ => Answer::OtherPlace.number(),
     }
 }
@@ -173,15 +179,15 @@ pub extern "C" fn hs_slicelet_hold_at(
     told: &mut Told,
 ) -> i32
     ensures { OnSlicelet place.old.value place.new.value ((told.new ≡ told.old) × (out.new ≡ out.old)) result
-        (λ old new. (new ≡ old)
+        (λ job old new. (new ≡ old)
         × (out.new ≡ numbers_at (slice_key_of slice_key) old at out.old)
         × Tells (λ answer. answer ≡ held_at (slice_key_of slice_key) old at) told.old told.new result) }
 {
-    let Some(held) = place.held() else {
+    let Some(held) = place.read() else {
         return Answer::OtherPlace.number();
     };
     match held {
-        Held::Slicelet(slicelet) => hold_at(slicelet, slice_key, at, out).tell(told),
+        Held::Slicelet(_, slicelet) => hold_at(slicelet, slice_key, at, out).tell(told),
         _ => Answer::OtherPlace.number(),
     }
 }
@@ -191,13 +197,13 @@ pub extern "C" fn hs_slicelet_hold_at(
 #[tactic(auto, using(crate::proofs::Returning::returns))]
 pub extern "C" fn hs_slicelet_check(place: &mut Place, handle: &HandleNumbers, at: u64) -> i32
     ensures { OnSlicelet place.old.value place.new.value ⊤ result
-        (λ old new. (new ≡ old) × Returns (λ answer. answer ≡ check_answer (handle_of handle.now) old at) result) }
+        (λ job old new. (new ≡ old) × Returns (λ answer. answer ≡ check_answer (handle_of handle.now) old at) result) }
 {
-    let Some(held) = place.held() else {
+    let Some(held) = place.read() else {
         return Answer::OtherPlace.number();
     };
     match held {
-        Held::Slicelet(slicelet) => check(slicelet, handle, at).number(),
+        Held::Slicelet(_, slicelet) => check(slicelet, handle, at).number(),
         _ => Answer::OtherPlace.number(),
     }
 }
@@ -210,6 +216,6 @@ pub extern "C" fn hs_slicelet_close(place: &mut Place) -> i32
     let Some(held) = place.held() else {
         return Answer::OtherPlace.number();
     };
-    let is_slicelet = matches!(held, Held::Slicelet(_));
+    let is_slicelet = matches!(held, Held::Slicelet(_, _));
     close_where(is_slicelet, held)
 }

@@ -7,6 +7,7 @@ ghost use Rattle.wire.specs.Refusals.{or_wrong};
 ghost use Rattle.lease_table.specs.Steps.{renew_step, commit_step, standing_after_restart};
 ghost use Rattle.lease_table.specs.Tables.{phase_of};
 ghost use Rattle.c_numbers.specs.declared.answer.Answer.TheVariants.{Done};
+ghost use Rattle.c_numbers.specs.Jobs.{job_of};
 ghost use Rattle.c_numbers.specs.Numbers.{answer_number};
 ghost use Rattle.c_numbers.specs.Outputs.{IsGivenUnlessMemory, output};
 ghost use Rattle.c_numbers.specs.Reading.{IsReadFrom};
@@ -17,12 +18,12 @@ ghost use Rattle.c_table.specs.Rows.{row_numbers};
 ghost use Rattle.c_table.specs.Terms.{phase_numbers, term_given};
 ghost use Rattle.c_table.specs.Texts.{IsCommittedGiven, IsGranted, life_of, task_of};
 ghost use Rattle.hourstable_c.specs.Kinds.{is_table};
-ghost use Rattle.hourstable_c.specs.Opened.{AtPlace, IsClosed, IsOpened};
+ghost use Rattle.hourstable_c.specs.Opened.{AtPlace, IsClosed, IsOpened, with_job};
 ghost use Rattle.hourstable_c.specs.Places.{OnTable};
 ghost use Rattle.hourstable_c.specs.Returned.{Returns, Tells};
 
 use crate::place_exports::close_where;
-use c_numbers::{Answer, Told};
+use c_numbers::{Answer, Told, job_of};
 use c_place::{Held, Place};
 use c_table::{
     PhaseNumbers, PolicyNumbers, RowNumbers, TermNumbers, commit, committed, free, grant,
@@ -30,17 +31,26 @@ use c_table::{
 };
 use std::alloc::Global;
 
-/// Creates a new table in `place`, destroying what was there.
+/// Creates a new table of a job in `place`, destroying what was there.
 #[unsafe(no_mangle)]
-pub extern "C" fn hs_table_open(alloc: Global, place: &mut Place, policy: &PolicyNumbers) -> i32
-    ensures { AtPlace (IsOpened held.Table (table_of policy.now)) place.old.value place.new.value result }
+pub extern "C" fn hs_table_open(
+    alloc: Global,
+    place: &mut Place,
+    job: &[u8],
+    policy: &PolicyNumbers,
+) -> i32
+    ensures { AtPlace (IsOpened (λ p. held.Table p.0 p.1) (with_job (job_of job.now) (table_of policy.now)))
+        place.old.value place.new.value result }
 {
     let Some(held) = place.held() else {
         return Answer::OtherPlace.number();
     };
+    let Some(job) = job_of(job) else {
+        return Answer::WrongForm.number();
+    };
     match open_table(alloc, policy) {
         Some(table) => {
-            held.put(Held::Table(table));
+            held.put(Held::Table(job, table));
             Answer::Done.number()
         }
         None => Answer::WrongForm.number(),
@@ -58,13 +68,13 @@ pub extern "C" fn hs_table_take(
     told: &mut Told,
 ) -> i32
     ensures { OnTable place.old.value place.new.value ((told.new ≡ told.old) × (out.new ≡ out.old)) result
-        (λ old new. Tells (IsTermTaken (assigner_of assigner) at old new out.old out.new) told.old told.new result) }
+        (λ job old new. Tells (IsTermTaken (assigner_of assigner) at old new out.old out.new) told.old told.new result) }
 {
     let Some(held) = place.held() else {
         return Answer::OtherPlace.number();
     };
     match held {
-        Held::Table(table) => take(table, assigner, at, out).tell(told),
+        Held::Table(_, table) => take(table, assigner, at, out).tell(told),
         _ => Answer::OtherPlace.number(),
     }
 }
@@ -80,14 +90,14 @@ pub extern "C" fn hs_table_renew(
     told: &mut Told,
 ) -> i32
     ensures { OnTable place.old.value place.new.value ((told.new ≡ told.old) × (out.new ≡ out.old)) result
-        (λ old new. (out.new ≡ term_given (renew_step old number at) out.old)
+        (λ job old new. (out.new ≡ term_given (renew_step old number at) out.old)
         × Tells (IsTableStep (renew_step old number at) old new) told.old told.new result) }
 {
     let Some(held) = place.held() else {
         return Answer::OtherPlace.number();
     };
     match held {
-        Held::Table(table) => renew(table, number, at, out).tell(told),
+        Held::Table(_, table) => renew(table, number, at, out).tell(told),
         _ => Answer::OtherPlace.number(),
     }
 }
@@ -104,14 +114,14 @@ pub extern "C" fn hs_table_propose(
     told: &mut Told,
 ) -> i32
     ensures { OnTable place.old.value place.new.value (told.new ≡ told.old) result
-        (λ old new. Tells (λ answer. IsReadFrom (codes "assignment") assignment_of assignment.now (IsProposed number at old new answer))
+        (λ job old new. Tells (λ answer. IsReadFrom job (codes "assignment") assignment_of assignment.now (IsProposed number at old new answer))
         told.old told.new result) }
 {
     let Some(held) = place.held() else {
         return Answer::OtherPlace.number();
     };
     match held {
-        Held::Table(table) => propose(alloc, table, number, assignment, at).tell(told),
+        Held::Table(job, table) => propose(alloc, job, table, number, assignment, at).tell(told),
         _ => Answer::OtherPlace.number(),
     }
 }
@@ -121,13 +131,13 @@ pub extern "C" fn hs_table_propose(
 #[tactic(auto, using(crate::proofs::Returning::tells))]
 pub extern "C" fn hs_table_commit(place: &mut Place, number: u64, at: u64, told: &mut Told) -> i32
     ensures { OnTable place.old.value place.new.value (told.new ≡ told.old) result
-        (λ old new. Tells (IsCommitStep (commit_step old number at) old new) told.old told.new result) }
+        (λ job old new. Tells (IsCommitStep (commit_step old number at) old new) told.old told.new result) }
 {
     let Some(held) = place.held() else {
         return Answer::OtherPlace.number();
     };
     match held {
-        Held::Table(table) => commit(table, number, at).tell(told),
+        Held::Table(_, table) => commit(table, number, at).tell(told),
         _ => Answer::OtherPlace.number(),
     }
 }
@@ -145,13 +155,15 @@ pub extern "C" fn hs_table_grant(
     needed: &mut usize,
 ) -> i32
     ensures { OnTable place.old.value place.new.value (output out.new needed.new ≡ output out.old needed.old) result
-        (λ old new. Returns (IsGranted (task_of task) (life_of life) at old new (output out.old needed.old) (output out.new needed.new)) result) }
+        (λ job old new. Returns (IsGranted job (task_of task) (life_of life) at old new (output out.old needed.old) (output out.new needed.new)) result) }
 {
     let Some(held) = place.held() else {
         return Answer::OtherPlace.number();
     };
     match held {
-        Held::Table(table) => grant(alloc, table, task, life, at, out, needed).number(),
+        Held::Table(job, table) => {
+            grant(alloc, job, table, task, life, at, out, needed).number()
+        }
         _ => Answer::OtherPlace.number(),
     }
 }
@@ -168,14 +180,14 @@ pub extern "C" fn hs_table_free(
     told: &mut Told,
 ) -> i32
     ensures { OnTable place.old.value place.new.value ((told.new ≡ told.old) × (freed.new ≡ freed.old)) result
-        (λ old new. Tells (λ answer. IsReadFrom (codes "note") (λ d. or_wrong (note_of d)) note.now (IsFreed at old new freed.old freed.new answer))
+        (λ job old new. Tells (λ answer. IsReadFrom job (codes "note") (λ numerals d. or_wrong (note_of numerals d)) note.now (IsFreed at old new freed.old freed.new answer))
         told.old told.new result) }
 {
     let Some(held) = place.held() else {
         return Answer::OtherPlace.number();
     };
     match held {
-        Held::Table(table) => free(alloc, table, note, at, freed).tell(told),
+        Held::Table(job, table) => free(alloc, job, table, note, at, freed).tell(told),
         _ => Answer::OtherPlace.number(),
     }
 }
@@ -184,13 +196,13 @@ pub extern "C" fn hs_table_free(
 #[unsafe(no_mangle)]
 pub extern "C" fn hs_table_restart(place: &mut Place, lost: &mut u64) -> i32
     ensures { OnTable place.old.value place.new.value (lost.new ≡ lost.old) result
-        (λ old new. (result ≡ answer_number Done) × (lost.new ≡ length old.rows) × (new ≡ standing_after_restart old)) }
+        (λ job old new. (result ≡ answer_number Done) × (lost.new ≡ length old.rows) × (new ≡ standing_after_restart old)) }
 {
     let Some(held) = place.held() else {
         return Answer::OtherPlace.number();
     };
     match held {
-        Held::Table(table) => restart(table, lost).number(),
+        Held::Table(_, table) => restart(table, lost).number(),
         _ => Answer::OtherPlace.number(),
     }
 }
@@ -199,13 +211,13 @@ pub extern "C" fn hs_table_restart(place: &mut Place, lost: &mut u64) -> i32
 #[unsafe(no_mangle)]
 pub extern "C" fn hs_table_phase(place: &mut Place, out: &mut PhaseNumbers) -> i32
     ensures { OnTable place.old.value place.new.value (out.new ≡ out.old) result
-        (λ old new. (result ≡ answer_number Done) × (new ≡ old) × (out.new ≡ phase_numbers (phase_of old))) }
+        (λ job old new. (result ≡ answer_number Done) × (new ≡ old) × (out.new ≡ phase_numbers (phase_of old))) }
 {
-    let Some(held) = place.held() else {
+    let Some(held) = place.read() else {
         return Answer::OtherPlace.number();
     };
     match held {
-        Held::Table(table) => phase(table, out).number(),
+        Held::Table(_, table) => phase(table, out).number(),
         _ => Answer::OtherPlace.number(),
     }
 }
@@ -220,13 +232,13 @@ pub extern "C" fn hs_table_rows(
     needed: &mut usize,
 ) -> i32
     ensures { OnTable place.old.value place.new.value (output out.new needed.new ≡ output out.old needed.old) result
-        (λ old new. (new ≡ old) × Returns (IsGivenUnlessMemory (map row_numbers old.rows) (output out.old needed.old) (output out.new needed.new)) result) }
+        (λ job old new. (new ≡ old) × Returns (IsGivenUnlessMemory (map row_numbers old.rows) (output out.old needed.old) (output out.new needed.new)) result) }
 {
-    let Some(held) = place.held() else {
+    let Some(held) = place.read() else {
         return Answer::OtherPlace.number();
     };
     match held {
-        Held::Table(table) => rows(alloc, table, out, needed).number(),
+        Held::Table(_, table) => rows(alloc, table, out, needed).number(),
         _ => Answer::OtherPlace.number(),
     }
 }
@@ -241,13 +253,13 @@ pub extern "C" fn hs_table_committed(
     needed: &mut usize,
 ) -> i32
     ensures { OnTable place.old.value place.new.value (output out.new needed.new ≡ output out.old needed.old) result
-        (λ old new. (new ≡ old) × Returns (IsCommittedGiven old.committed (output out.old needed.old) (output out.new needed.new)) result) }
+        (λ job old new. (new ≡ old) × Returns (IsCommittedGiven job old.committed (output out.old needed.old) (output out.new needed.new)) result) }
 {
-    let Some(held) = place.held() else {
+    let Some(held) = place.read() else {
         return Answer::OtherPlace.number();
     };
     match held {
-        Held::Table(table) => committed(alloc, table, out, needed).number(),
+        Held::Table(job, table) => committed(alloc, job, table, out, needed).number(),
         _ => Answer::OtherPlace.number(),
     }
 }
@@ -260,6 +272,6 @@ pub extern "C" fn hs_table_close(place: &mut Place) -> i32
     let Some(held) = place.held() else {
         return Answer::OtherPlace.number();
     };
-    let is_table = matches!(held, Held::Table(_));
+    let is_table = matches!(held, Held::Table(_, _));
     close_where(is_table, held)
 }

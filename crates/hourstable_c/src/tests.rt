@@ -16,7 +16,7 @@ const GRANT: &[u8] =
 
 // Returns the codes of the calls, in order.
 fn codes_of(alloc: Global, place: &mut Place, told: &mut Told) -> [i32; 6] {
-    let opened = hs_slicelet_open(alloc, place, 2);
+    let opened = hs_slicelet_open(alloc, place, b"", 2);
     let started = hs_slicelet_start(place, 1, 3);
     let heard = hs_slicelet_hear(alloc, place, GRANT, 5, told);
     let served = hs_slicelet_serve(place, b"apples", 7, told);
