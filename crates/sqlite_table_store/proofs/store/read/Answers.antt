@@ -1,0 +1,8 @@
+use Rattle.sqlite.specs.Held.{state}
+use Rattle.sqlite_table_store.proofs.Holding.{finds_as}
+use Rattle.sqlite_table_store.proofs.store.read.Goals as goal
+
+pub returns-in-Ok-clause-found : goal.returns-in-Ok-clause-found
+returns-in-Ok-clause-found g c clean rows would =
+    finds_as c.args.job.now c.in-Ok.rows.items rows (state g.S.Store c.args.conn.now) (state g.S.Store c.rows_of.new.conn) c.stored_in.result (c.in-Ok.ensures.found clean rows would)
+    (rw c.as_slice.ensures.value at c.stored_in.ensures.few) (rw c.as_slice.ensures.value at c.stored_in.ensures.ok)

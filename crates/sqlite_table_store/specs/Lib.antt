@@ -1,0 +1,5 @@
+pub mod Rows
+pub mod Cells
+pub mod Texts
+pub mod Values
+pub mod Holding

@@ -1,0 +1,14 @@
+//! A store of the kept values of a lease table in a file of SQLite.
+#![tactic(auto)]
+
+mod assignment_text;
+mod columns;
+mod fault;
+mod reading;
+mod schema;
+mod sql;
+mod store;
+mod values;
+
+pub use fault::SqliteFault;
+pub use store::SqliteStore;

@@ -1,0 +1,170 @@
+//! A store of kept values in a database of SQLite.
+
+ghost use Rattle.std.specs.Prelude.{◌≡◌, ◌≢◌, ◌⊎◌, ◌∷◌, [], false, Some, List, string_bytes, map, IsTrue, IfOk, IfErr, OnOk, ⊤};
+ghost use Rattle.sqlite.specs.Held.{state};
+ghost use Rattle.sqlite.specs.Order.{Row as Cells};
+ghost use Rattle.sqlite.specs.State.{HasCleanDisk};
+ghost use Rattle.sqlite.specs.Tree.{Trees};
+ghost use Rattle.table_store.specs.declared.store.StoreError.TheVariants.{Replaced};
+ghost use Rattle.sqlite_table_store.specs.Cells.{IsReady, IsReadyIfOpen, row_of};
+ghost use Rattle.sqlite_table_store.specs.Rows.{HasRows, kept_schema, seen};
+ghost use Rattle.sqlite_table_store.specs.Holding.{Finds, MayLeave, MayPut, Puts};
+ghost use Rattle.sqlite_table_store.specs.Values.{HaveStored};
+
+use crate::fault::SqliteFault;
+use crate::reading::stored_in;
+use crate::schema::{is_empty, is_kept};
+use crate::sql::{create, put, rows_of};
+use crate::values::columns_of;
+use lease_table::Kept;
+use sqlite::{Alter, Connection, Error, ErrorCode};
+use std::alloc::Global;
+use table_store::{Store, StoreError, Stored};
+
+/// A store of the kept values of one job, in a database of SQLite.
+///
+/// The values are one row of the table `kept`, which is the only table of the database. Each save is
+/// one statement.
+#[derive(Drop)]
+pub struct SqliteStore<S: Alter> {
+    alloc: Global,
+    conn: Connection<S>,
+    job: String,
+}
+
+// Why a statement failed.
+fn failed(error: Error) -> StoreError<SqliteFault>
+    ensures { result ≢ Replaced }
+{
+    match error {
+        Error::SqliteFailure(ErrorCode::OutOfMemory) => StoreError::NoMemory,
+        error => StoreError::Failed(SqliteFault::Statement(error)),
+    }
+}
+
+// Whether a connection is in no transaction and its database has the table of the kept values.
+fn is_ready<S: Alter>(conn: &Connection<S>) -> bool
+    ensures { IsTrue result → IsReadyIfOpen (map seen ((state S.Store conn.now).now.trees 0)) (state S.Store conn.now) }
+{
+    if !conn.is_autocommit() {
+        return false;
+    }
+    is_kept(conn.schema())
+}
+
+// Returns what the rows of the table have.
+fn read<S: Alter>(
+    alloc: Global,
+    conn: &mut Connection<S>,
+    job: &str,
+) -> Result<Stored, StoreError<SqliteFault>>
+    ensures clean { HasCleanDisk (state S.Store conn.new) → HasCleanDisk (state S.Store conn.old) }
+    ensures found { HasCleanDisk (state S.Store conn.new) → (rows : List Cells) → IsReadyIfOpen rows (state S.Store conn.old)
+        → IfOk result (Finds job.now (state S.Store conn.old) (state S.Store conn.new)) }
+    ensures crash { HasCleanDisk (state S.Store conn.new) → (state S.Store conn.old).now.schema ≡ kept_schema
+        → (db : Trees) → (state S.Store conn.new).may_leave db → (state S.Store conn.old).may_leave db }
+    ensures err { IfErr result (λ e. e ≢ Replaced) }
+{
+    match rows_of(conn) {
+        Ok(rows) => stored_in(alloc, rows.as_slice(), job),
+        Err(error) => Err(failed(error)),
+    }
+}
+
+// Returns what the table has, if the database has the table and nothing else.
+fn find<S: Alter>(
+    alloc: Global,
+    conn: &mut Connection<S>,
+    job: &str,
+) -> Result<Stored, StoreError<SqliteFault>>
+    ensures clean { HasCleanDisk (state S.Store conn.new) → HasCleanDisk (state S.Store conn.old) }
+    ensures found { HasCleanDisk (state S.Store conn.new) → IfOk result (Finds job.now (state S.Store conn.old) (state S.Store conn.new)) }
+    ensures crash { HasCleanDisk (state S.Store conn.new) → (db : Trees) → (state S.Store conn.new).may_leave db → (state S.Store conn.old).may_leave db }
+    ensures err { IfErr result (λ e. e ≢ Replaced) }
+{
+    if is_ready(conn) {
+        read(alloc, conn, job)
+    } else {
+        Err(StoreError::Failed(SqliteFault::OtherTable))
+    }
+}
+
+// Writes the values in the place of those that are there.
+fn write<S: Alter>(
+    alloc: Global,
+    conn: &mut Connection<S>,
+    job: &str,
+    next: u64,
+    kept: &Kept,
+) -> Result<(), StoreError<SqliteFault>>
+    ensures clean { HasCleanDisk (state S.Store conn.new) → HasCleanDisk (state S.Store conn.old) }
+    ensures saved { HasCleanDisk (state S.Store conn.new) → MayPut job.now (state S.Store conn.old) → OnOk result (Puts job.now next kept.now (state S.Store conn.new)) }
+    ensures crash { HasCleanDisk (state S.Store conn.new) → MayPut job.now (state S.Store conn.old)
+        → (db : Trees) → (state S.Store conn.new).may_leave db
+        → (state S.Store conn.old).may_leave db ⊎ HaveStored job.now (map seen (db 0)) (record { version = next; kept = Some kept.now }) }
+    ensures err { IfErr result (λ e. e ≢ Replaced) }
+{
+    let row = columns_of(alloc, next, kept)?;
+    match put(conn, job, &row) {
+        Ok(_) => Ok(()),
+        Err(error) => Err(failed(error)),
+    }
+}
+
+impl<S: Alter + Drop> SqliteStore<S> {
+    /// Opens the store of the job with this name in a database, and makes its table if the database
+    /// has nothing.
+    ///
+    /// Errors, in this order: the table is not made, a transaction is open or the database has
+    /// another table, its row is not read, has another format, is of another job, is damaged, memory
+    /// runs out. They leave the row as it is.
+    pub fn open(
+        alloc: Global,
+        mut conn: Connection<S>,
+        job: String,
+    ) -> Result<Self, StoreError<SqliteFault>>
+        ensures job { IfOk result (λ store. store.job ≡ job) }
+    {
+        if is_empty(conn.schema()) {
+            if let Err(error) = create(&mut conn) {
+                return Err(failed(error));
+            }
+        }
+        find(alloc, &mut conn, job.as_str())?;
+        Ok(SqliteStore { alloc, conn, job })
+    }
+}
+
+impl<S: Alter + Drop> Store for SqliteStore<S> {
+    type Fault = SqliteFault;
+
+    ghost is_honest = { λ s. HasCleanDisk (state S.Store s.conn) };
+
+    ghost may_leave = { λ s left. MayLeave (string_bytes s.job) (state S.Store s.conn) left };
+
+    ghost may_fail = { λ s fault. ⊤ };
+
+    ghost moment = { λ s. 0 };
+
+    ghost left_since = { λ s t left. MayLeave (string_bytes s.job) (state S.Store s.conn) left };
+
+    ghost counts_now = { λ s t left le now. now };
+
+    ghost only_now = { λ s left since. since };
+
+    fn load(&mut self) -> Result<Stored, StoreError<SqliteFault>> {
+        find(self.alloc, &mut self.conn, self.job.as_str())
+    }
+
+    fn save(&mut self, version: u64, kept: &Kept) -> Result<u64, StoreError<SqliteFault>> {
+        let stored = find(self.alloc, &mut self.conn, self.job.as_str())?;
+        if stored.version != version {
+            return Err(StoreError::Replaced);
+        }
+        let Some(next) = version.checked_add(1) else {
+            return Err(StoreError::Failed(SqliteFault::NumberRange));
+        };
+        write(self.alloc, &mut self.conn, self.job.as_str(), next, kept)?;
+        Ok(next)
+    }
+}
