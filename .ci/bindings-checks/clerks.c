@@ -11,8 +11,8 @@ static void unread(struct hs_place *place) {
     for (size_t length = 0; length < strlen(halves); length++)
         IS(learn_bytes(place, halves, length), HS_NOT_JSON);
     IS(learn(place, "7"), HS_WRONG_FORM);
-    IS(learn(place, "{\"version\":2,\"more\":[]}"), HS_VERSION);
-    HOLDS(tells(2, UNTOLD, UNTOLD, UNTOLD, UNTOLD));
+    IS(learn(place, "{\"version\":3,\"more\":[]}"), HS_VERSION);
+    HOLDS(tells(3, UNTOLD, UNTOLD, UNTOLD, UNTOLD));
     IS(learn(place, NOTE("guard", "1", "7", "2")), HS_OTHER_TYPE);
     IS(learn(place, MESSAGE("assignment", "\"generation\":1")), HS_WRONG_FORM);
     IS(learn(place, ASSIGNMENT("1", "[[0]]")), HS_WRONG_FORM);

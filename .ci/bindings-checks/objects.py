@@ -69,9 +69,9 @@ def check_numbers():
         raises(AttributeError, f"{struct.__name__} has no other field", setattr, most, "lives", 1)
     raises(ValueError, "KeyHandle by name", lambda: KeyHandle(task=2, slice_key=5, position=1, life=U32 + 1))
     policy, message = PlanPolicy(1, 1, 0, 0, 0, 1), b"{}"
-    raises(ValueError, "a load of 2^64", hourstable.plan, message, [1, U64], [1], policy)
-    raises(ValueError, "a task of 2^64 + 1", hourstable.plan, message, [1], [U64 + 1], policy)
-    raises(ValueError, "a load of -1", hourstable.plan, message, [-1], [1], policy)
+    raises(ValueError, "a load of 2^64", hourstable.plan, "", message, [1, U64], [1], policy)
+    raises(ValueError, "a task of 2^64 + 1", hourstable.plan, "", message, [1], [U64 + 1], policy)
+    raises(ValueError, "a load of -1", hourstable.plan, "", message, [-1], [1], policy)
     raises(ctypes.ArgumentError, "a life of 2^32 + 1", hourstable.library.hs_slicelet_start, None, U32 + 1, 0)
 
 
@@ -87,8 +87,8 @@ def check_refusals():
         (-7, {}, "PAST_END", {}, "past-end"),
         (34, {}, "SENT_AHEAD", {}, "sent-ahead"),
         (38, {"until": 1000}, "NOT_YET", {"until": 1000}, "not-yet 1000"),
-        (39, {}, "CODE 39", {}, "code 39"),
-        (-20, {}, "CODE -20", {}, "code -20"),
+        (45, {}, "CODE 45", {}, "code 45"),
+        (-21, {}, "CODE -21", {}, "code -21"),
     ]:
         refusal = refused(code, **told)
         for one in (refusal, copy.copy(refusal), copy.deepcopy(refusal), pickle.loads(pickle.dumps(refusal))):

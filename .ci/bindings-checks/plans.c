@@ -101,7 +101,7 @@ static void refused_assignments(void) {
     refuses(&question, HS_NOT_JSON);
     question.assignment = NOTE("guard", "1", "7", "2");
     refuses(&question, HS_OTHER_TYPE);
-    question.assignment = "{\"version\":2}";
+    question.assignment = "{\"version\":3}";
     refuses(&question, HS_VERSION);
     question.assignment = ASSIGNMENT("18446744073709551615", "[[0,[1]],[1,[1]],[2,[1]]]");
     refuses(&question, HS_WRONG_FORM);

@@ -85,7 +85,7 @@ static void reads_others(const struct places *all) {
     struct hs_owners owners = {0};
     struct hs_phase phase = {9, 9};
     struct hs_row rows[2];
-    uint8_t out[256], kept[512];
+    uint8_t out[256];
     size_t needed = 9;
     uint32_t action = 0;
     uint64_t number = 0;
@@ -94,10 +94,16 @@ static void reads_others(const struct places *all) {
     HOLDS(hs_table_phase(&all->table, &phase) == HS_DONE && phase.committed == 1 && phase.proposed == 0);
     HOLDS(hs_table_rows(&all->table, rows, 2, &needed) == HS_DONE && needed == 1 && rows[0].task == 1);
     HOLDS(hs_table_committed(&all->table, out, sizeof out, &needed) == HS_DONE && needed < sizeof out);
-    HOLDS(hs_table_kept(&all->table, kept, sizeof kept, &needed) == HS_DONE && needed < sizeof kept);
     HOLDS(hs_assigner_next(&all->assigner, 10, &first, 1, &action, &number) == HS_DONE);
     HOLDS(action == HS_PROPOSE && number == 4);
     HOLDS(hs_session_last(&all->session, out, sizeof out, &needed) == HS_DONE && needed == 0);
+}
+
+/* It counts the copies that it makes of assignments, by atomic writes beside them. */
+static void reads_kept_values(const struct hs_place *table) {
+    uint8_t kept[512];
+    size_t needed = 0;
+    HOLDS(hs_table_kept(table, kept, sizeof kept, &needed) == HS_DONE && needed < sizeof kept);
 }
 
 void check_readers(void) {
@@ -110,6 +116,7 @@ void check_readers(void) {
     HOLDS(allocations == before);
     reads_others(all);
     protect_memory(PROT_READ | PROT_WRITE);
+    reads_kept_values(&all->table);
     hs_place_free(&all->task);
     hs_place_free(&all->clerk);
     hs_place_free(&all->table);

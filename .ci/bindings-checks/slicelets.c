@@ -243,7 +243,7 @@ static void by_slice_key(void) {
 /* A task's next process starts only higher lives, and knows no handle of an earlier one. Its notes are those of
  * the greatest number that a grant can have. */
 static void resumes(void) {
-    const char *guard = MESSAGE("note", "\"kind\":\"guard\",\"life\":1,\"number\":4294967296,\"task\":2");
+    const char *guard = WRITTEN_NOTE("guard", "1", "4294967296", "2");
     struct hs_place task = serving_task();
     struct hs_key_handle handle;
     uint64_t left = 0;
