@@ -3,3 +3,4 @@ pub mod Keeping
 pub mod Lists
 pub mod Tasks
 pub mod Playing
+pub mod Parts

@@ -1,8 +1,12 @@
 //! The positions of readings in a picture.
 
+ghost use Rattle.std.specs.Prelude.{◌≡◌};
+ghost use Rattle.timeline.specs.Pictures.{x_on};
+
 use crate::lane::FOREVER;
 use crate::shown::Shown;
 use std::alloc::{AllocError, Global};
+use std::collections::BTreeMap;
 
 /// Where readings begin, in pixels from the left.
 pub const LEFT: u64 = 92;
@@ -10,12 +14,20 @@ pub const LEFT: u64 = 92;
 /// How wide the readings are, in pixels.
 pub const WIDTH: u64 = 888;
 
+/// The readings of a picture in order, and their positions.
+#[derive(Drop)]
+pub struct Axis {
+    readings: Vec<u64>,
+    // The position of each reading, in pixels from the left.
+    positions: BTreeMap<u64, u64>,
+}
+
 /// Readings in order, and the distance of each from the first.
 ///
 /// The width of a gap grows with the number of its binary digits, so that a long gap does not push
 /// the others together.
 #[derive(Drop)]
-pub struct Axis {
+struct Scale {
     readings: Vec<u64>,
     places: Vec<u64>,
     length: u64,
@@ -56,22 +68,7 @@ fn readings_of(alloc: Global, shown: &Shown) -> Result<Vec<u64>, AllocError> {
     Ok(readings)
 }
 
-impl Axis {
-    /// Returns the axis of the readings of a picture.
-    pub fn of_shown(alloc: Global, shown: &Shown) -> Result<Self, AllocError> {
-        let mut all = readings_of(alloc, shown)?;
-        all.sort_unstable();
-        let mut axis = Axis {
-            readings: Vec::new(alloc),
-            places: Vec::new(alloc),
-            length: 0,
-        };
-        for reading in &all {
-            axis.add(*reading)?;
-        }
-        Ok(axis)
-    }
-
+impl Scale {
     // Adds a reading that is not below the others.
     fn add(&mut self, reading: u64) -> Result<(), AllocError> {
         if let Some(last) = self.readings.last() {
@@ -86,25 +83,61 @@ impl Axis {
         Ok(())
     }
 
+    // Returns the position of a place, in pixels from the left.
+    fn position(&self, place: u64) -> u64 {
+        let pixels = WIDTH
+            .saturating_mul(place)
+            .checked_div(self.length)
+            .unwrap_or(0);
+        LEFT.saturating_add(pixels)
+    }
+
+    // Returns the axis with these readings.
+    fn axis(self, alloc: Global) -> Result<Axis, AllocError> {
+        let mut positions = BTreeMap::new(alloc);
+        for (i, reading) in self.readings.iter().enumerate() {
+            if let Some(place) = self.places.get(i) {
+                positions.insert(*reading, self.position(*place))?;
+            }
+        }
+        Ok(Axis {
+            readings: self.readings,
+            positions,
+        })
+    }
+}
+
+impl Axis {
+    /// Returns the axis of the readings of a picture.
+    pub fn of_shown(alloc: Global, shown: &Shown) -> Result<Self, AllocError> {
+        let mut all = readings_of(alloc, shown)?;
+        all.sort_unstable();
+        let mut scale = Scale {
+            readings: Vec::new(alloc),
+            places: Vec::new(alloc),
+            length: 0,
+        };
+        for reading in &all {
+            scale.add(*reading)?;
+        }
+        scale.axis(alloc)
+    }
+
     /// Returns the readings in order.
     pub fn readings(&self) -> &[u64] {
         self.readings.as_slice()
     }
 
     /// Returns the position of a reading, in pixels from the left.
-    pub fn x(&self, reading: u64) -> u64 {
-        let after = self
-            .readings
-            .as_slice()
-            .partition_point(|one| *one < reading);
-        let place = match self.places.get(after) {
-            Some(place) => *place,
-            None => return LEFT.saturating_add(WIDTH),
-        };
-        let pixels = WIDTH
-            .saturating_mul(place)
-            .checked_div(self.length)
-            .unwrap_or(0);
-        LEFT.saturating_add(pixels)
+    ///
+    /// A reading that is not one of the picture's, as the end of a span that does not end, is at
+    /// the right edge.
+    pub fn x(&self, reading: u64) -> u64
+        ensures { result ≡ x_on self.now reading }
+    {
+        match self.positions.get(&reading) {
+            Some(position) => *position,
+            None => LEFT.saturating_add(WIDTH),
+        }
     }
 }

@@ -1,6 +1,6 @@
 //! The lane of a clerk. Its steps have no reading: each is drawn at the last reading before it.
 
-use crate::lane::{Item, Lane, Look};
+use crate::lane::{Item, Look, Row, add_row};
 use crate::words::key_label;
 use clerk::Found;
 use service::{Line, RefusalWords};
@@ -11,16 +11,14 @@ use world::Reply;
 #[derive(Drop)]
 pub struct ClerkRecord {
     alloc: Global,
-    number: u64,
     steps: Vec<Item>,
 }
 
 impl ClerkRecord {
     /// Creates the record of a clerk before its first step.
-    pub fn new(alloc: Global, number: u64) -> Self {
+    pub fn new(alloc: Global) -> Self {
         ClerkRecord {
             alloc,
-            number,
             steps: Vec::new(alloc),
         }
     }
@@ -60,18 +58,11 @@ impl ClerkRecord {
         Ok(())
     }
 
-    /// Returns the lane of the clerk, if it took a step.
-    pub fn lane(self) -> Result<Option<Lane>, AllocError> {
-        let ClerkRecord {
-            alloc,
-            number,
-            steps,
-        } = self;
-        if steps.is_empty() {
-            return Ok(None);
-        }
-        let mut lane = Lane::new(alloc, format!(in alloc; "clerk {number}")?);
-        lane.add_row("steps", steps)?;
-        Ok(Some(lane))
+    /// Returns what happened, in rows.
+    pub fn rows(self) -> Result<Vec<Row>, AllocError> {
+        let ClerkRecord { alloc, steps } = self;
+        let mut rows = Vec::new(alloc);
+        add_row(&mut rows, "steps", steps)?;
+        Ok(rows)
     }
 }

@@ -1,6 +1,10 @@
 //! The contents of a picture, before it is drawn.
 
+ghost use Rattle.std.specs.Prelude.{◌≡◌, Some};
+ghost use Rattle.timeline.specs.Actors.{actor_name};
+
 use std::alloc::{AllocError, Global};
+use std::fmt;
 
 /// The end of a span that does not end.
 pub const FOREVER: u64 = u64::MAX;
@@ -108,29 +112,46 @@ pub struct Row {
     pub items: Vec<Item>,
 }
 
+/// Adds a row, unless it has no items.
+pub fn add_row(
+    rows: &mut Vec<Row>,
+    name: &'static str,
+    items: Vec<Item>,
+) -> Result<(), AllocError> {
+    if !items.is_empty() {
+        rows.push(Row { name, items })?;
+    }
+    Ok(())
+}
+
+/// An actor of a job, which has a lane.
+#[derive(Clone, Copy, Debug, PartialEq, Eq)]
+pub enum Actor {
+    /// The lease table.
+    Table,
+    /// The task with this number.
+    Task(u64),
+    /// The clerk with this number.
+    Clerk(u64),
+}
+
+impl fmt::Display for Actor {
+    ghost output = { λ a. Some (actor_name a) };
+
+    fn fmt<W: fmt::Write>(&self, f: &mut fmt::Formatter<W>) -> fmt::Result {
+        match *self {
+            Actor::Table => f.write_str("table"),
+            Actor::Task(number) => write!(f, "task {number}"),
+            Actor::Clerk(number) => write!(f, "clerk {number}"),
+        }
+    }
+}
+
 /// The lane of an actor.
 #[derive(Drop)]
 pub struct Lane {
-    /// The name of the actor.
-    pub name: String,
-    /// Its rows.
+    /// The actor.
+    pub actor: Actor,
+    /// What happened to it, in rows.
     pub rows: Vec<Row>,
-}
-
-impl Lane {
-    /// Returns a lane without rows.
-    pub fn new(alloc: Global, name: String) -> Self {
-        Lane {
-            name,
-            rows: Vec::new(alloc),
-        }
-    }
-
-    /// Adds a row, unless it has no items.
-    pub fn add_row(&mut self, name: &'static str, items: Vec<Item>) -> Result<(), AllocError> {
-        if !items.is_empty() {
-            self.rows.push(Row { name, items })?;
-        }
-        Ok(())
-    }
 }

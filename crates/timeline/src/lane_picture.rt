@@ -1,10 +1,15 @@
 //! Lanes as SVG.
 
+ghost use Rattle.std.specs.Prelude.{◌≡◌, OnOk, Some, string_bytes};
+ghost use Rattle.std.specs.List.{flat_map};
+ghost use Rattle.timeline.specs.Pictures.{frame_text, name_text, stretch_text, Adds, IsLaneDrawn};
+
 use crate::axis::{Axis, LEFT, WIDTH};
-use crate::lane::{Item, Lane, Look, Part, Row};
+use crate::lane::{Actor, Item, Lane, Look, Part, Row};
 use crate::stretch::Stretch;
 use crate::svg::{push_text, text_width};
 use std::alloc::{AllocError, Global};
+use std::fmt;
 
 /// How high a level of a row is, in pixels.
 pub const LEVEL: u64 = 20;
@@ -218,36 +223,104 @@ fn draw_row(
     Ok(y.saturating_add(LEVEL.saturating_mul(levels)))
 }
 
-// Draws the stretches of a lane.
-fn draw_stretches(
-    svg: &mut String,
-    axis: &Axis,
-    stretches: &[Stretch],
+/// Draws the frame of a lane.
+#[derive(Clone, Copy)]
+struct Frame {
     y: u64,
     height: u64,
-) -> Result<(), AllocError> {
-    for stretch in stretches {
-        let (from, to) = (stretch.from, stretch.to);
-        let (left, right) = (axis.x(from), axis.x(to));
-        let width = right.saturating_sub(left).max(1);
-        writeln!(
-            svg,
-            "<rect class=\"may\" x=\"{left}\" y=\"{y}\" width=\"{width}\" height=\"{height}\">"
-        )?;
-        writeln!(svg, "<title>may serve from {from} to {to}</title></rect>")?;
-    }
-    Ok(())
 }
 
-// Draws a line for each reading, from one height to another.
-fn draw_grid(svg: &mut String, axis: &Axis, y: u64, below: u64) -> Result<(), AllocError> {
-    svg.push_str("<path class=\"grid\" d=\"")?;
+impl fmt::Display for Frame {
+    ghost output = { λ f. Some (frame_text f.y f.height) };
+
+    #[tactic(auto, unfolding(crate::specs::Pictures::frame_text))]
+    fn fmt<W: fmt::Write>(&self, f: &mut fmt::Formatter<W>) -> fmt::Result {
+        let Frame { y, height } = *self;
+        writeln!(
+            f,
+            "<rect class=\"lane\" x=\"8\" y=\"{y}\" width=\"984\" height=\"{height}\" rx=\"4\"/>"
+        )
+    }
+}
+
+/// Draws a stretch over the height of its lane.
+#[derive(Clone, Copy)]
+struct Colour<'a> {
+    axis: &'a Axis,
+    frame: Frame,
+    stretch: Stretch,
+}
+
+impl fmt::Display for Colour<'_> {
+    ghost output = { λ c. Some (stretch_text c.axis.now c.frame.y c.frame.height c.stretch) };
+
+    #[tactic(auto, unfolding(crate::specs::Pictures::stretch_text))]
+    fn fmt<W: fmt::Write>(&self, f: &mut fmt::Formatter<W>) -> fmt::Result {
+        let Frame { y, height } = self.frame;
+        let Stretch { from, to } = self.stretch;
+        let left = self.axis.x(from);
+        let width = self.axis.x(to).saturating_sub(left).max(1);
+        writeln!(
+            f,
+            "<rect class=\"may\" x=\"{left}\" y=\"{y}\" width=\"{width}\" height=\"{height}\">"
+        )?;
+        writeln!(f, "<title>may serve from {from} to {to}</title></rect>")
+    }
+}
+
+/// Draws the stretches of a lane.
+#[derive(Clone, Copy)]
+struct Stretches<'a> {
+    axis: &'a Axis,
+    frame: Frame,
+    stretches: &'a [Stretch],
+}
+
+impl fmt::Display for Stretches<'_> {
+    ghost output = { λ s. Some (flat_map (stretch_text s.axis.now s.frame.y s.frame.height) s.stretches.now) };
+
+    fn fmt<W: fmt::Write>(&self, f: &mut fmt::Formatter<W>) -> fmt::Result {
+        for stretch in self.stretches {
+            let colour = Colour {
+                axis: self.axis,
+                frame: self.frame,
+                stretch: *stretch,
+            };
+            write!(f, "{colour}")?;
+        }
+        Ok(())
+    }
+}
+
+/// Draws the name of an actor on its lane.
+#[derive(Clone, Copy)]
+struct Name {
+    actor: Actor,
+    baseline: u64,
+}
+
+impl fmt::Display for Name {
+    ghost output = { λ n. Some (name_text n.actor n.baseline) };
+
+    #[tactic(auto, unfolding(crate::specs::Pictures::name_text))]
+    fn fmt<W: fmt::Write>(&self, f: &mut fmt::Formatter<W>) -> fmt::Result {
+        let Name { actor, baseline } = *self;
+        writeln!(
+            f,
+            "<text class=\"name\" x=\"14\" y=\"{baseline}\">{actor}</text>"
+        )
+    }
+}
+
+// Returns a line for each reading, from one height to another.
+fn grid(alloc: Global, axis: &Axis, y: u64, below: u64) -> Result<String, AllocError> {
+    let mut svg = String::from_str(alloc, "<path class=\"grid\" d=\"")?;
     for reading in axis.readings() {
         let x = axis.x(*reading);
         write!(svg, "M{x} {y}V{below}")?;
     }
     svg.push_str("\"/>\n")?;
-    Ok(())
+    Ok(svg)
 }
 
 /// Draws a lane with its stretches below a height, and returns the height below it.
@@ -258,24 +331,29 @@ pub fn draw_lane(
     lane: &Lane,
     stretches: &[Stretch],
     y: u64,
-) -> Result<u64, AllocError> {
+) -> Result<u64, AllocError>
+    ensures { OnOk result (Adds (IsLaneDrawn axis.now lane.now.actor stretches.now) (string_bytes svg.old) (string_bytes svg.new)) }
+{
     let mut rows = String::new(alloc);
     let mut below = y.saturating_add(LEVEL);
     for row in &lane.rows {
         below = draw_row(alloc, &mut rows, axis, row, below)?;
     }
     below = below.saturating_add(MARGIN);
-    let height = below.saturating_sub(y);
-    writeln!(
-        svg,
-        "<rect class=\"lane\" x=\"8\" y=\"{y}\" width=\"984\" height=\"{height}\" rx=\"4\"/>"
-    )?;
-    draw_stretches(svg, axis, stretches, y, height)?;
-    draw_grid(svg, axis, y, below)?;
-    let baseline = y.saturating_add(15);
-    write!(svg, "<text class=\"name\" x=\"14\" y=\"{baseline}\">")?;
-    push_text(svg, lane.name.as_str())?;
-    svg.push_str("</text>\n")?;
-    svg.push_str(rows.as_str())?;
+    let frame = Frame {
+        y,
+        height: below.saturating_sub(y),
+    };
+    let stretches = Stretches {
+        axis,
+        frame,
+        stretches,
+    };
+    let name = Name {
+        actor: lane.actor,
+        baseline: y.saturating_add(15),
+    };
+    let grid = grid(alloc, axis, y, below)?;
+    write!(svg, "{frame}{stretches}{grid}{name}{rows}")?;
     Ok(below.saturating_add(MARGIN))
 }

@@ -1,14 +1,19 @@
 //! Scripts as pictures.
 
+ghost use Rattle.std.specs.Prelude.{◌≡◌, [], IfOk, OnOk, map, option_map, string_bytes};
+ghost use Rattle.slice_ranges.specs.Hash.{slice_key};
+ghost use Rattle.timeline.specs.Pictures.{Adds, HasParts, IsLaneDrawn, IsOrQuiet, IsPicture};
+
 use crate::axis::Axis;
 use crate::frame::{draw_legend, draw_readings};
+use crate::lane::Lane;
 use crate::lane_picture::draw_lane;
 use crate::shown::Shown;
 use crate::style::STYLE;
-use crate::summary::push_summary;
+use crate::summary::summary;
 use crate::svg::push_text;
 use service::Script;
-use slice_ranges::slice_key;
+use slice_ranges::{SliceKey, slice_key};
 use std::alloc::{AllocError, Global};
 
 /// How far the numbers of the readings are from the top, in pixels.
@@ -26,28 +31,57 @@ fn heading(alloc: Global, script: &Script, key: Option<&str>) -> Result<String, 
     Ok(text)
 }
 
-// Draws the lanes with the readings and the legend, and returns the height below them.
-fn body(
-    alloc: Global,
-    axis: &Axis,
-    shown: &Shown,
-    with_key: bool,
-    svg: &mut String,
-) -> Result<u64, AllocError> {
-    draw_readings(alloc, svg, axis, TOP)?;
-    let mut y = ABOVE_LANES;
-    for (place, lane) in shown.lanes.iter().enumerate() {
-        if !lane.rows.is_empty() {
-            y = draw_lane(alloc, svg, axis, lane, shown.stretches_at(place), y)?;
-        }
+// Returns the slice key of a key.
+fn hashed(key: Option<&str>) -> Option<SliceKey>
+    ensures { result ≡ option_map (λ k. slice_key k.now) key.entry }
+{
+    match key {
+        Some(key) => Some(slice_key(key.as_bytes())),
+        None => None,
     }
-    let below = draw_legend(svg, with_key, y)?;
-    Ok(below.saturating_add(8))
 }
 
-// Draws the head of a picture with this height.
-fn head(svg: &mut String, shown: &Shown, heading: &str, height: u64) -> Result<(), AllocError> {
-    svg.push_str(
+// Draws a lane below a height, unless it is left out, and returns the height below it.
+fn draw_or_leave(
+    alloc: Global,
+    svg: &mut String,
+    axis: &Axis,
+    shown: &Shown,
+    lane: &Lane,
+    y: u64,
+) -> Result<u64, AllocError>
+    ensures { OnOk result (Adds (IsOrQuiet (IsLaneDrawn axis.now) shown.now.stretches.items lane.now.actor)
+        (string_bytes svg.old) (string_bytes svg.new)) }
+{
+    if shown.is_drawn(lane) {
+        draw_lane(alloc, svg, axis, lane, shown.stretches_of(lane.actor), y)
+    } else {
+        Ok(y)
+    }
+}
+
+// Draws the lanes, and returns the height below them.
+fn draw_lanes(
+    alloc: Global,
+    svg: &mut String,
+    axis: &Axis,
+    shown: &Shown,
+) -> Result<u64, AllocError>
+    requires { string_bytes svg.old ≡ [] }
+    ensures { OnOk result (HasParts (IsOrQuiet (IsLaneDrawn axis.now) shown.now.stretches.items)
+        (map (λ l. l.actor) shown.now.lanes.items) (string_bytes svg.new)) }
+{
+    let mut y = ABOVE_LANES;
+    for lane in &shown.lanes {
+        y = draw_or_leave(alloc, svg, axis, shown, lane, y)?;
+    }
+    Ok(y)
+}
+
+// Returns the text before the summary, for a picture with this height.
+fn head(alloc: Global, heading: &str, height: u64) -> Result<String, AllocError> {
+    let mut svg = String::from_str(
+        alloc,
         "<svg xmlns=\"http://www.w3.org/2000/svg\" role=\"img\" aria-labelledby=\"title desc\"",
     )?;
     writeln!(
@@ -55,10 +89,14 @@ fn head(svg: &mut String, shown: &Shown, heading: &str, height: u64) -> Result<(
         " width=\"1000\" height=\"{height}\" viewBox=\"0 0 1000 {height}\">"
     )?;
     svg.push_str("<title id=\"title\">")?;
-    push_text(svg, heading)?;
+    push_text(&mut svg, heading)?;
     svg.push_str("</title>\n<desc id=\"desc\">")?;
-    push_summary(svg, shown)?;
-    svg.push_str("</desc>\n")?;
+    Ok(svg)
+}
+
+// Returns the text between the summary and the lanes, for a picture with this height.
+fn style(alloc: Global, axis: &Axis, heading: &str, height: u64) -> Result<String, AllocError> {
+    let mut svg = String::from_str(alloc, "</desc>\n")?;
     svg.push_str(STYLE)?;
     writeln!(
         svg,
@@ -67,34 +105,35 @@ fn head(svg: &mut String, shown: &Shown, heading: &str, height: u64) -> Result<(
     svg.push_str("<text class=\"quiet\" text-anchor=\"end\" x=\"980\" y=\"22\">")?;
     svg.push_str("readings in ticks; long gaps are drawn shorter</text>\n")?;
     svg.push_str("<text class=\"heading\" x=\"14\" y=\"22\">")?;
-    push_text(svg, heading)?;
+    push_text(&mut svg, heading)?;
     svg.push_str("</text>\n")?;
-    Ok(())
+    draw_readings(alloc, &mut svg, axis, TOP)?;
+    Ok(svg)
 }
 
 /// Draws a script as an SVG picture, 1,000 pixels wide.
 ///
 /// It has a lane for the table, one for each task to which something happened and, with
-/// `with_clerks`, one for each clerk that took a step. With a key, it colours the stretches that
-/// [`serving_stretches`] returns. If memory runs out, there is no picture.
+/// `with_clerks`, one for each clerk that took a step, in this order. Each is labelled with the
+/// name of its actor. With a key, the lane of a task colours the stretches that
+/// [`serving_stretches`] returns for it. If memory runs out, there is no picture.
 pub fn timeline_svg(
     alloc: Global,
     script: &Script,
     key: Option<&str>,
     with_clerks: bool,
-) -> Result<String, AllocError> {
-    let hashed = match key {
-        Some(key) => Some(slice_key(key.as_bytes())),
-        None => None,
-    };
-    let shown = Shown::of_script(alloc, script, hashed, with_clerks)?;
+) -> Result<String, AllocError>
+    ensures { IfOk result (λ text. IsPicture script.now (option_map (λ k. slice_key k.now) key.entry) with_clerks (string_bytes text)) }
+{
+    let shown = Shown::of_script(alloc, script, hashed(key), with_clerks)?;
     let axis = Axis::of_shown(alloc, &shown)?;
-    let mut inside = String::new(alloc);
-    let height = body(alloc, &axis, &shown, key.is_some(), &mut inside)?;
+    let told = summary(alloc, &shown)?;
+    let mut lanes = String::new(alloc);
+    let below = draw_lanes(alloc, &mut lanes, &axis, &shown)?;
+    let mut legend = String::new(alloc);
+    let height = draw_legend(&mut legend, key.is_some(), below)?.saturating_add(8);
     let heading = heading(alloc, script, key)?;
-    let mut svg = String::new(alloc);
-    head(&mut svg, &shown, heading.as_str(), height)?;
-    svg.push_str(inside.as_str())?;
-    svg.push_str("</svg>\n")?;
-    Ok(svg)
+    let head = head(alloc, heading.as_str(), height)?;
+    let style = style(alloc, &axis, heading.as_str(), height)?;
+    format!(in alloc; "{head}{told}{style}{lanes}{legend}</svg>\n")
 }

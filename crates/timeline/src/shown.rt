@@ -1,10 +1,11 @@
 //! The contents of a picture.
 
-ghost use Rattle.std.specs.Prelude.{◌≡◌, ℕ, ◌+◌, List, [], Some, IfOk, MatchOption, slice_get};
-ghost use Rattle.timeline.specs.declared.stretch.Stretch.{Stretch};
+ghost use Rattle.std.specs.Prelude.{◌≡◌, [], false, IfOk, MatchOption};
+ghost use Rattle.timeline.specs.Actors.{AreLanes};
+ghost use Rattle.timeline.specs.Pictures.{IsQuiet, stretches_of};
 ghost use Rattle.timeline.specs.Scripts.{AreColoured};
 
-use crate::lane::Lane;
+use crate::lane::{Actor, Lane};
 use crate::runs::serving_stretches;
 use crate::story::lanes_of;
 use crate::stretch::Stretch;
@@ -16,7 +17,7 @@ use std::alloc::{AllocError, Global};
 /// The contents of a picture: its lanes, and the stretches in which each task may serve the key.
 #[derive(Drop)]
 pub struct Shown {
-    /// The lane of the table, those of the tasks in order, and those of clerks.
+    /// The lane of the table, those of the tasks in order, and those of the clerks in order.
     pub lanes: Vec<Lane>,
     /// The stretches of each task, if there is a key.
     pub stretches: Vec<Listed<Stretch>>,
@@ -48,7 +49,8 @@ impl Shown {
         key: Option<SliceKey>,
         with_clerks: bool,
     ) -> Result<Self, AllocError>
-        ensures { IfOk result (λ shown. MatchOption key (shown.stretches.items ≡ [])
+        ensures lanes { IfOk result (λ shown. AreLanes script.now.job with_clerks shown.lanes.items) }
+        ensures stretches { IfOk result (λ shown. MatchOption key (shown.stretches.items ≡ [])
             (λ k. AreColoured script.now.job script.now.steps k shown.stretches.items)) }
     {
         let lanes = lanes_of(alloc, script, with_clerks)?;
@@ -56,16 +58,30 @@ impl Shown {
         Ok(Shown { lanes, stretches })
     }
 
-    /// Returns the stretches of the lane at `place`, which are those of the task with this number.
-    pub fn stretches_at(&self, place: usize) -> &[Stretch]
-        ensures { (i : ℕ) (one : List Stretch) → place ≡ i + 1 → slice_get self.now.stretches.items i ≡ Some one → result.now ≡ one }
+    /// Returns the stretches of an actor's lane: those of a task, and none of another actor.
+    pub fn stretches_of(&self, actor: Actor) -> &[Stretch]
+        ensures { result.now ≡ stretches_of self.now.stretches.items actor }
     {
-        if place == 0 {
+        let Actor::Task(number) = actor else {
+            return &[];
+        };
+        if number == 0 {
             return &[];
         }
-        match self.stretches.get(place - 1) {
+        match self.stretches.get((number - 1) as usize) {
             Some(stretches) => stretches.as_slice(),
             None => &[],
         }
+    }
+
+    /// Whether a lane is drawn.
+    ///
+    /// Lanes of tasks and clerks to which nothing happened are left out.
+    pub fn is_drawn(&self, lane: &Lane) -> bool
+        ensures { result ≡ false → IsQuiet lane.now.actor (stretches_of self.now.stretches.items lane.now.actor) }
+    {
+        matches!(lane.actor, Actor::Table)
+            || !lane.rows.is_empty()
+            || !self.stretches_of(lane.actor).is_empty()
     }
 }

@@ -1,7 +1,11 @@
 //! What happened to each actor, from the steps of a script.
 
+ghost use Rattle.std.specs.Prelude.{◌≡◌, ◌++◌, IfOk, OnOk, map, if◌then◌else◌};
+ghost use Rattle.timeline.specs.declared.lane.Actor.TheVariants as actor;
+ghost use Rattle.timeline.specs.Actors.{actors_of, numbered, AreLanes};
+
 use crate::clerk_lane::ClerkRecord;
-use crate::lane::Lane;
+use crate::lane::{Actor, Lane};
 use crate::leases::LeaseRecord;
 use crate::table_lane::TableRecord;
 use crate::task_lane::TaskRecord;
@@ -10,7 +14,7 @@ use cluster::Cluster;
 use service::Script;
 use std::alloc::{AllocError, Global};
 use std::slice;
-use world::{Reply, Step, World};
+use world::{Job, Reply, Step, World};
 
 /// What happened to the actors of a job.
 #[derive(Drop)]
@@ -33,12 +37,12 @@ fn place_of(number: u64) -> usize {
 impl Story {
     fn new(alloc: Global, script: &Script) -> Result<Self, AllocError> {
         let mut tasks = Vec::new(alloc);
-        for place in 0..script.job.tasks() {
-            tasks.push(TaskRecord::new(alloc, place.saturating_add(1)))?;
+        for _task in 0..script.job.tasks() {
+            tasks.push(TaskRecord::new(alloc))?;
         }
         let mut clerks = Vec::new(alloc);
-        for place in 0..script.job.clerks() {
-            clerks.push(ClerkRecord::new(alloc, place.saturating_add(1)))?;
+        for _clerk in 0..script.job.clerks() {
+            clerks.push(ClerkRecord::new(alloc))?;
         }
         Ok(Story {
             alloc,
@@ -182,20 +186,50 @@ impl Story {
     }
 }
 
-// Adds the lanes of the tasks.
-fn add_task_lanes(lanes: &mut Vec<Lane>, tasks: Vec<TaskRecord>) -> Result<(), AllocError> {
-    for task in tasks {
-        lanes.push(task.lane()?)?;
+// Adds the lanes of this many tasks.
+fn add_task_lanes(
+    alloc: Global,
+    lanes: &mut Vec<Lane>,
+    tasks: Vec<TaskRecord>,
+    many: u64,
+) -> Result<(), AllocError>
+    ensures { OnOk result (map (λ l. l.actor) lanes.new.items
+        ≡ map (λ l. l.actor) lanes.old.items ++ numbered actor.Task many) }
+{
+    let mut tasks = tasks.into_iter();
+    for place in 0..many {
+        let rows = match tasks.next() {
+            Some(task) => task.rows()?,
+            None => Vec::new(alloc),
+        };
+        lanes.push(Lane {
+            actor: Actor::Task(place + 1),
+            rows,
+        })?;
     }
     Ok(())
 }
 
-// Adds the lanes of the clerks that took a step.
-fn add_clerk_lanes(lanes: &mut Vec<Lane>, clerks: Vec<ClerkRecord>) -> Result<(), AllocError> {
-    for clerk in clerks {
-        if let Some(lane) = clerk.lane()? {
-            lanes.push(lane)?;
-        }
+// Adds the lanes of this many clerks.
+fn add_clerk_lanes(
+    alloc: Global,
+    lanes: &mut Vec<Lane>,
+    clerks: Vec<ClerkRecord>,
+    many: u64,
+) -> Result<(), AllocError>
+    ensures { OnOk result (map (λ l. l.actor) lanes.new.items
+        ≡ map (λ l. l.actor) lanes.old.items ++ numbered actor.Clerk many) }
+{
+    let mut clerks = clerks.into_iter();
+    for place in 0..many {
+        let rows = match clerks.next() {
+            Some(clerk) => clerk.rows()?,
+            None => Vec::new(alloc),
+        };
+        lanes.push(Lane {
+            actor: Actor::Clerk(place + 1),
+            rows,
+        })?;
     }
     Ok(())
 }
@@ -229,8 +263,11 @@ fn play(world: &mut World, story: &mut Story, step: &Step) -> Result<(), AllocEr
     }
 }
 
-// Returns the lanes of the actors.
-fn lanes_in(story: Story, with_clerks: bool) -> Result<Vec<Lane>, AllocError> {
+// Returns the lanes of the table, of this many tasks and of this many clerks.
+#[tactic(auto, unfolding(crate::specs::Actors::actors_of))]
+fn lanes_in(story: Story, many_tasks: u64, many_clerks: u64) -> Result<Vec<Lane>, AllocError>
+    ensures { IfOk result (λ lanes. map (λ l. l.actor) lanes.items ≡ actors_of many_tasks many_clerks) }
+{
     let Story {
         alloc,
         table,
@@ -240,27 +277,40 @@ fn lanes_in(story: Story, with_clerks: bool) -> Result<Vec<Lane>, AllocError> {
         now: _,
     } = story;
     let mut lanes = Vec::new(alloc);
-    lanes.push(table.lane()?)?;
-    add_task_lanes(&mut lanes, tasks)?;
-    if with_clerks {
-        add_clerk_lanes(&mut lanes, clerks)?;
-    }
+    lanes.push(Lane {
+        actor: Actor::Table,
+        rows: table.rows()?,
+    })?;
+    add_task_lanes(alloc, &mut lanes, tasks, many_tasks)?;
+    add_clerk_lanes(alloc, &mut lanes, clerks, many_clerks)?;
     Ok(lanes)
 }
 
-/// Returns the lanes of a job that plays the steps of a script.
-///
-/// They are the lane of the table, those of the job's tasks in order and, with `with_clerks`, those
-/// of the clerks that took a step.
-pub fn lanes_of(
-    alloc: Global,
-    script: &Script,
-    with_clerks: bool,
-) -> Result<Vec<Lane>, AllocError> {
+// Returns what happened to each actor of a job that plays the steps of a script.
+fn story_of(alloc: Global, script: &Script) -> Result<Story, AllocError> {
     let mut world = World::new(alloc, script.job)?;
     let mut story = Story::new(alloc, script)?;
     for step in script.steps.as_slice() {
         play(&mut world, &mut story, step)?;
     }
-    lanes_in(story, with_clerks)
+    Ok(story)
+}
+
+// Returns how many clerks have a lane.
+fn clerks_shown(job: Job, with_clerks: bool) -> u64
+    ensures { result ≡ (if with_clerks then job.clerks else 0) }
+{
+    if with_clerks { job.clerks() } else { 0 }
+}
+
+/// Returns the lanes of a job that plays the steps of a script.
+///
+/// They are the lane of the table, those of the job's tasks in order and, with `with_clerks`, those
+/// of its clerks in order. The lane of an actor that took no step has no rows.
+pub fn lanes_of(alloc: Global, script: &Script, with_clerks: bool) -> Result<Vec<Lane>, AllocError>
+    ensures { IfOk result (λ lanes. AreLanes script.now.job with_clerks lanes.items) }
+{
+    let story = story_of(alloc, script)?;
+    let many_clerks = clerks_shown(script.job, with_clerks);
+    lanes_in(story, script.job.tasks(), many_clerks)
 }

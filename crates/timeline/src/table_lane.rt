@@ -1,6 +1,6 @@
 //! The lane of the table.
 
-use crate::lane::{FOREVER, Item, Lane, Look, Part};
+use crate::lane::{FOREVER, Item, Look, Part, Row, add_row};
 use crate::words::{Ending, table_word};
 use lease_table::{JobTerm, Phase};
 use service::{Line, RefusalWords};
@@ -121,8 +121,8 @@ impl TableRecord {
         Ok(())
     }
 
-    /// Returns the lane of the table.
-    pub fn lane(self) -> Result<Lane, AllocError> {
+    /// Returns what happened, in rows.
+    pub fn rows(self) -> Result<Vec<Row>, AllocError> {
         let TableRecord {
             alloc,
             phase,
@@ -132,11 +132,11 @@ impl TableRecord {
             events,
         } = self;
         phases.push(phase_item(alloc, phase, since, FOREVER)?)?;
-        let mut lane = Lane::new(alloc, String::from_str(alloc, "table")?);
-        lane.add_row("phase", phases)?;
-        lane.add_row("job lease", term_items(alloc, terms.as_slice())?)?;
-        lane.add_row("events", events)?;
-        Ok(lane)
+        let mut rows = Vec::new(alloc);
+        add_row(&mut rows, "phase", phases)?;
+        add_row(&mut rows, "job lease", term_items(alloc, terms.as_slice())?)?;
+        add_row(&mut rows, "events", events)?;
+        Ok(rows)
     }
 }
 

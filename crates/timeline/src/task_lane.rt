@@ -1,6 +1,6 @@
 //! The lane of a task.
 
-use crate::lane::{FOREVER, Item, Lane, Look, Part};
+use crate::lane::{FOREVER, Item, Look, Part, Row, add_row};
 use crate::leases::LeaseRecord;
 use crate::stretch::serving_end;
 use crate::words::{Ending, key_label};
@@ -33,7 +33,6 @@ struct HandleRecord {
 #[derive(Drop)]
 pub struct TaskRecord {
     alloc: Global,
-    number: u64,
     lives: Vec<LifeRecord>,
     leases: Vec<LeaseRecord>,
     requests: Vec<Item>,
@@ -103,10 +102,9 @@ fn request_look(reply: &Reply) -> Look {
 
 impl TaskRecord {
     /// Creates the record of a task before its first step.
-    pub fn new(alloc: Global, number: u64) -> Self {
+    pub fn new(alloc: Global) -> Self {
         TaskRecord {
             alloc,
-            number,
             lives: Vec::new(alloc),
             leases: Vec::new(alloc),
             requests: Vec::new(alloc),
@@ -220,25 +218,30 @@ impl TaskRecord {
         Ok(())
     }
 
-    /// Returns the lane of the task, which has no rows if nothing happened to the task.
-    pub fn lane(self) -> Result<Lane, AllocError> {
+    /// Returns what happened, in rows.
+    pub fn rows(self) -> Result<Vec<Row>, AllocError> {
         let TaskRecord {
             alloc,
-            number,
             lives,
             leases,
             requests,
             handles,
         } = self;
-        let mut lane = Lane::new(alloc, format!(in alloc; "task {number}")?);
-        lane.add_row("life", life_items(alloc, lives.as_slice())?)?;
-        lane.add_row("guard", lease_items(alloc, Kind::Guard, leases.as_slice())?)?;
-        lane.add_row(
+        let leases = leases.as_slice();
+        let mut rows = Vec::new(alloc);
+        add_row(&mut rows, "life", life_items(alloc, lives.as_slice())?)?;
+        add_row(&mut rows, "guard", lease_items(alloc, Kind::Guard, leases)?)?;
+        add_row(
+            &mut rows,
             "bridge",
-            lease_items(alloc, Kind::Bridge, leases.as_slice())?,
+            lease_items(alloc, Kind::Bridge, leases)?,
         )?;
-        lane.add_row("handles", handle_items(alloc, handles.as_slice())?)?;
-        lane.add_row("requests", requests)?;
-        Ok(lane)
+        add_row(
+            &mut rows,
+            "handles",
+            handle_items(alloc, handles.as_slice())?,
+        )?;
+        add_row(&mut rows, "requests", requests)?;
+        Ok(rows)
     }
 }

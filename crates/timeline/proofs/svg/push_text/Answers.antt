@@ -1,4 +1,4 @@
-use Rattle.std.proofs.Common.{◌≡◌, ◌++◌, ℕ, List, flat_map, string_bytes, sym, ap, ◌∙◌, map-id}
+use Rattle.std.proofs.Common.{◌++◌, ℕ, List, flat_map, string_bytes, sym, ap, ◌∙◌, map-id}
 use Rattle.std.proofs.lemmas.Iterator.{YieldsList-from_chars}
 use Rattle.std.proofs.lemmas.Iterator.Consumers.{YieldsList-end}
 use Rattle.timeline.specs.Escapes.{escaped}
