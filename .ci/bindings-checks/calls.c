@@ -140,3 +140,24 @@ struct hs_place steady_table(void) {
     IS(hs_table_commit(&table, 1, 2, fresh_told()), HS_DONE);
     return table;
 }
+
+void gives_text(text_call call, const struct hs_place *place, const char *wanted) {
+    size_t needed = 0, length = strlen(wanted);
+    uint8_t *shorter = dashes(length - 1), *out = dashes(length);
+    IS(call(place, shorter, length - 1, &needed), HS_NO_ROOM);
+    HOLDS(needed == length && are_dashes(shorter, length - 1));
+    needed = 0;
+    IS(call(place, out, length, &needed), HS_DONE);
+    HOLDS(needed == length && memcmp(out, wanted, length) == 0);
+    drop_block(shorter);
+    drop_block(out);
+}
+
+int32_t give_text(text_call call, const struct hs_place *place) {
+    static uint8_t out[512];
+    size_t needed = 0;
+    memset(out, '-', sizeof out);
+    int32_t code = call(place, out, sizeof out, &needed);
+    HOLDS(code == HS_DONE || are_dashes(out, sizeof out));
+    return code;
+}

@@ -65,6 +65,11 @@ void drop_block(void *block);
 
 /* Whether all bytes are dashes. */
 int are_dashes(const uint8_t *block, size_t length);
+/* A call that writes a text of what a place holds. The first check is that it writes this text, and nothing if the
+ * buffer is too short; the second makes the call with a long buffer, and checks that it writes nothing if it fails. */
+typedef int32_t (*text_call)(const struct hs_place *, uint8_t *, size_t, size_t *);
+void gives_text(text_call call, const struct hs_place *place, const char *wanted);
+int32_t give_text(text_call call, const struct hs_place *place);
 
 /* Hash bytes or a number into a sum, so that two states can be compared. */
 uint64_t sum_bytes(uint64_t sum, const void *bytes, size_t length);

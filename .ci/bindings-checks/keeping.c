@@ -30,28 +30,16 @@ static int32_t restore(struct hs_place *place, const char *text) {
     return code;
 }
 
-static void gives(struct hs_place *table, const char *wanted) {
-    size_t needed = 0, length = strlen(wanted);
-    uint8_t *shorter = dashes(length - 1), *out = dashes(length);
-    IS(hs_table_kept(table, shorter, length - 1, &needed), HS_NO_ROOM);
-    HOLDS(needed == length && are_dashes(shorter, length - 1));
-    needed = 0;
-    IS(hs_table_kept(table, out, length, &needed), HS_DONE);
-    HOLDS(needed == length && memcmp(out, wanted, length) == 0);
-    drop_block(shorter);
-    drop_block(out);
-}
-
 /* After the restore no commit is accepted until the lost row has ended, at 106. */
 static void restores(void) {
     struct hs_place table = granted_table(), other = knowing_clerk();
     uint64_t lost = UNTOLD;
-    gives(&table, kept);
+    gives_text(hs_table_kept, &table, kept);
     IS(restore(&other, kept), HS_DONE);
     HOLDS(tells(UNTOLD, UNTOLD, UNTOLD, UNTOLD, UNTOLD));
     IS(hs_table_restart(&table, &lost), HS_DONE);
     HOLDS(table_state(&other) == table_state(&table));
-    gives(&other, kept);
+    gives_text(hs_table_kept, &other, kept);
     IS(propose(&other, 1, ASSIGNMENT("2", "[[0,[2]]]"), 7), HS_DONE);
     STAYS(table_state(&other), hs_table_commit(&other, 1, 105, fresh_told()), HS_GRACE);
     HOLDS(tells(UNTOLD, UNTOLD, UNTOLD, UNTOLD, 106));
@@ -64,7 +52,7 @@ static void restores(void) {
 static void restores_nothing(void) {
     struct hs_place table = new_place();
     IS(hs_table_open(&table, JOB, &policy), HS_DONE);
-    gives(&table, KEPT("null", "0", "0", "0", "null", "null"));
+    gives_text(hs_table_kept, &table, KEPT("null", "0", "0", "0", "null", "null"));
     IS(restore(&table, KEPT("null", "0", "0", "0", "null", "null")), HS_DONE);
     hs_place_free(&table);
 }

@@ -132,21 +132,11 @@ static int32_t list_rows(struct hs_place *place) {
 }
 
 static int32_t give_committed(struct hs_place *place) {
-    static uint8_t out[256];
-    size_t needed = 0;
-    memset(out, '-', sizeof out);
-    int32_t code = hs_table_committed(place, out, sizeof out, &needed);
-    HOLDS(code == HS_DONE || are_dashes(out, sizeof out));
-    return code;
+    return give_text(hs_table_committed, place);
 }
 
 static int32_t give_kept(struct hs_place *place) {
-    static uint8_t out[512];
-    size_t needed = 0;
-    memset(out, '-', sizeof out);
-    int32_t code = hs_table_kept(place, out, sizeof out, &needed);
-    HOLDS(code == HS_DONE || are_dashes(out, sizeof out));
-    return code;
+    return give_text(hs_table_kept, place);
 }
 
 static int32_t restore_table(struct hs_place *place) {

@@ -118,19 +118,6 @@ static void proposes(struct hs_place *table) {
     IS(hs_table_commit(table, 1, 3, fresh_told()), HS_NOTHING_PENDING);
 }
 
-static void gives_committed(struct hs_place *table) {
-    const char *wanted = WRITTEN_ASSIGNMENT("1", WRITTEN_HALVES);
-    size_t needed = 0, length = strlen(wanted);
-    uint8_t *shorter = dashes(length - 1), *out = dashes(length);
-    IS(hs_table_committed(table, shorter, length - 1, &needed), HS_NO_ROOM);
-    HOLDS(needed == length && are_dashes(shorter, length - 1));
-    needed = 0;
-    IS(hs_table_committed(table, out, length, &needed), HS_DONE);
-    HOLDS(needed == length && memcmp(out, wanted, length) == 0);
-    drop_block(shorter);
-    drop_block(out);
-}
-
 /* A grant is made only if its message fits. */
 static void grants(struct hs_place *table) {
     size_t needed = 0, length = strlen(first_grant);
@@ -281,7 +268,7 @@ void check_tables(void) {
     IS(hs_table_take(&table, 1, 1, &term, fresh_told()), HS_DONE);
     empties(&table);
     proposes(&table);
-    gives_committed(&table);
+    gives_text(hs_table_committed, &table, WRITTEN_ASSIGNMENT("1", WRITTEN_HALVES));
     grants(&table);
     lists_one_row(&table);
     reads_notes(&table);
