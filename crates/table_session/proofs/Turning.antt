@@ -37,7 +37,7 @@ module _ {S : Type 0} (is_honest : S → Type 0) (may_leave : S → Stored → T
   pub goes_on : (mid after : Point S) → IsTalking mid → IsTurn is_honest may_leave F mid after → IsTalking after
   goes_on mid after talking turn = record { points = mid ∷ talking.points; turns = (turn, talking.turns) }
 
-  pub stops : (mid : Point S) (reads : Option (List ℕ)) (bytes : List ℕ) → IsTalking mid → Consumes mid.reads reads bytes
+  abbrev pub stops : (mid : Point S) (reads : Option (List ℕ)) (bytes : List ℕ) → IsTalking mid → Consumes mid.reads reads bytes
       → IsStopped is_honest may_leave F from reads mid.holds
   stops mid reads bytes talking more =
       record { points = talking.points; last = mid; turns = talking.turns; bytes = bytes; more = more; wrote = refl }

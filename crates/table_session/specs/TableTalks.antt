@@ -8,7 +8,7 @@ use Rattle.session.specs.Talks.{IsNextLine, HasNoLine}
 use Rattle.table_session.specs.declared.keeping.TableSession.{TableSession}
 use Rattle.table_session.specs.declared.talking.TalkError.{TalkError}
 use Rattle.table_session.specs.declared.talking.TalkError.TheVariants as talk_error
-use Rattle.table_session.specs.TableTurns.{IsTurned}
+use Rattle.table_session.specs.TableTurns.{IsTurned, IsUnanswered}
 
 -- where a talk stands: the session, what the reader still gives and what the writer holds
 pub record Point (S : Type 0) : Type 0 where
@@ -66,8 +66,10 @@ module _ {S : Type 0} (is_honest : S → Type 0) (may_leave : S → Stored → T
     pub len : ℕ
     pub wrote : Appends last.holds holds (take len text)
 
--- what was answered where a talk came to no end
-abbrev pub IsBroken : {S : Type 0} → (S → Type 0) → (S → Stored → Type 0) → {F : Type 0} → Point S → Point S → TalkError F → Type 0
-IsBroken is_honest may_leave {F} from to talk_error.Read = IsStopped is_honest may_leave F from to.reads to.holds
-IsBroken is_honest may_leave {F} from to talk_error.Write = IsCut is_honest may_leave F from to.session to.reads to.holds
-IsBroken is_honest may_leave {F} from to (talk_error.Session why) = IsStopped is_honest may_leave F from to.reads to.holds
+-- what was answered where a talk came to no end; the next line has no answer for this reason
+abbrev pub IsBroken : {S : Type 0} → (S → Type 0) → (S → Stored → Type 0) → {F : Type 0} → (S → F → Type 0) → Point S → Point S → TalkError F → Type 0
+IsBroken is_honest may_leave {F} may_fail from to talk_error.Read = IsStopped is_honest may_leave F from to.reads to.holds
+IsBroken is_honest may_leave {F} may_fail from to talk_error.Write = IsCut is_honest may_leave F from to.session to.reads to.holds
+IsBroken is_honest may_leave {F} may_fail from to (talk_error.Session why) =
+    (stopped : IsStopped is_honest may_leave F from to.reads to.holds)
+    × IsUnanswered is_honest may_leave (may_fail stopped.last.session.table.store) stopped.last.session to.session why

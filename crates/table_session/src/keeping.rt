@@ -119,6 +119,8 @@ impl<S: Store> TableSession<S> {
     ///
     /// A line that has no call changes nothing, and its reply says why. After an error the caller
     /// discards the session: what is in the store stands for all replies that were returned.
+    ///
+    /// Errors, in this order: `NotOpen`, `NoMemory` in the call, `NotSaved`, `NoMemory` for the reply.
     pub fn answer(&mut self, line: &[u8]) -> Result<String, SessionError<S::Fault>>
         ensures form { self.new.form ≡ self.old.form }
         ensures ok { IfOk result (λ text. IsTurned S.is_honest S.may_leave S.Fault line.now self.old self.new (string_bytes text)) }

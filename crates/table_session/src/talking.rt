@@ -66,7 +66,7 @@ pub fn talk<S: Store, R: BufRead, W: Write>(
     ensures ok { OnOk result (IsTalk S.is_honest S.may_leave S.Fault
         (record { session = session.old; reads = R.remaining reader.old; holds = W.contents writer.old })
         (record { session = session.new; reads = R.remaining reader.new; holds = W.contents writer.new })) }
-    ensures err { IfErr result (IsBroken S.is_honest S.may_leave
+    ensures err { IfErr result (IsBroken S.is_honest S.may_leave S.may_fail
         (record { session = session.old; reads = R.remaining reader.old; holds = W.contents writer.old })
         (record { session = session.new; reads = R.remaining reader.new; holds = W.contents writer.new })) }
 {

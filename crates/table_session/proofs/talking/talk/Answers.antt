@@ -45,7 +45,7 @@ returns-in_err-text-clause-err g c =
     let more : (not line.is_long && nat_eq (length line.bytes.items) 0) ≡ false = sym c.is_end.ensures ∙ c.if-is_end.false in
     let read = is_line (g.R.Read.remaining c.lines.reader) after line.bytes.items line.is_long more c.in_ok-line.ensures.ok in
     let bytes = line_consumed (g.R.Read.remaining c.lines.reader) after read.0 read.1 in
-    rw (p.1, p.2) (stops g.S.Store.is_honest g.S.Store.may_leave g.row.S-Fault.Denot from mid after bytes.0 c.lines.invariant bytes.1)
+    rw (p.1, p.2) ((stops g.S.Store.is_honest g.S.Store.may_leave g.row.S-Fault.Denot from mid after bytes.0 c.lines.invariant bytes.1), c.in_err-text.ensures.err)
 
 pub returns-in_err-write_all-clause-err : goal.returns-in_err-write_all-clause-err
 returns-in_err-write_all-clause-err g c =
