@@ -39,6 +39,26 @@ answered db rows (r ∷ s ∷ more) is few a =
     let all : rows ≡ map (λ (p : Output). p.1) a.ordered = a.shown in
     absurd (omega (arith, length_permutation a.kept a.ordered a.same, ap length kept, ap length all, length-map a.ordered (λ (p : Output). p.1)))
 
+-- a list of one element for each
+abbrev ones : List Row → List Env
+ones rows = flat_map (λ t. ([] ∷ t ∷ []) ∷ []) rows
+
+length-ones : (rows : List Row) → length (ones rows) ≡ length rows
+length-ones [] = refl
+length-ones (r ∷ rows) = omega (arith, length-ones rows)
+
+answered_length : (db : Trees) (rows : List Row) → IsAnswer query (overlay db []) [] rows → length rows ≡ length (db 0)
+answered_length db rows a =
+    let staged : a.staged ≡ ones (db 0) = a.grouped in
+    let kept : a.kept ≡ map (output query) (ones (db 0)) = a.distinct ∙ ap (map (output query)) staged in
+    let all : rows ≡ map (λ (p : Output). p.1) a.ordered = a.shown in
+    omega (arith, length_permutation a.kept a.ordered a.same, ap length kept, ap length all, length-map a.ordered (λ (p : Output). p.1), length-map (ones (db 0)) (output query), length-ones (db 0))
+
+pub found_length : (old new : State) (rows : List Row) → old.now.schema ≡ kept_schema → Shown select_text [] old new rows → length rows ≡ length (map seen (old.now.trees 0))
+found_length old new rows has h =
+    let read = reads_as select_text [] old new kept_schema has _ select_is.0 select_plain select_is.1 rows h in
+    omega (arith, answered_length old.now.trees rows (read.answer Null), length-map (old.now.trees 0) seen)
+
 pub found : (old new : State) (rows : List Row) → old.now.schema ≡ kept_schema → length rows ≤ 1 → Shown select_text [] old new rows → rows ≡ map seen (old.now.trees 0)
 found old new rows has few h =
     let read = reads_as select_text [] old new kept_schema has _ select_is.0 select_plain select_is.1 rows h in

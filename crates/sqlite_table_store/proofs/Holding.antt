@@ -1,5 +1,5 @@
 -- What a crash leaves in a store.
-use Rattle.std.proofs.Common.{◌≡◌, ◌⊎◌, ◌+◌, inl, inr, ℕ, List, [], ◌∷◌, map, Some, Ok, Err, Result, OnOk, IfOk, length, ◌≤◌, refl, sym, ap, subst, ◌∙◌}
+use Rattle.std.proofs.Common.{◌≡◌, ◌⊎◌, ◌+◌, inl, inr, ℕ, List, [], ◌∷◌, map, Some, Ok, Err, Result, OnOk, IfOk, IfErr, length, ◌≤◌, refl, sym, ap, subst, ◌∙◌}
 use Rattle.sqlite.specs.Order.{Row}
 use Rattle.sqlite.specs.Effect.{Database}
 use Rattle.sqlite.specs.State.{State, HasCleanDisk}
@@ -12,10 +12,12 @@ use Rattle.table_store.specs.declared.store.StoreError.{StoreError}
 use Rattle.table_store.specs.declared.store.StoreError.TheVariants.{Replaced, Failed, NoMemory}
 use Rattle.lease_table.specs.declared.kept.Kept.{Kept}
 use Rattle.sqlite_table_store.specs.declared.columns.Columns.{Columns}
+use Rattle.sqlite_table_store.specs.declared.fault.SqliteFault.{SqliteFault}
 use Rattle.sqlite_table_store.specs.Rows.{seen, HasRows}
 use Rattle.sqlite_table_store.specs.Cells.{IsReady, IsFew, row_of}
 use Rattle.sqlite_table_store.specs.Values.{AreColumnsOf, HaveStored}
 use Rattle.sqlite_table_store.specs.Holding.{MayLeave, MayPut, Finds, Puts}
+use Rattle.sqlite_table_store.specs.Refusing.{AreShown, AreRefused, IsRefused}
 use Rattle.sqlite_table_store.proofs.OneValue.{stored_same}
 
 -- a crash leaves the last commit, and nothing else
@@ -76,11 +78,11 @@ cause_of X Replaced not = absurd (not refl)
 cause_of X (Failed fault) not = tt
 cause_of X NoMemory not = tt
 
-pub finds_as : {E : Type 0} (job : List ℕ) (items rows : List Row) (old new : State) (r : Result Stored E) → IsReady rows old × IsReady rows new × (length items ≤ 1 → items ≡ rows)
+pub finds_as : {E : Type 0} (job : List ℕ) (items rows : List Row) (old new : State) (r : Result Stored E) → IsReady rows old × IsReady rows new × AreShown items rows
     → IfOk r (λ stored. length items ≤ 1) → IfOk r (λ stored. (trees : List Row) → items ≡ map seen trees → HaveStored job items stored) → IfOk r (Finds job old new)
 finds_as job items rows old new (Err e) h few ok = tt
 finds_as job items rows old new (Ok stored) h few ok =
-    let same = h.2 few in
+    let same = h.2.1 few in
     record { rows = rows; before = h.0; after = h.1; have = subst (λ x. HaveStored job x stored) same (ok (new.now.trees 0) (same ∙ sym h.1.are)) }
 
 pub may_put : (job : List ℕ) (old new : State) (stored : Stored) → Finds job old new stored → MayPut job new
@@ -91,12 +93,25 @@ one_seen row [] e = absurd (cc)
 one_seen row (x ∷ []) e = (x, cc)
 one_seen row (x ∷ y ∷ more) e = absurd (cc)
 
-pub stored_if : {E : Type 0} (job : List ℕ) (rows : List Row) (row : Row) (c : Columns) (r : Result Stored E) → rows ≡ row ∷ [] → ((x : Row) → row ≡ seen x → row ≡ row_of job c)
-    → IfOk r (λ stored. (kept : Kept) × (stored.kept ≡ Some kept) × AreColumnsOf stored.version kept c) → IfOk r (λ stored. (trees : List Row) → rows ≡ map seen trees → HaveStored job rows stored)
-stored_if job rows row c (Err e) is reads has = tt
-stored_if job rows row c (Ok stored) is reads has = λ trees from.
+pub stored_of_row : {E : Type 0} (job : List ℕ) (row : Row) (c : Columns) (r : Result Stored E) → ((x : Row) → row ≡ seen x → row ≡ row_of job c)
+    → IfOk r (λ stored. (kept : Kept) × (stored.kept ≡ Some kept) × AreColumnsOf stored.version kept c) → IfOk r (λ stored. (x : Row) → row ≡ seen x → HaveStored job (row ∷ []) stored)
+stored_of_row job row c (Err e) reads has = tt
+stored_of_row job row c (Ok stored) reads has = λ x is. inr (has.0, record { columns = c; are = has.2; rows_are = ap (λ r. r ∷ []) (reads x is) }, has.1)
+
+pub stored_if : {E : Type 0} (job : List ℕ) (rows : List Row) (row : Row) (r : Result Stored E) → rows ≡ row ∷ []
+    → IfOk r (λ stored. (x : Row) → row ≡ seen x → HaveStored job (row ∷ []) stored) → IfOk r (λ stored. (trees : List Row) → rows ≡ map seen trees → HaveStored job rows stored)
+stored_if job rows row (Err e) is has = tt
+stored_if job rows row (Ok stored) is has = λ trees from.
     let one = one_seen row trees (sym is ∙ from) in
-    inr (has.0, record { columns = c; are = has.2; rows_are = is ∙ ap (λ r. r ∷ []) (reads one.0 one.1) }, has.1)
+    subst (λ r. HaveStored job r stored) (sym is) (has one.0 one.1)
+
+pub refused_if : (job : List ℕ) (rows : List Row) (row : Row) (r : Result Stored (StoreError SqliteFault)) → rows ≡ row ∷ []
+    → IfErr r (λ e. (x : Row) → row ≡ seen x → IsRefused job row e) → IfErr r (λ e. (trees : List Row) → AreShown rows (map seen trees) → AreRefused job (map seen trees) e)
+refused_if job rows row (Ok stored) is why = tt
+refused_if job rows row (Err e) is why = λ trees shown.
+    let from : row ∷ [] ≡ map seen trees = sym is ∙ shown.1 (omega (arith, ap length is)) in
+    let one = one_seen row trees from in
+    inr (row, sym from, why one.0 one.1)
 
 -- a load, for any way to know that an open connection leaves its last commit
 pub load_found : {E : Type 0} (job : List ℕ) (old new : State) (r : Result Stored E) → (IsTrue old.is_open → LeavesCommit old) → (HasCleanDisk new → IfOk r (Finds job old new))

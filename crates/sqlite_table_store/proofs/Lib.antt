@@ -5,3 +5,5 @@ pub mod Saving
 pub mod Texts
 pub mod OneValue
 pub mod Holding
+pub mod Refusing
+pub mod Creating

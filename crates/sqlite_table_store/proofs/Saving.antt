@@ -22,7 +22,8 @@ use Rattle.sqlite_table_store.specs.Rows.{kept_schema, seen, HasRows}
 use Rattle.sqlite_table_store.specs.Cells.{cells_of, row_of, text_cell, IsFew, IsReady, IsReadyIfOpen}
 use Rattle.sqlite_table_store.proofs.Statements.{insert_text, select_text, insert_is, insert_plain, select_plain}
 use Rattle.sqlite_table_store.proofs.Replacing.{command, cast_null, cast_int, replaced}
-use Rattle.sqlite_table_store.proofs.Finding.{found, unchanged}
+use Rattle.sqlite_table_store.proofs.Finding.{found, found_length, unchanged}
+use Rattle.sqlite_table_store.specs.Refusing.{AreShown}
 
 fits_number : (f : TermColumns → ℤ) (o : Option TermColumns) → cast Integer (or_null (λ t. Int (f t)) o) ≡ or_null (λ t. Int (f t)) o
 fits_number f None = cast_null
@@ -104,11 +105,11 @@ crashes job c old new rows db few ready (inl before) = inl before
 crashes job c old new rows db few ready (inr now) = inr (commits job c old rows db few ready now)
 
 pub finds_if : {R : Type 0} (items : R → List Row) (old new : State) (all : List Row) (r : Result R Error) → IsReadyIfOpen all old → IfOk r (λ rows. Shown select_text [] old new (items rows))
-    → IfOk r (λ rows. IsReady all old × IsReady all new × (length (items rows) ≤ 1 → items rows ≡ all))
+    → IfOk r (λ rows. IsReady all old × IsReady all new × AreShown (items rows) all)
 finds_if items old new all (Err e) would h = tt
 finds_if items old new all (Ok rows) would h =
     let both = finds old new (items rows) all would h in
-    (both.0, both.1, λ few. found old new (items rows) would.0 few h ∙ both.0.are)
+    (both.0, both.1, (found_length old new (items rows) would.0 h ∙ ap length both.0.are, λ few. found old new (items rows) would.0 few h ∙ both.0.are))
 
 pub crashes_as_before : (old : State) (db : Trees) → old.now.schema ≡ kept_schema → old.may_leave db ⊎ CommitsShowing select_text [] old db → old.may_leave db
 crashes_as_before old db has (inl before) = before

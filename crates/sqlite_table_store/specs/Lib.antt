@@ -3,3 +3,4 @@ pub mod Cells
 pub mod Texts
 pub mod Values
 pub mod Holding
+pub mod Refusing

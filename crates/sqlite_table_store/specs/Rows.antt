@@ -1,6 +1,6 @@
 -- The table of the kept values.
 use Rattle.sqlite.specs.Collation.TheVariants.{Binary}
-use Rattle.std.specs.Prelude.{◌≡◌, map, true, false, Bool, [], ◌∷◌, Some, codes, List, ℕ}
+use Rattle.std.specs.Prelude.{◌≡◌, map, slice_get, true, false, Bool, [], ◌∷◌, Some, codes, List, ℕ}
 use Rattle.sqlite.specs.declared.types.Value.TheVariants.{Null}
 use Rattle.sqlite.specs.Order.{Row, column}
 use Rattle.sqlite.specs.Table.{Table}
@@ -73,6 +73,14 @@ kept_schema = record { tables = kept_table ∷ []; indexes = []; views = [] }
 
 abbrev pub no_schema : Schema
 no_schema = record { tables = []; indexes = []; views = [] }
+
+-- a table of the kept values in some format: each has its name, and a second column with the format
+abbrev pub HasFormat : Table → Type 0
+HasFormat t = (t.name ≡ codes "kept") × ((second : Column) × (slice_get t.columns 1 ≡ Some second) × (second.name ≡ codes "format"))
+
+-- a database of some format: this table is its first
+abbrev pub IsOfSomeFormat : Schema → Type 0
+IsOfSomeFormat s = (first : Table) × (slice_get s.tables 0 ≡ Some first) × HasFormat first
 
 -- a row as the query shows it
 abbrev pub seen : Row → Row

@@ -4,6 +4,7 @@
 mod assignment_text;
 mod columns;
 mod fault;
+mod file;
 mod reading;
 mod schema;
 mod sql;

@@ -1,11 +1,11 @@
 //! What a row has.
 
-ghost use Rattle.std.specs.Prelude.{◌≡◌, ◌≢◌, ◌⊎◌, ◌≤◌, ◌∷◌, [], List, pos, true, length, map, Some, IfOk, IfErr, OnOk, IfSome, MatchOption};
+ghost use Rattle.std.specs.Prelude.{◌≡◌, ◌≢◌, ◌⊎◌, ◌≤◌, ◌<◌, ◌∷◌, [], ℕ, List, pos, true, length, map, Some, IfOk, IfErr, OnOk, IfSome, MatchOption};
 ghost use Rattle.sqlite.specs.declared.types.Value.TheVariants.{Int, Text, Null};
 ghost use Rattle.sqlite.specs.Order.{Row as Cells, column};
 ghost use Rattle.sqlite.specs.Values.{or_null};
-ghost use Rattle.table_store.specs.declared.store.StoreError.TheVariants.{Replaced};
 ghost use Rattle.sqlite_table_store.specs.Cells.{row_of, text_cell};
+ghost use Rattle.sqlite_table_store.specs.Refusing.{AreRefused, AreShown, IsDamage, IsOfCall, IsRefused};
 ghost use Rattle.sqlite_table_store.specs.Rows.{seen};
 ghost use Rattle.sqlite_table_store.specs.Values.{HaveStored};
 
@@ -22,7 +22,7 @@ type Fallible<T> = Result<T, StoreError<SqliteFault>>;
 pub(crate) const FORMAT: i64 = 1;
 
 fn unread(error: Error) -> StoreError<SqliteFault>
-    ensures { result ≢ Replaced }
+    ensures { IsDamage result }
 {
     match error {
         Error::SqliteFailure(ErrorCode::OutOfMemory) => StoreError::NoMemory,
@@ -32,7 +32,7 @@ fn unread(error: Error) -> StoreError<SqliteFault>
 
 fn number_at(row: &Row, at: usize) -> Fallible<i64>
     ensures ok { IfOk result (λ n. column row.now at ≡ Int n) }
-    ensures err { IfErr result (λ e. e ≢ Replaced) }
+    ensures err { IfErr result IsDamage }
 {
     match row.get::<i64>(at) {
         Ok(number) => Ok(number),
@@ -42,7 +42,7 @@ fn number_at(row: &Row, at: usize) -> Fallible<i64>
 
 fn number_if_any(row: &Row, at: usize) -> Fallible<Option<i64>>
     ensures ok { IfOk result (λ n. column row.now at ≡ or_null Int n) }
-    ensures err { IfErr result (λ e. e ≢ Replaced) }
+    ensures err { IfErr result IsDamage }
 {
     match row.get::<Option<i64>>(at) {
         Ok(number) => Ok(number),
@@ -52,7 +52,7 @@ fn number_if_any(row: &Row, at: usize) -> Fallible<Option<i64>>
 
 fn text_if_any(row: &Row, at: usize) -> Fallible<Option<String>>
     ensures ok { IfOk result (λ text. column row.now at ≡ text_cell text) }
-    ensures err { IfErr result (λ e. e ≢ Replaced) }
+    ensures err { IfErr result IsDamage }
 {
     match row.get::<Option<String>>(at) {
         Ok(text) => Ok(text),
@@ -60,24 +60,11 @@ fn text_if_any(row: &Row, at: usize) -> Fallible<Option<String>>
     }
 }
 
-// Looks whether a row has the form that this crate writes, and the key 1.
-fn check_form(row: &Row) -> Fallible<()>
-    ensures ok { OnOk result ((column row.now 0 ≡ Int (pos 1)) × (column row.now 1 ≡ Int (pos 1))) }
-    ensures err { IfErr result (λ e. e ≢ Replaced) }
-{
-    if number_at(row, 1)? != FORMAT {
-        return Err(StoreError::Failed(SqliteFault::OtherFormat));
-    }
-    if number_at(row, 0)? != 1 {
-        return Err(StoreError::Failed(SqliteFault::Damaged));
-    }
-    Ok(())
-}
-
 // Looks whether a row is of the job with this name.
 fn check_job(row: &Row, job: &str) -> Fallible<()>
     ensures ok { OnOk result (column row.now 2 ≡ Text job.now) }
-    ensures err { IfErr result (λ e. e ≢ Replaced) }
+    ensures kind { IfErr result IsOfCall }
+    ensures err { IfErr result (λ e. column row.now 1 ≡ Int (pos 1) → IsRefused job.now row.now e) }
 {
     let Some(name) = text_if_any(row, 2)? else {
         return Err(StoreError::Failed(SqliteFault::Damaged));
@@ -88,10 +75,39 @@ fn check_job(row: &Row, job: &str) -> Fallible<()>
     Ok(())
 }
 
+// Looks whether a row has the form that this crate writes, and is of the job with this name.
+fn check_form(row: &Row, job: &str) -> Fallible<()>
+    ensures form { OnOk result (column row.now 1 ≡ Int (pos 1)) }
+    ensures job { OnOk result (column row.now 2 ≡ Text job.now) }
+    ensures kind { IfErr result IsOfCall }
+    ensures err { IfErr result (λ e. (r : Cells) → row.now ≡ seen r → IsRefused job.now row.now e) }
+{
+    let format = match row.get::<i64>(1) {
+        Ok(number) => number,
+        Err(Error::SqliteFailure(ErrorCode::OutOfMemory)) => return Err(StoreError::NoMemory),
+        Err(_) => return Err(StoreError::Failed(SqliteFault::Damaged)),
+    };
+    if format != FORMAT {
+        return Err(StoreError::Failed(SqliteFault::OtherFormat));
+    }
+    check_job(row, job)
+}
+
+// Looks whether a row has the key 1.
+fn check_key(row: &Row) -> Fallible<()>
+    ensures ok { OnOk result (column row.now 0 ≡ Int (pos 1)) }
+    ensures err { IfErr result IsDamage }
+{
+    if number_at(row, 0)? != 1 {
+        return Err(StoreError::Failed(SqliteFault::Damaged));
+    }
+    Ok(())
+}
+
 fn policy_in(row: &Row) -> Fallible<PolicyColumns>
     ensures low { IfOk result (λ p. (column row.now 4 ≡ Int p.low) × (column row.now 5 ≡ Int p.high) × (column row.now 6 ≡ Int p.skew)) }
     ensures terms { IfOk result (λ p. (column row.now 7 ≡ Int p.guard) × (column row.now 8 ≡ Int p.bridge) × (column row.now 9 ≡ Int p.job) × (column row.now 10 ≡ Int p.numbers)) }
-    ensures err { IfErr result (λ e. e ≢ Replaced) }
+    ensures err { IfErr result IsDamage }
 {
     Ok(PolicyColumns {
         low: number_at(row, 4)?,
@@ -108,7 +124,7 @@ fn term_in(row: &Row) -> Fallible<Option<TermColumns>>
     ensures number { IfOk result (λ term. column row.now 12 ≡ or_null (λ t. Int t.number) term) }
     ensures assigner { IfOk result (λ term. column row.now 13 ≡ or_null (λ t. Int t.assigner) term) }
     ensures until { IfOk result (λ term. column row.now 14 ≡ or_null (λ t. Int t.until) term) }
-    ensures err { IfErr result (λ e. e ≢ Replaced) }
+    ensures err { IfErr result IsDamage }
 {
     let number = number_if_any(row, 12)?;
     let assigner = number_if_any(row, 13)?;
@@ -124,13 +140,14 @@ fn term_in(row: &Row) -> Fallible<Option<TermColumns>>
     }
 }
 
-// The columns of a row of the job with this name.
+// The columns of a row, whose format and job are looked at before.
 fn columns_in(row: &Row, job: &str) -> Fallible<Columns>
+    requires form { column row.now 1 ≡ Int (pos 1) }
+    requires job { column row.now 2 ≡ Text job.now }
     ensures ok { IfOk result (λ columns. (r : Cells) → row.now ≡ seen r → row.now ≡ row_of job.now columns) }
-    ensures err { IfErr result (λ e. e ≢ Replaced) }
+    ensures err { IfErr result IsDamage }
 {
-    check_form(row)?;
-    check_job(row, job)?;
+    check_key(row)?;
     Ok(Columns {
         version: number_at(row, 3)?,
         policy: policy_in(row)?,
@@ -143,21 +160,32 @@ fn columns_in(row: &Row, job: &str) -> Fallible<Columns>
     })
 }
 
+// Returns what a row has.
+fn stored_at(alloc: Global, row: &Row, job: &str) -> Fallible<Stored>
+    ensures ok { IfOk result (λ stored. (r : Cells) → row.now ≡ seen r → HaveStored job.now (row.now ∷ []) stored) }
+    ensures kind { IfErr result IsOfCall }
+    ensures err { IfErr result (λ e. (r : Cells) → row.now ≡ seen r → IsRefused job.now row.now e) }
+{
+    check_form(row, job)?;
+    match columns_in(row, job) {
+        Ok(columns) => stored_of(alloc, &columns),
+        Err(error) => Err(error),
+    }
+}
+
 /// Returns what rows of the table have.
 pub(crate) fn stored_in(alloc: Global, rows: &[Row], job: &str) -> Fallible<Stored>
     ensures few { IfOk result (λ stored. length rows.now ≤ 1) }
     ensures ok { IfOk result (λ stored. (r : List Cells) → rows.now ≡ map seen r → HaveStored job.now rows.now stored) }
-    ensures err { IfErr result (λ e. e ≢ Replaced) }
+    ensures kind { IfErr result IsOfCall }
+    ensures err { IfErr result (λ e. (r : List Cells) → AreShown rows.now (map seen r) → AreRefused job.now (map seen r) e) }
 {
     match rows {
         [] => Ok(Stored {
             version: 0,
             kept: None,
         }),
-        [row] => {
-            let columns = columns_in(row, job)?;
-            stored_of(alloc, &columns)
-        }
+        [row] => stored_at(alloc, row, job),
         _ => Err(StoreError::Failed(SqliteFault::Damaged)),
     }
 }

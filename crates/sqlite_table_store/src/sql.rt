@@ -1,6 +1,6 @@
 //! The statements of the store.
 
-ghost use Rattle.std.specs.Prelude.{◌≡◌, ◌⊎◌, ◌≤◌, ◌∷◌, [], ℕ, List, length, IfOk, OnOk, string_bytes, pos};
+ghost use Rattle.std.specs.Prelude.{◌≡◌, ◌⊎◌, ◌∷◌, [], ℕ, List, false, IfOk, OnOk, string_bytes, pos};
 ghost use Rattle.sqlite.specs.declared.types.Value.TheVariants.{Int};
 ghost use Rattle.sqlite.specs.Held.{state};
 ghost use Rattle.sqlite.specs.Order.{Row as Cells};
@@ -9,15 +9,22 @@ ghost use Rattle.sqlite.specs.Tree.{Trees};
 ghost use Rattle.sqlite.specs.Values.{bound, bound_value, or_null};
 ghost use Rattle.sqlite_value.specs.Value.{owned};
 ghost use Rattle.sqlite_table_store.specs.declared.columns.Columns.{Columns as Written};
-ghost use Rattle.sqlite_table_store.specs.Rows.{HasRows, kept_schema};
+ghost use Rattle.sqlite_table_store.specs.Rows.{HasRows, kept_schema, no_schema};
+ghost use Rattle.sqlite_table_store.specs.Refusing.{AreShown, IsMade};
 ghost use Rattle.sqlite_table_store.specs.Cells.{IsFew, IsReady, IsReadyIfOpen, cells_of, row_of, text_cell};
 
 use crate::columns::{Columns, TermColumns};
 use sqlite::types::ValueRef;
 use sqlite::{Alter, Connection, Error, Row};
 
-/// Makes the table. The schema has to be looked at afterwards.
-pub(crate) fn create<S: Alter>(conn: &mut Connection<S>) -> Result<usize, Error> {
+/// Makes the table.
+pub(crate) fn create<S: Alter>(conn: &mut Connection<S>) -> Result<usize, Error>
+    ensures clean { HasCleanDisk (state S.Store conn.new) → HasCleanDisk (state S.Store conn.old) }
+    ensures made { HasCleanDisk (state S.Store conn.new) → (state S.Store conn.old).now.schema ≡ no_schema → conn.old.in_transaction ≡ false
+        → OnOk result (IsMade (state S.Store conn.new)) }
+    ensures crash { HasCleanDisk (state S.Store conn.new) → (state S.Store conn.old).now.schema ≡ no_schema
+        → (db : Trees) → (state S.Store conn.new).may_leave db → (state S.Store conn.old).may_leave db ⊎ (db 0 ≡ []) }
+{
     conn.execute(
         "CREATE TABLE kept (id INTEGER PRIMARY KEY, format INTEGER NOT NULL, job TEXT NOT NULL, version INTEGER NOT NULL, low INTEGER NOT NULL, high INTEGER NOT NULL, skew INTEGER NOT NULL, guard INTEGER NOT NULL, bridge INTEGER NOT NULL, job_term INTEGER NOT NULL, numbers INTEGER NOT NULL, last_reading INTEGER NOT NULL, term_number INTEGER, term_assigner INTEGER, term_until INTEGER, committed TEXT, pending TEXT, granted INTEGER NOT NULL, deadline INTEGER NOT NULL) STRICT",
         &[],
@@ -124,7 +131,7 @@ pub(crate) fn put<S: Alter>(
 pub(crate) fn rows_of<S: Alter>(conn: &mut Connection<S>) -> Result<Vec<Row>, Error>
     ensures clean { HasCleanDisk (state S.Store conn.new) → HasCleanDisk (state S.Store conn.old) }
     ensures found { HasCleanDisk (state S.Store conn.new) → (rows : List Cells) → IsReadyIfOpen rows (state S.Store conn.old)
-        → IfOk result (λ found. IsReady rows (state S.Store conn.old) × IsReady rows (state S.Store conn.new) × (length found.items ≤ 1 → found.items ≡ rows)) }
+        → IfOk result (λ found. IsReady rows (state S.Store conn.old) × IsReady rows (state S.Store conn.new) × AreShown found.items rows) }
     ensures crash { HasCleanDisk (state S.Store conn.new) → (state S.Store conn.old).now.schema ≡ kept_schema
         → (db : Trees) → (state S.Store conn.new).may_leave db → (state S.Store conn.old).may_leave db }
 {

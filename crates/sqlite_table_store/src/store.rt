@@ -7,13 +7,14 @@ ghost use Rattle.sqlite.specs.State.{HasCleanDisk};
 ghost use Rattle.sqlite.specs.Tree.{Trees};
 ghost use Rattle.table_store.specs.declared.store.StoreError.TheVariants.{Replaced};
 ghost use Rattle.sqlite_table_store.specs.Cells.{IsReady, IsReadyIfOpen, row_of};
-ghost use Rattle.sqlite_table_store.specs.Rows.{HasRows, kept_schema, seen};
+ghost use Rattle.sqlite_table_store.specs.Rows.{HasRows, kept_schema, no_schema, seen};
 ghost use Rattle.sqlite_table_store.specs.Holding.{Finds, MayLeave, MayPut, Puts};
+ghost use Rattle.sqlite_table_store.specs.Refusing.{AreUnread, IsNotFound, IsNotMade, IsNotOpened, IsOfCall, IsOpened, IsSame, LeavesRows, Makes, MayFail};
 ghost use Rattle.sqlite_table_store.specs.Values.{HaveStored};
 
 use crate::fault::SqliteFault;
 use crate::reading::stored_in;
-use crate::schema::{is_empty, is_kept};
+use crate::schema::{has_other_format, is_empty, is_kept};
 use crate::sql::{create, put, rows_of};
 use crate::values::columns_of;
 use lease_table::Kept;
@@ -34,7 +35,7 @@ pub struct SqliteStore<S: Alter> {
 
 // Why a statement failed.
 fn failed(error: Error) -> StoreError<SqliteFault>
-    ensures { result ≢ Replaced }
+    ensures { IsNotMade result }
 {
     match error {
         Error::SqliteFailure(ErrorCode::OutOfMemory) => StoreError::NoMemory,
@@ -44,7 +45,9 @@ fn failed(error: Error) -> StoreError<SqliteFault>
 
 // Whether a connection is in no transaction and its database has the table of the kept values.
 fn is_ready<S: Alter>(conn: &Connection<S>) -> bool
-    ensures { IsTrue result → IsReadyIfOpen (map seen ((state S.Store conn.now).now.trees 0)) (state S.Store conn.now) }
+    ensures yes { IsTrue result → IsReadyIfOpen (map seen ((state S.Store conn.now).now.trees 0)) (state S.Store conn.now) }
+    ensures autocommit { IsTrue result → conn.now.in_transaction ≡ false }
+    ensures no { conn.now.in_transaction ≡ false → conn.now.schema ≡ kept_schema → IsTrue result }
 {
     if !conn.is_autocommit() {
         return false;
@@ -63,7 +66,9 @@ fn read<S: Alter>(
         → IfOk result (Finds job.now (state S.Store conn.old) (state S.Store conn.new)) }
     ensures crash { HasCleanDisk (state S.Store conn.new) → (state S.Store conn.old).now.schema ≡ kept_schema
         → (db : Trees) → (state S.Store conn.new).may_leave db → (state S.Store conn.old).may_leave db }
-    ensures err { IfErr result (λ e. e ≢ Replaced) }
+    ensures refused { HasCleanDisk (state S.Store conn.new) → (rows : List Cells) → IsReadyIfOpen (map seen rows) (state S.Store conn.old)
+        → IfErr result (AreUnread job.now (map seen rows)) }
+    ensures err { IfErr result IsOfCall }
 {
     match rows_of(conn) {
         Ok(rows) => stored_in(alloc, rows.as_slice(), job),
@@ -80,10 +85,13 @@ fn find<S: Alter>(
     ensures clean { HasCleanDisk (state S.Store conn.new) → HasCleanDisk (state S.Store conn.old) }
     ensures found { HasCleanDisk (state S.Store conn.new) → IfOk result (Finds job.now (state S.Store conn.old) (state S.Store conn.new)) }
     ensures crash { HasCleanDisk (state S.Store conn.new) → (db : Trees) → (state S.Store conn.new).may_leave db → (state S.Store conn.old).may_leave db }
-    ensures err { IfErr result (λ e. e ≢ Replaced) }
+    ensures refused { HasCleanDisk (state S.Store conn.new) → IfErr result (IsNotFound job.now (state S.Store conn.old)) }
+    ensures err { IfErr result IsOfCall }
 {
     if is_ready(conn) {
         read(alloc, conn, job)
+    } else if conn.is_autocommit() && has_other_format(conn.schema()) {
+        Err(StoreError::Failed(SqliteFault::OtherFormat))
     } else {
         Err(StoreError::Failed(SqliteFault::OtherTable))
     }
@@ -102,10 +110,26 @@ fn write<S: Alter>(
     ensures crash { HasCleanDisk (state S.Store conn.new) → MayPut job.now (state S.Store conn.old)
         → (db : Trees) → (state S.Store conn.new).may_leave db
         → (state S.Store conn.old).may_leave db ⊎ HaveStored job.now (map seen (db 0)) (record { version = next; kept = Some kept.now }) }
-    ensures err { IfErr result (λ e. e ≢ Replaced) }
+    ensures err { IfErr result IsOfCall }
 {
     let row = columns_of(alloc, next, kept)?;
     match put(conn, job, &row) {
+        Ok(_) => Ok(()),
+        Err(error) => Err(failed(error)),
+    }
+}
+
+// Makes the table, if the database has nothing and no transaction is open.
+fn make<S: Alter>(conn: &mut Connection<S>) -> Result<(), StoreError<SqliteFault>>
+    ensures clean { HasCleanDisk (state S.Store conn.new) → HasCleanDisk (state S.Store conn.old) }
+    ensures made { HasCleanDisk (state S.Store conn.new) → OnOk result (IsSame (state S.Store conn.old) (state S.Store conn.new) ⊎ Makes (state S.Store conn.old) (state S.Store conn.new)) }
+    ensures crash { HasCleanDisk (state S.Store conn.new) → LeavesRows (state S.Store conn.old) (state S.Store conn.new) }
+    ensures err { IfErr result (λ e. (conn.old.in_transaction ≡ false) × ((state S.Store conn.old).now.schema ≡ no_schema) × IsNotMade e) }
+{
+    if !conn.is_autocommit() || !is_empty(conn.schema()) {
+        return Ok(());
+    }
+    match create(conn) {
         Ok(_) => Ok(()),
         Err(error) => Err(failed(error)),
     }
@@ -117,21 +141,37 @@ impl<S: Alter + Drop> SqliteStore<S> {
     ///
     /// Errors, in this order: the table is not made, a transaction is open or the database has
     /// another table, its row is not read, has another format, is of another job, is damaged, memory
-    /// runs out. They leave the row as it is.
+    /// runs out. They leave the row as it is, and return the connection.
     pub fn open(
         alloc: Global,
         mut conn: Connection<S>,
         job: String,
-    ) -> Result<Self, StoreError<SqliteFault>>
+    ) -> Result<Self, (StoreError<SqliteFault>, Connection<S>)>
         ensures job { IfOk result (λ store. store.job ≡ job) }
+        ensures opened { IfOk result (λ store. HasCleanDisk (state S.Store store.conn) → IsOpened (string_bytes job) (state S.Store conn) (state S.Store store.conn)) }
+        ensures refused { IfErr result (λ e. HasCleanDisk (state S.Store e.1) → IsNotOpened (string_bytes job) (state S.Store conn) e.0) }
+        ensures kept { IfOk result (λ store. HasCleanDisk (state S.Store store.conn) → LeavesRows (state S.Store conn) (state S.Store store.conn)) }
+        ensures unchanged { IfErr result (λ e. HasCleanDisk (state S.Store e.1) → LeavesRows (state S.Store conn) (state S.Store e.1)) }
     {
-        if is_empty(conn.schema()) {
-            if let Err(error) = create(&mut conn) {
-                return Err(failed(error));
-            }
+        if let Err(error) = make(&mut conn) {
+            return Err((error, conn));
         }
-        find(alloc, &mut conn, job.as_str())?;
-        Ok(SqliteStore { alloc, conn, job })
+        match find(alloc, &mut conn, job.as_str()) {
+            Ok(_) => Ok(SqliteStore { alloc, conn, job }),
+            Err(error) => Err((error, conn)),
+        }
+    }
+
+    /// Returns the connection. Its `close` copies the log into the file.
+    pub fn into_connection(self) -> Connection<S>
+        ensures { result ≡ self.conn }
+    {
+        let SqliteStore {
+            alloc: _,
+            conn,
+            job: _,
+        } = self;
+        conn
     }
 }
 
@@ -142,7 +182,7 @@ impl<S: Alter + Drop> Store for SqliteStore<S> {
 
     ghost may_leave = { λ s left. MayLeave (string_bytes s.job) (state S.Store s.conn) left };
 
-    ghost may_fail = { λ s fault. ⊤ };
+    ghost may_fail = { λ s why. MayFail why };
 
     ghost moment = { λ s. 0 };
 

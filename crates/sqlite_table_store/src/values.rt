@@ -1,8 +1,8 @@
 //! Kept values as the columns of a row.
 
-ghost use Rattle.std.specs.Prelude.{◌≡◌, ◌≢◌, pos, Some, IfOk, IfErr, option_map};
-ghost use Rattle.table_store.specs.declared.store.StoreError.TheVariants.{Replaced};
+ghost use Rattle.std.specs.Prelude.{◌≡◌, pos, Some, IfOk, IfErr, option_map};
 ghost use Rattle.lease_table.specs.declared.kept.Kept.{Kept as KeptValues};
+ghost use Rattle.sqlite_table_store.specs.Refusing.{IsDamage, IsOfCall};
 ghost use Rattle.sqlite_table_store.specs.Texts.{IsTextOf};
 ghost use Rattle.sqlite_table_store.specs.Values.{AreColumnsOf, policy_columns, term_columns};
 
@@ -19,7 +19,7 @@ type Fallible<T> = Result<T, StoreError<SqliteFault>>;
 // A number as a column has it.
 fn column(number: u64) -> Fallible<i64>
     ensures ok { IfOk result (λ n. n ≡ pos number) }
-    ensures err { IfErr result (λ e. e ≢ Replaced) }
+    ensures err { IfErr result IsOfCall }
 {
     match i64::try_from(number) {
         Ok(number) => Ok(number),
@@ -30,7 +30,7 @@ fn column(number: u64) -> Fallible<i64>
 // The number that a column has.
 fn number_of(column: i64) -> Fallible<u64>
     ensures ok { IfOk result (λ n. column ≡ pos n) }
-    ensures err { IfErr result (λ e. e ≢ Replaced) }
+    ensures err { IfErr result IsDamage }
 {
     match u64::try_from(column) {
         Ok(number) => Ok(number),
@@ -40,7 +40,7 @@ fn number_of(column: i64) -> Fallible<u64>
 
 fn columns_of_policy(policy: Policy) -> Fallible<PolicyColumns>
     ensures ok { IfOk result (λ columns. columns ≡ policy_columns policy) }
-    ensures err { IfErr result (λ e. e ≢ Replaced) }
+    ensures err { IfErr result IsOfCall }
 {
     Ok(PolicyColumns {
         low: column(policy.low())?,
@@ -55,7 +55,7 @@ fn columns_of_policy(policy: Policy) -> Fallible<PolicyColumns>
 
 fn policy_of(columns: PolicyColumns) -> Fallible<Policy>
     ensures ok { IfOk result (λ policy. columns ≡ policy_columns policy) }
-    ensures err { IfErr result (λ e. e ≢ Replaced) }
+    ensures err { IfErr result IsDamage }
 {
     let policy = Policy::new(
         number_of(columns.low)?,
@@ -74,7 +74,7 @@ fn policy_of(columns: PolicyColumns) -> Fallible<Policy>
 
 fn columns_of_term(term: Option<JobTerm>) -> Fallible<Option<TermColumns>>
     ensures ok { IfOk result (λ columns. columns ≡ option_map term_columns term) }
-    ensures err { IfErr result (λ e. e ≢ Replaced) }
+    ensures err { IfErr result IsOfCall }
 {
     match term {
         Some(term) => Ok(Some(TermColumns {
@@ -88,7 +88,7 @@ fn columns_of_term(term: Option<JobTerm>) -> Fallible<Option<TermColumns>>
 
 fn term_of(columns: Option<TermColumns>) -> Fallible<Option<JobTerm>>
     ensures ok { IfOk result (λ term. columns ≡ option_map term_columns term) }
-    ensures err { IfErr result (λ e. e ≢ Replaced) }
+    ensures err { IfErr result IsDamage }
 {
     match columns {
         Some(columns) => Ok(Some(JobTerm {
@@ -103,7 +103,7 @@ fn term_of(columns: Option<TermColumns>) -> Fallible<Option<JobTerm>>
 // The assignment of a text, if there is one.
 fn assignment_of(alloc: Global, text: &Option<String>) -> Fallible<Option<Assignment>>
     ensures ok { IfOk result (λ assignment. IsTextOf assignment text.now) }
-    ensures err { IfErr result (λ e. e ≢ Replaced) }
+    ensures err { IfErr result IsDamage }
 {
     let Some(text) = text else {
         return Ok(None);
@@ -118,7 +118,7 @@ fn assignment_of(alloc: Global, text: &Option<String>) -> Fallible<Option<Assign
 // The text of an assignment, if there is one.
 fn text_of(alloc: Global, assignment: &Option<Assignment>) -> Fallible<Option<String>>
     ensures ok { IfOk result (λ text. IsTextOf assignment.now text) }
-    ensures err { IfErr result (λ e. e ≢ Replaced) }
+    ensures err { IfErr result IsOfCall }
 {
     match text_if_any(alloc, assignment) {
         Ok(text) => Ok(text),
@@ -131,7 +131,7 @@ fn text_of(alloc: Global, assignment: &Option<Assignment>) -> Fallible<Option<St
 /// Errors: a number is 2^63 or more, or memory runs out.
 pub(crate) fn columns_of(alloc: Global, version: u64, kept: &Kept) -> Fallible<Columns>
     ensures ok { IfOk result (AreColumnsOf version kept.now) }
-    ensures err { IfErr result (λ e. e ≢ Replaced) }
+    ensures err { IfErr result IsOfCall }
 {
     Ok(Columns {
         version: column(version)?,
@@ -150,7 +150,7 @@ pub(crate) fn columns_of(alloc: Global, version: u64, kept: &Kept) -> Fallible<C
 /// Errors: they stand for no kept values, or memory runs out.
 pub(crate) fn stored_of(alloc: Global, columns: &Columns) -> Fallible<Stored>
     ensures ok { IfOk result (λ stored. (kept : KeptValues) × (stored.kept ≡ Some kept) × AreColumnsOf stored.version kept columns.now) }
-    ensures err { IfErr result (λ e. e ≢ Replaced) }
+    ensures err { IfErr result IsDamage }
 {
     Ok(Stored {
         version: number_of(columns.version)?,
