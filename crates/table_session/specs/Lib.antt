@@ -1,4 +1,5 @@
 pub mod TableLines
+pub mod TableOpenings
 pub mod TableTurns
 pub mod TableTalks
 pub mod TableLives

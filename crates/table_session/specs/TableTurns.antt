@@ -1,10 +1,10 @@
 -- How a line is answered over a table whose kept values are in a store.
-use Rattle.std.specs.Prelude.{◌≡◌, ◌⊎◌, ⊤, ℕ, ◌++◌, false, List, Result, Ok, Err, codes, decimal}
+use Rattle.std.specs.Prelude.{◌≡◌, ◌⊎◌, ⊤, ℕ, false, List, Result, Ok, Err}
 use Rattle.lease_table.specs.declared.call.TableCall.{TableCall}
 use Rattle.lease_table.specs.declared.call.TableReply.{TableReply}
 use Rattle.lease_table.specs.declared.error.TableError.{TableError}
 use Rattle.lease_table.specs.declared.kept.Kept.{Kept}
-use Rattle.lease_table.specs.Tables.{Standing, generation_of, phase_of}
+use Rattle.lease_table.specs.Tables.{phase_of}
 use Rattle.lease_table.specs.Lives.{Happening}
 use Rattle.cluster.specs.declared.call.ClusterCall.TheVariants as cluster_call
 use Rattle.cluster.specs.declared.error.ClusterError.TheVariants as cluster_error
@@ -75,8 +75,3 @@ module _ {S : Type 0} (is_honest : S → Type 0) (may_leave : S → Stored → T
       × ((life : List Happening) (saved : Kept) → StandsAfter life saved old.table → new.table.is_open ≡ false)
   IsUnanswered may_fail old new error.NotOpen = (life : List Happening) (saved : Kept) → StandsAfter life saved old.table → ⊥
   IsUnanswered may_fail old new error.NoMemory = ⊤
-
--- where an opened table stands: the generation that is committed, 0 for none, the end of the grace, the last reading and the number of grants
-abbrev pub opened_text : Standing → List ℕ
-opened_text t = codes "restored generation " ++ (decimal (generation_of t.committed) ++ (codes " grace " ++ (decimal t.deadline
-    ++ (codes " last " ++ (decimal t.last ++ (codes " granted " ++ (decimal t.granted ++ codes "\n")))))))

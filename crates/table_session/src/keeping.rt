@@ -1,18 +1,23 @@
 //! A table over a store, whose calls stand on lines.
 
 ghost use Rattle.std.specs.Prelude.{◌≡◌, ℕ, List, IfErr, IfOk, string_bytes};
+ghost use Rattle.lease_table.specs.declared.kept.Kept.{Kept};
+ghost use Rattle.lease_table.specs.Lives.{Happening};
 ghost use Rattle.session.specs.LinesRead.{IsKept};
-ghost use Rattle.table_session.specs.TableTurns.{IsCalled, IsMade, IsTurned, IsUnanswered, opened_text, told};
+ghost use Rattle.table_store.specs.KeptTables.{StandsAfter, IsSettled, IsSettleStopped};
+ghost use Rattle.table_store.specs.Stores.{MayHaveOther};
+ghost use Rattle.table_session.specs.TableOpenings.{opened_text};
+ghost use Rattle.table_session.specs.TableTurns.{IsCalled, IsMade, IsTurned, IsUnanswered, told};
 ghost use Rattle.table_session.specs.TableTalks.{IsAnswerTo};
 
+use crate::opening::opened_text;
 use crate::table_line::{NoLine, TableLine, line_asks};
-use assignment::Assignment;
 use call_log::{LoggedCall, table_reply};
 use cluster::{ClusterCall, ClusterError};
 use lease_table::{TableCall, TableError, TableReply};
 use session::{LONG_WORDS, LineRead, ReplyForm, answer_text, error_text};
 use std::alloc::{AllocError, Global};
-use table_store::{CallError, KeptTable, Store, StoreError};
+use table_store::{CallError, KeptTable, SettleError, Store, StoreError};
 use world::{Reply, refusal_by};
 
 /// Why a session over a store ends before its lines do.
@@ -71,19 +76,28 @@ impl<S: Store> TableSession<S> {
         &self.table
     }
 
-    /// Returns the line that tells where the table stands after it was opened: the generation that
-    /// is committed (0 for none), the end of its grace, its last reading and the number of its
-    /// grants.
+    /// Returns the line that tells where the table stands after it was opened.
+    ///
+    /// A table that never gave a term of the job lease is told as new. Any other is told with the
+    /// generation that is committed (0 for none), the end of its grace, its last reading and the
+    /// number of its grants.
     pub fn opened_line(&self) -> Result<String, AllocError>
-        ensures { IfOk result (λ text. string_bytes text ≡ opened_text self.now.table.table) }
+        ensures { IfOk result (λ text. string_bytes text ≡ opened_text self.now.form self.now.table.table) }
     {
-        let table = self.table.table();
-        let kept = table.kept()?;
-        let generation = table.committed().map_or(0, Assignment::generation);
-        format!(in self.alloc;
-            "restored generation {generation} grace {} last {} granted {}\n",
-            kept.deadline, kept.last, kept.granted
-        )
+        opened_text(self.alloc, self.form, self.table.table())
+    }
+
+    /// Saves just what the table keeps, so that a restart costs no numbers and no time but the grace.
+    ///
+    /// Errors, in this order: `NotOpen`, `NotSaved`. After `NotSaved` the table is closed.
+    pub fn settle(&mut self) -> Result<(), SettleError<S::Fault>>
+        ensures form { self.new.form ≡ self.old.form }
+        ensures settled { (life : List Happening) (saved : Kept) → StandsAfter life saved self.old.table
+            → IsSettled S.is_honest S.may_leave life saved self.old.table result self.new.table }
+        ensures stopped { IfErr result (IsSettleStopped (S.may_fail self.old.table.store)
+            (S.is_honest self.new.table.store → MayHaveOther self.old.table.saved.version (S.may_leave self.old.table.store))) }
+    {
+        self.table.settle()
     }
 
     // Makes a call, and saves what it changed.

@@ -4,6 +4,7 @@
 
 mod keeping;
 mod laws;
+mod opening;
 mod table_line;
 mod talking;
 
