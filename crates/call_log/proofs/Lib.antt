@@ -5,3 +5,6 @@ pub mod Watching
 pub mod Doubling
 pub mod Reporting
 pub mod Places
+pub mod Opening
+pub mod Restoring
+pub mod Hinting

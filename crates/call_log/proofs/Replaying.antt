@@ -1,35 +1,38 @@
 -- Calls of a log that are played one after another.
-use Rattle.std.proofs.Common.{◌≡◌, ℕ, ◌+◌, ◌<◌, List, [], ◌∷◌, ◌++◌, map, length, get_or, take, reverse, refl, sym, ◌∙◌, ap, subst}
+use Rattle.std.proofs.Common.{◌≡◌, ℕ, ◌+◌, ◌<◌, false, List, [], ◌∷◌, ◌++◌, map, length, get_or, take, reverse, refl, sym, ◌∙◌, ap, subst}
 use Rattle.std.specs.Prelude.{Option, Some, None}
+use Rattle.std.specs.List.{AllByRecursion}
 use Rattle.std.proofs.lemmas.List.{take_more, reverse-append}
 use Rattle.std.proofs.lemmas.Option.{slice_get-get_or}
 use Rattle.cluster.specs.Jobs.{Job}
 use Rattle.cluster.specs.declared.cluster.Cluster.{Cluster}
-use Rattle.cluster.specs.Pasts.{event, Past, reading, readings}
-use Rattle.cluster.specs.Timing.{IsTimely}
+use Rattle.cluster.specs.declared.timing.Reading.{Reading}
+use Rattle.cluster.specs.declared.timing.Reading.TheVariants.{TableClock, TaskClock, NoClock}
+use Rattle.cluster.specs.Pasts.{Past, reading, readings}
+use Rattle.cluster.specs.Timing.{IsNear, IsTimely}
 use Rattle.cluster.specs.Runs.{IsRun}
 use Rattle.cluster.specs.Clusters.{LeadsTo}
 use Rattle.call_log.specs.declared.told.Told.{Told}
 use Rattle.call_log.specs.declared.entry.Entry.{Entry}
 use Rattle.call_log.specs.declared.late.Late.{Late}
 use Rattle.call_log.specs.declared.line.LoggedCall.{LoggedCall}
-use Rattle.call_log.specs.declared.line.LoggedCall.TheVariants.{Whole, HearBare}
+use Rattle.call_log.specs.declared.line.LoggedCall.TheVariants.{Whole, HearBare, Restore}
 use Rattle.call_log.specs.declared.finding.HeldLeases.{HeldLeases}
-use Rattle.call_log.specs.Calls.{call_after, held_by_asked, reading_in}
+use Rattle.call_log.specs.declared.restored.KeptNumbers.{KeptNumbers}
+use Rattle.call_log.specs.declared.restored.RestoreFault.{RestoreFault}
+use Rattle.call_log.specs.Calls.{held_by_asked, reading_in}
 use Rattle.call_log.specs.Late.{readings_of, AreWatched}
-use Rattle.call_log.specs.Audited.{IsPastOf, Tells, IsOneRun, IsBreak}
+use Rattle.call_log.specs.Restores.{IsTaken, grant_to_nobody}
+use Rattle.call_log.specs.Told.{is_worded}
+use Rattle.call_log.specs.Audited.{StandsFor, IsPastOf, Tells, IsOneRun, IsBreak}
 use Rattle.call_log.specs.internals.Answers.{IsAnswered}
+use Rattle.call_log.proofs.Watching.{free_of_clock, free_of_table}
 
 -- what is known once some calls were played
 pub record IsPlayedTo (job : Job) (entries : List Entry) (cluster : Cluster) : Type 0 where
   pub past : Past
-  pub told : IsPastOf (reverse entries) past
+  pub told : IsPastOf job (reverse entries) past
   pub leads : LeadsTo job past cluster
-
--- the calls before do not change what a call reads
-same_reading : (past : Past) (c : LoggedCall) → reading (call_after past c) ≡ reading_in c
-same_reading past (Whole c) = refl
-same_reading past (HearBare task grant at) = refl
 
 module _ (entries : List Entry) (i : ℕ) (entry : Entry) (low : i < length entries) (here : entry ≡ get_or entries i entry) where
   one_more : reverse (take (i + 1) entries) ≡ entry ∷ reverse (take i entries)
@@ -37,43 +40,100 @@ module _ (entries : List Entry) (i : ℕ) (entry : Entry) (low : i < length entr
       ap reverse (take_more entries i entry low ∙ ap (λ (e : Entry). take i entries ++ e ∷ []) (sym here))
       ∙ reverse-append (take i entries) (entry ∷ [])
 
-  -- a call whose caller was told the machines' reply
+  -- a line whose caller was told the machines' reply
   pub played_more : (job : Job) (cluster next : Cluster) (known : IsPlayedTo job (take i entries) cluster)
       → IsAnswered job known.past entry.line None next → IsPlayedTo job (take (i + 1) entries) next
   played_more job cluster next known answered = record {
-    past = event (call_after known.past entry.line.call) answered.answer ∷ known.past;
-    told = subst (λ (es : List Entry). IsPastOf es (event (call_after known.past entry.line.call) answered.answer ∷ known.past)) (sym one_more)
-        (record { same_call = refl; told = answered.told }, known.told);
-    leads = answered.leads;
+    past = answered.played.after;
+    told = subst (λ (es : List Entry). IsPastOf job es answered.played.after) (sym one_more)
+        (known.past, answered.told, answered.played.stands, answered.compared, known.told);
+    leads = answered.played.leads;
   }
 
-  -- a call whose caller was told otherwise
-  pub breaks_here : (job : Job) (past : Past) (next : Cluster) (wanted : Told) (held : Option HeldLeases) → IsPastOf (reverse (take i entries)) past
-      → (answered : IsAnswered job past entry.line (Some wanted) next) → IsRun job (event (call_after past entry.line.call) answered.answer ∷ past)
-      → held ≡ held_by_asked job (event (call_after past entry.line.call) answered.answer ∷ past) entry.line.call → IsBreak job entries i wanted held
-  breaks_here job past next wanted held told answered run leases = record {
-    entry = entry;
-    here = slice_get-get_or entries i entry low ∙ ap (λ (e : Entry). Some e) (sym here);
-    past = past;
-    told = told;
-    answer = answered.answer;
-    answered = run;
-    other = answered.told;
-    leases = leases;
-  }
+  -- a line whose caller was told otherwise
+  pub breaks_here : (job : Job) (past : Past) (next : Cluster) (wanted : Told) (held : Option HeldLeases) → IsPastOf job (reverse (take i entries)) past
+      → (answered : IsAnswered job past entry.line (Some wanted) next) → IsRun job answered.played.after
+      → held ≡ held_by_asked job answered.played.after entry.line.call → IsBreak job entries i wanted held
+  breaks_here job past next wanted held told answered run leases =
+      let is : answered.told ≡ wanted = sym answered.compared.0 in
+      record {
+        entry = entry;
+        here = slice_get-get_or entries i entry low ∙ ap (λ (e : Entry). Some e) (sym here);
+        past = past;
+        told = told;
+        after = answered.played.after;
+        stands = subst (λ (t : Told). StandsFor job past entry.line.call t answered.played.after) is answered.played.stands;
+        answered = run;
+        other = subst (λ (t : Told). is_worded entry.line.reply t ≡ false) is answered.compared.1;
+        leases = leases;
+      }
 
--- what the calls of a past read is what its entries say
-same_readings : (entries : List Entry) (past : Past) → IsPastOf entries past → readings past ≡ map (λ (e : Entry). reading_in e.line.call) entries
-same_readings [] [] told = refl
-same_readings [] (e ∷ past) told = absurd told
-same_readings (entry ∷ entries) [] told = absurd told
-same_readings (entry ∷ entries) (e ∷ past) told =
-    let first : reading e.call ≡ reading_in entry.line.call = ap reading told.0.same_call ∙ same_reading past entry.line.call in
-    rw (first, same_readings entries past told.1) refl
+-- READINGS: where those of the lines are timely, so are those of the calls that the lines stand for
 
-tells : (job : Job) (entries : List Entry) (past : Past) (late : Option Late) → readings past ≡ readings_of entries → AreWatched job.policy.skew entries late → Tells job entries past late
-tells job entries past None same watched = subst (IsTimely job.policy.skew) (sym same) watched
-tells job entries past (Some late) same watched = watched
+no_clock : (skew : ℕ) (late : Reading) → IsNear skew late NoClock
+no_clock skew (TableClock at) = tt
+no_clock skew (TaskClock at) = tt
+no_clock skew NoClock = tt
+
+module _ (skew : ℕ) where
+  abbrev AreNear : Reading → List Reading → Type 0
+  AreNear late before = AllByRecursion (IsNear skew late) before
+
+  near_ahead : (late : Reading) (at : ℕ) (ahead before : Past) → AllByRecursion (λ e. e.call ≡ grant_to_nobody at) ahead → IsNear skew late (TableClock at)
+      → AreNear late (readings before) → AreNear late (readings (ahead ++ before))
+  near_ahead late at [] before nobody near all = all
+  near_ahead late at (e ∷ ahead) before nobody near all =
+      (subst (IsNear skew late) (sym (ap reading nobody.0)) near, near_ahead late at ahead before nobody.1 near all)
+
+  near_taken : (late : Reading) (fault : Option RestoreFault) (granted : ℕ) (numbers : KeptNumbers) (before after : Past) → IsTaken fault granted numbers before after
+      → IsNear skew late (TableClock numbers.last) → AreNear late (readings before) → AreNear late (readings after)
+  near_taken late None granted numbers before after taken near all =
+      subst (λ (p : Past). AreNear late (readings p)) (sym taken.events) (no_clock skew late, near_ahead late numbers.last taken.ahead before taken.nobody near all)
+  near_taken late (Some fault) granted numbers before after taken near all = subst (λ (p : Past). AreNear late (readings p)) (sym taken) all
+
+  near_one : (job : Job) (late : Reading) (before after : Past) (c : LoggedCall) (told : Told) → StandsFor job before c told after → IsNear skew late (reading_in c)
+      → AreNear late (readings before) → AreNear late (readings after)
+  near_one job late before after (Whole c) told s near all = subst (λ (p : Past). AreNear late (readings p)) (sym s.made) (near, all)
+  near_one job late before after (HearBare task grant at) told s near all = subst (λ (p : Past). AreNear late (readings p)) (sym s.made) (near, all)
+  near_one job late before after (Restore numbers) told s near all = near_taken late s.fault _ numbers before after s.taken near all
+
+  timely_ahead : (at : ℕ) (ahead before : Past) → AllByRecursion (λ e. e.call ≡ grant_to_nobody at) ahead → IsTimely skew (readings before)
+      → IsTimely skew (readings (ahead ++ before))
+  timely_ahead at [] before nobody timely = timely
+  timely_ahead at (e ∷ ahead) before nobody timely =
+      let rest : List Reading = readings (ahead ++ before) in
+      (subst (λ (r : Reading). AreNear r rest) (sym (ap reading nobody.0)) (free_of_table skew at rest), timely_ahead at ahead before nobody.1 timely)
+
+  timely_taken : (fault : Option RestoreFault) (granted : ℕ) (numbers : KeptNumbers) (before after : Past) → IsTaken fault granted numbers before after
+      → IsTimely skew (readings before) → IsTimely skew (readings after)
+  timely_taken None granted numbers before after taken timely =
+      subst (λ (p : Past). IsTimely skew (readings p)) (sym taken.events)
+      (free_of_clock skew (readings (taken.ahead ++ before)), timely_ahead numbers.last taken.ahead before taken.nobody timely)
+  timely_taken (Some fault) granted numbers before after taken timely = subst (λ (p : Past). IsTimely skew (readings p)) (sym taken) timely
+
+  timely_one : (job : Job) (before after : Past) (c : LoggedCall) (told : Told) → StandsFor job before c told after → AreNear (reading_in c) (readings before)
+      → IsTimely skew (readings before) → IsTimely skew (readings after)
+  timely_one job before after (Whole c) told s near timely = subst (λ (p : Past). IsTimely skew (readings p)) (sym s.made) (near, timely)
+  timely_one job before after (HearBare task grant at) told s near timely = subst (λ (p : Past). IsTimely skew (readings p)) (sym s.made) (near, timely)
+  timely_one job before after (Restore numbers) told s near timely = timely_taken s.fault _ numbers before after s.taken timely
+
+  near_all : (job : Job) (late : Reading) (entries : List Entry) (past : Past) → IsPastOf job entries past
+      → AreNear late (map (λ (e : Entry). reading_in e.line.call) entries) → AreNear late (readings past)
+  near_all job late [] past told near = subst (λ (p : Past). AreNear late (readings p)) (sym told) tt
+  near_all job late (entry ∷ entries) past told near =
+      near_one job late told.0 past entry.line.call told.1 told.2 near.0 (near_all job late entries told.0 told.4 near.1)
+
+  timely_all : (job : Job) (entries : List Entry) (past : Past) → IsPastOf job entries past → IsTimely skew (map (λ (e : Entry). reading_in e.line.call) entries)
+      → IsTimely skew (readings past)
+  timely_all job [] past told timely = subst (λ (p : Past). IsTimely skew (readings p)) (sym told) tt
+  timely_all job (entry ∷ entries) past told timely =
+      timely_one job told.0 past entry.line.call told.1 told.2 (near_all job (reading_in entry.line.call) entries told.0 told.4 timely.0)
+      (timely_all job entries told.0 told.4 timely.1)
+
+tells : (job : Job) (entries : List Entry) (past : Past) (late : Option Late) → IsPastOf job (reverse entries) past → AreWatched job.policy.skew entries late
+    → Tells job entries past late
+tells job entries past None told watched = timely_all job.policy.skew job (reverse entries) past told watched
+tells job entries past (Some late) told watched = watched
 
 -- all callers were told the machines' replies
 pub one_run : (job : Job) (entries : List Entry) (cluster : Cluster) (steps : ℕ) (late : Option Late) → (known : IsPlayedTo job entries cluster)
@@ -83,5 +143,5 @@ one_run job entries cluster steps late known answered count watched = record {
   told = known.told;
   answered = answered;
   count = count;
-  clocks = tells job entries known.past late (same_readings (reverse entries) known.past known.told) watched;
+  clocks = tells job entries known.past late known.told watched;
 }

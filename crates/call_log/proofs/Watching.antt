@@ -75,11 +75,11 @@ not_less_read g NoClock i s is = absurd (cc)
 
 -- ONE READING MORE
 
-free_of_table : (skew s : ℕ) (rs : List Reading) → AllByRecursion (IsNear skew (TableClock s)) rs
+pub free_of_table : (skew s : ℕ) (rs : List Reading) → AllByRecursion (IsNear skew (TableClock s)) rs
 free_of_table skew s [] = tt
 free_of_table skew s (r ∷ rs) = (tt, free_of_table skew s rs)
 
-free_of_clock : (skew : ℕ) (rs : List Reading) → AllByRecursion (IsNear skew NoClock) rs
+pub free_of_clock : (skew : ℕ) (rs : List Reading) → AllByRecursion (IsNear skew NoClock) rs
 free_of_clock skew [] = tt
 free_of_clock skew (r ∷ rs) = (tt, free_of_clock skew rs)
 

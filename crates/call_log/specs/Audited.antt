@@ -1,41 +1,43 @@
 -- Whether the calls of a log are one run of a job's machines, and else where they are not.
-use Rattle.std.specs.Prelude.{◌≡◌, ℕ, ◌+◌, ◌<◌, ⊤, Bool, true, false, List, [], ◌∷◌, length, reverse, take, Option, Some, None, slice_get}
+use Rattle.std.specs.Prelude.{◌≡◌, ℕ, ◌+◌, ◌<◌, Bool, true, false, List, [], ◌∷◌, length, reverse, take, Option, Some, None, slice_get}
 use Rattle.std.specs.List.{AllAdjacentBelow}
 use Rattle.cluster.specs.Jobs.{Job}
 use Rattle.cluster.specs.declared.reply.ClusterReply.{ClusterReply}
-use Rattle.cluster.specs.Pasts.{Event, event, Past, readings}
+use Rattle.cluster.specs.Pasts.{event, Past, readings}
 use Rattle.cluster.specs.Timing.{IsTimely}
 use Rattle.cluster.specs.Runs.{IsRun}
 use Rattle.call_log.specs.declared.told.Told.{Told}
 use Rattle.audit.specs.OneRun.{Rises}
 use Rattle.call_log.specs.declared.entry.Entry.{Entry}
-use Rattle.call_log.specs.declared.line.LoggedLine.{LoggedLine}
+use Rattle.call_log.specs.declared.line.LoggedCall.{LoggedCall}
+use Rattle.call_log.specs.declared.line.LoggedCall.TheVariants.{Whole, HearBare, Restore}
 use Rattle.call_log.specs.declared.late.Late.{Late}
 use Rattle.call_log.specs.declared.finding.HeldLeases.{HeldLeases}
 use Rattle.call_log.specs.declared.finding.Finding.{Finding}
 use Rattle.call_log.specs.declared.finding.Finding.TheVariants.{One, Double, Other}
 use Rattle.call_log.specs.Calls.{call_after, held_by_asked}
 use Rattle.call_log.specs.Late.{IsLate}
+use Rattle.call_log.specs.Restores.{IsRestored}
 use Rattle.call_log.specs.Told.{is_worded, told_after}
 
--- after these calls the caller of a line's call was told a reply of the machines
-abbrev pub WasTold : Past → LoggedLine → ClusterReply → Type 0
-WasTold past line answer = is_worded line.reply (told_after past line.call answer) ≡ true
+-- after these calls a line's call is answered, and its caller is told so
+pub record IsCalled (before : Past) (c : LoggedCall) (told : Told) (after : Past) : Type 0 where
+  pub answer : ClusterReply
+  pub tells : told ≡ told_after before c answer
+  pub made : after ≡ event (call_after before c) answer ∷ before
 
--- the caller should have been told this, and was told something else
-abbrev pub WasToldOther : Past → LoggedLine → ClusterReply → Told → Type 0
-WasToldOther past line answer wanted = (wanted ≡ told_after past line.call answer) × (is_worded line.reply wanted ≡ false)
+-- what the caller of a line's call is told after these calls, and the calls once those are made that the line stands for: its call, or
+-- those of a restored table
+abbrev pub StandsFor : Job → Past → LoggedCall → Told → Past → Type 0
+StandsFor job before (Whole c) told after = IsCalled before (Whole c) told after
+StandsFor job before (HearBare task grant at) told after = IsCalled before (HearBare task grant at) told after
+StandsFor job before (Restore numbers) told after = IsRestored job before numbers told after
 
--- an event after these calls is the call of a line, with a reply that has its words
-pub record IsEventOf (line : LoggedLine) (past : Past) (e : Event) : Type 0 where
-  pub same_call : e.call ≡ call_after past line.call
-  pub told : WasTold past line e.reply
-
--- the events of a past are the calls of these entries, both newest first
-abbrev pub IsPastOf : List Entry → Past → Type 0
-IsPastOf [] [] = ⊤
-IsPastOf (entry ∷ before) (e ∷ past) = IsEventOf entry.line past e × IsPastOf before past
-IsPastOf _ _ = ⊥
+-- the calls of a past are those that these entries stand for, both newest first, and each caller was told so, in the words of its line
+abbrev pub IsPastOf : Job → List Entry → Past → Type 0
+IsPastOf job [] past = past ≡ []
+IsPastOf job (entry ∷ entries) past =
+    (before : Past) × (told : Told) × StandsFor job before entry.line.call told past × (is_worded entry.line.reply told ≡ true) × IsPastOf job entries before
 
 -- the tickets of entries rise, so that none stands twice
 abbrev pub TicketsRise : List Entry → Type 0
@@ -46,24 +48,26 @@ abbrev pub Tells : Job → List Entry → Past → Option Late → Type 0
 Tells job entries past None = IsTimely job.policy.skew (readings past)
 Tells job entries past (Some late) = IsLate job.policy.skew entries late
 
--- the entries are one run of the machines: there are replies with their words, one for each call; so many, with timely clocks or not
+-- the entries are one run of the machines: there are replies with their words, one for each entry; so many, with timely clocks or not
 pub record IsOneRun (job : Job) (entries : List Entry) (steps : ℕ) (late : Option Late) : Type 0 where
   pub past : Past
-  pub told : IsPastOf (reverse entries) past
+  pub told : IsPastOf job (reverse entries) past
   pub answered : IsRun job past
   pub count : steps ≡ length entries
   pub clocks : Tells job entries past late
 
--- the entries before this place are a run, the caller of its call should have been told this, and these are the leases of the task that it asked for a key
+-- the entries before this place are a run, the caller of its call should have been told this and was told something else, and these are
+-- the leases of the task that it asked for a key
 pub record IsBreak (job : Job) (entries : List Entry) (index : ℕ) (wanted : Told) (held : Option HeldLeases) : Type 0 where
   pub entry : Entry
   pub here : slice_get entries index ≡ Some entry
   pub past : Past
-  pub told : IsPastOf (reverse (take index entries)) past
-  pub answer : ClusterReply
-  pub answered : IsRun job (event (call_after past entry.line.call) answer ∷ past)
-  pub other : WasToldOther past entry.line answer wanted
-  pub leases : held ≡ held_by_asked job (event (call_after past entry.line.call) answer ∷ past) entry.line.call
+  pub told : IsPastOf job (reverse (take index entries)) past
+  pub after : Past
+  pub stands : StandsFor job past entry.line.call wanted after
+  pub answered : IsRun job after
+  pub other : is_worded entry.line.reply wanted ≡ false
+  pub leases : held ≡ held_by_asked job after entry.line.call
 
 -- the entries at these places, one after the other, have one ticket, and the tickets before them rise
 pub record IsDouble (entries : List Entry) (first second : ℕ) : Type 0 where

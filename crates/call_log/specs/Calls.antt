@@ -1,6 +1,7 @@
 -- The call that a line tells, by the calls before it.
 use Rattle.std.specs.Prelude.{ℕ, List, [], Option, Some, None, option_map, option_and_then}
 use Rattle.lease_table.specs.declared.values.Grant.{Grant}
+use Rattle.lease_table.specs.declared.call.TableCall.TheVariants as table_call
 use Rattle.slicelet.specs.declared.call.SliceletCall.TheVariants.{Hear}
 use Rattle.slicelet.specs.States.{SliceletState, held_lease}
 use Rattle.cluster.specs.Jobs.{Job}
@@ -8,13 +9,13 @@ use Rattle.cluster.specs.Clusters.{slicelet_of}
 use Rattle.cluster.specs.declared.call.ClusterCall.{ClusterCall}
 use Rattle.cluster.specs.declared.call.ClusterCall.TheVariants as call
 use Rattle.cluster.specs.declared.timing.Reading.{Reading}
-use Rattle.cluster.specs.declared.timing.Reading.TheVariants.{TaskClock}
+use Rattle.cluster.specs.declared.timing.Reading.TheVariants.{TableClock, TaskClock}
 use Rattle.cluster.specs.Numbers.{with_number}
 use Rattle.cluster.specs.Pasts.{Past, grants, reading}
 use Rattle.call_log.specs.declared.finding.HeldLeases.{HeldLeases}
 use Rattle.call_log.specs.declared.line.BareGrant.{BareGrant}
 use Rattle.call_log.specs.declared.line.LoggedCall.{LoggedCall}
-use Rattle.call_log.specs.declared.line.LoggedCall.TheVariants.{Whole, HearBare}
+use Rattle.call_log.specs.declared.line.LoggedCall.TheVariants.{Whole, HearBare, Restore}
 
 -- the ranges of a grant that was sent; where none was, none
 abbrev pub ranges_sent : Option Grant → List ℕ
@@ -35,10 +36,11 @@ with_ranges g ranges = record {
 abbrev pub whole_grant : Past → BareGrant → Grant
 whole_grant past g = with_ranges g (ranges_sent (with_number g.number (grants past)))
 
--- the call that a line tells after these calls
+-- the call that a line tells after these calls; of a table that is restored, its restart
 abbrev pub call_after : Past → LoggedCall → ClusterCall
 call_after past (Whole c) = c
 call_after past (HearBare task grant at) = call.Task task (Hear (whole_grant past grant) at)
+call_after past (Restore numbers) = call.Table table_call.Restart
 
 -- the task that a call asks for a key
 abbrev pub asked_task : LoggedCall → Option ℕ
@@ -54,7 +56,8 @@ leases_held s = record { guard = option_map held_lease s.guard; bridge = option_
 abbrev pub held_by_asked : Job → Past → LoggedCall → Option HeldLeases
 held_by_asked job past c = option_map leases_held (option_and_then (slicelet_of job past) (asked_task c))
 
--- whose clock a call reads, and when
+-- whose clock a call reads, and when; a restored table has read its last reading
 abbrev pub reading_in : LoggedCall → Reading
 reading_in (Whole c) = reading c
 reading_in (HearBare task grant at) = TaskClock at
+reading_in (Restore numbers) = TableClock numbers.last

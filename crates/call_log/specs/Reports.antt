@@ -13,6 +13,7 @@ use Rattle.call_log.specs.declared.entry.Entry.{Entry}
 use Rattle.call_log.specs.declared.finding.Finding.{Finding}
 use Rattle.call_log.specs.declared.finding.Finding.TheVariants.{One, Double, Other}
 use Rattle.call_log.specs.declared.finding.HeldLeases.{HeldLeases}
+use Rattle.call_log.specs.declared.hint.Hint.{Hint}
 use Rattle.call_log.specs.declared.late.Late.{Late}
 use Rattle.call_log.specs.Calls.{reading_in}
 use Rattle.call_log.specs.Told.{plain_text}
@@ -76,8 +77,20 @@ IsOtherOf names entries index wanted held (Some entry) text =
     text ≡ told_text (standing_at names entries index) entry.line.reply wanted (reading_in entry.line.call) held
 IsOtherOf names entries index wanted held None text = text ≡ []
 
+-- a line that the log may lack
+abbrev pub hint_text : List (List ℕ) → List Entry → Option Hint → List ℕ
+hint_text names entries None = []
+hint_text names entries (Some hint) =
+    codes "hint: an open line of task " ++ (decimal hint.task ++ (codes " with life " ++ (decimal hint.life ++ (codes " before "
+    ++ (standing_at names entries hint.index ++ codes " would make the calls up to this one a run\n")))))
+
 -- the lines for what was found
 abbrev pub IsReport : ℕ → List (List ℕ) → List Entry → Finding → List ℕ → Type 0
 IsReport skew names entries (One steps late) text = text ≡ codes "audit one\nsteps " ++ (decimal steps ++ (codes "\n" ++ clocks_text skew names entries late))
 IsReport skew names entries (Double first second) text = text ≡ double_text names entries first second
 IsReport skew names entries (Other index wanted held) text = IsOtherOf names entries index wanted held (slice_get entries index) text
+
+-- these lines, and a hint if there is one
+abbrev pub IsHintedReport : ℕ → List (List ℕ) → List Entry → Finding → Option Hint → List ℕ → Type 0
+IsHintedReport skew names entries finding hint text =
+    (lines : List ℕ) × IsReport skew names entries finding lines × (text ≡ lines ++ hint_text names entries hint)

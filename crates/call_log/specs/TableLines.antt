@@ -9,10 +9,11 @@ use Rattle.wire.specs.declared.fault.Refusal.{Refusal}
 use Rattle.wire.specs.declared.numerals.Numerals.TheVariants.{Either}
 use Rattle.wire.specs.Assignments.{slicing_in}
 use Rattle.wire.specs.LeaseMembers.{life_at, task_at}
+use Rattle.wire.specs.Numerals.{numeral_at}
 use Rattle.wire.specs.Notes.{note_of}
 use Rattle.wire.specs.Refusals.{or_wrong}
 use Rattle.call_log.specs.declared.line.LoggedCall.{LoggedCall}
-use Rattle.call_log.specs.declared.line.LoggedCall.TheVariants.{Whole}
+use Rattle.call_log.specs.declared.line.LoggedCall.TheVariants.{Whole, Restore}
 
 -- a `take` has an assigner and a reading
 unfoldable pub take_line : Data → Result LoggedCall Refusal
@@ -82,6 +83,15 @@ rows_line d = do
   or_wrong (exactly (codes "ticket" ∷ codes "reply" ∷ codes "do" ∷ []) d)
   Ok (Whole call.Rows)
 
+-- a `restore` has kept values of the table, as its message has them
+unfoldable pub restore_line : Data → Result LoggedCall Refusal
+restore_line d = do
+  or_wrong (exactly (codes "ticket" ∷ codes "reply" ∷ codes "do" ∷ codes "last" ∷ codes "granted" ∷ codes "deadline" ∷ []) d)
+  last ← or_wrong (numeral_at Either (codes "last") d)
+  granted ← or_wrong (numeral_at Either (codes "granted") d)
+  deadline ← or_wrong (numeral_at Either (codes "deadline") d)
+  Ok (Restore (record { last = last; granted = granted; deadline = deadline }))
+
 -- the calls of the table, each by its name and its reader
 abbrev pub table_kinds : List (List ℕ × (Data → Result LoggedCall Refusal))
 table_kinds =
@@ -93,4 +103,5 @@ table_kinds =
     (codes "free", free_line) ∷
     (codes "lose", lose_line) ∷
     (codes "phase", phase_line) ∷
-    (codes "rows", rows_line) ∷ []
+    (codes "rows", rows_line) ∷
+    (codes "restore", restore_line) ∷ []

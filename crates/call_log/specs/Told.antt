@@ -23,7 +23,9 @@ use Rattle.service.specs.Lines.{reply_text}
 use Rattle.call_log.specs.declared.line.LoggedCall.{LoggedCall}
 use Rattle.call_log.specs.declared.line.LoggedCall.TheVariants.{Whole, HearBare}
 use Rattle.call_log.specs.declared.told.Told.{Told}
-use Rattle.call_log.specs.declared.told.Told.TheVariants.{Scripted, Opened}
+use Rattle.call_log.specs.declared.told.Told.TheVariants.{Scripted, Opened, Restored, NotRestored}
+use Rattle.call_log.specs.declared.restored.RestoreFault.{RestoreFault}
+use Rattle.call_log.specs.declared.restored.RestoreFault.TheVariants.{LessThanLog, FarAhead, NotAhead}
 
 -- the life that a call names
 abbrev pub life_in : LoggedCall → ℕ
@@ -81,10 +83,20 @@ told_as c note handle (machine.Refused why) = Scripted (reply.Refused (refusal_b
 abbrev pub told_after : Past → LoggedCall → ClusterReply → Told
 told_after past c answer = told_as c (length (notes_made past) + 1) (length (handles_made past) + 1) answer
 
+-- the name of a fault
+abbrev pub fault_word : RestoreFault → List ℕ
+fault_word LessThanLog = codes "less-than-log"
+fault_word FarAhead = codes "far-ahead"
+fault_word NotAhead = codes "not-ahead"
+
 -- the words of a reply
 abbrev pub words_of : Told → List ℕ
 words_of (Scripted scripted) = reply_text scripted
 words_of (Opened life) = codes "opened " ++ decimal life
+words_of (Restored generation grace) = codes "restored generation " ++ (decimal generation ++ (codes " grace " ++ decimal grace))
+words_of (NotRestored fault table) =
+    codes "refused " ++ (fault_word fault ++ (codes " last " ++ (decimal table.last
+    ++ (codes " granted " ++ (decimal table.granted ++ (codes " deadline " ++ decimal table.deadline))))))
 
 -- the words of a reply for callers that number no notes and handles: these are told by what they say
 abbrev pub plain_text : Told → List ℕ

@@ -1,4 +1,5 @@
 pub mod Answers
 pub mod Shown
 pub mod Reading
+pub mod Opening
 pub mod Watching

@@ -7,6 +7,7 @@ ghost use Rattle.call_log.specs.Files.{IsUnread, lines_from};
 
 use crate::entry::Place;
 use crate::finding::Finding;
+use crate::hint::hint_for;
 use crate::judging::audit_calls;
 use crate::log::LogError;
 use crate::log_reading::read_log;
@@ -48,7 +49,8 @@ pub fn audit_logs<P: Progress>(
     let finding = audit_calls(alloc, log.job, &mut log.entries, progress)?;
     let entries = log.entries.as_slice();
     let named = NamedEntries { names, entries };
-    let text = report_of(alloc, log.job.policy().skew(), named, &finding)?;
+    let hint = hint_for(alloc, log.job, entries, &finding)?;
+    let text = report_of(alloc, log.job.policy().skew(), named, &finding, hint)?;
     Ok(LogReport {
         is_one: is_one(&finding),
         text,

@@ -2,6 +2,7 @@
 
 ghost use Rattle.std.specs.Prelude.{◌≡◌, IfOk};
 
+use crate::restored::KeptNumbers;
 use assignment::TaskId;
 use cluster::ClusterCall;
 use policy_rules::Kind;
@@ -70,6 +71,8 @@ pub enum LoggedCall {
         grant: BareGrant,
         at: u64,
     },
+    /// A table is restored from kept values, of which these are the numbers.
+    Restore(KeptNumbers),
 }
 
 /// A line of a log: a call, and the reply that its caller got.

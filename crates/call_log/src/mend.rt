@@ -22,6 +22,10 @@ const CALLS: &[(&str, &[&str])] = &[
     ("lose", &["ticket", "reply"]),
     ("phase", &["ticket", "reply"]),
     ("rows", &["ticket", "reply"]),
+    (
+        "restore",
+        &["ticket", "reply", "last", "granted", "deadline"],
+    ),
     ("open", &["ticket", "reply", "task", "life"]),
     ("start", &["ticket", "reply", "task", "life", "at"]),
     ("hear", &["ticket", "reply", "task", "grant", "at"]),
@@ -93,11 +97,13 @@ fn is_grant(alloc: Global, value: &Value) -> Result<bool, AllocError> {
     }
 }
 
-// Whether a value is the member of an assignment with this name as messages have it, whose numbers
-// are texts.
+// Whether a value is the member of an assignment or of kept values with this name as messages have
+// it, whose numbers are texts.
 fn is_of_message(alloc: Global, name: &str, value: &Value) -> Result<bool, AllocError> {
     match name {
-        "generation" => Ok(numeral_of(Numerals::Quoted, value).is_ok()),
+        "generation" | "last" | "granted" | "deadline" => {
+            Ok(numeral_of(Numerals::Quoted, value).is_ok())
+        }
         "slices" => match list_of::<EitherSlice>(alloc, value) {
             Ok(_slices) => Ok(true),
             Err(Unread::WrongForm) => Ok(false),

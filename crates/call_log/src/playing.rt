@@ -1,17 +1,22 @@
 //! Playing the calls of a log on the machines of a job.
 
 ghost use Rattle.std.specs.Prelude.{◌≡◌, ◌∷◌, IfOk};
+ghost use Rattle.lease_table.specs.Tables.{generation_of};
 ghost use Rattle.cluster.specs.Jobs.{Job};
 ghost use Rattle.cluster.specs.Pasts.{Past, event};
 ghost use Rattle.cluster.specs.Clusters.{LeadsTo};
+ghost use Rattle.call_log.specs.declared.line.LoggedCall.TheVariants.{Restore};
 ghost use Rattle.call_log.specs.Calls.{asked_task, call_after, held_by_asked, reading_in, whole_grant};
-ghost use Rattle.call_log.specs.internals.Answers.{IsAnswered};
+ghost use Rattle.call_log.specs.Restores.{grant_to_nobody};
+ghost use Rattle.call_log.specs.internals.Answers.{HasGranted, IsAnswered, IsMade, IsPlayed};
 
 use crate::finding::HeldLeases;
 use crate::line::{BareGrant, LoggedCall, LoggedLine};
+use crate::restored::{KeptNumbers, numbers_of, restore_fault};
 use crate::told::{Told, is_worded, told_as};
+use assignment::{Assignment, TaskId};
 use cluster::{Cluster, ClusterCall, ClusterReply, Reading};
-use lease_table::Grant;
+use lease_table::{Grant, TableCall};
 use policy_rules::{Kind, Lease};
 use slice_ranges::Ranges;
 use slicelet::SliceletCall;
@@ -25,6 +30,7 @@ impl LoggedCall {
         match self {
             LoggedCall::Whole(call) => call.reading(),
             LoggedCall::HearBare { at, .. } => Reading::TaskClock(*at),
+            LoggedCall::Restore(numbers) => Reading::TableClock(numbers.last),
         }
     }
 }
@@ -63,6 +69,79 @@ fn play(alloc: Global, cluster: &mut Cluster, call: &LoggedCall) -> Result<Clust
             let grant = whole_grant(alloc, cluster, grant)?;
             cluster.call_task(*task, &SliceletCall::Hear { grant, at: *at })
         }
+        LoggedCall::Restore(_) => cluster.call_table(&TableCall::Restart),
+    }
+}
+
+// Plays a logged call, and returns what its caller is told.
+fn call(alloc: Global, cluster: &mut Cluster, call: &LoggedCall) -> Result<Told, AllocError>
+    ensures { (job : Job) (past : Past) → LeadsTo job past cluster.old
+        → IfOk result (λ told. IsMade job past call.now told cluster.new) }
+{
+    let note = cluster.next_note();
+    let handle = cluster.next_handle();
+    let reply = play(alloc, cluster, call)?;
+    Ok(told_as(call, note, handle, reply))
+}
+
+// Grants task 1 a lease in life 0: no task hears it.
+fn grant_to_nobody(cluster: &mut Cluster, at: u64) -> Result<ClusterReply, AllocError>
+    ensures { (job : Job) (past : Past) → LeadsTo job past cluster.old
+        → IfOk result (λ reply. LeadsTo job (event (grant_to_nobody at) reply ∷ past) cluster.new) }
+{
+    let task = TaskId::new(1).unwrap();
+    cluster.call_table(&TableCall::Grant { task, life: 0, at })
+}
+
+// Grants nobody a lease, so many times.
+fn grants_to_nobody(cluster: &mut Cluster, count: u64, at: u64) -> Result<(), AllocError>
+    ensures { (job : Job) (past : Past) → LeadsTo job past cluster.old
+        → IfOk result (λ _. HasGranted job past count at cluster.new) }
+{
+    for _ in 0..count {
+        grant_to_nobody(cluster, at)?;
+    }
+    Ok(())
+}
+
+// Returns the generation of an assignment; 0 if there is none.
+fn generation_of(assignment: &Option<Assignment>) -> u64
+    ensures { result ≡ generation_of assignment.now }
+{
+    match assignment {
+        Some(assignment) => assignment.generation(),
+        None => 0,
+    }
+}
+
+// Plays a restart of the table with these values, and returns what is told of it.
+fn restore(cluster: &mut Cluster, numbers: KeptNumbers) -> Result<Told, AllocError>
+    ensures { (job : Job) (past : Past) → LeadsTo job past cluster.old
+        → IfOk result (λ told. IsPlayed job past (Restore numbers) told cluster.new) }
+{
+    let kept = cluster.table().kept()?;
+    let table = numbers_of(&kept);
+    let generation = generation_of(&kept.committed);
+    if let Some(fault) = restore_fault(kept, numbers) {
+        return Ok(Told::NotRestored(fault, table));
+    }
+    grants_to_nobody(cluster, numbers.granted - table.granted, numbers.last)?;
+    cluster.call_table(&TableCall::Restart)?;
+    Ok(Told::Restored {
+        generation,
+        grace: numbers.deadline,
+    })
+}
+
+// Plays what a line stands for, and returns what its caller is told.
+fn tell(alloc: Global, cluster: &mut Cluster, line: &LoggedCall) -> Result<Told, AllocError>
+    ensures { (job : Job) (past : Past) → LeadsTo job past cluster.old
+        → IfOk result (λ told. IsPlayed job past line.now told cluster.new) }
+{
+    match line {
+        LoggedCall::Restore(numbers) => restore(cluster, *numbers),
+        LoggedCall::Whole(_) => call(alloc, cluster, line),
+        LoggedCall::HearBare { .. } => call(alloc, cluster, line),
     }
 }
 
@@ -91,7 +170,7 @@ pub fn held_by_asked(cluster: &Cluster, call: &LoggedCall) -> Option<HeldLeases>
     })
 }
 
-/// Plays the call of a line, and returns the right reply if its caller got another one.
+/// Plays what a line stands for, and returns the right reply if its caller got another one.
 pub fn answer(
     alloc: Global,
     cluster: &mut Cluster,
@@ -100,10 +179,7 @@ pub fn answer(
     ensures { (job : Job) (past : Past) → LeadsTo job past cluster.old
         → IfOk result (λ other. IsAnswered job past line.now other cluster.new) }
 {
-    let note = cluster.next_note();
-    let handle = cluster.next_handle();
-    let reply = play(alloc, cluster, &line.call)?;
-    let told = told_as(&line.call, note, handle, reply);
+    let told = tell(alloc, cluster, &line.call)?;
     if is_worded(alloc, line.reply.as_str(), &told)? {
         Ok(None)
     } else {

@@ -1,10 +1,11 @@
 //! The report of an audit.
 
 ghost use Rattle.std.specs.Prelude.{◌≡◌, IfOk, Some, map, slice_get, string_bytes};
-ghost use Rattle.call_log.specs.Reports.{IsOtherOf, IsReport, clocks_text, double_text, ended_text, name_text, reason_text, standing_at, ticket_of, told_text};
+ghost use Rattle.call_log.specs.Reports.{IsHintedReport, IsOtherOf, IsReport, clocks_text, double_text, ended_text, hint_text, name_text, reason_text, standing_at, ticket_of, told_text};
 
 use crate::entry::Entry;
 use crate::finding::{Finding, HeldLeases};
+use crate::hint::Hint;
 use crate::late::Late;
 use crate::told::{PlainLine, Told};
 use cluster::Reading;
@@ -209,8 +210,27 @@ fn other_text(
     told_text(alloc, Standing { log, index }, told, reason)
 }
 
-/// Returns the report on what an audit found. `skew` is in ticks.
-pub fn report_of(
+// Returns the line for an `open` that the log may lack, or nothing.
+fn hint_text(alloc: Global, log: NamedEntries, hint: Option<Hint>) -> Result<String, AllocError>
+    ensures { IfOk result (λ text. string_bytes text
+        ≡ hint_text (map (λ n. n.now) log.entry.names.now) log.entry.entries.now hint) }
+{
+    let Some(hint) = hint else {
+        return Ok(String::new(alloc));
+    };
+    let before = Standing {
+        log,
+        index: hint.index,
+    };
+    let task = hint.task;
+    let life = hint.life;
+    format!(in alloc;
+        "hint: an open line of task {task} with life {life} before {before} would make the calls up to this one a run\n"
+    )
+}
+
+// Returns the lines for what an audit found.
+fn finding_text(
     alloc: Global,
     skew: u64,
     log: NamedEntries,
@@ -231,4 +251,21 @@ pub fn report_of(
             held,
         } => other_text(alloc, log, *index, wanted, *held),
     }
+}
+
+/// Returns the report on what an audit found, with the `open` line that the log may lack. `skew` is
+/// in ticks.
+pub fn report_of(
+    alloc: Global,
+    skew: u64,
+    log: NamedEntries,
+    finding: &Finding,
+    hint: Option<Hint>,
+) -> Result<String, AllocError>
+    ensures { IfOk result (λ text.
+        IsHintedReport skew (map (λ n. n.now) log.entry.names.now) log.entry.entries.now finding.now hint (string_bytes text)) }
+{
+    let lines = finding_text(alloc, skew, log, finding)?;
+    let line = hint_text(alloc, log, hint)?;
+    format!(in alloc; "{lines}{line}")
 }

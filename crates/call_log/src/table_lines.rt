@@ -4,18 +4,19 @@ ghost use Rattle.std.specs.Prelude.{◌≡◌, ◌++◌};
 ghost use Rattle.serde_json.specs.View.{view};
 ghost use Rattle.wire.specs.Refusals.{Gives};
 ghost use Rattle.wire.specs.TableCalls.{read_named};
-ghost use Rattle.call_log.specs.TableLines.{commit_line, free_line, grant_line, lose_line, phase_line, propose_line, renew_line, rows_line, table_kinds, take_line};
+ghost use Rattle.call_log.specs.TableLines.{commit_line, free_line, grant_line, lose_line, phase_line, propose_line, renew_line, restore_line, rows_line, table_kinds, take_line};
 ghost use Rattle.call_log.specs.TaskLines.{task_kinds};
 ghost use Rattle.call_log.specs.ClerkLines.{clerk_kinds};
 
 use crate::line::LoggedCall;
+use crate::restored::KeptNumbers;
 use crate::task_lines::task_call_named;
 use cluster::ClusterCall;
 use lease_table::TableCall;
 use program_io::{exactly, member_at, number_at};
 use serde_json::Value;
 use std::alloc::Global;
-use wire::{DecodeError, Numerals, Refusal, assignment_in, life_at, note_of, task_at};
+use wire::{DecodeError, Numerals, Refusal, assignment_in, life_at, note_of, numeral_at, task_at};
 
 #[tactic(auto, unfolding(crate::specs::TableLines::take_line))]
 fn take_line(line: &Value) -> Result<LoggedCall, Refusal>
@@ -123,6 +124,21 @@ fn rows_line(line: &Value) -> Result<LoggedCall, Refusal>
     Ok(LoggedCall::Whole(ClusterCall::Rows))
 }
 
+#[tactic(auto, unfolding(crate::specs::TableLines::restore_line))]
+fn restore_line(line: &Value) -> Result<LoggedCall, Refusal>
+    ensures { result ≡ restore_line (view line.now) }
+{
+    exactly(
+        &["ticket", "reply", "do", "last", "granted", "deadline"],
+        line,
+    )?;
+    Ok(LoggedCall::Restore(KeptNumbers {
+        last: numeral_at(Numerals::Either, "last", line)?,
+        granted: numeral_at(Numerals::Either, "granted", line)?,
+        deadline: numeral_at(Numerals::Either, "deadline", line)?,
+    }))
+}
+
 /// Parses the call with this name, of the table, a task or a clerk.
 pub fn table_call_named(alloc: Global, name: &str, line: &Value) -> Result<LoggedCall, DecodeError>
     ensures { Gives result (read_named (table_kinds ++ task_kinds ++ clerk_kinds) name.now (view line.now)) }
@@ -137,6 +153,7 @@ pub fn table_call_named(alloc: Global, name: &str, line: &Value) -> Result<Logge
         "lose" => Ok(lose_line(line)?),
         "phase" => Ok(phase_line(line)?),
         "rows" => Ok(rows_line(line)?),
+        "restore" => Ok(restore_line(line)?),
         _ => task_call_named(alloc, name, line),
     }
 }

@@ -1,9 +1,10 @@
 //! The replies that callers of logged calls get.
 
 ghost use Rattle.std.specs.Prelude.{◌≡◌, IfOk, Some};
-ghost use Rattle.call_log.specs.Told.{clerk_reply, is_worded, life_in, number_in, plain_text, table_reply, task_reply, term_reply, told_as, words_of};
+ghost use Rattle.call_log.specs.Told.{clerk_reply, fault_word, is_worded, life_in, number_in, plain_text, table_reply, task_reply, term_reply, told_as, words_of};
 
 use crate::line::LoggedCall;
+use crate::restored::{KeptNumbers, RestoreFault};
 use clerk::{ClerkCall, ClerkReply};
 use cluster::{ClusterCall, ClusterReply};
 use lease_table::{JobTerm, TableCall, TableReply};
@@ -20,6 +21,15 @@ pub enum Told {
     Scripted(Reply),
     /// A new process of the task began; the value is the life that the call names.
     Opened(u32),
+    /// A new process of the table began.
+    Restored {
+        /// The committed generation, 0 if there is none.
+        generation: u64,
+        /// The end of the grace, in ticks: no earlier commit is accepted.
+        grace: u64,
+    },
+    /// The table is not restored, for this reason, and keeps these values.
+    NotRestored(RestoreFault, KeptNumbers),
 }
 
 // Returns the life that a call names, or 0.
@@ -129,6 +139,17 @@ pub fn told_as(call: &LoggedCall, note: u64, handle: u64, reply: ClusterReply) -
     }
 }
 
+// Returns the name of a fault.
+fn fault_word(fault: RestoreFault) -> &'static str
+    ensures { result.now ≡ fault_word fault }
+{
+    match fault {
+        RestoreFault::LessThanLog => "less-than-log",
+        RestoreFault::FarAhead => "far-ahead",
+        RestoreFault::NotAhead => "not-ahead",
+    }
+}
+
 /// Displays the line of a reply.
 #[derive(Clone, Copy)]
 pub struct ToldLine<'a>(pub &'a Told);
@@ -140,6 +161,19 @@ impl fmt::Display for ToldLine<'_> {
         match self.0 {
             Told::Scripted(reply) => write!(f, "{}", Line(reply)),
             Told::Opened(life) => write!(f, "opened {life}"),
+            Told::Restored { generation, grace } => {
+                write!(f, "restored generation {generation} grace {grace}")
+            }
+            Told::NotRestored(fault, table) => {
+                write!(
+                    f,
+                    "refused {} last {} granted {} deadline {}",
+                    fault_word(*fault),
+                    table.last,
+                    table.granted,
+                    table.deadline
+                )
+            }
         }
     }
 }

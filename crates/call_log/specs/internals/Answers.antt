@@ -1,22 +1,43 @@
--- What one call of a log makes of a cluster.
-use Rattle.std.specs.Prelude.{◌∷◌, Option, Some, None}
+-- What one line of a log makes of a cluster.
+use Rattle.std.specs.Prelude.{◌≡◌, ℕ, true, false, ◌++◌, length, Option, Some, None}
+use Rattle.std.specs.List.{AllByRecursion}
 use Rattle.cluster.specs.Jobs.{Job}
-use Rattle.cluster.specs.declared.reply.ClusterReply.{ClusterReply}
 use Rattle.cluster.specs.declared.cluster.Cluster.{Cluster}
-use Rattle.cluster.specs.Pasts.{event, Past}
+use Rattle.cluster.specs.Pasts.{Past}
 use Rattle.cluster.specs.Clusters.{LeadsTo}
 use Rattle.call_log.specs.declared.told.Told.{Told}
+use Rattle.call_log.specs.declared.line.LoggedCall.{LoggedCall}
 use Rattle.call_log.specs.declared.line.LoggedLine.{LoggedLine}
-use Rattle.call_log.specs.Calls.{call_after}
-use Rattle.call_log.specs.Audited.{WasTold, WasToldOther}
+use Rattle.call_log.specs.Audited.{IsCalled, StandsFor}
+use Rattle.call_log.specs.Restores.{grant_to_nobody}
+use Rattle.call_log.specs.Told.{is_worded}
 
--- the caller was told a reply, or should have been told another
-abbrev pub Compares : Past → LoggedLine → ClusterReply → Option Told → Type 0
-Compares past line answer None = WasTold past line answer
-Compares past line answer (Some wanted) = WasToldOther past line answer wanted
+-- so many grants to nobody were made at a reading
+pub record HasGranted (job : Job) (past : Past) (count at : ℕ) (cluster : Cluster) : Type 0 where
+  pub ahead : Past
+  pub nobody : AllByRecursion (λ e. e.call ≡ grant_to_nobody at) ahead
+  pub many : length ahead ≡ count
+  pub leads : LeadsTo job (ahead ++ past) cluster
 
--- the call of a line was played, and its reply compared with the words of the line
+-- the call of a line was made, and its caller is told so
+pub record IsMade (job : Job) (past : Past) (c : LoggedCall) (told : Told) (cluster : Cluster) : Type 0 where
+  pub after : Past
+  pub called : IsCalled past c told after
+  pub leads : LeadsTo job after cluster
+
+-- what a line stands for was played, and its caller is told so
+pub record IsPlayed (job : Job) (past : Past) (c : LoggedCall) (told : Told) (cluster : Cluster) : Type 0 where
+  pub after : Past
+  pub stands : StandsFor job past c told after
+  pub leads : LeadsTo job after cluster
+
+-- the line says that its caller was told this, or should have been told something else
+abbrev pub Compares : LoggedLine → Told → Option Told → Type 0
+Compares line told None = is_worded line.reply told ≡ true
+Compares line told (Some wanted) = (wanted ≡ told) × (is_worded line.reply told ≡ false)
+
+-- a line was played, and what its caller is told was compared with its words
 pub record IsAnswered (job : Job) (past : Past) (line : LoggedLine) (other : Option Told) (cluster : Cluster) : Type 0 where
-  pub answer : ClusterReply
-  pub leads : LeadsTo job (event (call_after past line.call) answer ∷ past) cluster
-  pub told : Compares past line answer other
+  pub told : Told
+  pub played : IsPlayed job past line.call told cluster
+  pub compared : Compares line told other

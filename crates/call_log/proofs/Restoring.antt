@@ -1,0 +1,96 @@
+-- What a line stands for once it was played.
+use Rattle.std.proofs.Common.{◌≡◌, ◌∙◌, ℕ, ◌+◌, ◌-◌, ◌≤◌, ◌<◌, ◌++◌, ◌∷◌, length, refl, sym, ap, subst, arith, inl, inr}
+use Rattle.std.specs.Prelude.{Option, Some, None, Result, Ok, Err, IfOk}
+use Rattle.lease_table.specs.declared.call.TableCall.TheVariants as table_call
+use Rattle.lease_table.specs.declared.kept.Kept.{Kept}
+use Rattle.lease_table.specs.KeptValues.{kept_of, Covers}
+use Rattle.cluster.specs.Jobs.{Job}
+use Rattle.cluster.specs.declared.call.ClusterCall.{ClusterCall}
+use Rattle.cluster.specs.declared.call.ClusterCall.TheVariants as call
+use Rattle.cluster.specs.declared.cluster.Cluster.{Cluster}
+use Rattle.cluster.specs.declared.reply.ClusterReply.{ClusterReply}
+use Rattle.cluster.specs.Pasts.{event, Past, standing}
+use Rattle.cluster.specs.Clusters.{LeadsTo}
+use Rattle.call_log.specs.declared.line.BareGrant.{BareGrant}
+use Rattle.call_log.specs.declared.line.LoggedCall.{LoggedCall}
+use Rattle.call_log.specs.declared.line.LoggedCall.TheVariants.{Whole, HearBare, Restore}
+use Rattle.call_log.specs.declared.restored.KeptNumbers.{KeptNumbers}
+use Rattle.call_log.specs.declared.restored.RestoreFault.{RestoreFault}
+use Rattle.call_log.specs.declared.told.Told.{Told}
+use Rattle.call_log.specs.Restores.{IsChecked, grant_to_nobody, kept_with, numbers_of, restore_told}
+use Rattle.call_log.specs.internals.Answers.{HasGranted, IsMade, IsPlayed}
+
+-- a line with a call stands for it
+pub whole_played : (job : Job) (past : Past) (line : LoggedCall) (w : ClusterCall) (told : Told) (cluster : Cluster) → line ≡ Whole w
+    → IsMade job past line told cluster → IsPlayed job past line told cluster
+whole_played job past line w told cluster is made =
+    let here : IsMade job past (Whole w) told cluster = subst (λ (l : LoggedCall). IsMade job past l told cluster) is made in
+    subst (λ (l : LoggedCall). IsPlayed job past l told cluster) (sym is) (record { after = here.after; stands = here.called; leads = here.leads })
+
+pub heard_played : (job : Job) (past : Past) (line : LoggedCall) (task : ℕ) (grant : BareGrant) (at : ℕ) (told : Told) (cluster : Cluster) → line ≡ HearBare task grant at
+    → IsMade job past line told cluster → IsPlayed job past line told cluster
+heard_played job past line task grant at told cluster is made =
+    let here : IsMade job past (HearBare task grant at) told cluster = subst (λ (l : LoggedCall). IsMade job past l told cluster) is made in
+    subst (λ (l : LoggedCall). IsPlayed job past l told cluster) (sym is) (record { after = here.after; stands = here.called; leads = here.leads })
+
+-- one grant to nobody more
+pub granted_more : (job : Job) (past : Past) (count at : ℕ) (old new : Cluster) → HasGranted job past count at old
+    → ((p : Past) → LeadsTo job p old → (reply : ClusterReply) × LeadsTo job (event (grant_to_nobody at) reply ∷ p) new) → HasGranted job past (count + 1) at new
+granted_more job past count at old new so_far more =
+    let one = more (so_far.ahead ++ past) so_far.leads in
+    record {
+      ahead = event (grant_to_nobody at) one.0 ∷ so_far.ahead;
+      nobody = (refl, so_far.nobody);
+      many = let n = so_far.many in omega (arith, n);
+      leads = one.1;
+    }
+
+module _ (job : Job) (past : Past) (numbers : KeptNumbers) (kept : Kept) (same : kept ≡ kept_of (standing job.policy past)) where
+  -- a restart that is refused
+  pub not_restored : (fault : RestoreFault) (told : Told) (cluster : Cluster) → IsChecked kept numbers (Some fault) → told ≡ restore_told kept numbers (Some fault)
+      → LeadsTo job past cluster → IsPlayed job past (Restore numbers) told cluster
+  not_restored fault told cluster checked tells leads = record {
+    after = past;
+    stands = record {
+      fault = Some fault;
+      checked = subst (λ (k : Kept). IsChecked k numbers (Some fault)) same checked;
+      tells = subst (λ (k : Kept). told ≡ restore_told k numbers (Some fault)) same tells;
+      taken = refl;
+    };
+    leads = leads;
+  }
+
+  -- a restart after so many grants to nobody
+  pub restored : (count : ℕ) (told : Told) (granted cluster : Cluster) → IsChecked kept numbers None → told ≡ restore_told kept numbers None
+      → kept.granted + count ≡ numbers.granted → (ahead : HasGranted job past count numbers.last granted)
+      → (lost : ClusterReply) → LeadsTo job (event (call.Table table_call.Restart) lost ∷ (ahead.ahead ++ past)) cluster → IsPlayed job past (Restore numbers) told cluster
+  restored count told granted cluster checked tells many ahead lost leads =
+      let before : kept.granted ≡ (standing job.policy past).granted = ap (λ (k : Kept). k.granted) same in
+      record {
+        after = event (call.Table table_call.Restart) lost ∷ (ahead.ahead ++ past);
+        stands = record {
+          fault = None;
+          checked = subst (λ (k : Kept). IsChecked k numbers None) same checked;
+          tells = subst (λ (k : Kept). told ≡ restore_told k numbers None) same tells;
+          taken = record {
+            ahead = ahead.ahead;
+            nobody = ahead.nobody;
+            many = let n = ahead.many in omega (arith, n, before, many);
+            lost = lost;
+            events = refl;
+          };
+        };
+        leads = leads;
+      }
+
+fewest : (kept : Kept) (numbers : KeptNumbers) → Covers kept (kept_with kept numbers) → kept.granted ≤ numbers.granted
+fewest kept numbers (inl same) = let is : numbers.granted ≡ kept.granted = ap (λ (k : Kept). k.granted) same in omega (arith, is)
+fewest kept numbers (inr ahead) = let more : kept.granted < numbers.granted = ahead.more in omega (arith, more)
+
+-- values that are taken have no fewer grants than the table
+pub not_fewer : (kept : Kept) (numbers table : KeptNumbers) → table ≡ numbers_of kept → IsChecked kept numbers None
+    → kept.granted + (numbers.granted - table.granted) ≡ numbers.granted
+not_fewer kept numbers table is checked =
+    let here : table.granted ≡ kept.granted = ap (λ (n : KeptNumbers). n.granted) is in
+    let least : kept.granted ≤ numbers.granted = fewest kept numbers checked.1 in
+    omega (arith, here, least)

@@ -1,0 +1,36 @@
+use Rattle.std.proofs.Common.{[], refl, subst, List, arith}
+use Rattle.call_log.specs.declared.entry.Entry.{Entry}
+use Rattle.call_log.specs.Calls.{held_by_asked}
+use Rattle.call_log.specs.Hints.{with_open}
+use Rattle.call_log.proofs.Opening.{all_of}
+use Rattle.call_log.proofs.Replaying.{IsPlayedTo, played_more, breaks_here}
+use Rattle.call_log.proofs.hint.is_run_with.Goals as goal
+
+pub loop-index-init : goal.loop-index-init
+loop-index-init c = record { past = []; told = refl; leads = c.in_ok-cluster.ensures }
+
+pub returns-in-Some : goal.returns-in-Some
+returns-in-Some c =
+    let all : List Entry = with_open c.args.place c.args.line.now c.args.entries.now in
+    let known = c.loop-index.invariant in
+    let answered = rw c.in-Some.is at (c.in_ok-other.ensures c.args.job known.past known.leads) in (
+      c.loop-index.index,
+      c.in-Some._wanted,
+      held_by_asked c.args.job answered.played.after c.entry_with-entry.result.now.line.call,
+      breaks_here all c.loop-index.index c.entry_with-entry.result.now c.entry_with-entry.ensures.0 c.entry_with-entry.ensures.1
+          c.args.job known.past c.answer.new.cluster c.in-Some._wanted _ known.told answered (c.run_law.ensures.run c.args.job _ answered.played.leads) refl,
+    )
+
+pub loop-index-preserved : goal.loop-index-preserved
+loop-index-preserved c =
+    let all : List Entry = with_open c.args.place c.args.line.now c.args.entries.now in
+    let known = c.loop-index.invariant in
+    let answered = rw c.in_default.is at (c.in_ok-other.ensures c.args.job known.past known.leads) in
+    played_more all c.loop-index.index c.entry_with-entry.result.now c.entry_with-entry.ensures.0 c.entry_with-entry.ensures.1
+    c.args.job c.loop-index.cluster c.answer.new.cluster known answered
+
+pub returns : goal.returns
+returns c =
+    let known = subst (λ (es : List Entry). IsPlayedTo c.args.job es c.loop-index.cluster)
+    (all_of c.args.entries.now c.args.place c.args.line.now c.requires c.loop-index.index (omega arith)) c.loop-index.invariant in
+    record { past = known.past; told = known.told; answered = c.run_law-2.ensures.run c.args.job known.past known.leads }

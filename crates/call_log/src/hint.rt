@@ -1,0 +1,258 @@
+//! What a log may lack where its calls are not one run.
+
+ghost use Rattle.std.specs.Prelude.{◌≡◌, ◌<◌, ◌≤◌, if◌then◌else◌, max, Some, IfOk, IfSome, length};
+ghost use Rattle.call_log.specs.Hints.{IsHintOf, IsHinted, IsJudgedSo, IsTried, begun_life, greatest_life, is_start, last_start, open_entry, task_of, with_open};
+ghost use Rattle.call_log.specs.internals.Opening.{IsEntryAt};
+
+use crate::entry::{Entry, Place};
+use crate::finding::Finding;
+use crate::line::{LoggedCall, LoggedLine, Words};
+use crate::playing::answer;
+use cluster::{Cluster, ClusterCall, Job};
+use lease_table::TableCall;
+use slicelet::SliceletCall;
+use std::alloc::{AllocError, Global};
+
+/// An `open` line that a log may lack: a process of the task began there.
+#[derive(Clone, Copy, Debug, PartialEq, Eq)]
+pub struct Hint {
+    /// The index of the entry that the line should come before.
+    pub index: usize,
+    /// The task.
+    pub task: u64,
+    /// The greatest life of the task that entries before it name.
+    pub life: u32,
+}
+
+// Returns the task that makes a call, or whose note the call frees.
+fn task_of(call: &LoggedCall) -> Option<u64>
+    ensures { result ≡ task_of call.now }
+{
+    match call {
+        LoggedCall::Whole(
+            ClusterCall::Task { task, .. }
+            | ClusterCall::Serve { task, .. }
+            | ClusterCall::Hold { task, .. }
+            | ClusterCall::Check { task, .. },
+        ) => Some(*task),
+        LoggedCall::Whole(ClusterCall::Table(TableCall::Free { note, .. })) => {
+            Some(note.task.number())
+        }
+        LoggedCall::HearBare { task, .. } => Some(*task),
+        _ => None,
+    }
+}
+
+// Whether an entry is a start of this task.
+fn is_start(task: u64, entry: &Entry) -> bool
+    ensures { result ≡ is_start task entry.now }
+{
+    match &entry.line.call {
+        LoggedCall::Whole(
+            ClusterCall::Task {
+                task: by,
+                call: SliceletCall::Start { .. },
+            },
+        ) => *by == task,
+        _ => false,
+    }
+}
+
+// Returns this index if the entry there is a start, otherwise that of the last one before.
+fn later(last: Option<usize>, index: usize, here: bool) -> Option<usize>
+    ensures { result ≡ (if here then Some index else last) }
+{
+    if here { Some(index) } else { last }
+}
+
+// Returns the index of the last start of this task.
+fn last_start(task: u64, entries: &[Entry]) -> Option<usize>
+    ensures value { result ≡ last_start task entries.now }
+    ensures within { IfSome result (λ index. index < length entries.now) }
+{
+    let mut last = None;
+    for index in 0..entries.len() {
+        let entry = &entries[index];
+        let here = is_start(task, entry);
+        last = later(last, index, here);
+    }
+    last
+}
+
+// Returns the life of this task that an entry starts or opens with, or 0.
+fn begun_life(task: u64, entry: &Entry) -> u32
+    ensures { result ≡ begun_life task entry.now }
+{
+    match &entry.line.call {
+        LoggedCall::Whole(
+            ClusterCall::Task {
+                task: by,
+                call: SliceletCall::Start { life, .. } | SliceletCall::Resume { life },
+            },
+        ) if *by == task => *life,
+        _ => 0,
+    }
+}
+
+fn greater_of(life: u32, other: u32) -> u32
+    ensures { result ≡ max life other }
+{
+    life.max(other)
+}
+
+// Returns the greatest life of this task that entries start or open with, or 0.
+fn greatest_life(task: u64, entries: &[Entry]) -> u32
+    ensures { result ≡ greatest_life task entries.now }
+{
+    let mut greatest = 0;
+    for index in 0..entries.len() {
+        let entry = &entries[index];
+        let life = begun_life(task, entry);
+        greatest = greater_of(greatest, life);
+    }
+    greatest
+}
+
+// Creates the entry of an `open`.
+fn open_entry(alloc: Global, task: u64, life: u32) -> Result<Entry, AllocError>
+    ensures { IfOk result (λ entry. entry ≡ open_entry task life) }
+{
+    let words = format!(in alloc; "opened {life}")?;
+    let reply = Words::new(alloc, words.as_str())?;
+    let call = SliceletCall::Resume { life };
+    Ok(Entry {
+        place: Place { file: 0, line: 0 },
+        line: LoggedLine {
+            ticket: 0,
+            call: LoggedCall::Whole(ClusterCall::Task { task, call }),
+            reply,
+        },
+    })
+}
+
+// Returns an entry of those with `line` before the one at `place`.
+fn entry_with<'a>(entries: &'a [Entry], line: &'a Entry, place: usize, index: usize) -> &'a Entry
+    requires place { place ≤ length entries.now }
+    requires index { index ≤ length entries.now }
+    ensures { IsEntryAt (with_open place line.now entries.now) index result.now }
+{
+    if index < place {
+        &entries[index]
+    } else if index == place {
+        line
+    } else {
+        &entries[index - 1]
+    }
+}
+
+// Whether entries are one run, with `line` before the one at `place`.
+fn is_run_with(
+    alloc: Global,
+    job: Job,
+    entries: &[Entry],
+    line: &Entry,
+    place: usize,
+) -> Result<bool, AllocError>
+    requires { place ≤ length entries.now }
+    ensures { IfOk result (IsJudgedSo job (with_open place line.now entries.now)) }
+{
+    let mut cluster = Cluster::new(alloc, job)?;
+    for index in 0..entries.len() + 1 {
+        let entry = entry_with(entries, line, place, index);
+        let other = answer(alloc, &mut cluster, &entry.line)?;
+        if let Some(_wanted) = other {
+            cluster.run_law();
+            return Ok(false);
+        }
+    }
+    cluster.run_law();
+    Ok(true)
+}
+
+// A task, and the life that an `open` of it names.
+#[derive(Clone, Copy)]
+struct Opening {
+    task: u64,
+    life: u32,
+}
+
+// Whether entries are one run, with an `open` before the one at `index`.
+fn is_run_opened(
+    alloc: Global,
+    job: Job,
+    entries: &[Entry],
+    opening: Opening,
+    index: usize,
+) -> Result<bool, AllocError>
+    requires { index ≤ length entries.now }
+    ensures { IfOk result (IsJudgedSo job
+        (with_open index (open_entry opening.task opening.life) entries.now)) }
+{
+    let line = open_entry(alloc, opening.task, opening.life)?;
+    is_run_with(alloc, job, entries, &line, index)
+}
+
+// Returns the hint of an `open` before the entry at `index`, if entries are one run with it.
+fn hint_at(
+    alloc: Global,
+    job: Job,
+    entries: &[Entry],
+    task: u64,
+    index: usize,
+) -> Result<Option<Hint>, AllocError>
+    requires { index ≤ length entries.now }
+    ensures { IfOk result (IsTried job entries.now task index) }
+{
+    let life = greatest_life(task, &entries[..index]);
+    if is_run_opened(alloc, job, entries, Opening { task, life }, index)? {
+        Ok(Some(Hint { index, task, life }))
+    } else {
+        Ok(None)
+    }
+}
+
+// Returns the hint of an `open` before the task's last start, or else before the last entry, which
+// is at `index`.
+fn hint_of(
+    alloc: Global,
+    job: Job,
+    entries: &[Entry],
+    task: u64,
+    index: usize,
+) -> Result<Option<Hint>, AllocError>
+    requires { index ≤ length entries.now }
+    ensures { IfOk result (IsHintOf job entries.now task (last_start task entries.now) index) }
+{
+    if let Some(start) = last_start(task, entries) {
+        let hint = hint_at(alloc, job, entries, task, start)?;
+        if hint.is_some() {
+            return Ok(hint);
+        }
+    }
+    hint_at(alloc, job, entries, task, index)
+}
+
+/// Returns the `open` line that a log may lack, if there is one.
+///
+/// There is one if the finding is a call of a task, or one that frees a note of a task, whose
+/// caller got a wrong reply, and the calls up to this one are a run with the line before the task's
+/// last start, or else before this call.
+pub fn hint_for(
+    alloc: Global,
+    job: Job,
+    entries: &[Entry],
+    finding: &Finding,
+) -> Result<Option<Hint>, AllocError>
+    ensures { IfOk result (IsHinted job entries.now finding.now) }
+{
+    let Finding::Other { index, .. } = finding else {
+        return Ok(None);
+    };
+    let Some(entry) = entries.get(*index) else {
+        return Ok(None);
+    };
+    let Some(task) = task_of(&entry.line.call) else {
+        return Ok(None);
+    };
+    hint_of(alloc, job, &entries[..*index + 1], task, *index)
+}
