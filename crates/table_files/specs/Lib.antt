@@ -1,0 +1,5 @@
+pub mod Statuses
+pub mod JobLines
+pub mod Serving
+pub mod Keeping
+pub mod Seeing
