@@ -19,6 +19,8 @@ use Rattle.session.specs.declared.answer.ReplyForm.{ReplyForm}
 use Rattle.session.specs.Talks.{IsTalked, IsBroken}
 use Rattle.command.specs.Runs.{IsAnswered, IsFailed}
 use Rattle.command.specs.Endings.{IsPlayed, IsSession, IsOutcome, IsTold, EndsBy, Ends}
+use Rattle.table_store.specs.declared.store.Stored.{Stored}
+use Rattle.table_files.specs.declared.files.Seen.{Seen}
 use Rattle.command.specs.Words.{word_faults}
 
 pub played_of : (text : ScriptText) (full rest held holds : Option (List ℕ)) (answer : Result ⊤ AnswerError)
@@ -51,16 +53,20 @@ fresh_remaining : {T A : Type 0} (remaining : T → Option (List ℕ)) (reader :
     → reader_inner reader ≡ inner → reader_buffer reader ≡ [] → reader_capacity reader ≡ 8192 → reader_remaining remaining reader ≡ remaining inner
 fresh_remaining remaining reader inner same empty room = rw (room, empty, same) (prepends_nothing (remaining inner))
 
-module _ (words : List Text) where
-  pub ends_buffered : {T A : Type 0} (remaining : T → Option (List ℕ)) (reader : BufReader T A) (inner : T) (after held holds : Option (List ℕ)) (code : ℕ)
-      → reader_inner reader ≡ inner → reader_buffer reader ≡ [] → reader_capacity reader ≡ 8192 → Ends words (reader_remaining remaining reader) after held holds code
-      → (given : List Text) × (rest : Option (List ℕ)) × Ends given (remaining inner) rest held holds code
-  ends_buffered remaining reader inner after held holds code same empty room ends =
-      (words, after, subst (λ (before : Option (List ℕ)). Ends words before after held holds code) (fresh_remaining remaining reader inner same empty room) ends)
+module _ {S : Type 0} (is_of : S → List ℕ → List ℕ → Type 0) (is_honest : S → Type 0) (may_leave : S → Stored → Type 0) {F : Type 0} (may_fail : S → F → Type 0)
+    (has : List ℕ → Seen → Type 0) where
+  abbrev EndsSo : List Text → (before after held holds : Option (List ℕ)) → ℕ → Type 0
+  EndsSo = Ends is_of is_honest may_leave may_fail has
+
+  pub ends_buffered : (words : List Text) {T A : Type 0} (remaining : T → Option (List ℕ)) (reader : BufReader T A) (inner : T) (after held holds : Option (List ℕ)) (code : ℕ)
+      → reader_inner reader ≡ inner → reader_buffer reader ≡ [] → reader_capacity reader ≡ 8192 → EndsSo words (reader_remaining remaining reader) after held holds code
+      → (given : List Text) × (rest : Option (List ℕ)) × EndsSo given (remaining inner) rest held holds code
+  ends_buffered words remaining reader inner after held holds code same empty room ends =
+      (words, after, subst (λ (before : Option (List ℕ)). EndsSo words before after held holds code) (fresh_remaining remaining reader inner same empty room) ends)
 
   -- memory ran out before anything was done
-  pub without_memory : (before held : Option (List ℕ)) (code : ℕ) → code ≡ 3 → Ends words before before held held code
-  without_memory before held code failed = inr (
+  pub without_memory : (words : List Text) (before held : Option (List ℕ)) (code : ℕ) → code ≡ 3 → EndsSo words before before held held code
+  without_memory words before held code failed = inr (
     keeps_itself before,
     record {
       why = kind.OutOfMemory;
@@ -74,10 +80,10 @@ module _ (words : List Text) where
   )
 
   -- an error is told
-  pub ends_told : (before after held holds : Option (List ℕ)) (code : ℕ) (why : ErrorKind) → Keeps before after
-      → (why ≡ kind.OutOfMemory) ⊎ IsAmong why (word_faults words) → IsTold why held holds code → Ends words before after held holds code
-  ends_told before after held holds code why kept reason told = inr (kept, record { why = why; reason = reason; told = told })
+  pub ends_told : (words : List Text) (before after held holds : Option (List ℕ)) (code : ℕ) (why : ErrorKind) → Keeps before after
+      → (why ≡ kind.OutOfMemory) ⊎ IsAmong why (word_faults words) → IsTold why held holds code → EndsSo words before after held holds code
+  ends_told words before after held holds code why kept reason told = inr (kept, record { why = why; reason = reason; told = told })
 
--- before the words are known
-pub ends_unread : (before held : Option (List ℕ)) (code : ℕ) → code ≡ 3 → (words : List Text) × (rest : Option (List ℕ)) × Ends words before rest held held code
-ends_unread before held code failed = ([], before, without_memory [] before held code failed)
+  -- before the words are known
+  pub ends_unread : (before held : Option (List ℕ)) (code : ℕ) → code ≡ 3 → (words : List Text) × (rest : Option (List ℕ)) × EndsSo words before rest held held code
+  ends_unread before held code failed = ([], before, without_memory [] before held code failed)

@@ -3,11 +3,12 @@ use Rattle.std.proofs.Common.{◌≡◌, ◌≢◌, ◌∙◌, ℕ, Bool, true, 
 use Rattle.std.specs.Prelude.{Box}
 use Rattle.std.specs.Box.{box_value}
 use Rattle.std.specs.Option.{option_map_or}
-use Rattle.clap.specs.Built.{AddsSubcommand, IsParsedFrom}
+use Rattle.clap.specs.Built.{AddsArg, AddsSubcommand, IsParsedFrom}
 use Rattle.clap.specs.Faults.{fault_of, is_simple_and_free}
 use Rattle.clap.specs.Matches.{first_value, found_of, has_subcommand, matched_of, one_text, raw_values, subcommand_name_of}
-use Rattle.clap.specs.Simple.{App, HasMatchesOf, Shape, app_of, is_simple, subcommand_of, subcommand_rows, subcommand_rows_of, with_subcommand}
-use Rattle.clap.specs.Walk.{Row, Text, all_of, first_of, rows_of}
+use Rattle.clap.specs.Simple.{App, HasMatchesOf, Shape, app_of, is_simple, subcommand_of, subcommand_rows, subcommand_rows_of, with_rule, with_subcommand}
+use Rattle.clap.specs.Walk.{Row, Rule, Text, all_of, first_of, rows_of}
+use Rattle.clap.specs.declared.builder.arg.Arg.{Arg}
 use Rattle.clap.specs.declared.builder.command.Command.{Command}
 use Rattle.clap.specs.declared.parser.matches.ArgMatches.{ArgMatches}
 use Rattle.clap.specs.declared.parser.matches.ArgMatches.TheViews.{out-ArgMatches, out-SubCommand}
@@ -16,7 +17,7 @@ use Rattle.clap.specs.declared.parser.matches.MatchedArg.{MatchedArg}
 use Rattle.clap.specs.declared.parser.matches.SubCommand.{SubCommand}
 use Rattle.clap.proofs.WalkLemmas.{first_value-rows, one_text-rows, raw_values-rows}
 use Rattle.command.specs.declared.arguments.Asked.{Asked}
-use Rattle.command.specs.Words.{Asks, AsksAudit, AsksExplain, AsksRun, AsksSession, AsksTimeline, IsFlag, IsReadAs, WordsAsk, hourstable, leaf, word_faults}
+use Rattle.command.specs.Words.{Asks, AsksAudit, AsksExplain, AsksRun, AsksSession, AsksStore, AsksTimeline, IsArgument, IsFlag, IsReadAs, WordsAsk, hourstable, leaf, word_faults}
 
 -- ---- an argument
 
@@ -43,6 +44,9 @@ all_given f name = by_match (matched_of f name) ∙ ap (λ (x : Option (List Tex
 letter : (name other : Text) → name ≡ other → slice_index name 0 ≡ slice_index other 0
 letter name other is = ap (λ t. slice_index t 0) is
 
+second : (name other : Text) → name ≡ other → slice_index name 1 ≡ slice_index other 1
+second name other is = ap (λ t. slice_index t 1) is
+
 module _ (name : Text) (rows : List Row) (asked : Asked) where
   pub asks_audit : name ≡ codes "audit" → AsksAudit rows asked → Asks name rows asked
   asks_audit is asks =
@@ -53,6 +57,7 @@ module _ (name : Text) (rows : List Row) (asked : Asked) where
         audit = λ e. asks;
         explain = λ e. let bad = letter name (codes "explain") e in absurd (omega (arith, first, bad));
         timeline = λ e. let bad = letter name (codes "timeline") e in absurd (omega (arith, first, bad));
+        store = λ e. let bad = letter name (codes "store") e in absurd (omega (arith, first, bad));
       }
 
   pub asks_session : name ≡ codes "session" → AsksSession rows asked → Asks name rows asked
@@ -64,6 +69,7 @@ module _ (name : Text) (rows : List Row) (asked : Asked) where
         audit = λ e. let bad = letter name (codes "audit") e in absurd (omega (arith, first, bad));
         explain = λ e. let bad = letter name (codes "explain") e in absurd (omega (arith, first, bad));
         timeline = λ e. let bad = letter name (codes "timeline") e in absurd (omega (arith, first, bad));
+        store = λ e. let bad = second name (codes "store") e in let here = second name (codes "session") is in absurd (omega (arith, here, bad));
       }
 
   pub asks_explain : name ≡ codes "explain" → AsksExplain rows asked → Asks name rows asked
@@ -75,6 +81,7 @@ module _ (name : Text) (rows : List Row) (asked : Asked) where
         audit = λ e. let bad = letter name (codes "audit") e in absurd (omega (arith, first, bad));
         explain = λ e. asks;
         timeline = λ e. let bad = letter name (codes "timeline") e in absurd (omega (arith, first, bad));
+        store = λ e. let bad = letter name (codes "store") e in absurd (omega (arith, first, bad));
       }
 
   pub asks_timeline : name ≡ codes "timeline" → AsksTimeline rows asked → Asks name rows asked
@@ -86,15 +93,29 @@ module _ (name : Text) (rows : List Row) (asked : Asked) where
         audit = λ e. let bad = letter name (codes "audit") e in absurd (omega (arith, first, bad));
         explain = λ e. let bad = letter name (codes "explain") e in absurd (omega (arith, first, bad));
         timeline = λ e. asks;
+        store = λ e. let bad = letter name (codes "store") e in absurd (omega (arith, first, bad));
       }
 
-  pub asks_run : name ≢ codes "audit" → name ≢ codes "session" → name ≢ codes "explain" → name ≢ codes "timeline" → AsksRun rows asked → Asks name rows asked
-  asks_run no_audit no_session no_explain no_timeline asks = record {
+  pub asks_store : name ≡ codes "store" → AsksStore rows asked → Asks name rows asked
+  asks_store is asks =
+      let first = letter name (codes "store") is in
+      record {
+        run = λ e. let bad = letter name (codes "run") e in absurd (omega (arith, first, bad));
+        session = λ e. let bad = second name (codes "session") e in let here = second name (codes "store") is in absurd (omega (arith, here, bad));
+        audit = λ e. let bad = letter name (codes "audit") e in absurd (omega (arith, first, bad));
+        explain = λ e. let bad = letter name (codes "explain") e in absurd (omega (arith, first, bad));
+        timeline = λ e. let bad = letter name (codes "timeline") e in absurd (omega (arith, first, bad));
+        store = λ e. asks;
+      }
+
+  pub asks_run : name ≢ codes "audit" → name ≢ codes "session" → name ≢ codes "explain" → name ≢ codes "timeline" → name ≢ codes "store" → AsksRun rows asked → Asks name rows asked
+  asks_run no_audit no_session no_explain no_timeline no_store asks = record {
     run = λ e. asks;
     session = λ e. absurd (no_session e);
     audit = λ e. absurd (no_audit e);
     explain = λ e. absurd (no_explain e);
     timeline = λ e. absurd (no_timeline e);
+    store = λ e. absurd (no_store e);
   }
 
 -- ---- the command
@@ -102,6 +123,9 @@ module _ (name : Text) (rows : List Row) (asked : Asked) where
 pub one_more : (old sub new : Command) (app : App) (shape : Shape) → IsReadAs app old → IsReadAs (leaf shape) sub → AddsSubcommand old sub new → IsReadAs (with_subcommand app shape) new
 one_more old sub new app shape read leaf adds =
     (adds.shape leaf.1 ∙ ap₂ with_subcommand read.0 (ap (λ (a : App). a.top) leaf.0), adds.globals ∙ rw (read.1, leaf.1) refl)
+
+pub one_argument : (old : Command) (a : Arg) (new : Command) (app : App) (rule : Rule) → IsReadAs app old → IsArgument rule a → AddsArg old a new → IsReadAs (with_rule app rule) new
+one_argument old a new app rule read is adds = (adds.shape is.1 ∙ ap₂ with_rule read.0 is.0, adds.globals ∙ rw (read.1, is.1) refl)
 
 pub hourstable_is_simple : is_simple hourstable ≡ true
 hourstable_is_simple = refl

@@ -11,20 +11,17 @@ use Rattle.command.specs.declared.arguments.Request.{Request}
 use Rattle.command.specs.declared.arguments.Subcommand.{Subcommand}
 use Rattle.command.specs.declared.arguments.Subcommand.TheVariants as command
 use Rattle.command.specs.declared.arguments.ScriptText.{ScriptText}
-use Rattle.command.specs.declared.arguments.Source.{Source}
-use Rattle.command.specs.declared.arguments.Source.TheVariants as source
 use Rattle.diagnosis.specs.declared.error.AnswerError.{AnswerError}
 use Rattle.diagnosis.specs.Errors.{status_after}
 use Rattle.session.specs.declared.answer.ReplyForm.{ReplyForm}
 use Rattle.session.specs.Talks.{IsTalked, IsBroken}
 use Rattle.command.specs.Runs.{IsAnswered, IsFailed}
 use Rattle.command.specs.Audits.{IsAuditEnd}
+use Rattle.command.specs.Sources.{IsReadFrom, IsUnopened}
+use Rattle.command.specs.Tables.{EndsKeep, IsSeeEnd}
+use Rattle.table_store.specs.declared.store.Stored.{Stored}
+use Rattle.table_files.specs.declared.files.Seen.{Seen}
 use Rattle.command.specs.Words.{WordsAsk, word_faults}
-
--- input was read that had `full` before and has `rest` after: all the input, or a file, and then nothing of the input
-abbrev pub IsReadFrom : Source → (before after full rest : Option (List ℕ)) → Type 0
-IsReadFrom source.Input before after full rest = (full ≡ before) × (rest ≡ after)
-IsReadFrom (source.File name) before after full rest = Keeps before after
 
 -- what was read and written for a script that was answered, or was not
 abbrev pub IsPlayed : ScriptText → (full rest held holds : Option (List ℕ)) → Result ⊤ AnswerError → Type 0
@@ -68,23 +65,28 @@ pub record IsWithoutInput (words : List Text) (held holds : Option (List ℕ)) (
   pub reason : (why ≡ kind.OutOfMemory) ⊎ IsAmong why (word_faults words)
   pub told : IsTold why held holds code
 
--- the file of a request was not opened, and nothing was read or written
-abbrev pub IsUnopened : Source → (before after held holds : Option (List ℕ)) → ℕ → Type 0
-IsUnopened source.Input before after held holds code = ⊥
-IsUnopened (source.File name) before after held holds code = (code ≡ 2) × Keeps before after × Keeps held holds
-
 -- how the command ends, for this request: it reads its input, or its file cannot be opened
 abbrev pub EndsBy : Request → (before after held holds : Option (List ℕ)) → ℕ → Type 0
 EndsBy request before after held holds code =
     EndsWithInput request before after held holds code ⊎ IsUnopened request.source before after held holds code
 
--- how the command ends, for what was asked: a request, or an audit of the logs of these names, all of them
-abbrev pub EndsFor : Asked → (before after held holds : Option (List ℕ)) → ℕ → Type 0
-EndsFor (asked.Answer request) before after held holds code = EndsBy request before after held holds code
-EndsFor (asked.Audit names progress) before after held holds code = IsAuditEnd (map (λ n. n.now) names.items) before after held holds code
+-- a word names no action, and nothing was read or written
+abbrev pub IsUnknown : (before after held holds : Option (List ℕ)) → ℕ → Type 0
+IsUnknown before after held holds code = (code ≡ 2) × Keeps before after × Keeps held holds
 
--- how the command ends, for these words: it does what they ask for, or reads nothing
-abbrev pub Ends : List Text → (before after held holds : Option (List ℕ)) → ℕ → Type 0
-Ends words before after held holds code =
-    ((asked : Asked) × WordsAsk words asked × EndsFor asked before after held holds code)
-    ⊎ (Keeps before after × IsWithoutInput words held holds code)
+module _ {S : Type 0} (is_of : S → List ℕ → List ℕ → Type 0) (is_honest : S → Type 0) (may_leave : S → Stored → Type 0) {F : Type 0} (may_fail : S → F → Type 0)
+    (has : List ℕ → Seen → Type 0) where
+  -- how the command ends, for what was asked: a request, an audit of the logs of these names, all of them, a session over the table in a file,
+  -- or a look at what a file has
+  abbrev pub EndsFor : Asked → (before after held holds : Option (List ℕ)) → ℕ → Type 0
+  EndsFor (asked.Answer request) before after held holds code = EndsBy request before after held holds code
+  EndsFor (asked.Audit names progress) before after held holds code = IsAuditEnd (map (λ n. n.now) names.items) before after held holds code
+  EndsFor (asked.Keep keep) before after held holds code = EndsKeep is_of is_honest may_leave may_fail keep before after held holds code
+  EndsFor (asked.See action file) before after held holds code = IsSeeEnd has action file.now held holds code × Keeps before after
+  EndsFor (asked.Unknown action) before after held holds code = IsUnknown before after held holds code
+
+  -- how the command ends, for these words: it does what they ask for, or reads nothing
+  abbrev pub Ends : List Text → (before after held holds : Option (List ℕ)) → ℕ → Type 0
+  Ends words before after held holds code =
+      ((asked : Asked) × WordsAsk words asked × EndsFor asked before after held holds code)
+      ⊎ (Keeps before after × IsWithoutInput words held holds code)

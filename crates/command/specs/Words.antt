@@ -9,12 +9,15 @@ use Rattle.clap.specs.declared.builder.arg.Arg.{Arg}
 use Rattle.clap.specs.declared.builder.command.Command.{Command}
 use Rattle.clap.specs.declared.builder.command.Command.TheViews.{out-Command}
 use Rattle.clap.specs.declared.builder.action.ArgAction.TheVariants.{Append, Set, SetTrue}
+use Rattle.session.specs.declared.answer.ReplyForm.{ReplyForm}
 use Rattle.session.specs.declared.answer.ReplyForm.TheVariants as form
 use Rattle.command.specs.declared.arguments.Asked.{Asked}
 use Rattle.command.specs.declared.arguments.Asked.TheVariants as asked
 use Rattle.command.specs.declared.arguments.ScriptText.TheVariants as show
 use Rattle.command.specs.declared.arguments.Source.{Source}
 use Rattle.command.specs.declared.arguments.Source.TheVariants as source
+use Rattle.command.specs.declared.arguments.StoreAction.{StoreAction}
+use Rattle.command.specs.declared.arguments.StoreAction.TheVariants as act
 use Rattle.command.specs.declared.arguments.Subcommand.{Subcommand}
 use Rattle.command.specs.declared.arguments.Subcommand.TheVariants as command
 
@@ -32,6 +35,13 @@ option name = record (new_rule name) { long = Some name; action = Some Set; valu
 abbrev pub file : Rule
 file = record (new_rule (codes "FILE")) { action = Some Set }
 
+-- ACTION and FILE, which may not
+abbrev pub action : Rule
+action = record (new_rule (codes "ACTION")) { action = Some Set; required = true }
+
+abbrev pub stored_file : Rule
+stored_file = record file { required = true }
+
 -- LOG.., one or more
 abbrev pub logs : Rule
 logs = record (new_rule (codes "LOG")) {
@@ -47,8 +57,12 @@ subcommand name rules = record (new_shape name) { rules = rules }
 abbrev pub run_words : Shape
 run_words = subcommand (codes "run") (flag (codes "number") ∷ file ∷ [])
 
+-- `session` before its file
+abbrev pub session_options : Shape
+session_options = subcommand (codes "session") (flag (codes "json") ∷ option (codes "store") ∷ option (codes "job") ∷ [])
+
 abbrev pub session_words : Shape
-session_words = subcommand (codes "session") (flag (codes "json") ∷ file ∷ [])
+session_words = subcommand (codes "session") (flag (codes "json") ∷ option (codes "store") ∷ option (codes "job") ∷ file ∷ [])
 
 abbrev pub audit_words : Shape
 audit_words = subcommand (codes "audit") (flag (codes "progress") ∷ logs ∷ [])
@@ -59,11 +73,14 @@ explain_words = subcommand (codes "explain") (file ∷ [])
 abbrev pub timeline_words : Shape
 timeline_words = subcommand (codes "timeline") (option (codes "key") ∷ flag (codes "clerks") ∷ file ∷ [])
 
+abbrev pub store_words : Shape
+store_words = subcommand (codes "store") (action ∷ stored_file ∷ [])
+
 -- the command: one of these subcommands must be named
 abbrev pub hourstable : App
 hourstable = record {
   top = record (new_shape (codes "hourstable")) { is_leaf = false; has_version = true; subcommand_required = true };
-  subs = run_words ∷ session_words ∷ audit_words ∷ explain_words ∷ timeline_words ∷ [];
+  subs = run_words ∷ session_words ∷ audit_words ∷ explain_words ∷ timeline_words ∷ store_words ∷ [];
 }
 
 -- ---- what was given to a subcommand: a row for each option and argument
@@ -82,7 +99,7 @@ IsSource file (source.File name) = (file ≡ Some name.now) × (name.now ≢ cod
 -- the subcommand is done with FILE
 abbrev pub IsRequest : Subcommand → List Row → Asked → Type 0
 IsRequest subcommand rows (asked.Answer request) = (request.subcommand ≡ subcommand) × IsSource (first_of (codes "FILE") rows) request.source
-IsRequest subcommand rows (asked.Audit names progress) = ⊥
+IsRequest subcommand rows _ = ⊥
 
 -- `run [--number] [FILE]`
 abbrev pub AsksRun : List Row → Asked → Type 0
@@ -93,10 +110,37 @@ AsksRun rows asked = (number : Bool) × IsFlag (codes "number") rows number
 abbrev pub AsksExplain : List Row → Asked → Type 0
 AsksExplain rows asked = IsRequest (command.Play show.Explained) rows asked
 
--- `session [--json] [FILE]`
+-- a session over the table in this file, for the job that `--job` names
+abbrev pub IsKeep : ReplyForm → Text → List Row → Asked → Type 0
+IsKeep form store rows (asked.Keep keep) =
+    (keep.form ≡ form) × (keep.file.now ≡ store) × (keep.job.now ≡ unwrap_or (first_of (codes "job") rows) [])
+    × IsSource (first_of (codes "FILE") rows) keep.source
+IsKeep form store rows _ = ⊥
+
+-- a session; over the table in the file that `--store` names, if it names one
+abbrev pub IsHeldOver : ReplyForm → Option Text → List Row → Asked → Type 0
+IsHeldOver form None rows asked = IsRequest (command.Session form) rows asked
+IsHeldOver form (Some store) rows asked = IsKeep form store rows asked
+
+-- `session [--json] [--store STORE] [--job NAME] [FILE]`
 abbrev pub AsksSession : List Row → Asked → Type 0
 AsksSession rows asked = (json : Bool) × IsFlag (codes "json") rows json
-    × IsRequest (command.Session (if json then form.Json else form.Text)) rows asked
+    × IsHeldOver (if json then form.Json else form.Text) (first_of (codes "store") rows) rows asked
+
+-- the word for an action
+abbrev pub action_word : StoreAction → Text
+action_word act.Show = codes "show"
+action_word act.Check = codes "check"
+
+-- what this word says is done with this file
+abbrev pub IsActionNamed : Text → Text → Asked → Type 0
+IsActionNamed word name (asked.See act file) = (word ≡ action_word act) × (file.now ≡ name)
+IsActionNamed word name (asked.Unknown other) = (other.now ≡ word) × (word ≢ codes "show") × (word ≢ codes "check")
+IsActionNamed word name _ = ⊥
+
+-- `store ACTION FILE`
+abbrev pub AsksStore : List Row → Asked → Type 0
+AsksStore rows asked = IsActionNamed (unwrap_or (first_of (codes "ACTION") rows) []) (unwrap_or (first_of (codes "FILE") rows) []) asked
 
 -- a picture of the key that `--key` names, with clerks for `--clerks`
 abbrev pub IsPicture : List Row → Subcommand → Type 0
@@ -112,7 +156,7 @@ AsksTimeline rows asked = (picture : Subcommand) × IsPicture rows picture × Is
 abbrev pub AsksAudit : List Row → Asked → Type 0
 AsksAudit rows (asked.Audit names progress) =
     (map (λ n. n.now) names.items ≡ unwrap_or (all_of (codes "LOG") rows) []) × IsFlag (codes "progress") rows progress
-AsksAudit rows (asked.Answer request) = ⊥
+AsksAudit rows _ = ⊥
 
 -- what is asked for by the subcommand of this name and what was given to it
 pub record Asks (name : Text) (rows : List Row) (asked : Asked) : Type 0 where
@@ -121,6 +165,7 @@ pub record Asks (name : Text) (rows : List Row) (asked : Asked) : Type 0 where
   pub audit : name ≡ codes "audit" → AsksAudit rows asked
   pub explain : name ≡ codes "explain" → AsksExplain rows asked
   pub timeline : name ≡ codes "timeline" → AsksTimeline rows asked
+  pub store : name ≡ codes "store" → AsksStore rows asked
 
 -- these words ask for this; the first is the name of the program
 pub record WordsAsk (words : List Text) (asked : Asked) : Type 0 where

@@ -1,12 +1,12 @@
 //! The arguments of the command.
 
-ghost use Rattle.std.specs.Prelude.{◌≡◌, IfOk, codes, if◌then◌else◌, map, option_map, string_bytes};
+ghost use Rattle.std.specs.Prelude.{◌≡◌, [], IfOk, codes, if◌then◌else◌, map, option_map, string_bytes, unwrap_or};
 ghost use Rattle.clap.specs.Kinds.{FailsBy};
 ghost use Rattle.clap.specs.Matches.{found_of};
 ghost use Rattle.clap.specs.Walk.{first_of, rows_of};
-ghost use Rattle.command.specs.Words.{Asks, AsksAudit, AsksRun, AsksSession, AsksTimeline, IsRequest, IsSource};
-ghost use Rattle.command.specs.Words.{audit_words, explain_words, run_words, session_words, timeline_words};
-ghost use Rattle.command.specs.Words.{IsArgument, IsReadAs, WordsAsk, bare_hourstable, file, flag, hourstable, leaf, logs, option, word_faults};
+ghost use Rattle.command.specs.Words.{Asks, AsksAudit, AsksRun, AsksSession, AsksStore, AsksTimeline, IsActionNamed, IsHeldOver, IsRequest, IsSource};
+ghost use Rattle.command.specs.Words.{audit_words, explain_words, run_words, session_options, session_words, store_words, timeline_words};
+ghost use Rattle.command.specs.Words.{IsArgument, IsReadAs, WordsAsk, action, bare_hourstable, file, flag, hourstable, leaf, logs, option, stored_file, word_faults};
 ghost use Rattle.command.specs.declared.arguments.ScriptText.TheVariants as show;
 ghost use Rattle.command.specs.declared.arguments.Subcommand.TheVariants as command;
 ghost use Rattle.session.specs.declared.answer.ReplyForm.TheVariants as form;
@@ -32,7 +32,12 @@ const SCRIPT_STATUSES: &str = "Exit statuses:
 
 const SESSION_STATUSES: &str = "Exit statuses:
   0  done
-  2  the arguments or the job line are refused, or the file cannot be opened
+  2  the arguments, the job line or a file are refused, or a file cannot be opened
+  3  reading, writing or saving failed, or memory ran out";
+
+const STORE_STATUSES: &str = "Exit statuses:
+  0  done
+  2  the arguments or the file are refused
   3  reading or writing failed, or memory ran out";
 
 const AUDIT_STATUSES: &str = "Exit statuses:
@@ -85,6 +90,28 @@ pub struct Request<'a> {
     pub source: Source<'a>,
 }
 
+/// A session to hold over the table in a file.
+#[derive(Clone, Copy, Debug, PartialEq, Eq)]
+pub struct Keep<'a> {
+    /// The name of the file that has the table.
+    pub file: &'a str,
+    /// The name of the job; empty if none is given.
+    pub job: &'a str,
+    /// How replies are written.
+    pub form: ReplyForm,
+    /// Where the lines come from.
+    pub source: Source<'a>,
+}
+
+/// What is done with the file of a table.
+#[derive(Clone, Copy, Debug, PartialEq, Eq)]
+pub enum StoreAction {
+    /// Write what it has.
+    Show,
+    /// Write whether a session would open its table.
+    Check,
+}
+
 /// What a command line asks for.
 #[derive(Debug, Drop)]
 pub enum Asked<'a> {
@@ -93,6 +120,12 @@ pub enum Asked<'a> {
     /// Audit the logs with these names, where `-` is standard input, and report progress if asked
     /// to.
     Audit { names: Vec<&'a str>, progress: bool },
+    /// Hold a session over the table in a file.
+    Keep(Keep<'a>),
+    /// Do this with the file of this name, which has a table.
+    See { action: StoreAction, file: &'a str },
+    /// Do with the file of a table what this word says, which names no action.
+    Unknown { action: &'a str },
 }
 
 fn flag<'a>(alloc: Global, name: &'a str, help: &'a str) -> Arg<'a>
@@ -151,16 +184,44 @@ fn timeline_command<'a>(alloc: Global) -> Result<Command<'a>, AllocError>
         .arg(file_argument(alloc, SCRIPT))
 }
 
+fn store_argument<'a>(alloc: Global) -> Arg<'a>
+    ensures { IsArgument (option (codes "store")) result }
+{
+    Arg::new(alloc, "store")
+        .long("store")
+        .value_name("STORE")
+        .help("Keep the table in this file, and go on with the table that it has")
+        .action(ArgAction::Set)
+}
+
+fn job_argument<'a>(alloc: Global) -> Arg<'a>
+    ensures { IsArgument (option (codes "job")) result }
+{
+    Arg::new(alloc, "job")
+        .long("job")
+        .value_name("NAME")
+        .help("The name of the job in the file of --store; empty if missing")
+        .action(ArgAction::Set)
+}
+
+// Returns the command for sessions, before its file is added.
+fn session_options<'a>(alloc: Global) -> Result<Command<'a>, AllocError>
+    ensures { IfOk result (IsReadAs (leaf session_options)) }
+{
+    Command::new(alloc, "session")
+        .about("Read steps line by line, and write the reply to each step at once")
+        .after_help(SESSION_STATUSES)
+        .arg(flag(alloc, "json", "Write replies as JSON objects"))?
+        .arg(store_argument(alloc))?
+        .arg(job_argument(alloc))
+}
+
 fn session_command<'a>(alloc: Global) -> Result<Command<'a>, AllocError>
     ensures { IfOk result (IsReadAs (leaf session_words)) }
 {
     let file =
         "The lines, a job line and then one step a line; standard input if it is - or missing";
-    Command::new(alloc, "session")
-        .about("Read steps line by line, and write the reply to each step at once")
-        .after_help(SESSION_STATUSES)
-        .arg(flag(alloc, "json", "Write replies as JSON objects"))?
-        .arg(file_argument(alloc, file))
+    session_options(alloc)?.arg(file_argument(alloc, file))
 }
 
 fn logs_argument<'a>(alloc: Global) -> Arg<'a>
@@ -182,6 +243,34 @@ fn audit_command<'a>(alloc: Global) -> Result<Command<'a>, AllocError>
         .after_help(AUDIT_STATUSES)
         .arg(flag(alloc, "progress", progress))?
         .arg(logs_argument(alloc))
+}
+
+fn action_argument<'a>(alloc: Global) -> Arg<'a>
+    ensures { IsArgument action result }
+{
+    Arg::new(alloc, "ACTION")
+        .help("show: write what the file has; check: write whether a session would open its table")
+        .required(true)
+        .action(ArgAction::Set)
+}
+
+fn stored_file_argument<'a>(alloc: Global) -> Arg<'a>
+    ensures { IsArgument stored_file result }
+{
+    Arg::new(alloc, "FILE")
+        .help("The file of session --store")
+        .required(true)
+        .action(ArgAction::Set)
+}
+
+fn store_command<'a>(alloc: Global) -> Result<Command<'a>, AllocError>
+    ensures { IfOk result (IsReadAs (leaf store_words)) }
+{
+    Command::new(alloc, "store")
+        .about("Read the file in which session --store keeps a table")
+        .after_help(STORE_STATUSES)
+        .arg(action_argument(alloc))?
+        .arg(stored_file_argument(alloc))
 }
 
 /// Returns the version with the toolchain that proved it, as `--version` writes it.
@@ -209,7 +298,8 @@ fn hourstable_command<'a>(alloc: Global, version: &'a str) -> Result<Command<'a>
         .subcommand(session_command(alloc)?)?
         .subcommand(audit_command(alloc)?)?
         .subcommand(explain_command(alloc)?)?
-        .subcommand(timeline_command(alloc)?)
+        .subcommand(timeline_command(alloc)?)?
+        .subcommand(store_command(alloc)?)
 }
 
 // Returns the input of this name, or standard input.
@@ -276,15 +366,67 @@ fn reply_form(json: bool) -> ReplyForm
     }
 }
 
+// Returns the text that was given, or the empty one.
+fn text_of<'a>(given: Option<&'a str>) -> &'a str
+    ensures { result.now ≡ unwrap_or (option_map (λ s. s.now) given.entry) [] }
+{
+    match given {
+        Some(text) => text,
+        None => "",
+    }
+}
+
+// Returns a request to answer lines in this form, over the table in a file if one is named.
+fn session_over<'a>(matches: &ArgMatches<'a>, form: ReplyForm, store: Option<&'a str>) -> Asked<'a>
+    ensures { IsHeldOver form (option_map (λ s. s.now) store.entry) (rows_of (found_of matches.now)) result }
+{
+    let source = source_of(matches);
+    let job = text_of(matches.get_str("job"));
+    match store {
+        None => Asked::Answer(Request {
+            subcommand: Subcommand::Session { form },
+            source,
+        }),
+        Some(file) => Asked::Keep(Keep {
+            file,
+            job,
+            form,
+            source,
+        }),
+    }
+}
+
 fn session_request<'a>(matches: &ArgMatches<'a>) -> Asked<'a>
     ensures { AsksSession (rows_of (found_of matches.now)) result }
 {
     let json = matches.get_flag("json");
-    let form = reply_form(json);
-    Asked::Answer(Request {
-        subcommand: Subcommand::Session { form },
-        source: source_of(matches),
-    })
+    let store = matches.get_str("store");
+    session_over(matches, reply_form(json), store)
+}
+
+// Returns a request to do what a word says with the file of a table.
+fn store_action<'a>(word: &'a str, file: &'a str) -> Asked<'a>
+    ensures { IsActionNamed word.entry.now file.entry.now result }
+{
+    match word {
+        "show" => Asked::See {
+            action: StoreAction::Show,
+            file,
+        },
+        "check" => Asked::See {
+            action: StoreAction::Check,
+            file,
+        },
+        _ => Asked::Unknown { action: word },
+    }
+}
+
+fn store_request<'a>(matches: &ArgMatches<'a>) -> Asked<'a>
+    ensures { AsksStore (rows_of (found_of matches.now)) result }
+{
+    let word = text_of(matches.get_str("ACTION"));
+    let file = text_of(matches.get_str("FILE"));
+    store_action(word, file)
 }
 
 // Returns a request to audit all logs that were given, in their order.
@@ -309,6 +451,7 @@ fn asked_by<'a>(
         "audit" => audited(alloc, matches),
         "session" => Ok(session_request(matches)),
         "explain" => Ok(play_request(matches, ScriptText::Explained)),
+        "store" => Ok(store_request(matches)),
         "timeline" => Ok(timeline_request(matches)),
         _ => Ok(run_request(matches)),
     }

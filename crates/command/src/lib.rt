@@ -6,8 +6,11 @@ mod log_audit;
 mod program;
 mod script_run;
 mod step_word;
+mod table_file;
 
-pub use arguments::{Asked, Request, ScriptText, Source, Subcommand, parse_words};
+pub use arguments::{
+    Asked, Keep, Request, ScriptText, Source, StoreAction, Subcommand, parse_words,
+};
 pub use log_audit::{Audit, AuditError, audit_named};
 pub use program::{do_words, hourstable};
 pub use script_run::run_lines;

@@ -10,6 +10,7 @@ ghost use Rattle.command.specs.Endings.{Ends, EndsBy, EndsFor, IsHelped, IsOutco
 use crate::arguments::{Asked, Request, Source, Subcommand, parse_words, version_text};
 use crate::log_audit::{Audit, audit_named, say_error};
 use crate::script_run::run_lines;
+use crate::table_file::{keep_table, say_unknown, see_table};
 use clap::Error;
 use clap::error::ErrorKind;
 use diagnosis::{AnswerError, Escaped};
@@ -21,6 +22,7 @@ use std::fs::File;
 use std::io::{BufRead, BufReader, Read, Write};
 use std::process::ExitCode;
 use std::rt::Files;
+use table_files::TableFiles;
 
 /// The exit status when the request is done.
 const DONE: u8 = 0;
@@ -152,14 +154,15 @@ fn judge_logs<R: Read, W: Write, E: Write>(
 }
 
 // Does what is asked for and returns the exit status.
-fn do_asked<R: BufRead, W: Write, E: Write>(
+fn do_asked<T: TableFiles, R: BufRead, W: Write, E: Write>(
     rt: &(impl Files + AllocGlobal),
+    tables: &T,
     asked: Asked<'_>,
     input: &mut R,
     output: &mut W,
     errors: &mut E,
 ) -> u8
-    ensures { EndsFor asked.entry (R.remaining input.old) (R.remaining input.new)
+    ensures { EndsFor T.is_of T.Store.is_honest T.Store.may_leave T.Store.may_fail T.has asked.entry (R.remaining input.old) (R.remaining input.new)
         (W.contents output.old) (W.contents output.new) result }
 {
     match asked {
@@ -169,6 +172,11 @@ fn do_asked<R: BufRead, W: Write, E: Write>(
             let audit = Audit { names, progress };
             judge_logs(rt, audit, input, output, errors)
         }
+        Asked::Keep(keep) => keep_table(rt, tables, keep, input, output, errors),
+        Asked::See { action, file } => {
+            see_table(rt.alloc(), tables, action, file, output, errors)
+        }
+        Asked::Unknown { action } => say_unknown(errors, action),
     }
 }
 
@@ -212,15 +220,16 @@ fn tell<W: Write, E: Write>(alloc: Global, error: &Error, output: &mut W, errors
 /// The first word is the name of the program. Only results are written to `output`; failures are
 /// written to `errors`, each line after the name of the program. The status is 0 if the request is
 /// done, 1 if an audit finds that the calls are not one run, 2 if the words or the input are
-/// refused or a file cannot be opened, and 3 if a stream fails or memory runs out.
-pub fn do_words<R: BufRead, W: Write, E: Write>(
+/// refused or a file cannot be opened, and 3 if a stream or a save fails or memory runs out.
+pub fn do_words<T: TableFiles, R: BufRead, W: Write, E: Write>(
     rt: &(impl Files + AllocGlobal),
+    tables: &T,
     words: &[String],
     input: &mut R,
     output: &mut W,
     errors: &mut E,
 ) -> u8
-    ensures { Ends (map string_bytes words.now) (R.remaining input.old) (R.remaining input.new)
+    ensures { Ends T.is_of T.Store.is_honest T.Store.may_leave T.Store.may_fail T.has (map string_bytes words.now) (R.remaining input.old) (R.remaining input.new)
         (W.contents output.old) (W.contents output.new) result }
 {
     let Ok(version) = version_text(rt.alloc()) else {
@@ -228,19 +237,22 @@ pub fn do_words<R: BufRead, W: Write, E: Write>(
         return FAILED;
     };
     match parse_words(rt.alloc(), version.as_str(), words) {
-        Ok(asked) => do_asked(rt, asked, input, output, errors),
+        Ok(asked) => do_asked(rt, tables, asked, input, output, errors),
         Err(error) => tell(rt.alloc(), &error, output, errors),
     }
 }
 
-/// Runs the command with the arguments of the process, and returns the exit status.
-pub fn hourstable<R: Read + Drop, W: Write, E: Write>(
+/// Runs the command with the arguments of the process, and returns the exit status. The tables of
+/// sessions are kept in `tables`.
+pub fn hourstable<T: TableFiles, R: Read + Drop, W: Write, E: Write>(
     rt: &(impl Env + Files + AllocGlobal),
+    tables: &T,
     input: R,
     output: &mut W,
     errors: &mut E,
 ) -> ExitCode
-    ensures { (words : List (List ℕ)) × (after : Option (List ℕ)) × Ends words (R.remaining input) after
+    ensures { (words : List (List ℕ)) × (after : Option (List ℕ))
+        × Ends T.is_of T.Store.is_honest T.Store.may_leave T.Store.may_fail T.has words (R.remaining input) after
         (W.contents output.old) (W.contents output.new) (exit_status result) }
 {
     let words: Option<Vec<String>> = match env::args(rt) {
@@ -253,7 +265,7 @@ pub fn hourstable<R: Read + Drop, W: Write, E: Write>(
     };
     match BufReader::new(rt.alloc(), input) {
         Ok(mut input) => {
-            let status = do_words(rt, words.as_slice(), &mut input, output, errors);
+            let status = do_words(rt, tables, words.as_slice(), &mut input, output, errors);
             ExitCode::from(status)
         }
         Err(_) => {

@@ -1,7 +1,7 @@
 //! Runs the command on the words and the input in `data/`, and compares what it writes with stored
 //! files.
 //!
-//! NAME.words has a word a line and NAME.stdin the standard input. The command must write
+//! `names` has a NAME a line. NAME.words has a word a line and NAME.stdin the standard input. The command must write
 //! NAME.stdout to standard output and NAME.stderr to standard error, and exit with the status in
 //! NAME.status. Some sessions are also compared with the scripts of their lines.
 #![tactic(auto)]
@@ -10,101 +10,8 @@ use anyhow::Result;
 use command::do_words;
 use std::alloc::Global;
 use std::fs;
-use std::rt::Files;
-
-const NAMES: [&str; 91] = [
-    "help",
-    "help-of-run",
-    "help-of-session",
-    "version",
-    "no-subcommand",
-    "unknown-argument",
-    "missing-file",
-    "run-a-file-with-numbers",
-    "run-dash",
-    "run-twenty-one-faults",
-    "run-bad-job",
-    "run-no-job",
-    "run-no-array",
-    "run-not-json",
-    "run-empty-input",
-    "session-story",
-    "session-a-file-as-json",
-    "session-json-hash",
-    "session-json-draft",
-    "session-json-verdicts",
-    "session-json-table",
-    "session-json-rows",
-    "session-json-losses",
-    "session-json-clerk",
-    "session-json-loads",
-    "session-json-plan",
-    "session-json-plan-fewer",
-    "session-json-next",
-    "session-mends",
-    "session-json-mends",
-    "session-job-alone",
-    "session-bad-job",
-    "session-no-job",
-    "session-repeated-member",
-    "session-repeated-job",
-    "session-names-of-201-characters",
-    "session-empty-input",
-    "audit-hand-over",
-    "audit-two-files",
-    "audit-owners-in-another-order",
-    "audit-no-actor",
-    "audit-slow-clock",
-    "audit-committed-over-a-guard",
-    "audit-forged-grant",
-    "audit-served-at-the-deadline",
-    "audit-ticket-twice",
-    "audit-no-job",
-    "audit-unknown-member",
-    "audit-dash",
-    "audit-job-alone",
-    "audit-empty-input",
-    "audit-missing-log",
-    "audit-not-json",
-    "audit-repeated-member",
-    "audit-repeated-grant-member",
-    "audit-no-object",
-    "audit-no-do",
-    "audit-unknown-call",
-    "audit-no-ticket",
-    "audit-reply-is-no-text",
-    "audit-grant-of-no-task",
-    "audit-hear-without-life",
-    "audit-note-is-a-number",
-    "audit-without-logs",
-    "audit-torn-last-line",
-    "audit-last-line-without-its-end",
-    "audit-blank-lines",
-    "audit-fault-after-blank-lines",
-    "audit-torn-job-line",
-    "audit-name-with-escapes",
-    "audit-words-with-escapes",
-    "audit-call-of-201-characters",
-    "audit-member-with-escapes",
-    "audit-begun-anew",
-    "audit-begun-anew-unsaid",
-    "audit-begun-anew-with-its-clock",
-    "audit-open-with-a-reading",
-    "help-of-audit",
-    "explain-a-commit-that-is-held-up",
-    "explain-broken-handles",
-    "explain-untimely-readings",
-    "explain-verdicts-and-refusals",
-    "explain-bad-step",
-    "timeline-empty-input",
-    "help-of-explain",
-    "help-of-timeline",
-    "timeline-bridge",
-    "timeline-without-a-key",
-    "timeline-with-clerks",
-    "explain-empty-input",
-    "timeline-bad-step",
-];
+use std::rt::HostRuntime;
+use table_files::SqliteFiles;
 
 /// Sessions to compare with the scripts of their lines.
 const ALIKE: [&str; 11] = [
@@ -137,7 +44,7 @@ impl Outcome {
     }
 }
 
-fn text_of(rt: &(impl Files + AllocGlobal), name: &str, ending: &str) -> Result<String> {
+fn text_of(rt: &HostRuntime, name: &str, ending: &str) -> Result<String> {
     let file = format!(in rt.alloc(); "{name}.{ending}")?;
     Ok(fs::read_to_string(rt, file.as_str())?)
 }
@@ -153,7 +60,7 @@ fn words_of(alloc: Global, lines: &str) -> Result<Vec<String>> {
 }
 
 // Returns the outcome in the files of this name.
-fn expected(rt: &(impl Files + AllocGlobal), name: &str) -> Result<Outcome> {
+fn expected(rt: &HostRuntime, name: &str) -> Result<Outcome> {
     Ok(Outcome {
         written: text_of(rt, name, "stdout")?,
         said: text_of(rt, name, "stderr")?,
@@ -162,12 +69,19 @@ fn expected(rt: &(impl Files + AllocGlobal), name: &str) -> Result<Outcome> {
 }
 
 // Runs the command on words, a word a line, and on input.
-fn given(rt: &(impl Files + AllocGlobal), words: &str, input: &str) -> Result<Outcome> {
+fn given(rt: &HostRuntime, words: &str, input: &str) -> Result<Outcome> {
     let words = words_of(rt.alloc(), words)?;
     let mut written = Vec::new(rt.alloc());
     let mut said = Vec::new(rt.alloc());
     let mut input = input.as_bytes();
-    let status = do_words(rt, words.as_slice(), &mut input, &mut written, &mut said);
+    let status = do_words(
+        rt,
+        &SqliteFiles::new(rt),
+        words.as_slice(),
+        &mut input,
+        &mut written,
+        &mut said,
+    );
     Ok(Outcome {
         written: String::from_utf8(written)?,
         said: String::from_utf8(said)?,
@@ -176,7 +90,7 @@ fn given(rt: &(impl Files + AllocGlobal), words: &str, input: &str) -> Result<Ou
 }
 
 // Runs the command on the words and the input with this name.
-fn given_for(rt: &(impl Files + AllocGlobal), name: &str) -> Result<Outcome> {
+fn given_for(rt: &HostRuntime, name: &str) -> Result<Outcome> {
     let words = text_of(rt, name, "words")?;
     let input = text_of(rt, name, "stdin")?;
     given(rt, words.as_str(), input.as_str())
@@ -196,7 +110,7 @@ fn script_of(alloc: Global, lines: &str) -> Result<String> {
 }
 
 // Whether a session of these lines answers each as their script does.
-fn is_answered_alike(rt: &(impl Files + AllocGlobal), lines: &str) -> Result<bool> {
+fn is_answered_alike(rt: &HostRuntime, lines: &str) -> Result<bool> {
     let script = script_of(rt.alloc(), lines)?;
     let session = given(rt, "session", lines)?;
     let batch = given(rt, "run", script.as_str())?;
@@ -207,23 +121,36 @@ fn is_answered_alike(rt: &(impl Files + AllocGlobal), lines: &str) -> Result<boo
     Ok(matches!(last, Some("timely yes\n" | "timely no\n")))
 }
 
+// Plays what has this name, and prints whether it is as expected.
+fn play(rt: &HostRuntime, name: &str) -> Result<()> {
+    let given = given_for(rt, name)?;
+    let wanted = expected(rt, name)?;
+    if given.is(&wanted) {
+        println!(rt; "{name}: as expected")?;
+    } else {
+        println!(rt; "{name}: gave {given:?} in place of {wanted:?}")?;
+    }
+    Ok(())
+}
+
+// Compares a session with the script of its lines, and prints how it did.
+fn compare(rt: &HostRuntime, name: &str) -> Result<()> {
+    let lines = text_of(rt, name, "stdin")?;
+    if is_answered_alike(rt, lines.as_str())? {
+        println!(rt; "{name}: answered as its script is")?;
+    } else {
+        println!(rt; "{name}: answered in another way than its script")?;
+    }
+    Ok(())
+}
+
 fn main(rt: HostRuntime) -> Result<()> {
-    for name in NAMES {
-        let given = given_for(&rt, name)?;
-        let wanted = expected(&rt, name)?;
-        if given.is(&wanted) {
-            println!(rt; "{name}: as expected")?;
-        } else {
-            println!(rt; "{name}: gave {given:?} in place of {wanted:?}")?;
-        }
+    let names = fs::read_to_string(&rt, "names")?;
+    for name in names.as_str().lines() {
+        play(&rt, name)?;
     }
     for name in ALIKE {
-        let lines = text_of(&rt, name, "stdin")?;
-        if is_answered_alike(&rt, lines.as_str())? {
-            println!(rt; "{name}: answered as its script is")?;
-        } else {
-            println!(rt; "{name}: answered in another way than its script")?;
-        }
+        compare(&rt, name)?;
     }
     Ok(())
 }

@@ -3,7 +3,14 @@
 
 use command::hourstable;
 use std::process::ExitCode;
+use table_files::SqliteFiles;
 
 fn main(rt: HostRuntime) -> ExitCode {
-    hourstable(&rt, rt.stdin(), &mut rt.stdout(), &mut rt.stderr())
+    hourstable(
+        &rt,
+        &SqliteFiles::new(&rt),
+        rt.stdin(),
+        &mut rt.stdout(),
+        &mut rt.stderr(),
+    )
 }

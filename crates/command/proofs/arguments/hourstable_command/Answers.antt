@@ -8,4 +8,5 @@ returns c =
     let session = one_more _ _ _ _ _ run c.in_ok-session_command.ensures c.in_ok-subcommand-2.ensures in
     let audit = one_more _ _ _ _ _ session c.in_ok-audit_command.ensures c.in_ok-subcommand-3.ensures in
     let explain = one_more _ _ _ _ _ audit c.in_ok-explain_command.ensures c.in_ok-subcommand-4.ensures in
-    IfOk-weaker c.subcommand-5.result _ _ (λ r adds. one_more _ _ _ _ _ explain c.in_ok-timeline_command.ensures adds) c.subcommand-5.ensures
+    let timeline = one_more _ _ _ _ _ explain c.in_ok-timeline_command.ensures c.in_ok-subcommand-5.ensures in
+    IfOk-weaker c.subcommand-6.result _ _ (λ r adds. one_more _ _ _ _ _ timeline c.in_ok-store_command.ensures adds) c.subcommand-6.ensures
