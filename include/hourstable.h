@@ -52,8 +52,8 @@
  *     slicelet of this job. They name their job, but no sender: a forged grant is heard. Jobs that
  *     share a transport have different names.
  *   - A job has one table at a time. It is opened once. From then on it is restored from the values
- *     that it kept: save what hs_table_kept writes before the reply to a call that changed it leaves
- *     the process.
+ *     that it kept: save what hs_table_kept or hs_table_save writes before the reply to a call that
+ *     changed it leaves the process.
  *   - Threads that share a slicelet hold its lock, for reading, from hs_slicelet_serve until the
  *     answer is given or the write is done.
  *   - Clocks are timely: no reading of the table's clock is more than the skew ahead of a later
@@ -356,6 +356,17 @@ struct hs_held_lease {
     uint64_t until;      /* the first reading of the task's clock at which it has ended */
 };
 
+/* A grant, as hs_grant_read reads it from its message. */
+struct hs_grant {
+    uint64_t number;
+    uint64_t task;
+    uint64_t life;
+    uint64_t kind;       /* of its lease, an hs_kind */
+    uint64_t generation; /* of its lease */
+    uint64_t ends;       /* the first reading of the task's clock at which the lease has ended */
+    uint64_t table_ends; /* the first reading of the table's clock at which the lease has ended */
+};
+
 /* The owners of a key: the first `count` of `tasks`, in rising order. The others are 0. */
 struct hs_owners {
     uint64_t generation;
@@ -485,6 +496,15 @@ int32_t hs_slicelet_resume(struct hs_place *place, const uint8_t *job, size_t jo
 int32_t hs_ended_note(const uint8_t *job, size_t job_len, uint64_t task, uint32_t life, uint32_t kind, uint8_t *out,
                       size_t out_len, size_t *needed);
 
+/* Reads a grant of a job, given as its message: writes its numbers to `out`, and to `boundaries` the
+ * ranges of its lease, each as its first slice key and the one after its last. So range i goes from
+ * boundaries[2 * i] up to boundaries[2 * i + 1], which it does not have; all of them rise. *needed is
+ * how many boundaries there are, two for each range. A lease that was heard covers the keys of its grant
+ * until another grant of its kind is heard, or the lease is released. HS_WRONG_FORM if `job` is not the
+ * name of a job, then message codes, then HS_NO_ROOM: `out` is written nonetheless. */
+int32_t hs_grant_read(const uint8_t *job, size_t job_len, const uint8_t *grant, size_t grant_len, struct hs_grant *out,
+                      uint64_t *boundaries, size_t boundaries_len, size_t *needed);
+
 /* Starts a life of the task, which holds no lease yet. Takes no memory. HS_OLD_LIFE, HS_CLOCK_BACK,
  * HS_HISTORY_FULL. */
 int32_t hs_slicelet_start(struct hs_place *place, uint32_t life, uint64_t at);
@@ -566,6 +586,19 @@ int32_t hs_table_open(struct hs_place *place, const uint8_t *job, size_t job_len
 /* Writes the message of the kept values of the table: all of it but its rows. Save it before the
  * reply to a call that changed the table leaves the process. HS_NO_ROOM or HS_NO_MEMORY. */
 int32_t hs_table_kept(const struct hs_place *place, uint8_t *out, size_t out_len, size_t *needed);
+
+/* Writes the message of the values to save in place of those that were saved last, or nothing, if
+ * nothing has to be saved: HS_DONE with a *needed of 0. `saved` is the message that was saved last, of
+ * length 0 if nothing was saved. Nothing has to be saved if its values cover the table: they are those
+ * that the table keeps, or ahead of them. What is written is what the table keeps, moved ahead by
+ * `grants` grants, or as many as the policy still allows, and `ticks` ticks. So the next grants, and
+ * notes that are freed, up to that number and that reading need no save. A table that is restored from
+ * values saved ahead gives none of those numbers, and accepts no reading before the last one saved.
+ * With 0 grants just what the table keeps is written. Message codes, then the codes of
+ * hs_table_restore, for saved values that restore no table with this policy, then HS_NO_ROOM or
+ * HS_NO_MEMORY. */
+int32_t hs_table_save(const struct hs_place *place, const uint8_t *saved, size_t saved_len, uint64_t grants,
+                      uint64_t ticks, uint8_t *out, size_t out_len, size_t *needed);
 
 /* Restores the table of a job from its kept values, given as their message, in `place`, destroying
  * what was there. It is the table that kept them, as hs_table_restart leaves it. HS_WRONG_FORM,

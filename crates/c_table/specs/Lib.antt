@@ -6,3 +6,4 @@ pub mod Texts
 pub mod Assigners
 pub mod Plans
 pub mod Keeping
+pub mod Saving

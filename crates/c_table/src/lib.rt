@@ -10,6 +10,7 @@ mod policy_numbers;
 mod row_numbers;
 mod table_calls;
 mod table_keeping;
+mod table_saving;
 mod table_texts;
 mod terms;
 
@@ -19,5 +20,6 @@ pub use policy_numbers::{PlanPolicyNumbers, PolicyNumbers};
 pub use row_numbers::RowNumbers;
 pub use table_calls::{commit, free, open_table, phase, propose, renew, restart, take};
 pub use table_keeping::{kept, restore};
+pub use table_saving::{Ahead, save};
 pub use table_texts::{committed, grant, rows};
 pub use terms::{PhaseNumbers, TermNumbers};

@@ -1,12 +1,12 @@
 //! Calls of a table that give lists: messages and rows.
 
-ghost use Rattle.std.specs.Prelude.{◌≡◌, IfOk, IfErr, None, OnOk, map};
+ghost use Rattle.std.specs.Prelude.{◌≡◌, ◌<◌, IfOk, IfErr, None, OnOk, length, map};
 ghost use Rattle.machines.specs.Answers.{trouble_of};
 ghost use Rattle.machines.specs.Refusals.{first_of};
-ghost use Rattle.lease_table.specs.Steps.{grant_checks, grant_with};
+ghost use Rattle.lease_table.specs.Steps.{grant_checks, grant_step, grant_with};
 ghost use Rattle.c_numbers.specs.Outputs.{IsGivenUnlessMemory, output};
 ghost use Rattle.c_table.specs.Rows.{row_numbers};
-ghost use Rattle.c_table.specs.Texts.{IsCommittedGiven, IsGrantText, IsGranted, life_of, task_of, trouble_answer};
+ghost use Rattle.c_table.specs.Texts.{IsCommittedGiven, IsGrantStep, IsGrantText, IsGranted, life_of, task_of, trouble_answer};
 
 use crate::row_numbers::{RowNumbers, numbers_of};
 use assignment::TaskId;
@@ -56,6 +56,34 @@ fn refused(trouble: Trouble<TableError>) -> Answer
     }
 }
 
+// Makes the next grant, which has this message, if the message fits in `out`. The message is made, so
+// a buffer that is too short is `NoRoom`, and memory is taken for no row.
+fn grant_as(
+    job: &JobName,
+    table: &mut LeaseTable,
+    task: TaskId,
+    life: u32,
+    at: u64,
+    text: &[u8],
+    out: &mut [u8],
+    needed: &mut usize,
+) -> Answer
+    requires text { IsGrantText job.now (grant_with table.old table.old.pending task life at) text.now }
+    requires accepted { first_of (grant_checks table.old at) ≡ None }
+    ensures step { IsGrantStep job.now (grant_step table.old task life at) table.old table.new
+        (output out.old needed.old) (output out.new needed.new) result }
+    ensures short { length out.old < length text.now → (result ≡ Answer.NoRoom) × (needed.new ≡ length text.now) }
+{
+    let _ = job;
+    if out.len() < text.len() {
+        return give(text, out, needed);
+    }
+    match table.grant(task, life, at) {
+        Ok(_grant) => give(text, out, needed),
+        Err(trouble) => refused(trouble),
+    }
+}
+
 /// Grants a task a lease for one of its lives, and writes the message of the grant to `out`.
 ///
 /// `WrongForm` if `task` is not 1 to 64 or `life` is 0. If the message does not fit, no grant is
@@ -79,15 +107,8 @@ pub fn grant(
     let Some(life) = life_of(life) else {
         return Answer::WrongForm;
     };
-    let text = match next_text(alloc, job, table, task, life, at) {
-        Ok(text) => text,
-        Err(trouble) => return refused(trouble),
-    };
-    if out.len() < text.len() {
-        return give(&text, out, needed);
-    }
-    match table.grant(task, life, at) {
-        Ok(_grant) => give(&text, out, needed),
+    match next_text(alloc, job, table, task, life, at) {
+        Ok(text) => grant_as(job, table, task, life, at, &text, out, needed),
         Err(trouble) => refused(trouble),
     }
 }

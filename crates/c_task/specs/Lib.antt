@@ -7,3 +7,4 @@ pub mod Owners
 pub mod ClerkCalls
 pub mod SliceKeys
 pub mod Processes
+pub mod GrantNumbers

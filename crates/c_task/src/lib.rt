@@ -7,6 +7,7 @@
 
 mod answers;
 mod clerk_calls;
+mod grant_numbers;
 mod key_handle;
 mod owners;
 mod slicelet_calls;
@@ -14,6 +15,7 @@ mod slicelet_process;
 mod slicelet_release;
 
 pub use clerk_calls::{learn, look, look_at};
+pub use grant_numbers::{GrantNumbers, read_grant};
 pub use key_handle::HandleNumbers;
 pub use owners::OwnersNumbers;
 pub use slicelet_calls::{check, hear, hold, hold_at, open_slicelet, serve, serve_at, start};

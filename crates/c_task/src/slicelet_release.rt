@@ -1,6 +1,6 @@
 //! Releasing a lease: its note is written whole, or nothing changes.
 
-ghost use Rattle.std.specs.Prelude.{◌≡◌, Ok, IfOk, IfErr};
+ghost use Rattle.std.specs.Prelude.{◌≡◌, ◌≢◌, Ok, IfOk, IfErr};
 ghost use Rattle.slicelet.specs.Steps.{release_step};
 ghost use Rattle.c_numbers.specs.Outputs.{output};
 ghost use Rattle.c_task.specs.Releases.{IsFailure, IsNoteGiven, IsReadable, IsReleased, kind_of, note_text};
@@ -82,7 +82,8 @@ fn prepare(
     })
 }
 
-// Replaces the slicelet with the prepared one, if the note fits in `out`.
+// Replaces the slicelet with the prepared one, if the note fits in `out`. The note is made, so memory
+// does not run out: a buffer that is too short is `NoRoom`.
 fn put_prepared(
     job: &JobName,
     slicelet: &mut Slicelet,
@@ -92,8 +93,9 @@ fn put_prepared(
 ) -> Answer
     requires message { prepared.message.items ≡ note_text job.now prepared.note }
     requires readable { IsReadable job.now prepared.note }
-    ensures { IsNoteGiven job.now (prepared.slicelet, prepared.note) slicelet.old slicelet.new
+    ensures given { IsNoteGiven job.now (prepared.slicelet, prepared.note) slicelet.old slicelet.new
         (output out.old needed.old) (output out.new needed.new) result }
+    ensures made { result ≢ Answer.NoMemory }
 {
     let _ = job;
     let Prepared {

@@ -1,5 +1,5 @@
 -- A table that is restored at a place, and one that is not.
-use Rattle.std.proofs.Common.{◌≡◌, ℕ, ℤ, List, Result, Ok, Err}
+use Rattle.std.proofs.Common.{◌≡◌, ℕ, ℤ, List, Ok, Err}
 use Rattle.lease_table.specs.Tables.{Standing}
 use Rattle.c_numbers.specs.declared.answer.Answer.{Answer}
 use Rattle.c_numbers.specs.declared.answer.Answer.TheVariants.{Done}

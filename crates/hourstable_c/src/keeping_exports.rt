@@ -4,6 +4,7 @@ ghost use Rattle.std.specs.Prelude.{◌≡◌};
 ghost use Rattle.lease_table.specs.KeptValues.{kept_of};
 ghost use Rattle.c_numbers.specs.Jobs.{job_of};
 ghost use Rattle.c_numbers.specs.Outputs.{output};
+ghost use Rattle.c_table.specs.Saving.{IsSaved, ahead};
 ghost use Rattle.c_table.specs.Texts.{IsKeptGiven};
 ghost use Rattle.hourstable_c.specs.Opened.{IsRestoration, IsRestoredAt};
 ghost use Rattle.hourstable_c.specs.Places.{OnTable};
@@ -11,7 +12,7 @@ ghost use Rattle.hourstable_c.specs.Returned.{Returns};
 
 use c_numbers::{Answer, Told, job_of};
 use c_place::{Held, Place};
-use c_table::{PolicyNumbers, kept, restore};
+use c_table::{Ahead, PolicyNumbers, kept, restore, save};
 use std::alloc::Global;
 use wire::JobName;
 
@@ -32,6 +33,43 @@ pub extern "C" fn hs_table_kept(
     };
     match held {
         Held::Table(job, table) => kept(alloc, job, table, out, needed).number(),
+        _ => Answer::OtherPlace.number(),
+    }
+}
+
+/// Writes the message of the values to save in place of `saved` to `out`, ahead of the table by
+/// `grants` and `ticks`, or nothing if `saved` covers the table.
+#[unsafe(no_mangle)]
+#[tactic(auto, using(crate::proofs::Returning::returns))]
+pub extern "C" fn hs_table_save(
+    alloc: Global,
+    place: &mut Place,
+    saved: &[u8],
+    grants: u64,
+    ticks: u64,
+    out: &mut [u8],
+    needed: &mut usize,
+) -> i32
+    ensures { OnTable place.old.value place.new.value (output out.new needed.new ≡ output out.old needed.old) result
+        (λ job old new. (new ≡ old)
+        × Returns (IsSaved job (ahead grants ticks) (kept_of old) saved.now (output out.old needed.old) (output out.new needed.new)) result) }
+{
+    let Some(held) = place.read() else {
+        return Answer::OtherPlace.number();
+    };
+    match held {
+        Held::Table(job, table) => {
+            save(
+                alloc,
+                job,
+                table,
+                saved,
+                Ahead { grants, ticks },
+                out,
+                needed,
+            )
+            .number()
+        }
         _ => Answer::OtherPlace.number(),
     }
 }

@@ -7,6 +7,7 @@
 mod assigner_exports;
 mod clerk_exports;
 mod clock_exports;
+mod grant_exports;
 mod keeping_exports;
 mod place_exports;
 mod process_exports;
