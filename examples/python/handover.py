@@ -20,8 +20,10 @@ import socket
 import subprocess
 import sys
 import time
+from pathlib import Path
 
-from hourstable import Assigner, Policy, Refused, Slicelet, Table
+sys.path.insert(0, str(Path(__file__).resolve().parents[2] / "python"))
+from hourstable.library import Assigner, Policy, Refused, Slicelet, Table
 
 JOB = {"redundancy": 1, "skew": 50, "guard": 10000, "bridge": 10000, "job": 60000, "numbers": 1000,
        "assigners": 1, "tasks": 2, "clerks": 1}

@@ -1,28 +1,36 @@
 """Hourstable from Python, by the library of include/hourstable.h.
 
-HOURSTABLE_LIBRARY names the shared object. If it is not set, the system looks for libhourstable.so.
+HOURSTABLE_LIBRARY names the shared object. If it is not set, libhourstable.so beside this file is
+loaded, and if there is none, the one that the system finds.
 
-A call that is not done raises Refused, with the name of its code and the numbers that it sets, or MemoryError. An
-object takes one call at a time, on any thread: threads that share one hold a lock around each call. close() or the end
-of a `with` destroys it. A clock is numbers: it may be copied and pickled, and needs no close().
+A call that is not done raises Refused, with the name of its code and the numbers that it sets, or
+MemoryError. An object takes one call at a time, on any thread: threads that share one hold a lock
+around each call. close() or the end of a `with` destroys it. A clock is numbers: it may be copied
+and pickled, and needs no close().
 """
+
+from __future__ import annotations
 
 import ctypes
 import json
 import os
 import time
-from collections import namedtuple
+from collections.abc import Callable, Iterable, Mapping
+from pathlib import Path
+from typing import Any, NamedTuple, NoReturn, TypeVar
 
 REFUSALS = (
-    "DONE DOWN CLOCK_BACK ENDED NOT_OWNED NO_LEASE NOT_STARTED OLD_LIFE OTHER_TASK OTHER_LIFE OLD TOO_LATE NOTHING_HELD"
-    " HISTORY_FULL BROKEN STRANGER READING_RANGE JOB_HELD NOT_HOLDER STALE_BASE PENDING NOTHING_PENDING"
-    " TOO_MANY_OWNERS_FOR_JOB GRACE HELD NO_ROW NO_ASSIGNMENT NUMBERS_SPENT OLD_GENERATION UNKNOWN NOT_ADOPTED NO_TASKS"
-    " LOADS_LENGTH LOAD_RANGE SENT_AHEAD NO_SAMPLE TOO_OLD TOO_LARGE NOT_YET OTHER_POLICY NO_TERM TERM_RANGE"
-    " KEPT_GENERATION TOO_MANY_GRANTS DEADLINE_RANGE"
+    "DONE DOWN CLOCK_BACK ENDED NOT_OWNED NO_LEASE NOT_STARTED OLD_LIFE OTHER_TASK OTHER_LIFE OLD"
+    " TOO_LATE NOTHING_HELD HISTORY_FULL BROKEN STRANGER READING_RANGE JOB_HELD NOT_HOLDER"
+    " STALE_BASE PENDING NOTHING_PENDING TOO_MANY_OWNERS_FOR_JOB GRACE HELD NO_ROW NO_ASSIGNMENT"
+    " NUMBERS_SPENT OLD_GENERATION UNKNOWN NOT_ADOPTED NO_TASKS LOADS_LENGTH LOAD_RANGE SENT_AHEAD"
+    " NO_SAMPLE TOO_OLD TOO_LARGE NOT_YET OTHER_POLICY NO_TERM TERM_RANGE KEPT_GENERATION"
+    " TOO_MANY_GRANTS DEADLINE_RANGE"
 ).split()
 UNREAD = (
-    "DONE NO_MEMORY NO_ROOM NOT_JSON VERSION OTHER_TYPE WRONG_FORM PAST_END UNSORTED EMPTY NO_SLICES FIRST_NOT_ZERO"
-    " NOT_RISING NO_OWNER TOO_MANY_OWNERS OWNER_TWICE BAD_TASK TOO_MANY_SLICES OTHER_PLACE NO_JOB OTHER_JOB"
+    "DONE NO_MEMORY NO_ROOM NOT_JSON VERSION OTHER_TYPE WRONG_FORM PAST_END UNSORTED EMPTY"
+    " NO_SLICES FIRST_NOT_ZERO NOT_RISING NO_OWNER TOO_MANY_OWNERS OWNER_TWICE BAD_TASK"
+    " TOO_MANY_SLICES OTHER_PLACE NO_JOB OTHER_JOB"
 ).split()
 CARRIED = {
     "NOT_OWNED": ["generation"], "OLD": ["number"], "JOB_HELD": ["until"], "NOT_HOLDER": ["number"],
@@ -35,14 +43,18 @@ SCRIPT_WORDS = {"OLD_GENERATION": "old"}  # if a script has another word than th
 ACTIONS = {1: "take", 2: "renew", 3: "commit", 4: "propose", 5: "rest"}
 TASK_ACTIONS = ("start", "ask guard", "ask bridge", "give up guard", "give up bridge", "rest")
 
+CType = Any  # a type of ctypes, a parameter type, or an argument for one
+Result = TypeVar("Result", bound="Standing")
 
-def name_of(code):
-    """Returns the name of a code in the header, without its HS_; of a code of a later version, CODE and its number."""
+
+def name_of(code: int) -> str:
+    """Returns the name of a code in the header, without its HS_; of a code of a later version, CODE
+    and its number."""
     names, at = (REFUSALS, code) if code >= 0 else (UNREAD, -code)
     return names[at] if at < len(names) else f"CODE {code}"
 
 
-def carried_by(name, told):
+def carried_by(name: str, told: Told) -> dict[str, Any]:
     """Returns the numbers that a code sets, by their names in the header; a kind is its word."""
     carried = {member: getattr(told, member) for member in CARRIED.get(name, [])}
     if "kind" in carried:
@@ -51,31 +63,37 @@ def carried_by(name, told):
 
 
 class Refused(Exception):
-    """A call that is not done: the name of its code, and the numbers that it sets. Its text is that of a script."""
+    """A call that is not done: the name of its code, and the numbers that it sets. Its text is that
+    of a script."""
 
-    def __init__(self, code, carried=None):
+    def __init__(self, code: int, carried: Mapping[str, Any] | None = None) -> None:
         self.code, self.name, self.carried = code, name_of(code), dict(carried or {})
         word = SCRIPT_WORDS.get(self.name, self.name.lower().replace("_", "-"))
         super().__init__(" ".join([word, *map(str, self.carried.values())]))
 
-    def __reduce__(self):
+    def __reduce__(self) -> tuple[type[Refused], tuple[int, dict[str, Any]]]:
         return type(self), (self.code, self.carried)
 
 
-def fitting(c_type, value):
-    """Returns the value if it fits the C type, and raises ValueError otherwise; ctypes alone would truncate it."""
+def fitting(c_type: CType, value: Any) -> int:
+    """Returns the value if it fits the C type, and raises ValueError otherwise; ctypes alone would
+    truncate it."""
     limit = 1 << 8 * ctypes.sizeof(c_type)
     if not isinstance(value, int) or not 0 <= value < limit:
         raise ValueError(f"{value!r} is no whole number below {limit}")
     return value
 
 
-def whole(c_type):
+def whole(c_type: CType) -> CType:
     """Returns a parameter type that accepts only numbers that fit the C type."""
-    return type("Whole", (), {"from_param": staticmethod(lambda value: c_type(fitting(c_type, value)))})
+
+    def from_param(value: Any) -> CType:
+        return c_type(fitting(c_type, value))
+
+    return type("Whole", (), {"from_param": staticmethod(from_param)})
 
 
-def array_of(c_type, values):
+def array_of(c_type: CType, values: Iterable[int]) -> CType:
     """Returns an array of the C type; each value must fit it."""
     values = [fitting(c_type, value) for value in values]
     return (c_type * len(values))(*values)
@@ -84,134 +102,235 @@ def array_of(c_type, values):
 class Numbers(ctypes.Structure):
     """A struct of numbers. Each value must fit its field."""
 
-    def __setattr__(self, name, value):
-        c_type = dict(self._fields_).get(name)
+    def __setattr__(self, name: str, value: Any) -> None:
+        c_type = dict[str, CType](self._fields_).get(name)
         if c_type is None:
             raise AttributeError(f"{type(self).__name__} has no field {name}")
         super().__setattr__(name, fitting(c_type, value))
 
 
-def fields(names, c_type=ctypes.c_uint64):
+def fields(names: str, c_type: CType = ctypes.c_uint64) -> list[tuple[str, CType]]:
     return [(name, c_type) for name in names.split()]
 
 
 class LibraryVersion(Numbers):
     _fields_ = fields("major minor patch", ctypes.c_uint32)
+    major: int
+    minor: int
+    patch: int
 
 
 class Place(ctypes.Structure):
     _fields_ = [("at", ctypes.c_void_p)]
+    at: int | None
 
 
 class Told(Numbers):
     _fields_ = fields("number generation kind task until")
+    number: int
+    generation: int
+    kind: int
+    task: int
+    until: int
 
 
 class KeyHandle(Numbers):
     _fields_ = fields("task slice_key position") + [("life", ctypes.c_uint32)]
+    task: int
+    slice_key: int
+    position: int
+    life: int
 
 
 class HeldLease(Numbers):
     _fields_ = fields("number generation until")
+    number: int
+    generation: int
+    until: int
+
+
+class Grant(Numbers):
+    _fields_ = fields("number task life kind generation ends table_ends")
+    number: int
+    task: int
+    life: int
+    kind: int
+    generation: int
+    ends: int
+    table_ends: int
 
 
 class Owners(ctypes.Structure):
     _fields_ = fields("generation count") + [("tasks", ctypes.c_uint64 * 5)]
+    generation: int
+    count: int
+    tasks: ctypes.Array[ctypes.c_uint64]
 
 
 class Policy(Numbers):
     _fields_ = fields("low high skew guard bridge job numbers")
+    low: int
+    high: int
+    skew: int
+    guard: int
+    bridge: int
+    job: int
+    numbers: int
 
 
 class JobTerm(Numbers):
     _fields_ = fields("number assigner until")
+    number: int
+    assigner: int
+    until: int
 
 
 class Phase(Numbers):
     _fields_ = fields("committed proposed")
+    committed: int
+    proposed: int
 
 
 class Row(Numbers):
     _fields_ = fields("number task life kind generation table_ends")
+    number: int
+    task: int
+    life: int
+    kind: int
+    generation: int
+    table_ends: int
 
 
 class PlanPolicy(Numbers):
     _fields_ = fields("low high churn cold hot most")
+    low: int
+    high: int
+    churn: int
+    cold: int
+    hot: int
+    most: int
 
 
 class Clock(Numbers):
     """A clock: numbers that may be read, and that only its calls change."""
 
-    def __setattr__(self, name, _):
+    def __setattr__(self, name: str, _: object) -> NoReturn:
         raise AttributeError(f"{name} of a {type(self).__name__} is changed by its calls alone")
 
-    def do(self, name, *given):
+    def do(self, name: str, *given: CType) -> None:
         done(getattr(library, f"hs_{name}")(ctypes.byref(self), *given))
 
 
 class TaskClock(Clock):
     """A task's clock, whose values are never below an earlier reading of the table's clock.
 
-    While the task's local clock gains `per` ticks, the table's gains at most `per` + `extra`, and `grain` ticks more.
-    `oldest` is for how many ticks the task goes on without an answer of the table. The header says under `Clocks` what
-    a caller must see to. boottime_ticks() reads a local clock that will do.
+    While the task's local clock gains `per` ticks, the table's gains at most `per` + `extra`, and
+    `grain` ticks more. `oldest` is for how many ticks the task goes on without an answer of the
+    table. The header says under `Clocks` what a caller must see to. boottime_ticks() reads a local
+    clock that will do.
     """
 
     _fields_ = fields("extra per grain oldest sampled sent reading newest last given")
+    extra: int
+    per: int
+    grain: int
+    oldest: int
+    sampled: int
+    sent: int
+    reading: int
+    newest: int
+    last: int
+    given: int
 
-    def __init__(self, extra, per, grain, oldest):
+    def __init__(self, extra: int, per: int, grain: int, oldest: int) -> None:
         super().__init__()
         self.do("task_clock_new", extra, per, grain, oldest)
 
-    def sample(self, sent, reading, now):
-        """Takes an answer of the table: the local reading before its request was sent, the reading that it carries, and
-        the local reading now."""
+    def sample(self, sent: int, reading: int, now: int) -> None:
+        """Takes an answer of the table: the local reading before its request was sent, the reading
+        that it carries, and the local reading now."""
         self.do("task_clock_sample", sent, reading, now)
 
-    def read(self, now):
-        """Returns the value at a local reading, which is the task's reading in calls of its slicelet."""
+    def read(self, now: int) -> int:
+        """Returns the value at a local reading, which is the task's reading in calls of its
+        slicelet."""
         value = ctypes.c_uint64()
         self.do("task_clock_read", now, ctypes.byref(value))
         return value.value
 
 
 class TableClock(Clock):
-    """The table's clock in one process. It goes on from `kept`, the last value that was kept, 0 at first.
+    """The table's clock in one process. It goes on from `kept`, the last value that was kept, 0 at
+    first.
 
     `ahead` is at least how many ticks above the reading values are kept, and the grain and 1 more.
     """
 
     _fields_ = fields("start opened kept last")
+    start: int
+    opened: int
+    kept: int
+    last: int
 
-    def __init__(self, kept, ahead, now):
+    def __init__(self, kept: int, ahead: int, now: int) -> None:
         super().__init__()
         self.do("table_clock_open", kept, ahead, now)
 
-    def read(self, now):
-        """Returns the table's reading at a local reading. Keep a value that is not below it before you use it. Raises
-        Refused with `until`, what was kept, while the clock is below that."""
+    def read(self, now: int) -> int:
+        """Returns the table's reading at a local reading. Keep a value that is not below it before
+        you use it. Raises Refused with `until`, what was kept, while the clock is below that."""
         reading = ctypes.c_uint64()
         code = library.hs_table_clock_read(ctypes.byref(self), now, ctypes.byref(reading))
         done(code, Told(until=self.kept))
         return reading.value
 
 
-Version = namedtuple("Version", "major minor patch")
-Found = namedtuple("Found", "generation tasks")
-Served = namedtuple("Served", "kind generation")
-Held = namedtuple("Held", "number generation until")
+
+class Version(NamedTuple):
+    major: int
+    minor: int
+    patch: int
+
+
+class Found(NamedTuple):
+    generation: int
+    tasks: list[int]
+
+
+class Served(NamedTuple):
+    kind: str
+    generation: int
+
+
+class Held(NamedTuple):
+    number: int
+    generation: int
+    until: int
+
+
+class GrantRead(NamedTuple):
+    number: int
+    task: int
+    life: int
+    kind: str
+    generation: int
+    ends: int
+    table_ends: int
+    ranges: list[tuple[int, int]]
+
 
 U32, U64, SIZE = whole(ctypes.c_uint32), whole(ctypes.c_uint64), whole(ctypes.c_size_t)
 OUT = [ctypes.c_void_p, SIZE, ctypes.POINTER(ctypes.c_size_t)]
 BYTES = [ctypes.c_char_p, SIZE]
 P = ctypes.POINTER
-DECLARED = {
+DECLARED: dict[str, list[CType]] = {
     "place_new": [P(Place)],
     "slicelet_close": [P(Place)], "clerk_close": [P(Place)], "table_close": [P(Place)],
     "assigner_close": [P(Place)], "session_close": [P(Place)],
     "slicelet_open": [P(Place), *BYTES, U64],
     "slicelet_resume": [P(Place), *BYTES, U64, U32],
     "ended_note": [*BYTES, U64, U32, U32, *OUT],
+    "grant_read": [*BYTES, *BYTES, P(Grant), P(ctypes.c_uint64), SIZE, P(ctypes.c_size_t)],
     "slicelet_held": [P(Place), U32, P(HeldLease)],
     "slicelet_next": [P(Place), P(Phase), U64, P(ctypes.c_uint32)],
     "slicelet_calls_left": [P(Place), P(ctypes.c_uint64)],
@@ -230,6 +349,7 @@ DECLARED = {
     "clerk_forget": [P(Place)],
     "table_open": [P(Place), *BYTES, P(Policy)],
     "table_kept": [P(Place), *OUT],
+    "table_save": [P(Place), *BYTES, U64, U64, *OUT],
     "table_restore": [P(Place), *BYTES, P(Policy), *BYTES, P(Told)],
     "table_take": [P(Place), U64, U64, P(JobTerm), P(Told)],
     "table_renew": [P(Place), U64, U64, P(JobTerm), P(Told)],
@@ -251,37 +371,46 @@ DECLARED = {
     "table_clock_open": [P(TableClock), U64, U64, U64],
     "table_clock_read": [P(TableClock), U64, P(ctypes.c_uint64)],
     "clock_evidence": [*BYTES, *BYTES, U64, P(Policy), P(ctypes.c_uint32)],
-    "plan": [*BYTES, *BYTES, ctypes.c_void_p, SIZE, ctypes.c_void_p, SIZE, P(PlanPolicy), *OUT],
+    "plan": [
+        *BYTES, *BYTES, ctypes.c_void_p, SIZE, ctypes.c_void_p, SIZE, P(PlanPolicy), *OUT,
+    ],
     "session_open": [P(Place), *BYTES, U32],
     "session_answer": [P(Place), *BYTES, *OUT],
     "session_last": [P(Place), *OUT],
 }
 
 
-def load(path):
+def find() -> str:
+    """Returns the path of the shared object, or its name for the system to find."""
+    beside = Path(__file__).with_name("libhourstable.so")
+    return os.environ.get("HOURSTABLE_LIBRARY") or str(beside if beside.exists() else beside.name)
+
+
+def load(path: str) -> ctypes.CDLL:
     """Loads the library, and declares its functions as in the header."""
     loaded = ctypes.CDLL(path)
     for name, parameters in DECLARED.items():
         function = getattr(loaded, f"hs_{name}")
         function.argtypes, function.restype = parameters, ctypes.c_int32
-    loaded.hs_library_version.argtypes, loaded.hs_library_version.restype = [P(LibraryVersion)], None
+    loaded.hs_library_version.argtypes = [P(LibraryVersion)]
+    loaded.hs_library_version.restype = None
     loaded.hs_slice_key.argtypes, loaded.hs_slice_key.restype = BYTES, ctypes.c_uint64
     loaded.hs_place_free.argtypes, loaded.hs_place_free.restype = [P(Place)], None
     return loaded
 
 
-library = load(os.environ.get("HOURSTABLE_LIBRARY", "libhourstable.so"))
+library = load(find())
 
 
-def done(code, told=None):
+def done(code: int, told: Told | None = None) -> None:
     """Raises Refused or MemoryError if the code is not that of a call that is done."""
     if code == -1:
         raise MemoryError("hourstable")
     if code != 0:
-        raise Refused(code, told and carried_by(name_of(code), told))
+        raise Refused(code, carried_by(name_of(code), told) if told else None)
 
 
-def text_of(call, *given):
+def text_of(call: Callable[..., int], *given: CType) -> bytes:
     """Returns the text that a call writes. If it does not fit, calls again with a longer buffer."""
     room, needed = ctypes.create_string_buffer(1024), ctypes.c_size_t()
     code = call(*given, room, len(room), ctypes.byref(needed))
@@ -292,53 +421,78 @@ def text_of(call, *given):
     return room.raw[: needed.value]
 
 
-def library_version():
+def library_version() -> Version:
     """The version of the loaded library: major, minor and patch."""
     version = LibraryVersion()
     library.hs_library_version(ctypes.byref(version))
     return Version(version.major, version.minor, version.patch)
 
 
-def slice_key(key):
-    return library.hs_slice_key(key, len(key))
+def slice_key(key: bytes) -> int:
+    return int(library.hs_slice_key(key, len(key)))
 
 
-def named(job):
+def named(job: str) -> tuple[bytes, int]:
     """Returns the name of a job as the library takes it."""
     name = job.encode()
     return name, len(name)
 
 
-def ended_note(job, task, life, kind):
-    """Returns the note of a job that gives back all leases of a kind of a life that ended with its process."""
+def ended_note(job: str, task: int, life: int, kind: str) -> bytes:
+    """Returns the note of a job that gives back all leases of a kind of a life that ended with its
+    process."""
     return text_of(library.hs_ended_note, *named(job), task, life, KINDS[kind])
 
 
-def plan(job, assignment, loads, tasks, policy):
+def read_grant(job: str, grant: bytes) -> GrantRead:
+    """Returns what a grant of a job says. `ends` is a reading of the task's clock, `table_ends` one
+    of the table's. A range is its first slice key and the one after its last; the ranges rise, and
+    do not touch."""
+    numbers, needed, edges = Grant(), ctypes.c_size_t(), (ctypes.c_uint64 * 64)()
+    given = (*named(job), grant, len(grant), ctypes.byref(numbers))
+    code = library.hs_grant_read(*given, edges, len(edges), ctypes.byref(needed))
+    if code == -2:
+        edges = (ctypes.c_uint64 * needed.value)()
+        code = library.hs_grant_read(*given, edges, len(edges), ctypes.byref(needed))
+    done(code)
+    ranges = list(zip(edges[: needed.value : 2], edges[1 : needed.value : 2]))
+    return GrantRead(
+        numbers.number, numbers.task, numbers.life, KIND_WORDS[numbers.kind], numbers.generation,
+        numbers.ends, numbers.table_ends, ranges,
+    )
+
+
+def plan(
+    job: str, assignment: bytes, loads: Iterable[int], tasks: Iterable[int], policy: PlanPolicy
+) -> bytes:
     """Returns the message of the assignment of the next generation of a job."""
-    loads, tasks = array_of(ctypes.c_uint64, loads), array_of(ctypes.c_uint64, tasks)
-    given = (*named(job), assignment, len(assignment), loads, len(loads), tasks, len(tasks), ctypes.byref(policy))
-    return text_of(library.hs_plan, *given)
+    weights, owners = array_of(ctypes.c_uint64, loads), array_of(ctypes.c_uint64, tasks)
+    lists = (weights, len(weights), owners, len(owners))
+    base = (*named(job), assignment, len(assignment))
+    return text_of(library.hs_plan, *base, *lists, ctypes.byref(policy))
 
 
-def boottime_ticks():
-    """Returns CLOCK_BOOTTIME of Linux in ticks of a millisecond. It counts while the machine is suspended, as a task's
-    local clock must; time.monotonic() does not."""
+def boottime_ticks() -> int:
+    """Returns CLOCK_BOOTTIME of Linux in ticks of a millisecond. It counts while the machine is
+    suspended, as a task's local clock must; time.monotonic() does not."""
     return time.clock_gettime_ns(time.CLOCK_BOOTTIME) // 1_000_000
 
 
-def clock_evidence(job, grant, at, policy):
-    """Whether a grant of a job shows at the reading `at` of its task that clocks are not timely. False shows nothing.
-    """
+def clock_evidence(job: str, grant: bytes, at: int, policy: Policy) -> bool:
+    """Whether a grant of a job shows at the reading `at` of its task that clocks are not timely.
+    False shows nothing."""
     shown = ctypes.c_uint32()
-    done(library.hs_clock_evidence(*named(job), grant, len(grant), at, ctypes.byref(policy), ctypes.byref(shown)))
+    told = (ctypes.byref(policy), ctypes.byref(shown))
+    done(library.hs_clock_evidence(*named(job), grant, len(grant), at, *told))
     return shown.value == 1
 
 
 class Standing:
     """An object in a place of its own."""
 
-    def __init__(self, kind, *given):
+    place: Place | None
+
+    def __init__(self, kind: str, *given: CType) -> None:
         self.kind, self.told, self.place = kind, Told(), None
         place = Place()
         done(library.hs_place_new(ctypes.byref(place)))
@@ -349,103 +503,109 @@ class Standing:
             self.close()
             raise
 
-    def function(self, name):
+    def standing(self) -> Place:
         if self.place is None:
             raise ValueError(f"the {self.kind} is closed")
-        return getattr(library, f"hs_{self.kind}_{name}")
+        return self.place
 
-    def do(self, name, *given):
-        done(self.function(name)(ctypes.byref(self.place), *given), self.told)
+    def function(self, name: str) -> Callable[..., int]:
+        found: Callable[..., int] = getattr(library, f"hs_{self.kind}_{name}")
+        return found
 
-    def text(self, name, *given):
-        return text_of(self.function(name), ctypes.byref(self.place), *given)
+    def do(self, name: str, *given: CType) -> None:
+        done(self.function(name)(ctypes.byref(self.standing()), *given), self.told)
 
-    def told_by(self):
+    def text(self, name: str, *given: CType) -> bytes:
+        return text_of(self.function(name), ctypes.byref(self.standing()), *given)
+
+    def told_by(self) -> CType:
         return ctypes.byref(self.told)
 
-    def close(self):
+    def close(self) -> None:
         place, self.place = self.place, None
         if place is not None:
             library.hs_place_free(ctypes.byref(place))
 
-    def __enter__(self):
+    def __enter__(self: Result) -> Result:
         return self
 
-    def __exit__(self, *_):
+    def __exit__(self, *_: object) -> None:
         self.close()
 
-    def __copy__(self):
+    def __copy__(self) -> NoReturn:
         raise TypeError(f"a {self.kind} is not copied: the place that it stands in is freed once")
 
-    def __deepcopy__(self, _):
-        return self.__copy__()
+    def __deepcopy__(self, _: object) -> NoReturn:
+        self.__copy__()
 
-    def __reduce_ex__(self, _):
-        return self.__copy__()
+    def __reduce_ex__(self, _: object) -> NoReturn:
+        self.__copy__()
 
 
 class Slicelet(Standing):
-    """A slicelet of a job: knows the leases of a server task and decides whether the task may serve a key.
+    """A slicelet of a job: knows the leases of a server task and decides whether the task may serve
+    a key.
 
     Readings are in ticks of the task's clock.
     """
 
-    def __init__(self, job, task):
+    def __init__(self, job: str, task: int) -> None:
         super().__init__("slicelet", *named(job), task)
 
     @classmethod
-    def resume(cls, job, task, life):
-        """Returns the slicelet of the task's new process. `life` is the greatest life that the task ever started. Never
-        call it beside a process of the task that may still run."""
+    def resume(cls, job: str, task: int, life: int) -> Slicelet:
+        """Returns the slicelet of the task's new process. `life` is the greatest life that the task
+        ever started. Never call it beside a process of the task that may still run."""
         slicelet = cls(job, task)
         slicelet.do("resume", *named(job), task, life)
         return slicelet
 
-    def start(self, life, at):
+    def start(self, life: int, at: int) -> None:
         self.do("start", life, at)
 
-    def hear(self, grant, at):
+    def hear(self, grant: bytes, at: int) -> None:
         self.do("hear", grant, len(grant), at, self.told_by())
 
-    def release(self, kind, at):
+    def release(self, kind: str, at: int) -> bytes:
         return self.text("release", KINDS[kind], at)
 
-    def serve(self, key, at):
+    def serve(self, key: bytes, at: int) -> Served:
         self.do("serve", key, len(key), at, self.told_by())
         return Served(KIND_WORDS[self.told.kind], self.told.generation)
 
-    def hold(self, key, at):
+    def hold(self, key: bytes, at: int) -> KeyHandle:
         handle = KeyHandle()
         self.do("hold", key, len(key), at, ctypes.byref(handle), self.told_by())
         return handle
 
-    def serve_at(self, slice_key, at):
+    def serve_at(self, slice_key: int, at: int) -> Served:
         """Serves a key by its slice key, which need not be hashed again."""
         self.do("serve_at", slice_key, at, self.told_by())
         return Served(KIND_WORDS[self.told.kind], self.told.generation)
 
-    def hold_at(self, slice_key, at):
+    def hold_at(self, slice_key: int, at: int) -> KeyHandle:
         """Takes a handle on a key by its slice key."""
         handle = KeyHandle()
         self.do("hold_at", slice_key, at, ctypes.byref(handle), self.told_by())
         return handle
 
-    def check(self, handle, at):
+    def check(self, handle: KeyHandle, at: int) -> None:
         self.do("check", ctypes.byref(handle), at)
 
-    def held(self, kind):
+    def held(self, kind: str) -> Held:
         """Returns the lease of a kind that the task holds, which may have ended."""
         held = HeldLease()
         self.do("held", KINDS[kind], ctypes.byref(held))
         return Held(held.number, held.generation, held.until)
 
-    def next(self, phase, at):
-        """Returns what the task does next about its leases, in a phase of the table: one of TASK_ACTIONS."""
+    def next(self, phase: Phase, at: int) -> str:
+        """Returns what the task does next about its leases, in a phase of the table: one of
+        TASK_ACTIONS."""
         action = ctypes.c_uint32()
         self.do("next", ctypes.byref(phase), at, ctypes.byref(action))
         return TASK_ACTIONS[action.value - 1]
 
-    def calls_left(self):
+    def calls_left(self) -> int:
         """Returns how many more starts, hears and releases are accepted."""
         left = ctypes.c_uint64()
         self.do("calls_left", ctypes.byref(left))
@@ -455,129 +615,140 @@ class Slicelet(Standing):
 class Clerk(Standing):
     """A clerk of a job: knows the newest assignment that a client was given."""
 
-    def __init__(self, job):
+    def __init__(self, job: str) -> None:
         super().__init__("clerk", *named(job))
 
-    def learn(self, assignment):
+    def learn(self, assignment: bytes) -> None:
         self.do("learn", assignment, len(assignment), self.told_by())
 
-    def look(self, key):
+    def look(self, key: bytes) -> Found:
         owners = Owners()
         self.do("look", key, len(key), ctypes.byref(owners))
         return Found(owners.generation, list(owners.tasks[: owners.count]))
 
-    def look_at(self, slice_key):
+    def look_at(self, slice_key: int) -> Found:
         """Looks up the owners of a key by its slice key."""
         owners = Owners()
         self.do("look_at", slice_key, ctypes.byref(owners))
         return Found(owners.generation, list(owners.tasks[: owners.count]))
 
-    def forget(self):
+    def forget(self) -> None:
         self.do("forget")
 
 
 class Table(Standing):
     """The lease table of a job. Readings are in ticks of the table's clock."""
 
-    def __init__(self, job, policy):
+    def __init__(self, job: str, policy: Policy) -> None:
         super().__init__("table", *named(job), ctypes.byref(policy))
 
     @classmethod
-    def restore(cls, job, policy, kept):
+    def restore(cls, job: str, policy: Policy, kept: bytes) -> Table:
         """Returns the table that kept these values, as a restart leaves it."""
         table = cls(job, policy)
         try:
-            table.do("restore", *named(job), ctypes.byref(policy), kept, len(kept), table.told_by())
+            given = (*named(job), ctypes.byref(policy), kept, len(kept), table.told_by())
+            table.do("restore", *given)
         except BaseException:
             table.close()
             raise
         return table
 
-    def kept(self):
-        """Returns the values to save before the reply to a call that changed the table leaves the process."""
+    def kept(self) -> bytes:
+        """Returns the values to save before the reply to a call that changed the table leaves the
+        process."""
         return self.text("kept")
 
-    def term(self, name, number, at):
+    def save(self, saved: bytes, grants: int, ticks: int) -> bytes | None:
+        """Returns the values to save in place of `saved`, ahead of the table by so many grants and
+        ticks, or None if `saved` covers the table, so that nothing has to be saved. `saved` is what
+        was saved last, b"" if nothing was."""
+        return self.text("save", saved, len(saved), grants, ticks) or None
+
+    def term(self, name: str, number: int, at: int) -> JobTerm:
         term = JobTerm()
         self.do(name, number, at, ctypes.byref(term), self.told_by())
         return term
 
-    def take(self, assigner, at):
+    def take(self, assigner: int, at: int) -> JobTerm:
         return self.term("take", assigner, at)
 
-    def renew(self, number, at):
+    def renew(self, number: int, at: int) -> JobTerm:
         return self.term("renew", number, at)
 
-    def propose(self, number, assignment, at):
+    def propose(self, number: int, assignment: bytes, at: int) -> None:
         self.do("propose", number, assignment, len(assignment), at, self.told_by())
 
-    def commit(self, number, at):
+    def commit(self, number: int, at: int) -> int:
         self.do("commit", number, at, self.told_by())
         return self.told.generation
 
-    def grant(self, task, life, at):
+    def grant(self, task: int, life: int, at: int) -> bytes:
         return self.text("grant", task, life, at)
 
-    def free(self, note, at):
+    def free(self, note: bytes, at: int) -> int:
         freed = ctypes.c_uint64()
         self.do("free", note, len(note), at, ctypes.byref(freed), self.told_by())
         return freed.value
 
-    def restart(self):
+    def restart(self) -> int:
         lost = ctypes.c_uint64()
         self.do("restart", ctypes.byref(lost))
         return lost.value
 
-    def phase(self):
+    def phase(self) -> Phase:
         phase = Phase()
         self.do("phase", ctypes.byref(phase))
         return phase
 
-    def rows(self):
-        rows, needed = (Row * 64)(), ctypes.c_size_t()
-        code = self.function("rows")(ctypes.byref(self.place), rows, len(rows), ctypes.byref(needed))
+    def rows(self) -> list[Row]:
+        rows, needed, call = (Row * 64)(), ctypes.c_size_t(), self.function("rows")
+        place = ctypes.byref(self.standing())
+        code = call(place, rows, len(rows), ctypes.byref(needed))
         if code == -2:
             rows = (Row * needed.value)()
-            code = self.function("rows")(ctypes.byref(self.place), rows, len(rows), ctypes.byref(needed))
+            code = call(place, rows, len(rows), ctypes.byref(needed))
         done(code)
         return list(rows[: needed.value])
 
-    def committed(self):
+    def committed(self) -> bytes:
         return self.text("committed")
 
 
 class Assigner(Standing):
     """An assigner: keeps a term of the job lease."""
 
-    def __init__(self, number, job):
+    def __init__(self, number: int, job: int) -> None:
         super().__init__("assigner", number, job)
 
-    def adopt(self, term):
+    def adopt(self, term: JobTerm) -> None:
         self.do("adopt", ctypes.byref(term))
 
-    def restart(self):
+    def restart(self) -> None:
         self.do("restart")
 
-    def next(self, at, phase, wanted):
+    def next(self, at: int, phase: Phase, wanted: bool) -> tuple[str, int]:
         """Returns what to do next, and the number of the kept term, 0 for none."""
         action, number = ctypes.c_uint32(), ctypes.c_uint64()
-        self.do("next", at, ctypes.byref(phase), int(wanted), ctypes.byref(action), ctypes.byref(number))
+        told = (ctypes.byref(action), ctypes.byref(number))
+        self.do("next", at, ctypes.byref(phase), int(wanted), *told)
         return ACTIONS[action.value], number.value
 
 
 class Session(Standing):
     """A whole job, played step by step in the words of scripts."""
 
-    def __init__(self, job):
+    def __init__(self, job: Mapping[str, Any]) -> None:
         line = json.dumps({"job": job}).encode()
         super().__init__("session", line, len(line), 1)
 
-    def ask(self, do, **members):
-        """Plays a step and returns its reply. The step is played once, even if the reply does not fit at first."""
+    def ask(self, do: str, **members: Any) -> Any:
+        """Plays a step and returns its reply. The step is played once, even if the reply does not
+        fit at first."""
         line = json.dumps({"do": do, **members}).encode()
         room, needed = ctypes.create_string_buffer(1024), ctypes.c_size_t()
-        answer = self.function("answer")
-        code = answer(ctypes.byref(self.place), line, len(line), room, len(room), ctypes.byref(needed))
+        place, answer = ctypes.byref(self.standing()), self.function("answer")
+        code = answer(place, line, len(line), room, len(room), ctypes.byref(needed))
         if code == -2:
             return json.loads(self.text("last"))
         done(code)

@@ -1,0 +1,158 @@
+"""Bugs that are put in on purpose, which a run of chaos must find. Each changes what the package
+does in one process, and leaves the package alone."""
+
+import queue
+import threading
+import time
+from collections.abc import Callable
+from typing import Any
+
+LATE = 0.5  # seconds after which a late store writes
+
+
+def answer_before_the_store() -> None:
+    """The control plane answers, and what the answer rests on is stored half a second later."""
+    from hourstable import command, control, store
+
+    real = store.open_store
+
+    def open_late(url: str) -> Any:
+        return LateStore(real(url))
+
+    for module in (store, control, command):
+        if hasattr(module, "open_store"):
+            setattr(module, "open_store", open_late)
+
+
+class LateStore:
+    """A store that answers before it has stored."""
+
+    def __init__(self, store: Any) -> None:
+        self._store = store
+        self._versions: dict[tuple[str, Any], Any] = {}  # the real version of one that was told
+        self._told: dict[str, Any] = {}  # the last one that was told of a job
+        self._later: queue.Queue[tuple[Any, ...]] = queue.Queue()
+        threading.Thread(target=self._write, daemon=True).start()
+
+    def swap(self, job: str, version: Any, kept: Any, line: Any) -> Any:
+        told = ("told", time.monotonic_ns())
+        self._later.put((time.monotonic() + LATE, job, version, kept, line, told))
+        self._told[job] = told
+        return told
+
+    def version(self, job: str) -> Any:
+        return self._told.get(job) or self._store.version(job)
+
+    def _write(self) -> None:
+        while True:
+            at, job, version, kept, line, told = self._later.get()
+            time.sleep(max(0.0, at - time.monotonic()))
+            version = self._versions.pop((job, version), version)
+            try:
+                self._versions[job, told] = self._store.swap(job, version, kept, line)
+            except Exception:
+                pass
+
+    def __getattr__(self, name: str) -> Any:
+        return getattr(self._store, name)
+
+
+def use_a_life_twice() -> None:
+    """The control plane gives a task that begins the life that it had before."""
+    from hourstable import store
+
+    def same_life(real: Callable[..., int]) -> Callable[..., int]:
+        def raise_life(self: Any, job: str, task: int) -> int:
+            last = self.lives(job).get(task)
+            return real(self, job, task) if last is None else int(getattr(last, "life", last))
+
+        return raise_life
+
+    for kind in _with(store, "raise_life"):
+        setattr(kind, "raise_life", same_life(getattr(kind, "raise_life")))
+
+
+def commit_over_bridges() -> None:
+    """The table commits although tasks hold bridge leases of an older generation."""
+    from hourstable.library import Refused, Table, ended_note
+
+    begin, commit = Table.__init__, Table.commit
+
+    def begin_named(self: Any, job: str, policy: Any) -> None:
+        self.job_name = job
+        begin(self, job, policy)
+
+    def commit_early(self: Any, number: int, at: int) -> int:
+        for row in self.rows():
+            if row.kind == 2:
+                try:
+                    self.free(ended_note(self.job_name, row.task, row.life, "bridge"), at)
+                except Refused:
+                    pass
+        return commit(self, number, at)
+
+    setattr(Table, "__init__", begin_named)
+    setattr(Table, "commit", commit_early)
+
+
+def use_a_lease_past_its_end() -> None:
+    """The task answers although its lease has ended."""
+    from hourstable.library import KeyHandle, Refused, Served, Slicelet
+
+    serve, hold, check = Slicelet.serve_at, Slicelet.hold_at, Slicelet.check
+    last: dict[str, Any] = {}
+
+    def serve_late(self: Any, slice_key: int, at: int) -> Served:
+        try:
+            last["served"] = serve(self, slice_key, at)
+        except Refused as refused:
+            if refused.name != "ENDED" or "served" not in last:
+                raise
+        served: Served = last["served"]
+        return served
+
+    def hold_late(self: Any, slice_key: int, at: int) -> KeyHandle:
+        try:
+            last["handle"] = hold(self, slice_key, at)
+        except Refused as refused:
+            if refused.name != "ENDED" or "handle" not in last:
+                raise
+        old = last["handle"]
+        return KeyHandle(old.task, slice_key, old.position, old.life)
+
+    def check_late(self: Any, handle: KeyHandle, at: int) -> None:
+        try:
+            check(self, handle, at)
+        except Refused as refused:
+            try:
+                serve(self, handle.slice_key, at)
+            except Refused as why:
+                if why.name == "ENDED":
+                    return
+            raise refused
+
+    setattr(Slicelet, "serve_at", serve_late)
+    setattr(Slicelet, "hold_at", hold_late)
+    setattr(Slicelet, "check", check_late)
+
+
+def _with(module: Any, name: str) -> list[type]:
+    """Returns the classes of a module that have a method of their own of this name."""
+    return [
+        it for it in vars(module).values()
+        if isinstance(it, type) and name in vars(it) and not getattr(it, "_is_protocol", False)
+    ]
+
+
+BUGS: dict[str, tuple[str, Callable[[], None]]] = {
+    "answer-before-store": ("control", answer_before_the_store),
+    "life-twice": ("control", use_a_life_twice),
+    "bridge-not-waited-for": ("control", commit_over_bridges),
+    "past-end": ("task", use_a_lease_past_its_end),
+}
+
+
+def put_in(name: str | None) -> None:
+    """Puts a bug in."""
+    if name is not None:
+        BUGS[name][1]()

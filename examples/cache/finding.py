@@ -1,0 +1,82 @@
+"""Finds what the example needs: a Python with the packages, the library and the audit."""
+
+import importlib.util
+import os
+import shutil
+import subprocess
+import sys
+from pathlib import Path
+
+HERE = Path(__file__).resolve().parent
+TOP = HERE.parents[1]
+PACKAGE = TOP / "python"
+NEEDED = {"aiohttp": "python3-aiohttp", "prometheus_client": "python3-prometheus-client"}
+
+
+class Missing(Exception):
+    """Something that the example cannot do without."""
+
+
+def run_with_packages() -> None:
+    """Goes on in a Python that has the packages: this one, or the one of the system."""
+    lacking = [name for name in NEEDED if importlib.util.find_spec(name) is None]
+    system = "/usr/bin/python3"
+    if not lacking:
+        return
+    if os.path.realpath(sys.executable) != os.path.realpath(system) and os.path.exists(system):
+        os.execv(system, [system, *sys.argv])
+    packages = " ".join(NEEDED[name] for name in lacking)
+    sys.exit(f"{Path(sys.argv[0]).name}: there is no {', '.join(lacking)} (Debian: {packages})")
+
+
+def library(made: Path) -> Path:
+    """Returns the shared object of the library. It is that of HOURSTABLE_LIBRARY or beside the
+    package, or is linked in the folder `made` from the archive that `rt lib` makes."""
+    given = os.environ.get("HOURSTABLE_LIBRARY")
+    beside = PACKAGE / "hourstable/libhourstable.so"
+    archive = TOP / "crates/hourstable_c/out/libhourstable_c.a"
+    if given:
+        return Path(given).resolve()
+    if beside.exists():
+        return beside
+    if not archive.exists():
+        raise Missing(
+            "there is no libhourstable.so: run `rt lib` in crates/hourstable_c, which proves and"
+            " builds it, or set HOURSTABLE_LIBRARY"
+        )
+    return _linked(archive, made)
+
+
+def _linked(archive: Path, made: Path) -> Path:
+    """Links the archive to a shared object that exports the names of the header."""
+    kit = Path(_said(["rt", "doc"]).split()[-1]).parent
+    exported, shared = made / "exported", made / "libhourstable.so"
+    exported.write_text("{ global: hs_*; local: *; };\n")
+    whole = ["-Wl,--whole-archive", str(archive), "-Wl,--no-whole-archive"]
+    kits = [str(kit / "c" / name) for name in ("liblibc_c.a", "libos_c.a")]
+    script = f"-Wl,--version-script={exported}"
+    _said(["gcc", "-shared", "-o", str(shared), "-Wl,-z,defs", script, *whole, *kits])
+    return shared
+
+
+def _said(words: list[str]) -> str:
+    try:
+        return subprocess.run(words, check=True, capture_output=True, text=True).stdout
+    except FileNotFoundError as why:
+        raise Missing(f"there is no {words[0]}") from why
+    except subprocess.CalledProcessError as why:
+        raise Missing(f"{' '.join(words)}: {why.stderr[-500:]}") from why
+
+
+def program(given: str | None) -> Path:
+    """Returns the program `hourstable`, which audits."""
+    built = TOP / "crates/hourstable/out/hourstable"
+    found = given or os.environ.get("HOURSTABLE_PROGRAM") or shutil.which("hourstable")
+    if found is None and built.exists():
+        found = str(built)
+    if found is None:
+        raise Missing(
+            "there is no hourstable to audit with: run `rt run` in crates/hourstable, which proves"
+            " and builds it, or say where by --hourstable"
+        )
+    return Path(found).resolve()

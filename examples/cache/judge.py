@@ -1,0 +1,123 @@
+"""Judges what tasks wrote and what clients were told. It knows nothing of Hourstable: it reads the
+spans of the tasks, the acknowledgements of the clients and the shelf, whose times are of one clock.
+"""
+
+import json
+import urllib.parse
+from collections import defaultdict
+from collections.abc import Iterator
+from pathlib import Path
+from typing import Any, NamedTuple
+
+IDS = 32  # how many ids of writes a slot has
+
+
+class Span(NamedTuple):
+    """A task wrote a key between two times."""
+
+    begun: int
+    ended: int
+    task: int
+    write: str
+
+
+class Verdict(NamedTuple):
+    """What was found wrong, and how much was looked at."""
+
+    faults: list[str]
+    spans: int
+    writes: int
+    reads: int
+
+
+def lines_of(folder: Path, names: str) -> Iterator[list[Any]]:
+    """Returns the lines of files. A last line may be torn, as by a kill."""
+    for path in sorted(folder.glob(names)):
+        for line in path.read_bytes().split(b"\n"):
+            try:
+                found = json.loads(line)
+            except ValueError:
+                continue
+            yield found
+
+
+def overlaps(folder: Path) -> tuple[list[str], int]:
+    """Finds writes of a key by two tasks at once."""
+    spans: dict[str, list[Span]] = defaultdict(list)
+    for task, key, write, _, begun, ended in lines_of(folder, "spans-*.jsonl"):
+        spans[key].append(Span(begun, ended, task, write))
+    faults = []
+    for key, them in sorted(spans.items()):
+        them.sort()
+        latest: dict[int, Span] = {}  # of each task, the span that ends last
+        for span in them:
+            for task, before in latest.items():
+                if task != span.task and before.ended > span.begun:
+                    faults.append(
+                        f"{key}: task {task} wrote {before.write} until {before.ended}, and task"
+                        f" {span.task} wrote {span.write} from {span.begun} on"
+                    )
+            if span.task not in latest or latest[span.task].ended < span.ended:
+                latest[span.task] = span
+    return faults, sum(map(len, spans.values()))
+
+
+def slots(shelf: Path) -> dict[str, dict[int, list[str]]]:
+    """Returns the ids of each version of each session on the shelf."""
+    made: dict[str, dict[int, list[str]]] = defaultdict(dict)
+    for row in shelf.glob("key-*"):
+        key = urllib.parse.unquote(row.name.removeprefix("key-"))
+        for slot in row.iterdir():
+            made[key][int(slot.name)] = json.loads(slot.read_text())[2]
+    return made
+
+
+def broken_rows(rows: dict[str, dict[int, list[str]]]) -> Iterator[str]:
+    """Finds sessions that a writer began anew although a write was there."""
+    for key, row in sorted(rows.items()):
+        for version in range(1, max(row) + 1):
+            if version not in row:
+                yield f"{key}: version {version} is missing"
+            elif version > 1 and row[version][1:] != row.get(version - 1, [])[: IDS - 1]:
+                yield f"{key}: version {version} is not made of version {version - 1}"
+
+
+def lost_writes(folder: Path, rows: dict[str, dict[int, list[str]]]) -> tuple[list[str], int]:
+    """Finds acknowledged writes that the shelf does not have."""
+    faults, writes = [], 0
+    for what, key, write, version, _, _ in lines_of(folder, "acks-*.jsonl"):
+        if what == "write":
+            writes += 1
+            if write not in rows.get(key, {}).get(version, []):
+                faults.append(f"{key}: write {write} was acknowledged as version {version}")
+    return faults, writes
+
+
+def stale_reads(folder: Path) -> tuple[list[str], int]:
+    """Finds reads that did not see a write which was acknowledged before they were asked."""
+    events: dict[str, list[tuple[int, int, int]]] = defaultdict(list)
+    for what, key, _, version, asked, answered in lines_of(folder, "acks-*.jsonl"):
+        if what == "read":
+            events[key].append((asked, 1, version))
+        events[key].append((answered, 0, version))
+    faults, reads = [], 0
+    for key, them in sorted(events.items()):
+        greatest = 0
+        for at, is_read, version in sorted(them):
+            if not is_read:
+                greatest = max(greatest, version)
+                continue
+            reads += 1
+            if version < greatest:
+                faults.append(f"{key}: asked at {at}, version {version} was read after {greatest}")
+    return faults, reads
+
+
+def judge(folder: Path) -> Verdict:
+    """Judges a run of the cache from what is in its folder."""
+    faults, spans = overlaps(folder)
+    rows = slots(folder / "shelf")
+    faults += broken_rows(rows)
+    lost, writes = lost_writes(folder, rows)
+    stale, reads = stale_reads(folder)
+    return Verdict(faults + lost + stale, spans, writes, reads)

@@ -1,0 +1,204 @@
+#!/usr/bin/env python3
+"""A task of the session cache: answers for the sessions that it owns, over HTTP.
+
+    PUT /sessions/KEY   {"id": ID, "text": TEXT, "keep": true}  ->  {"version": N}
+    GET /sessions/KEY   ->  {"version": N, "text": TEXT}
+    GET /metrics, /healthz
+
+421 says that the task may not answer for the key now, and why. 503 says that it lost the key while
+it worked: a write may or may not have been made, and may be sent again with its id. What is kept is
+on the shelf before it is answered, and outlives the task. What is not kept is in memory alone.
+"""
+
+import argparse
+import asyncio
+import json
+import logging
+import random
+import signal
+import sys
+import time
+from pathlib import Path
+from typing import Any
+
+from aiohttp import web
+
+from finding import PACKAGE
+
+sys.path.insert(0, str(PACKAGE))
+
+from bugs import BUGS, put_in  # noqa: E402
+from shelf import Session, Shelf, Taken  # noqa: E402
+
+from hourstable.library import slice_key  # noqa: E402
+from hourstable.ranges import Ranges, holds  # noqa: E402
+from hourstable.task import ClockBroken, Denied, Drift, Hold, LeaseLost, Task  # noqa: E402
+from hourstable.tickets import Tickets, follow, real_milliseconds  # noqa: E402
+
+
+class Spans:
+    """When this task wrote which key, by a clock that all processes of the machine share: from
+    after it was told that it owns the key to before it asked again. One line for each write that
+    was answered. Nothing of Hourstable is in it."""
+
+    def __init__(self, path: Path, task: int) -> None:
+        self.file, self.task = open(path, "a", encoding="utf-8"), task
+
+    def note(self, key: str, write: str, version: int, begun: int, ended: int) -> None:
+        line = [self.task, key, write, version, begun, ended]
+        self.file.write(json.dumps(line) + "\n")
+        self.file.flush()
+
+
+class Cache:
+    """The sessions of a task. A session in memory counts as long as its handle is continuous."""
+
+    def __init__(self, task: Task, shelf: Shelf, spans: Spans, work: float) -> None:
+        self.task, self.shelf, self.spans, self.work = task, shelf, spans, work
+        self.memory: dict[str, tuple[Hold, Session]] = {}
+        self.turns: dict[str, asyncio.Lock] = {}
+
+    def session(self, key: str) -> tuple[Hold, Session]:
+        """Returns a session and the handle under which it counts: from memory if the task held its
+        key all the time, or from the shelf."""
+        if key in self.memory:
+            hold, session = self.memory[key]
+            if hold.continuous():
+                return hold, session
+        hold = self.task.hold(key)
+        self.memory[key] = hold, self.shelf.newest(key)
+        return self.memory[key]
+
+    def keep(self, key: str, session: Session) -> None:
+        """Puts a session on the shelf. Raises Taken, and forgets what memory has, if a write of a
+        task that has lost the key meanwhile got there first."""
+        try:
+            self.shelf.fill(key, session)
+        except Taken:
+            self.memory.pop(key, None)
+            raise
+
+    def forget(self, lost: Ranges) -> None:
+        """Forgets the sessions of keys that are lost, so that memory does not fill with them."""
+        for key in [it for it in self.memory if holds(lost, slice_key(it.encode()))]:
+            del self.memory[key]
+
+    async def write(self, request: web.Request) -> web.Response:
+        key, asked = request.match_info["key"], await request.json()
+        async with self.turns.setdefault(key, asyncio.Lock()):
+            async with self.task.serving(key) as lease:
+                begun = time.monotonic_ns()
+                hold, session = self.session(key)
+                await self.think()
+                if asked["id"] not in session.ids:
+                    session = session.after(asked["id"], asked["text"])
+                    lease.check()
+                    if asked["keep"]:
+                        self.keep(key, session)
+                    self.memory[key] = hold, session
+                ended = time.monotonic_ns()
+            self.spans.note(key, asked["id"], session.version, begun, ended)
+        return web.json_response({"version": session.version})
+
+    async def read(self, request: web.Request) -> web.Response:
+        key = request.match_info["key"]
+        async with self.task.serving(key):
+            _, session = self.session(key)
+            await self.think()
+        if not session.version:
+            return web.json_response({"version": 0}, status=404)
+        return web.json_response({"version": session.version, "text": session.text})
+
+    async def think(self) -> None:
+        if self.work:
+            await asyncio.sleep(self.work * random.random() / 500)
+
+    async def metrics(self, _: web.Request) -> web.Response:
+        return web.Response(body=self.task.metrics.text(), content_type="text/plain")
+
+
+async def healthy(_: web.Request) -> web.Response:
+    return web.Response(text="ok")
+
+
+@web.middleware
+async def denials(request: web.Request, handler: Any) -> web.StreamResponse:
+    """Says why there is no answer."""
+    try:
+        answered: web.StreamResponse = await handler(request)
+        return answered
+    except Denied as denied:
+        return web.json_response({"denied": denied.ground}, status=421)
+    except (LeaseLost, Taken) as lost:
+        return web.json_response({"lost": type(lost).__name__}, status=503)
+
+
+async def run(words: argparse.Namespace) -> None:
+    folder = Path(words.folder)
+    task = Task(
+        words.control.split(","),
+        words.job,
+        words.task,
+        logs=folder / "logs",
+        policy=json.loads(words.policy),
+        tickets=tickets_of(words, folder),
+        drift=Drift(words.drift),
+        oldest=words.oldest,
+        patience=0.3,
+        report=2.0,
+        on_lose=lambda ranges, deadline: cache.forget(ranges),
+    )
+    spans = Spans(folder / f"spans-{words.task}.jsonl", words.task)
+    cache = Cache(task, Shelf(folder / "shelf", f"task-{words.task}"), spans, words.work)
+    app = web.Application(middlewares=[denials])
+    app.router.add_put("/sessions/{key}", cache.write)
+    app.router.add_get("/sessions/{key}", cache.read)
+    app.router.add_get("/metrics", cache.metrics)
+    app.router.add_get("/healthz", healthy)
+    runner = web.AppRunner(app, access_log=None)
+    await runner.setup()
+    stop = asyncio.Event()
+    asyncio.get_running_loop().add_signal_handler(signal.SIGTERM, stop.set)
+    try:
+        async with task:
+            await web.TCPSite(runner, "127.0.0.1", words.port).start()
+            waits = [asyncio.create_task(stop.wait()), asyncio.create_task(task.wait())]
+            done, _ = await asyncio.wait(waits, return_when=asyncio.FIRST_COMPLETED)
+            for one in done:
+                one.result()
+    except ClockBroken as why:
+        print(why, flush=True)
+    finally:
+        await runner.cleanup()
+        print(f"clock_behind_total {task.clock_behind_total}", flush=True)
+
+
+def tickets_of(words: argparse.Namespace, folder: Path) -> Tickets:
+    """The tickets of the task: by the real time if all processes are known to have the same."""
+    path = folder / "logs" / words.job / f"task-{words.task}.ticket"
+    path.parent.mkdir(parents=True, exist_ok=True)
+    now = real_milliseconds if words.tickets == "time" else follow
+    return Tickets(63 + words.task, path, now=now)
+
+
+def main() -> None:
+    parser = argparse.ArgumentParser(description="A task of the session cache.")
+    parser.add_argument("--control", required=True, help="URLs of control planes, with commas")
+    parser.add_argument("--job", default="cache")
+    parser.add_argument("--task", type=int, required=True)
+    parser.add_argument("--port", type=int, required=True)
+    parser.add_argument("--folder", required=True, help="has logs, the shelf and spans")
+    parser.add_argument("--policy", required=True)
+    parser.add_argument("--drift", type=int, default=201, help="in a million")
+    parser.add_argument("--oldest", type=int, help="ticks")
+    parser.add_argument("--tickets", choices=["follow", "time"], default="follow")
+    parser.add_argument("--work", type=float, default=0.0, help="milliseconds of a request")
+    parser.add_argument("--bug", choices=list(BUGS), help="put this bug in")
+    words = parser.parse_args()
+    logging.basicConfig(level=logging.INFO, format="%(asctime)s %(name)s %(message)s")
+    put_in(words.bug)
+    asyncio.run(run(words))
+
+
+if __name__ == "__main__":
+    main()

@@ -1,0 +1,214 @@
+"""A client: finds the task that owns a key, and tries again where it is denied.
+
+    async with Router("http://control:7000", "shop") as router:
+        answer = await router.send(key, lambda task: ask(addresses[task], key))
+
+It may be wrong: what it knows is the newest assignment that it was given. A task that does not own
+the key says so, and `send` tries again.
+"""
+
+import asyncio
+import logging
+import os
+import random
+import ssl
+import time
+from collections import Counter as Counts
+from collections.abc import Awaitable, Callable, Sequence
+from typing import Any, TypeVar
+
+from .calls import TIMEOUT, WAIT, Backoff, Control, Unreachable
+from .clock import local_clock
+from .library import Clerk, Found, Refused
+from .logs import Log, folder_of, job_line, line_of, told_refusal
+from .tickets import Tickets, follow
+from .waiting import pause
+
+FIRST_PROCESS = 128  # of clients
+Made = TypeVar("Made")
+logger = logging.getLogger("hourstable.client")
+
+
+class Again(Exception):
+    """An attempt that did not succeed and may be made again, as one that was denied."""
+
+
+class NoOwner(Exception):
+    """No owner of the key is known."""
+
+
+class Router:
+    """Knows the newest assignment of a job that it was given, and picks an owner of a key.
+
+    With `by_load` it picks, of several owners, the one to which the fewest attempts are underway,
+    and else one at random. With `logs` it writes a log of its clerk, which is number `clerk` of
+    the job, 1 to 16.
+    """
+
+    def __init__(
+        self,
+        control: str | Sequence[str],
+        job: str,
+        *,
+        by_load: bool = True,
+        logs: str | os.PathLike[str] | None = None,
+        clerk: int = 1,
+        process: int | None = None,
+        secret: str | None = None,
+        tls: ssl.SSLContext | None = None,
+        timeout: float = TIMEOUT,
+    ) -> None:
+        self.job, self.clerk, self.by_load = job, clerk, by_load
+        self._logs = logs
+        self._tickets = self._tickets_of(process)
+        self._control = Control(
+            control, job, self._tickets, local_clock(), secret=secret, tls=tls, timeout=timeout
+        )
+        self._clerk = Clerk(job)
+        self._log: Log | None = None
+        self._random = random.Random()
+        self._generation = 0
+        self._heard: float | None = None  # when a control plane last answered
+        self._underway: Counts[int] = Counts()
+        self._changed = asyncio.Event()
+        self._running: asyncio.Task[None] | None = None
+
+    def _tickets_of(self, process: int | None) -> Tickets:
+        number = FIRST_PROCESS + self.clerk - 1 if process is None else process
+        if self._logs is None:
+            return Tickets(number, None, now=follow)
+        folder = folder_of(self._logs, self.job)
+        folder.mkdir(parents=True, exist_ok=True)
+        return Tickets(number, folder / f"clerk-{self.clerk}.ticket", now=follow)
+
+    async def start(self) -> None:
+        """Begins to follow the assignments of the job."""
+        self._running = asyncio.create_task(self._follow())
+
+    async def stop(self) -> None:
+        """Ends, and closes all connections."""
+        running, self._running = self._running, None
+        if running is not None:
+            running.cancel()
+            await asyncio.gather(running, return_exceptions=True)
+        await self._control.close()
+        self._clerk.close()
+        if self._log is not None:
+            self._log.close()
+        self._tickets.close()
+
+    async def __aenter__(self) -> "Router":
+        await self.start()
+        return self
+
+    async def __aexit__(self, *_: object) -> None:
+        await self.stop()
+
+    # What is known. -----------------------------------------------------------------------------
+
+    @property
+    def generation(self) -> int:
+        """The generation of the known assignment, 0 for none."""
+        return self._generation
+
+    def stale(self) -> float:
+        """Returns for how many seconds no control plane has said that the known assignment is the
+        newest: the time since the last answer, and so up to 30 s if all is well."""
+        return float("inf") if self._heard is None else time.monotonic() - self._heard
+
+    def owners(self, key: str) -> Found:
+        """Returns the owners of a key and the generation. Raises NoOwner if nothing is known."""
+        try:
+            found = self._clerk.look(key.encode())
+        except Refused as refused:
+            self._tell("look", told_refusal("look", str(refused)), key=key)
+            raise NoOwner(key) from refused
+        tasks = ",".join(map(str, found.tasks))
+        self._tell("look", f"found generation {found.generation} owners {tasks}", key=key)
+        return found
+
+    def pick(self, key: str) -> int:
+        """Returns the number of a task that owns a key. Raises NoOwner."""
+        tasks = self.owners(key).tasks
+        if not self.by_load:
+            return self._random.choice(tasks)
+        least = min(self._underway[task] for task in tasks)
+        return self._random.choice([task for task in tasks if self._underway[task] == least])
+
+    async def send(
+        self, key: str, attempt: Callable[[int], Awaitable[Made]], *, patience: float = 10.0
+    ) -> Made:
+        """Returns what an attempt at an owner of a key gives.
+
+        `attempt(task)` raises Again if it was denied or its task did not answer. It is then made
+        again, at an owner as known then, for up to `patience` seconds and at most as often as
+        waits that grow allow. Raises the last Again, or NoOwner; Rejected if control planes reject
+        the client.
+        """
+        backoff = Backoff(self._random.random, least=0.01, most=0.5)
+        end = time.monotonic() + patience
+        while True:
+            if self._running is not None and self._running.done():
+                self._running.result()
+            try:
+                return await self._attempt(self.pick(key), attempt)
+            except (Again, NoOwner):
+                left = end - time.monotonic()
+                if left <= 0:
+                    raise
+            await self._pause(min(backoff.seconds(), left))
+
+    async def _attempt(self, task: int, attempt: Callable[[int], Awaitable[Made]]) -> Made:
+        self._underway[task] += 1
+        try:
+            return await attempt(task)
+        finally:
+            self._underway[task] -= 1
+
+    async def _pause(self, seconds: float) -> None:
+        """Waits, but not longer than until there is another assignment."""
+        self._changed.clear()
+        await pause(seconds, self._changed)
+
+    # How it is learnt. --------------------------------------------------------------------------
+
+    async def _follow(self) -> None:
+        backoff = Backoff(self._random.random)
+        while True:
+            try:
+                if self._logs is not None and self._log is None:
+                    await self._open_log(self._logs)
+                await self._learn()
+                backoff.reset()
+            except Unreachable as why:
+                logger.info("clerk %d: %s", self.clerk, why)
+                await asyncio.sleep(backoff.seconds(why.again))
+
+    async def _open_log(self, logs: str | os.PathLike[str]) -> None:
+        policy = (await self._control.call("GET")).value()["policy"]
+        self._log = Log(folder_of(logs, self.job), f"clerk-{self.clerk}", job_line(policy))
+        self._tell("forget", "forgotten")  # what an earlier process of this clerk had learnt
+
+    async def _learn(self) -> None:
+        """Learns the next assignment, as soon as there is one."""
+        path = f"/assignment?after={self._generation}"
+        answer = await self._control.call("GET", path, timeout=WAIT + self._control.timeout)
+        self._heard = time.monotonic()
+        if answer.status == 204:
+            return
+        value = answer.value()["value"]
+        members = {"generation": value["generation"], "slices": value["slices"]}
+        try:
+            self._clerk.learn(answer.body)
+        except Refused as refused:
+            self._tell("learn", told_refusal("learn", str(refused)), **members)
+            await asyncio.sleep(0.2)  # a plane that stands by is behind
+            return
+        self._tell("learn", f"learnt {value['generation']}", **members)
+        self._generation = int(value["generation"])
+        self._changed.set()
+
+    def _tell(self, do: str, reply: str, **members: Any) -> None:
+        if self._log is not None:
+            ticket = self._tickets.draw()
+            self._log.append(line_of(ticket, do, reply, clerk=self.clerk, **members))

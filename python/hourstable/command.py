@@ -1,0 +1,294 @@
+"""The command hourstable-service."""
+
+import argparse
+import asyncio
+import logging
+import os
+import shutil
+import signal
+import ssl
+import subprocess
+import sys
+import tempfile
+import time
+from pathlib import Path
+
+from hourstable import logs
+from hourstable.assigner import AssignerOfJobs
+from hourstable.clock import local_clock
+from hourstable.control import Limits, Plane
+from hourstable.desk import HttpDesk, LocalDesk, Unreachable
+from hourstable.jobs import Settings
+from hourstable.plans import Hysteresis, slices_in
+from hourstable.store import StoreFailed, open_store
+from hourstable.tickets import Tickets
+
+PROGRAM = "HOURSTABLE_PROGRAM"
+
+
+def main(words: list[str] | None = None) -> int:
+    """Runs the command, and returns its status: 0 if it did what was asked, 1 if an audit found a
+    fault, 2 if the words or the input are refused, 3 if something failed."""
+    chosen = parser().parse_args(words)
+    level = logging.DEBUG if chosen.verbose else logging.INFO
+    logging.basicConfig(level=level, format="%(asctime)s %(name)s: %(message)s")
+    try:
+        status: int = chosen.run(chosen)
+        return status
+    except (ValueError, BlockingIOError, FileNotFoundError) as error:
+        print(f"hourstable-service: {error}", file=sys.stderr)
+        return 2
+    except (StoreFailed, Unreachable, OSError) as error:
+        print(f"hourstable-service: {error}", file=sys.stderr)
+        return 3
+
+
+def parser() -> argparse.ArgumentParser:
+    made = argparse.ArgumentParser(prog="hourstable-service", description=__doc__)
+    made.add_argument("--verbose", action="store_true", help="tell more on standard error")
+    subcommands = made.add_subparsers(required=True, metavar="COMMAND")
+    _control_words(subcommands.add_parser("control", help="run a control plane"))
+    _assigner_words(subcommands.add_parser("assigner", help="run an assigner beside the planes"))
+    _drain_words(subcommands.add_parser("drain", help="let a task own no more keys"))
+    _audit_words(subcommands.add_parser("audit", help="audit the logs of a job"))
+    return made
+
+
+def _control_words(words: argparse.ArgumentParser) -> None:
+    words.set_defaults(run=_control)
+    words.add_argument("--store", required=True, metavar="URL",
+                       help="sqlite:FILE, postgresql://.. or etcd://HOST:PORT")
+    words.add_argument("--listen", required=True, metavar="HOST:PORT")
+    words.add_argument("--logs", required=True, metavar="FOLDER",
+                       help="for the logs of all jobs, and the ticket of this process")
+    words.add_argument("--process", type=int, default=0, metavar="N",
+                       help="its number among all processes of its jobs, 0 to 255 (0)")
+    shared = words.add_mutually_exclusive_group()
+    shared.add_argument("--shared", action="store_true", default=None, dest="shared",
+                        help="other planes may use the store (the default but for SQLite)")
+    shared.add_argument("--alone", action="store_false", dest="shared",
+                        help="no other plane uses the store")
+    words.add_argument("--standby", type=float, default=2.0, metavar="SECONDS",
+                       help="for how long another plane wrote nothing before this one takes over")
+    words.add_argument("--assigner", type=int, default=1, metavar="N",
+                       help="the number of its assigner, 0 for none (1)")
+    words.add_argument("--secret-file", metavar="FILE",
+                       help="each line is a secret that is accepted")
+    words.add_argument("--tls-cert", metavar="FILE", help="its certificate: HTTPS")
+    words.add_argument("--tls-key", metavar="FILE", help="the key of its certificate")
+    words.add_argument("--tls-client-ca", metavar="FILE",
+                       help="callers need a certificate of this authority")
+    limits = Limits()
+    words.add_argument("--most-jobs", type=int, default=limits.jobs, metavar="N")
+    words.add_argument("--most-connections", type=int, default=limits.connections, metavar="N")
+    words.add_argument("--grants", type=float, default=limits.grants, metavar="RATE",
+                       help="grants a second of a task")
+    _rule_words(words)
+
+
+def _rule_words(words: argparse.ArgumentParser) -> None:
+    rules = Hysteresis()
+    words.add_argument("--settle", type=float, default=rules.settle, metavar="SECONDS",
+                       help="after a commit, before a new task gets keys")
+    words.add_argument("--rest", type=float, default=rules.rest, metavar="SECONDS",
+                       help="after a commit, before loads alone move keys")
+
+
+def _rules_in(chosen: argparse.Namespace) -> Hysteresis:
+    return Hysteresis(settle=chosen.settle, rest=chosen.rest)
+
+
+def _caller_words(words: argparse.ArgumentParser) -> None:
+    words.add_argument("--control", required=True, action="append", metavar="URL",
+                       help="a control plane; again for each other one")
+    words.add_argument("--secret-file", metavar="FILE", help="the first line is the secret")
+    words.add_argument("--tls-ca", metavar="FILE", help="the authority of the planes")
+    words.add_argument("--tls-cert", metavar="FILE", help="the certificate to show")
+    words.add_argument("--tls-key", metavar="FILE", help="the key of the certificate")
+
+
+def _assigner_words(words: argparse.ArgumentParser) -> None:
+    words.set_defaults(run=_assigner)
+    _caller_words(words)
+    words.add_argument("--assigner", type=int, required=True, metavar="N",
+                       help="its number, which no other assigner has")
+    words.add_argument("--process", type=int, required=True, metavar="N",
+                       help="its number among all processes, 0 to 255")
+    words.add_argument("--ticket", metavar="FILE", help="the file of its last ticket")
+    _rule_words(words)
+
+
+def _drain_words(words: argparse.ArgumentParser) -> None:
+    words.set_defaults(run=_drain)
+    _caller_words(words)
+    words.add_argument("--wait", type=float, default=0.0, metavar="SECONDS",
+                       help="wait so long until it owns no keys (0: do not wait)")
+    words.add_argument("job")
+    words.add_argument("task", type=int)
+
+
+def _audit_words(words: argparse.ArgumentParser) -> None:
+    words.set_defaults(run=_audit)
+    words.add_argument("folder", type=Path, help="the logs of a job, or of all jobs")
+    words.add_argument("--hourstable", metavar="PROGRAM",
+                       help=f"the program; else that of ${PROGRAM}, else hourstable in PATH")
+
+
+def _control(chosen: argparse.Namespace) -> int:
+    return asyncio.run(_run_control(chosen))
+
+
+async def _run_control(chosen: argparse.Namespace) -> int:
+    ended = signalled()
+    host, _, port = chosen.listen.rpartition(":")
+    if not host or not port.isdigit():
+        raise ValueError(f"{chosen.listen!r} is not HOST:PORT")
+    store = open_store(chosen.store)
+    shared = store.several if chosen.shared is None else chosen.shared
+    folder = Path(chosen.logs)
+    folder.mkdir(parents=True, exist_ok=True)
+    tickets = Tickets(chosen.process, folder / f"control-{chosen.process}.ticket")
+    local = local_clock()
+    settings = Settings(folder, chosen.process, shared, chosen.standby, local=local)
+    limits = Limits(
+        jobs=chosen.most_jobs, connections=chosen.most_connections, grants=chosen.grants,
+        burst=2 * chosen.grants,
+    )
+    secrets = secrets_in(chosen.secret_file) if chosen.secret_file else []
+    tls = server_tls(chosen)
+    plane = Plane(store, settings, tickets, limits, secrets)
+    made = await plane.start(host.strip("[]"), int(port), tls)
+    print(f"listening on {'https' if tls else 'http'}://{host}:{made}", flush=True)
+    if not secrets and not chosen.tls_client_ca:
+        logging.getLogger("hourstable").warning(
+            "callers are not known: set --secret-file or --tls-client-ca"
+        )
+    assigner = None
+    if chosen.assigner:
+        rules = _rules_in(chosen)
+        jobs = AssignerOfJobs(chosen.assigner, LocalDesk(plane), local, rules)
+        assigner = asyncio.create_task(jobs.run())
+    await ended.wait()
+    if assigner is not None:
+        assigner.cancel()
+        await asyncio.gather(assigner, return_exceptions=True)
+    await plane.stop()
+    store.close()
+    tickets.close()
+    return 0
+
+
+def signalled() -> asyncio.Event:
+    """Returns what is set at SIGINT or SIGTERM from now on."""
+    ended = asyncio.Event()
+    for number in (signal.SIGINT, signal.SIGTERM):
+        asyncio.get_running_loop().add_signal_handler(number, ended.set)
+    return ended
+
+
+def secrets_in(path: str) -> list[str]:
+    """Returns the secrets of a file, one a line. Raises ValueError if it has none, or a short
+    one."""
+    with open(path, encoding="ascii") as file:
+        secrets = [line.strip() for line in file if line.strip()]
+    if not secrets or min(map(len, secrets)) < 16:
+        raise ValueError(f"{path}: a secret has at least 16 characters")
+    return secrets
+
+
+def server_tls(chosen: argparse.Namespace) -> ssl.SSLContext | None:
+    if not chosen.tls_cert:
+        if chosen.tls_key or chosen.tls_client_ca:
+            raise ValueError("--tls-key and --tls-client-ca go with --tls-cert")
+        return None
+    tls = ssl.SSLContext(ssl.PROTOCOL_TLS_SERVER)
+    tls.minimum_version = ssl.TLSVersion.TLSv1_2
+    tls.load_cert_chain(chosen.tls_cert, chosen.tls_key)
+    if chosen.tls_client_ca:
+        tls.load_verify_locations(chosen.tls_client_ca)
+        tls.verify_mode = ssl.CERT_REQUIRED
+    return tls
+
+
+def client_tls(chosen: argparse.Namespace) -> ssl.SSLContext | None:
+    if not (chosen.tls_ca or chosen.tls_cert):
+        return None
+    tls = ssl.create_default_context(cafile=chosen.tls_ca)
+    if chosen.tls_cert:
+        tls.load_cert_chain(chosen.tls_cert, chosen.tls_key)
+    return tls
+
+
+def desk_of(chosen: argparse.Namespace, tickets: Tickets) -> HttpDesk:
+    secret = secrets_in(chosen.secret_file)[0] if chosen.secret_file else None
+    return HttpDesk(chosen.control, tickets, secret, client_tls(chosen))
+
+
+def _assigner(chosen: argparse.Namespace) -> int:
+    return asyncio.run(_run_assigner(chosen))
+
+
+async def _run_assigner(chosen: argparse.Namespace) -> int:
+    ended, tickets = signalled(), Tickets(chosen.process, chosen.ticket)
+    desk = desk_of(chosen, tickets)
+    jobs = AssignerOfJobs(chosen.assigner, desk, local_clock(), _rules_in(chosen))
+    running = asyncio.create_task(jobs.run())
+    await ended.wait()
+    running.cancel()
+    await asyncio.gather(running, return_exceptions=True)
+    await desk.close()
+    tickets.close()
+    return 0
+
+
+def _drain(chosen: argparse.Namespace) -> int:
+    if not 1 <= chosen.task <= 64:
+        raise ValueError("a task is 1 to 64")
+    return asyncio.run(_run_drain(chosen))
+
+
+async def _run_drain(chosen: argparse.Namespace) -> int:
+    """Drains a task, and waits until it owns no key, if that is asked for."""
+    desk = desk_of(chosen, Tickets(255, None))
+    end = time.monotonic() + chosen.wait
+    try:
+        await desk.drain(chosen.job, chosen.task)
+        while chosen.wait and chosen.task in owners_in(await desk.assignment(chosen.job)):
+            if time.monotonic() > end:
+                raise Unreachable(f"task {chosen.task} still owns keys")
+            await asyncio.sleep(0.2)
+    finally:
+        await desk.close()
+    return 0
+
+
+def owners_in(assignment: bytes | None) -> set[int]:
+    """Returns the tasks that own keys in the message of an assignment."""
+    slices = slices_in(assignment) if assignment else []
+    return {owner for _, owners in slices for owner in owners}
+
+
+def _audit(chosen: argparse.Namespace) -> int:
+    program = chosen.hourstable or os.environ.get(PROGRAM) or shutil.which("hourstable")
+    if not program:
+        raise ValueError(f"there is no hourstable in PATH: say where by --hourstable or ${PROGRAM}")
+    folders = [chosen.folder] if logs.files_of(chosen.folder) else sorted(
+        path for path in chosen.folder.glob("*") if logs.files_of(path)
+    )
+    if not folders:
+        raise ValueError(f"{chosen.folder} has no logs")
+    return max(audit(folder, program, len(folders) > 1) for folder in folders)
+
+
+def audit(folder: Path, program: str, tell: bool) -> int:
+    """Hands the logs of a job to the program, and returns its status."""
+    with tempfile.TemporaryDirectory(prefix="hourstable-audit.") as laid:
+        paths = logs.lay_out(folder, laid)
+        if tell:
+            print(f"{folder.name}:", flush=True)
+        names = [path.name for path in paths]
+        return subprocess.run([os.path.abspath(program), "audit", *names], cwd=laid).returncode
+
+
+if __name__ == "__main__":
+    sys.exit(main())

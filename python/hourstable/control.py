@@ -1,0 +1,581 @@
+"""The control plane: many jobs in one process, over HTTP.
+
+Bodies that are messages are those that the library writes and reads. Each decision about leases is
+a call of the library; this module carries, stores, limits and counts.
+"""
+
+import asyncio
+import hmac
+import json
+import logging
+import math
+import socket
+import ssl
+import time
+from collections.abc import Awaitable, Callable
+from concurrent.futures import ThreadPoolExecutor
+from dataclasses import dataclass
+from typing import Any, TypeVar
+
+from aiohttp import web
+
+from hourstable import logs
+from hourstable import tickets as ticketing
+from hourstable.jobs import (
+    Call, Commit, Free, Grant, Job, Made, Malformed, Propose, Renew, Replaced, Settings, Take,
+    is_number, policy_of, term_of,
+)
+from hourstable.library import Refused, Table
+from hourstable.loads import Loads
+from hourstable.metrics import CONTENT_TYPE, Metrics, Shown, word_of
+from hourstable.store import Conflict, LivesSpent, NoSuchJob, Store, StoreFailed
+from hourstable.tickets import Tickets
+
+T = TypeVar("T")
+Handler = Callable[[web.Request], Awaitable[web.StreamResponse]]
+READING = "Hourstable-Reading"
+TASKS = range(1, 65)
+LONGEST_WAIT = 30.0  # seconds of a waiting GET
+MIB = 1 << 20
+
+log = logging.getLogger("hourstable.control")
+
+
+@dataclass
+class Limits:
+    """What a control plane takes. Beyond a limit it answers 413 or 429 and says which."""
+
+    body: int = MIB
+    jobs: int = 64
+    connections: int = 1024
+    grants: float = 20.0  # a second, of each task of each job
+    burst: float = 40.0  # grants of a task that may come at once
+    patience: float = 10.0  # seconds in which a call is answered
+
+
+class Limited(Exception):
+    """A request is beyond a limit; it may be made again after some seconds."""
+
+    def __init__(self, limit: str, after: float) -> None:
+        super().__init__(f"limit of {limit}")
+        self.limit, self.after = limit, after
+
+
+class Bucket:
+    """A rate: `burst` at once, and then `rate` a second."""
+
+    def __init__(self, rate: float, burst: float, now: float) -> None:
+        self._rate, self._burst, self._left, self._at = rate, burst, burst, now
+
+    def take(self, now: float) -> float:
+        """Takes one, and returns 0; or the seconds until there is one again."""
+        self._left = min(self._burst, self._left + (now - self._at) * self._rate)
+        self._at = now
+        if self._left >= 1:
+            self._left -= 1
+            return 0.0
+        return (1 - self._left) / self._rate
+
+
+@dataclass
+class Followed:
+    """A job of the plane, with what its tasks said."""
+
+    job: Job
+    loads: Loads
+    buckets: dict[int, Bucket]
+    seen: dict[int, float]  # tasks, and when they asked for a grant last
+
+    def alive(self, now: float) -> list[int]:
+        """Returns the tasks that asked for a grant in the last guard term. For one guard term after
+        this plane took the job over, the owners of keys count too."""
+        assert self.job.policy is not None
+        since = now - self.job.policy.guard / 1000
+        known = {task for task, at in self.seen.items() if at >= since}
+        if self.job.is_held and self.job.held_since >= since:
+            known |= self.job.owners()
+        return sorted(known)
+
+    def draining(self) -> list[int]:
+        """Returns the tasks whose current life is drained."""
+        return sorted(
+            task for task, life in self.job.lives.items() if life.life and life.drained == life.life
+        )
+
+
+class Plane:
+    """A control plane over a store."""
+
+    def __init__(
+        self, store: Store, settings: Settings, tickets: Tickets, limits: Limits | None = None,
+        secrets: list[str] | None = None,
+    ) -> None:
+        self.store, self.settings, self.tickets = store, settings, tickets
+        self.limits = limits or Limits()
+        self.metrics = Metrics()
+        self.jobs: dict[str, Followed] = {}
+        self.is_closing = False
+        self._secrets = [secret.encode() for secret in secrets or []]
+        self._pool = ThreadPoolExecutor(32, thread_name_prefix="store")
+        self._runner: web.AppRunner | None = None
+        self._server: asyncio.Server | None = None
+        self._poller: asyncio.Task[None] | None = None
+        self._working: set[asyncio.Task[Any]] = set()
+
+    # Starting and ending ---------------------------------------------------------------------
+
+    async def start(
+        self, host: str, port: int, tls: ssl.SSLContext | None = None, poll: float = 1.0
+    ) -> int:
+        """Listens, and returns the port."""
+        for name in await self._ask(self.store.jobs):
+            await self._look_at(name)
+        self._runner = web.AppRunner(self.application(), access_log=None)
+        await self._runner.setup()
+        self._server = await asyncio.get_running_loop().create_server(
+            self._connected, host, port, ssl=tls, backlog=128, reuse_address=True
+        )
+        self._poller = asyncio.create_task(self._poll(poll))
+        made: int = self._server.sockets[0].getsockname()[1]
+        return made
+
+    async def stop(self) -> None:
+        """Answers what was asked, and closes all but the store."""
+        self.is_closing = True
+        if self._server is not None:
+            self._server.close()
+        if self._poller is not None:
+            self._poller.cancel()
+        for followed in self.jobs.values():
+            followed.job.wake()
+        if self._runner is not None and self._runner.server is not None:
+            await self._runner.shutdown()
+            await self._runner.server.shutdown(self.limits.patience)
+            await self._runner.cleanup()
+        if self._working:
+            await asyncio.wait(self._working, timeout=self.limits.patience)
+        settling = [asyncio.create_task(self._settle(one.job)) for one in self.jobs.values()]
+        if settling:
+            await asyncio.wait(settling, timeout=self.limits.patience)
+        for followed in self.jobs.values():
+            followed.job.close()
+        self._pool.shutdown(wait=False, cancel_futures=True)
+
+    async def _settle(self, job: Job) -> None:
+        try:
+            await job.settle()
+        except (StoreFailed, Conflict) as error:
+            log.warning("%s was not settled: %s", job.name, error)
+
+    def _connected(self) -> asyncio.Protocol:
+        """Returns the protocol of a new connection; beyond the limit one that only says so."""
+        assert self._runner is not None and self._runner.server is not None
+        server = self._runner.server
+        if len(server.connections) >= self.limits.connections:
+            self.metrics.limited.labels("connections").inc()
+            return Turned()
+        protocol: asyncio.Protocol = server()
+        return protocol
+
+    async def _ask(self, call: Callable[..., T], *given: object) -> T:
+        return await asyncio.get_running_loop().run_in_executor(self._pool, lambda: call(*given))
+
+    async def _poll(self, every: float) -> None:
+        """Looks what other planes wrote, where several share the store."""
+        while True:
+            await asyncio.sleep(every)
+            try:
+                names = await self._ask(self.store.jobs) if self.settings.shared else []
+            except StoreFailed as error:
+                log.warning("the store was not read: %s", error)
+                continue
+            for name in names:
+                await self._look_at(name)
+
+    async def _look_at(self, name: str) -> None:
+        """Reads what is stored of a job. One that is damaged keeps no other from being served."""
+        try:
+            await (await self.followed(name)).job.refresh()
+        except (StoreFailed, NoSuchJob, Malformed, ValueError) as error:
+            log.warning("%s was not read: %s", name, error)
+
+    async def followed(self, name: str) -> Followed:
+        """Returns a job. Raises NoSuchJob."""
+        found = self.jobs.get(name)
+        if found is None:
+            job = Job(
+                name, self.store, self.settings, self.tickets, self._pool, self.metrics
+            )
+            await job.load()
+            job.lives = await self._ask(self.store.lives, name)
+            found = self.jobs.setdefault(name, Followed(job, Loads(), {}, {}))
+            if found.job is not job:
+                job.close()
+        return found
+
+    # Calls of tables -------------------------------------------------------------------------
+
+    async def call(self, job: Job, call: Call[T]) -> Made[T]:
+        """Makes a call of a table. It goes on if its caller leaves or its time is over."""
+        task = asyncio.create_task(job.call(call))
+        self._working.add(task)
+        task.add_done_callback(self._working.discard)
+        task.add_done_callback(_retrieved)
+        await asyncio.wait([task], timeout=self.limits.patience)
+        if not task.done():
+            raise StoreFailed("the store did not answer in time")
+        return task.result()
+
+    async def grant(self, name: str, task: int, life: int) -> Made[bytes]:
+        followed, now = await self.followed(name), time.monotonic()
+        bucket = followed.buckets.setdefault(
+            task, Bucket(self.limits.grants, self.limits.burst, now)
+        )
+        after = bucket.take(now)
+        if after > 0:
+            raise Limited("grants", after)
+        followed.seen[task] = now
+        return await self.call(followed.job, Grant(task, life))
+
+    async def create(self, name: str, given: object) -> bool:
+        """Creates a job, and returns whether it is new. Raises Malformed, Limited and Conflict, if
+        it has another policy."""
+        policy, members = policy_of(given)
+        try:
+            with Table(name, policy) as table:
+                kept = table.kept()
+        except Refused as refusal:
+            raise Malformed("a number of the policy or the name is outside its limits") from refusal
+        text = json.dumps(members, sort_keys=True)
+        names = await self._ask(self.store.jobs)
+        if name not in names:
+            if len(names) >= self.limits.jobs:
+                raise Limited("jobs", 60)
+            try:
+                await self._ask(self.store.create, name, text, kept)
+                await self.followed(name)
+                return True
+            except Conflict:
+                pass
+        if (await self.followed(name)).job.members != members:
+            raise Conflict("the job has another policy")
+        return False
+
+    async def status(self, name: str) -> dict[str, Any]:
+        """Returns what GET /jobs/J answers."""
+        followed = await self.followed(name)
+        job, now = followed.job, time.monotonic()
+        committed, proposed, _ = job.view
+        return {
+            "job": name, "policy": job.members, "holder": job.is_held,
+            "phase": "proposed" if proposed else "idle",
+            "committed": committed, "pending": proposed or None, "term": job.term,
+            "rows": [
+                {field: getattr(row, field) for field, _ in row._fields_} for row in job.rows()
+            ],
+            "alive": followed.alive(now), "draining": followed.draining(),
+            "since_commit": round(now - job.last_commit, 3),
+        }
+
+    def shown(self) -> list[Shown]:
+        """Returns what the gauges show."""
+        now = time.monotonic()
+        return [Shown(name, _numbers_of(one, now)) for name, one in self.jobs.items()]
+
+    # HTTP ------------------------------------------------------------------------------------
+
+    def application(self) -> web.Application:
+        made = web.Application(
+            client_max_size=self.limits.body + 1, middlewares=[self._around, self._answered]
+        )
+        made.add_routes([
+            web.get("/healthz", self._healthz),
+            web.get("/metrics", self._metrics),
+            web.get("/jobs", self._get_jobs),
+            web.get("/jobs/{job}", self._get_job),
+            web.put("/jobs/{job}", self._put_job),
+            web.get("/jobs/{job}/assignment", self._get_assignment),
+            web.get("/jobs/{job}/phase", self._get_phase),
+            web.get("/jobs/{job}/loads", self._get_loads),
+            web.post("/jobs/{job}/loads", self._post_loads),
+            web.post("/jobs/{job}/drain", self._post_drain),
+            web.post("/jobs/{job}/tasks/{task}/life", self._post_life),
+            web.post("/jobs/{job}/grant", self._post_grant),
+            web.post("/jobs/{job}/free", self._post_free),
+            web.post("/jobs/{job}/take", self._post_take),
+            web.post("/jobs/{job}/renew", self._post_renew),
+            web.post("/jobs/{job}/propose", self._post_propose),
+            web.post("/jobs/{job}/commit", self._post_commit),
+        ])
+        return made
+
+    @web.middleware
+    async def _around(self, request: web.Request, handler: Handler) -> web.StreamResponse:
+        """Checks the secret, observes the ticket, and counts."""
+        begun = time.monotonic()
+        if request.path != "/healthz" and not self._knows(request):
+            self.metrics.unauthorized.inc()
+            answer = failure(401, "the secret is missing or wrong")
+            answer.headers["WWW-Authenticate"] = "Bearer"
+            return answer
+        try:
+            self.tickets.observe_text(request.headers.get(ticketing.HEADER))
+        except ValueError as error:
+            return failure(400, str(error))
+        made = await handler(request)
+        made.headers[ticketing.HEADER] = str(self.tickets.draw())
+        if request.method != "GET":
+            route = request.match_info.route.resource
+            call = route.canonical.rpartition("/")[2] if route else "none"
+            self.metrics.request_seconds.labels(call).observe(time.monotonic() - begun)
+        return made
+
+    def _knows(self, request: web.Request) -> bool:
+        if not self._secrets:
+            return True
+        given = request.headers.get("Authorization", "").encode()
+        equal = [hmac.compare_digest(given, b"Bearer " + secret) for secret in self._secrets]
+        return any(equal)
+
+    @web.middleware
+    async def _answered(self, request: web.Request, handler: Handler) -> web.StreamResponse:
+        """Answers what a handler raises."""
+        try:
+            return await handler(request)
+        except Malformed as error:
+            return failure(400, str(error))
+        except NoSuchJob as error:
+            return failure(404, f"there is no job {error}")
+        except Conflict as error:
+            return failure(409, str(error))
+        except LivesSpent as error:
+            return failure(409, str(error))
+        except Limited as limited:
+            self.metrics.limited.labels(limited.limit).inc()
+            return failure(429, str(limited), limited.after, limit=limited.limit)
+        except web.HTTPRequestEntityTooLarge:
+            self.metrics.limited.labels("body").inc()
+            return failure(413, f"a body has at most {self.limits.body} bytes", limit="body")
+        except web.HTTPException as error:
+            return failure(error.status, error.reason)
+        except Replaced as replaced:
+            return failure(503, str(replaced), replaced.after, refused="replaced")
+        except (StoreFailed, MemoryError) as error:
+            log.warning("%s %s: %s", request.method, request.path, error)
+            return failure(503, "the store failed", 1, refused="store")
+
+    async def _healthz(self, _: web.Request) -> web.Response:
+        return web.Response(text="ok\n")
+
+    async def _metrics(self, _: web.Request) -> web.Response:
+        if self._runner is not None and self._runner.server is not None:
+            self.metrics.connections.set(len(self._runner.server.connections))
+        text = self.metrics.text(self.shown())
+        return web.Response(body=text, headers={"Content-Type": CONTENT_TYPE})
+
+    async def _get_jobs(self, _: web.Request) -> web.Response:
+        return answer_of({"jobs": await self._ask(self.store.jobs)})
+
+    async def _put_job(self, request: web.Request) -> web.Response:
+        is_new = await self.create(job_in(request), await json_of(request))
+        return answer_of({}, 201 if is_new else 200)
+
+    async def _get_job(self, request: web.Request) -> web.Response:
+        return answer_of(await self.status(job_in(request)))
+
+    async def _get_assignment(self, request: web.Request) -> web.Response:
+        job = (await self.followed(job_in(request))).job
+        after, until = number_in(request, "after", 0), time.monotonic() + LONGEST_WAIT
+        while job.view.committed <= after:
+            left = until - time.monotonic()
+            if left <= 0 or self.is_closing:
+                return web.Response(status=204)
+            await job.changed(left)
+        assert job.view.assignment is not None
+        return message_of(job.view.assignment)
+
+    async def _get_phase(self, request: web.Request) -> web.Response:
+        job, until = (await self.followed(job_in(request))).job, time.monotonic() + LONGEST_WAIT
+        waits = {"committed", "pending"} <= set(request.query)
+        known = number_in(request, "committed", 0), number_in(request, "pending", 0)
+        while waits and job.view[:2] == known and not self.is_closing:
+            left = until - time.monotonic()
+            if left <= 0:
+                break
+            await job.changed(left)
+        committed, proposed, _ = job.view
+        phase = "proposed" if proposed else "idle"
+        return answer_of({"phase": phase, "committed": committed, "pending": proposed or None})
+
+    async def _get_loads(self, request: web.Request) -> web.Response:
+        followed = await self.followed(job_in(request))
+        return answer_of({"loads": followed.loads.newest(time.monotonic())})
+
+    async def _post_loads(self, request: web.Request) -> web.Response:
+        followed, given = await self.followed(job_in(request)), await json_of(request)
+        task = member(given, "task", TASKS)
+        try:
+            followed.loads.report(task, given.get("loads"), time.monotonic())
+        except ValueError as error:
+            raise Malformed(str(error)) from error
+        return web.Response(status=204)
+
+    async def _post_drain(self, request: web.Request) -> web.Response:
+        followed, given = await self.followed(job_in(request)), await json_of(request)
+        await followed.job.drain(member(given, "task", TASKS))
+        return web.Response(status=204)
+
+    async def _post_life(self, request: web.Request) -> web.Response:
+        followed = await self.followed(job_in(request))
+        text = request.match_info["task"]
+        if not (text.isascii() and text.isdigit() and len(text) <= 2 and int(text) in TASKS):
+            raise Malformed("a task is 1 to 64")
+        life = await followed.job.raise_life(int(text))
+        return answer_of({"life": life, "last": life - 1})
+
+    async def _post_grant(self, request: web.Request) -> web.Response:
+        name, given = job_in(request), await json_of(request)
+        task, life = member(given, "task", TASKS), member(given, "life", range(1, 1 << 32))
+        made = await self.grant(name, task, life)
+        return told(made, message_of)
+
+    async def _post_free(self, request: web.Request) -> web.Response:
+        job = (await self.followed(job_in(request))).job
+        made = await self.call(job, Free(await request.read()))
+        return told(made, lambda freed: answer_of({"freed": freed}))
+
+    async def _post_take(self, request: web.Request) -> web.Response:
+        job, given = (await self.followed(job_in(request))).job, await json_of(request)
+        made = await self.call(job, Take(member(given, "assigner", range(1, 1 << 64))))
+        return told(made, lambda term: answer_of(term_of(term)))
+
+    async def _post_renew(self, request: web.Request) -> web.Response:
+        job, given = (await self.followed(job_in(request))).job, await json_of(request)
+        made = await self.call(job, Renew(member(given, "term", range(1 << 64))))
+        return told(made, lambda term: answer_of(term_of(term)))
+
+    async def _post_propose(self, request: web.Request) -> web.Response:
+        followed = await self.followed(job_in(request))
+        if "term" not in request.query:
+            raise Malformed("the term is missing")
+        call = Propose(number_in(request, "term", 0), await request.read())
+        made = await self.call(followed.job, call)
+        return told(made, lambda generation: answer_of({"generation": generation}))
+
+    async def _post_commit(self, request: web.Request) -> web.Response:
+        job, given = (await self.followed(job_in(request))).job, await json_of(request)
+        generation = None
+        if "generation" in given:
+            generation = member(given, "generation", range(1, 1 << 64))
+        made = await self.call(job, Commit(member(given, "term", range(1 << 64)), generation))
+        return told(made, lambda committed: answer_of({"generation": committed}))
+
+
+class Turned(asyncio.Protocol):
+    """A connection beyond the limit: its request is answered 429, and it is closed."""
+
+    BODY = b'{"error":"limit of connections","limit":"connections"}'
+
+    def connection_made(self, transport: asyncio.BaseTransport) -> None:
+        assert isinstance(transport, asyncio.Transport)
+        self._transport = transport
+        asyncio.get_running_loop().call_later(5, transport.close)
+
+    def data_received(self, data: bytes) -> None:
+        if not self._transport.is_closing():
+            self._transport.write(
+                b"HTTP/1.1 429 Too Many Requests\r\nContent-Type: application/json\r\n"
+                b"Retry-After: 1\r\nConnection: close\r\nContent-Length: %d\r\n\r\n%s"
+                % (len(self.BODY), self.BODY)
+            )
+            self._transport.close()
+
+
+def _retrieved(task: "asyncio.Task[Any]") -> None:
+    """Keeps asyncio from telling of an error that nobody waits for any more."""
+    if not task.cancelled():
+        task.exception()
+
+
+def _numbers_of(followed: Followed, now: float) -> dict[str, float]:
+    job = followed.job
+    assert job.policy is not None
+    numbers: dict[str, float] = {
+        "generation": job.view.committed,
+        "proposed": 1 if job.view.proposed else 0,
+        "proposed_seconds": now - job.since if job.view.proposed else 0,
+        "held": 1 if job.is_held else 0,
+        "grace_seconds": job.grace_left() / 1000,
+        "tasks_alive": len(followed.alive(now)),
+        "tasks_draining": len(followed.draining()),
+        "rows": len(job.rows()),
+    }
+    if job.is_held:
+        granted = int(job.kept()["granted"])
+        numbers["grants_made"] = granted
+        numbers["numbers_left_ratio"] = 1 - granted / job.policy.numbers
+    return numbers
+
+
+def job_in(request: web.Request) -> str:
+    name = request.match_info["job"]
+    if not logs.NAME.fullmatch(name):
+        raise Malformed("the name of a job is that of a folder: 1 to 64 letters, digits, . _ and -")
+    return name
+
+
+def number_in(request: web.Request, name: str, default: int) -> int:
+    text = request.query.get(name, str(default))
+    if not (text.isascii() and text.isdigit() and len(text) <= 20 and int(text) < 1 << 64):
+        raise Malformed(f"{name} is no number of 64 bits")
+    return int(text)
+
+
+async def json_of(request: web.Request) -> dict[str, Any]:
+    try:
+        given = json.loads(await request.read())
+    except (ValueError, RecursionError) as error:
+        raise Malformed("the body is not a JSON text") from error
+    if not isinstance(given, dict):
+        raise Malformed("the body is not an object")
+    return given
+
+
+def member(given: dict[str, Any], name: str, limits: range) -> int:
+    value = given.get(name)
+    if not is_number(value) or value not in limits:
+        raise Malformed(f"{name} is no number from {limits.start} to {limits.stop - 1}")
+    assert isinstance(value, int)
+    return value
+
+
+def answer_of(value: object, status: int = 200) -> web.Response:
+    return web.Response(
+        body=json.dumps(value, separators=(",", ":")).encode(), status=status,
+        content_type="application/json",
+    )
+
+
+def message_of(message: bytes) -> web.Response:
+    return web.Response(body=message, content_type="application/json")
+
+
+def failure(status: int, error: str, after: float | None = None, **members: str) -> web.Response:
+    """Returns the answer of a request that is not done, with the seconds after which to retry."""
+    made = answer_of({"error": error, **members}, status)
+    if after is not None:
+        made.headers["Retry-After"] = str(max(1, math.ceil(after)))
+    return made
+
+
+def told(made: Made[T], answer: Callable[[T], web.Response]) -> web.Response:
+    """Returns the answer of a call of a table."""
+    if made.refusal is not None:
+        refused = {"refused": word_of(made.refusal.name), "told": made.refusal.carried}
+        response = answer_of(refused, 409)
+    else:
+        assert made.result is not None
+        response = answer(made.result)
+    if made.at is not None:
+        response.headers[READING] = str(made.at)
+    return response

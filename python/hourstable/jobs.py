@@ -1,0 +1,672 @@
+"""The jobs of a control plane: the table of each, its store and its log.
+
+The order in each call of a table: the reading and the ticket are taken, the library makes the call,
+what it changed is stored together with its line, the line goes to the log, and only then the answer
+leaves. If the store does not take it, the table is dropped and the answer with it. The next call
+restores a table from what is stored, as after a restart.
+"""
+
+import asyncio
+import json
+import time
+from abc import ABC, abstractmethod
+from collections import OrderedDict
+from collections.abc import Callable
+from concurrent.futures import ThreadPoolExecutor
+from dataclasses import dataclass, field
+from pathlib import Path
+from typing import Any, Generic, NamedTuple, TypeVar
+
+from hourstable import library, logs
+from hourstable.clock import JobClock
+from hourstable.library import JobTerm, Policy, Refused, Table, boottime_ticks
+from hourstable.store import Conflict, Life, NoSuchJob, Store, Stored, StoreFailed
+from hourstable.tickets import Tickets, process_of
+
+T = TypeVar("T")
+MOST_NOTES = 4096  # of which a job remembers the answers
+WORDS = ("skew", "guard", "bridge", "job", "numbers")
+
+
+class Replaced(Exception):
+    """Another control plane holds the job, or took it over during the call. Nothing is known of the
+    call; it may be made again after some seconds, or at the other plane."""
+
+    def __init__(self, after: float) -> None:
+        super().__init__("another control plane holds the job")
+        self.after = after
+
+
+class Malformed(Exception):
+    """The body of a call cannot be read."""
+
+
+def policy_of(given: object) -> tuple[Policy, dict[str, Any]]:
+    """Returns the policy that script members say, and these members with both redundancies. Raises
+    Malformed; whether numbers are within their limits is what the library says."""
+    if not isinstance(given, dict) or set(given) != {"redundancy", *WORDS}:
+        raise Malformed(f"a policy has the members redundancy, {', '.join(WORDS)}")
+    redundancy = given["redundancy"]
+    if is_number(redundancy):
+        redundancy = [redundancy, redundancy]
+    if not isinstance(redundancy, list) or len(redundancy) != 2:
+        raise Malformed("redundancy is a number or [low, high]")
+    numbers = [*redundancy, *(given[word] for word in WORDS)]
+    if not all(is_number(number) for number in numbers):
+        raise Malformed("a policy is made of whole numbers")
+    return Policy(*numbers), {"redundancy": redundancy, **{word: given[word] for word in WORDS}}
+
+
+def is_number(value: object) -> bool:
+    """Whether a JSON value is a whole number of 64 bits."""
+    return isinstance(value, int) and not isinstance(value, bool) and 0 <= value < 1 << 64
+
+
+def last_in(kept: bytes) -> int:
+    """Returns the last reading of kept values."""
+    return int(json.loads(kept)["value"]["last"])
+
+
+class Row(NamedTuple):
+    """What is stored as the line of a row: the line of the log, and by how many ticks the kept
+    values are ahead of the readings that were used. So the next process opens its clock right,
+    whatever it saves ahead itself."""
+
+    ahead: int
+    line: str
+
+    def text(self) -> str:
+        return f"{self.ahead} {self.line}"
+
+    @classmethod
+    def read(cls, text: str) -> "Row":
+        ahead, _, line = text.partition(" ")
+        return cls(int(ahead), line)
+
+    def ticket(self) -> int:
+        ticket: int = json.loads(self.line)["ticket"]
+        return ticket
+
+
+class View(NamedTuple):
+    """What is stored of a job, for those who only ask."""
+
+    committed: int
+    proposed: int
+    assignment: bytes | None  # the message of the committed one
+
+
+@dataclass
+class Held:
+    """A table that this plane holds, and what the store has of it."""
+
+    table: Table
+    clock: JobClock
+    version: int
+    saved: bytes
+    last: int  # the last reading of what is saved
+    accepted: int  # the last reading that the table accepted
+    at: int  # the reading of the last call
+    line: str | None  # of the last call, if there was one
+
+
+class Made(NamedTuple, Generic[T]):
+    """A call that was made: what it returned or why it was refused, and its reading; None if the
+    answer repeats that of an earlier call."""
+
+    result: T | None
+    refusal: Refused | None
+    at: int | None
+
+
+@dataclass
+class Settings:
+    """How a control plane keeps its jobs."""
+
+    logs: Path
+    process: int
+    shared: bool
+    standby: float = 2.0  # seconds for which a store stands still before another plane takes over
+    grants_ahead: int = 256  # if no other plane uses the store
+    ticks_ahead: int = 1000
+    local: Callable[[], int] = field(default=boottime_ticks)
+
+
+class Counters:
+    """What happens to the jobs, for those who count it."""
+
+    def made(self, job: str, do: str, refused: str | None) -> None:
+        """A call was made and is stored."""
+
+    def restored(self, job: str) -> None:
+        """A table was restored."""
+
+    def replaced(self, job: str) -> None:
+        """The store has another version than this plane wrote."""
+
+    def stored(self, what: str, seconds: float, failed: bool) -> None:
+        """The store was asked."""
+
+
+class Job:
+    """A job of the plane. All of it runs in one event loop."""
+
+    def __init__(
+        self, name: str, store: Store, settings: Settings, tickets: Tickets,
+        pool: ThreadPoolExecutor, counters: Counters,
+    ) -> None:
+        self.name, self.settings, self.tickets = name, settings, tickets
+        self._store, self._pool, self._counters = store, pool, counters
+        self._lock = asyncio.Lock()
+        self._held: Held | None = None
+        self._log: logs.Log | None = None
+        self._seen: tuple[int, float] | None = None  # a version, and since when it stands
+        self._changed = asyncio.Event()
+        self._rows: list[library.Row] = []
+        self.policy: Policy | None = None
+        self.members: dict[str, Any] = {}
+        self.view = View(0, 0, None)
+        self.term: dict[str, int] | None = None
+        self.lives: dict[int, Life] = {}  # as they were read last
+        self.since = self.last_commit = self.held_since = time.monotonic()
+        self.grace = 0  # the reading until which no commit is accepted
+        self.notes: OrderedDict[str, int] = OrderedDict()  # the answers to them
+        self.committed_by: tuple[int, int] | None = None  # the last term, and its generation
+
+    # Asking the store ------------------------------------------------------------------------
+
+    async def ask(self, what: str, call: Callable[..., T], *given: object) -> T:
+        """Asks the store in a thread, and counts it."""
+        begun, failed = time.monotonic(), True
+        try:
+            made = await asyncio.get_running_loop().run_in_executor(
+                self._pool, lambda: call(*given)
+            )
+            failed = False
+            return made
+        except (Conflict, NoSuchJob):
+            failed = False
+            raise
+        finally:
+            self._counters.stored(what, time.monotonic() - begun, failed)
+
+    async def load(self) -> None:
+        """Reads what is stored, for those who only ask. Raises NoSuchJob."""
+        async with self._lock:
+            if self._held is None:
+                self._show(await self._loaded())
+
+    async def _loaded(self) -> Stored:
+        stored = await self.ask("load", self._store.load, self.name)
+        if stored is None:
+            raise NoSuchJob(self.name)
+        if self._seen is None or self._seen[0] != stored.version:
+            self._seen = stored.version, time.monotonic()
+        if self.policy is None:
+            self.policy, self.members = policy_of(json.loads(stored.policy))
+            job_line = logs.job_line(self.members)
+            folder = logs.folder_of(self.settings.logs, self.name)
+            self._log = logs.Log(folder, f"control-{self.settings.process}", job_line)
+        return stored
+
+    async def refresh(self) -> None:
+        """Looks whether another plane has written, and reads the lives of tasks."""
+        async with self._lock:
+            self.lives = await self.ask("lives", self._store.lives, self.name)
+            version = await self.ask("version", self._store.version, self.name)
+            if version is None:
+                raise NoSuchJob(self.name)
+            if self._held is not None:
+                if self._held.version == version:
+                    return
+                self.drop()
+                self._counters.replaced(self.name)
+            if self._seen is None or self._seen[0] != version:
+                self._show(await self._loaded())
+
+    async def raise_life(self, task: int) -> int:
+        """Returns a new life of a task, which no other call returns."""
+        life = await self.ask("life", self._store.raise_life, self.name, task)
+        self.lives[task] = Life(life, self.lives.get(task, Life(0, 0)).drained)
+        return life
+
+    async def drain(self, task: int) -> None:
+        """Drains the current life of a task."""
+        self.lives[task] = await self.ask("life", self._store.drain, self.name, task)
+
+    # Showing ---------------------------------------------------------------------------------
+
+    def _show(self, stored: Stored) -> None:
+        """Shows what is stored, although another plane may hold the table."""
+        with self._restored(stored) as table:
+            self._show_table(table)
+        self.term = term_in(stored.kept)
+
+    def _restored(self, stored: Stored) -> Table:
+        """Returns the table of what is stored, as a restart leaves it."""
+        assert self.policy is not None
+        try:
+            return Table.restore(self.name, self.policy, stored.kept)
+        except Refused as refusal:
+            raise StoreFailed(f"what is stored of {self.name} is refused: {refusal}") from refusal
+
+    def _show_table(self, table: Table) -> None:
+        phase = table.phase()
+        if (phase.committed, phase.proposed) == self.view[:2]:
+            return
+        assignment = self.view.assignment
+        if phase.committed != self.view.committed:
+            assignment = table.committed() if phase.committed else None
+            self.last_commit = time.monotonic()
+        self.view = View(phase.committed, phase.proposed, assignment)
+        self.since = time.monotonic()
+        self.wake()
+
+    def wake(self) -> None:
+        """Wakes all who wait for another view."""
+        self._changed.set()
+        self._changed = asyncio.Event()
+
+    async def changed(self, seconds: float) -> None:
+        """Returns when the view is another one, or after these seconds."""
+        waiting = asyncio.create_task(self._changed.wait())
+        try:
+            await asyncio.wait([waiting], timeout=seconds)
+        finally:
+            waiting.cancel()
+
+    @property
+    def is_held(self) -> bool:
+        """Whether this plane holds the table."""
+        return self._held is not None
+
+    def owners(self) -> set[int]:
+        """Returns the tasks that own keys in the committed assignment."""
+        if self.view.assignment is None:
+            return set()
+        slices = numbers_of(value_in(self.view.assignment))["slices"]
+        return {owner for _, owners in slices for owner in owners}
+
+    def rows(self) -> list[library.Row]:
+        """Returns the open rows of the table, none if another plane holds it. While a call is not
+        stored, they are those of before."""
+        if not self._lock.locked():
+            self._rows = self._held.table.rows() if self._held is not None else []
+        return self._rows
+
+    # Holding the table -----------------------------------------------------------------------
+
+    def drop(self) -> None:
+        """Drops the table: what the store has is the table from now on."""
+        held, self._held = self._held, None
+        self._seen = None
+        self.notes.clear()
+        self.committed_by = None
+        if held is not None:
+            held.table.close()
+
+    async def _hold(self) -> Held:
+        if self._held is None:
+            stored = await self._loaded()
+            self._show(stored)
+            self._stand_by(stored)
+            self._held = await self._take_over(stored)
+            self.held_since = time.monotonic()
+        return self._held
+
+    def _stand_by(self, stored: Stored) -> None:
+        """Raises Replaced if another plane wrote last, and not long enough ago."""
+        if not self.settings.shared or stored.line is None or self._seen is None:
+            return
+        if process_of(Row.read(stored.line).ticket()) == self.settings.process:
+            return
+        left = self._seen[1] + self.settings.standby - time.monotonic()
+        if left > 0:
+            raise Replaced(left)
+
+    async def _take_over(self, stored: Stored) -> Held:
+        """Restores the table, and writes to the store that this plane holds it. The table of a job
+        that was never called is not restored, but new."""
+        row = Row.read(stored.line) if stored.line is not None else None
+        last = last_in(stored.kept)
+        clock = JobClock(last, row.ahead if row else 0, self.settings.local)
+        version, line = stored.version, None
+        if row is not None:
+            await clock.wait()
+            version, line = await self._write_restore(stored, row)
+        self._seen = None
+        table = self._restored(stored)
+        return Held(table, clock, version, stored.kept, last, last, last, line)
+
+    async def _write_restore(self, stored: Stored, row: Row) -> tuple[int, str]:
+        """Logs the last call that is stored, if that was not done, and stores and logs that the
+        table is restored. Returns the new version and the line."""
+        assert self._log is not None
+        ticket = row.ticket()
+        try:
+            self.tickets.observe(ticket)
+        except ValueError as error:  # a host whose real time is a day ahead wrote it
+            raise StoreFailed(f"the line that is stored of {self.name}: {error}") from error
+        if not self._log.holds(ticket):
+            self._log.append(row.line)
+        value = json.loads(stored.kept)["value"]
+        last, granted, deadline = (int(value[name]) for name in ("last", "granted", "deadline"))
+        generation = int(value["committed"]["generation"]) if value["committed"] else 0
+        line = logs.line_of(
+            self.tickets.draw(), "restore", f"restored generation {generation} grace {deadline}",
+            last=last, granted=granted, deadline=deadline,
+        )
+        given = self.name, stored.version, stored.kept, Row(row.ahead, line).text()
+        version = await self.ask("swap", self._store.swap, *given)
+        self._log.append(line)
+        self.grace = deadline
+        self._counters.restored(self.name)
+        return version, line
+
+    # Calls of the table ----------------------------------------------------------------------
+
+    async def call(self, made_by: "Call[T]") -> Made[T]:
+        """Makes a call of the table, one at a time, and returns when the store has its effect.
+
+        Raises Replaced, StoreFailed and NoSuchJob; Malformed if the library cannot read what it was
+        given. Then nothing is known of the call, or it was not made.
+        """
+        async with self._lock:
+            try:
+                held = await self._hold()
+                repeated = made_by.repeated(self)
+                if repeated is not None:
+                    return Made(repeated, None, None)
+                made = await self._make(held, made_by)
+            except Conflict as conflict:
+                self.drop()
+                self._counters.replaced(self.name)
+                raise Replaced(self.settings.standby) from conflict
+            except (Replaced, Malformed, NoSuchJob):
+                raise
+            except BaseException:
+                self.drop()  # the table may have what the store has not
+                raise
+            if made.result is not None:
+                made_by.done(self, made.result)
+            self._show_table(held.table)
+        refused = made.refusal.name if made.refusal else None
+        self._counters.made(self.name, made_by.do, refused)
+        return made
+
+    async def _make(self, held: Held, call: "Call[T]") -> Made[T]:
+        """Makes a call, stores it, and logs it, in this order."""
+        assert self._log is not None
+        at = await held.clock.wait()
+        ticket = self.tickets.draw()  # after the reading: a plane may be stopped in between
+        try:
+            result = call.play(held.table, at)
+            made, reply = Made[T](result, None, at), call.tell(result)
+        except Refused as refusal:
+            if refusal.code < 0:
+                raise Malformed(str(refusal)) from refusal
+            made, reply = Made[T](None, refusal, at), logs.told_refusal(call.do, str(refusal))
+        line = logs.line_of(ticket, call.do, reply, **call.members, at=at)
+        if made.refusal is None:
+            held.accepted = at
+        kept = self._to_store(held, at, made.refusal is None)
+        if kept is not None:
+            await self._swap(held, kept, at, line)
+        if at > held.last:  # a refused call whose reading is not stored: it is not used
+            return made._replace(at=None)
+        self._log.append(line)
+        held.line, held.at = line, at
+        return made
+
+    def _to_store(self, held: Held, at: int, is_done: bool) -> bytes | None:
+        """Returns what to store of the table before the answer to a call leaves; None if nothing.
+
+        The reading of a refused call is stored as that of a grant that nobody gets, since a table
+        keeps the readings of accepted calls alone. This cannot be done before an assignment is
+        proposed, nor when all numbers are spent.
+        """
+        if self.settings.shared and is_done:
+            return held.table.kept()
+        grants, ticks = self.settings.grants_ahead, self.settings.ticks_ahead
+        if self.settings.shared:
+            grants = ticks = 0
+        is_covered = at <= held.last and not self.settings.shared
+        if not is_covered and not is_done:
+            grants, ticks = max(grants, 1), max(ticks, at - held.accepted)
+        kept = held.table.save(held.saved if is_covered else b"", grants, ticks)
+        return None if kept is None or not (is_done or last_in(kept) >= at) else kept
+
+    async def _swap(self, held: Held, kept: bytes, at: int, line: str) -> None:
+        """Stores kept values with the line of the last call, which was made at a reading."""
+        last = last_in(kept)
+        text = Row(max(0, last - at), line).text()
+        held.version = await self.ask(
+            "swap", self._store.swap, self.name, held.version, kept, text
+        )
+        held.saved, held.last = kept, last
+
+    async def settle(self) -> None:
+        """Stores just what is kept, if more was saved ahead: the next process then waits for no
+        reading, and no number is lost."""
+        async with self._lock:
+            held = self._held
+            if held is None or held.line is None or held.at >= held.last:
+                return
+            kept = held.table.kept()
+            if held.at > held.accepted:
+                kept = held.table.save(b"", 1, held.at - held.accepted) or kept
+            if last_in(kept) >= held.at:
+                await self._swap(held, kept, held.at, held.line)
+
+    def grace_left(self) -> int:
+        """Returns for how many ticks commits still wait after the restart of a held table."""
+        if self._held is None:
+            return 0
+        try:
+            return max(0, self.grace - self._held.clock.read())
+        except Refused:
+            return self.grace
+
+    def kept(self) -> dict[str, Any]:
+        """Returns the value of what is stored of a table that this plane holds."""
+        assert self._held is not None
+        value: dict[str, Any] = json.loads(self._held.saved)["value"]
+        return value
+
+    def close(self) -> None:
+        """Closes the table and the log."""
+        self.drop()
+        if self._log is not None:
+            self._log.close()
+
+
+class Call(ABC, Generic[T]):
+    """A call of a table: its name in logs, and the members of its line."""
+
+    do: str
+    members: dict[str, object]
+
+    @abstractmethod
+    def play(self, table: Table, at: int) -> T:
+        """Calls the library. Raises Refused."""
+
+    @abstractmethod
+    def tell(self, result: T) -> str:
+        """Returns the reply of the line."""
+
+    def repeated(self, job: Job) -> T | None:
+        """Returns the result of an earlier call that this one repeats, None if it repeats none."""
+        return None
+
+    def done(self, job: Job, result: T) -> None:
+        """Remembers the call, which is stored."""
+
+
+class Grant(Call[bytes]):
+    """A task asks for a lease. Its result is the message of the grant."""
+
+    do = "grant"
+
+    def __init__(self, task: int, life: int) -> None:
+        self.task, self.life = task, life
+        self.members = {"task": task, "life": life}
+
+    def play(self, table: Table, at: int) -> bytes:
+        return table.grant(self.task, self.life, at)
+
+    def tell(self, result: bytes) -> str:
+        return logs.told_grant(value_in(result))
+
+
+class Free(Call[int]):
+    """A task gives leases back by a note. Its result is how many rows were freed."""
+
+    do = "free"
+
+    def __init__(self, note: bytes) -> None:
+        self.note, value = note, value_in(note)
+        self.members = {"note": value}
+        self.key = json.dumps(value, sort_keys=True)
+
+    def play(self, table: Table, at: int) -> int:
+        return table.free(self.note, at)
+
+    def tell(self, result: int) -> str:
+        return f"freed {result}"
+
+    def repeated(self, job: Job) -> int | None:
+        return job.notes.get(self.key)
+
+    def done(self, job: Job, result: int) -> None:
+        job.notes[self.key] = result
+        while len(job.notes) > MOST_NOTES:
+            job.notes.popitem(last=False)
+
+
+class Take(Call[JobTerm]):
+    """An assigner takes the job lease. Its result is the term."""
+
+    do = "take"
+
+    def __init__(self, assigner: int) -> None:
+        self.assigner = assigner
+        self.members = {"assigner": assigner}
+
+    def play(self, table: Table, at: int) -> JobTerm:
+        return table.take(self.assigner, at)
+
+    def tell(self, result: JobTerm) -> str:
+        return f"term {result.number} until {result.until}"
+
+    def done(self, job: Job, result: JobTerm) -> None:
+        job.term = term_of(result)
+
+
+class Renew(Call[JobTerm]):
+    """The holder of a term renews it. Its result is the term."""
+
+    do = "renew"
+
+    def __init__(self, term: int) -> None:
+        self.term = term
+        self.members = {"term": term}
+
+    def play(self, table: Table, at: int) -> JobTerm:
+        return table.renew(self.term, at)
+
+    def tell(self, result: JobTerm) -> str:
+        return f"renewed {result.number} until {result.until}"
+
+    def done(self, job: Job, result: JobTerm) -> None:
+        job.term = term_of(result)
+
+
+class Propose(Call[int]):
+    """The holder of a term proposes an assignment. Its result is the generation."""
+
+    do = "propose"
+
+    def __init__(self, term: int, assignment: bytes) -> None:
+        self.term, self.assignment = term, assignment
+        self.value = numbers_of(value_in(assignment))
+        self.members = {"term": term, **self.value}
+
+    def play(self, table: Table, at: int) -> int:
+        table.propose(self.term, self.assignment, at)
+        generation: int = self.value["generation"]
+        return generation
+
+    def tell(self, result: int) -> str:
+        return f"proposed {result}"
+
+    def repeated(self, job: Job) -> int | None:
+        kept = job.kept()
+        if not kept["pending"] or numbers_of(kept["pending"]) != self.value:
+            return None
+        generation: int = self.value["generation"]
+        return generation if int(kept["term"]["number"]) == self.term else None
+
+
+class Commit(Call[int]):
+    """The holder of a term commits what is proposed. Its result is the generation.
+
+    A call with the generation repeats an earlier one if this generation is committed and nothing
+    is proposed; one without it, if the last commit of this process was of the same term.
+    """
+
+    do = "commit"
+
+    def __init__(self, term: int, generation: int | None) -> None:
+        self.term, self.generation = term, generation
+        self.members = {"term": term}
+
+    def play(self, table: Table, at: int) -> int:
+        return table.commit(self.term, at)
+
+    def tell(self, result: int) -> str:
+        return f"committed {result}"
+
+    def repeated(self, job: Job) -> int | None:
+        committed, proposed, _ = job.view
+        if proposed or job.term is None or job.term["number"] != self.term:
+            return None
+        if self.generation is None:
+            return committed if job.committed_by == (self.term, committed) else None
+        return committed if committed and self.generation == committed else None
+
+    def done(self, job: Job, result: int) -> None:
+        job.committed_by = (self.term, result)
+
+
+def value_in(message: bytes) -> dict[str, Any]:
+    """Returns the value of a message. Raises Malformed if it has none; the library checks the
+    rest."""
+    try:
+        value = json.loads(message)["value"]
+    except (ValueError, KeyError, TypeError, RecursionError) as error:
+        raise Malformed("the body is not a message") from error
+    if not isinstance(value, dict):
+        raise Malformed("the body is not a message")
+    return value
+
+
+def numbers_of(assignment: dict[str, Any]) -> dict[str, Any]:
+    """Returns an assignment with numbers, which a message may have as the text of their digits.
+    Raises Malformed."""
+    try:
+        slices = [[int(start), [int(owner) for owner in owners]]
+                  for start, owners in assignment["slices"]]
+        return {"generation": int(assignment["generation"]), "slices": slices}
+    except (KeyError, TypeError, ValueError) as error:
+        raise Malformed("the body is not an assignment") from error
+
+
+def term_of(term: JobTerm) -> dict[str, int]:
+    """Returns the members of a term of the job lease."""
+    return {"number": term.number, "assigner": term.assigner, "until": term.until}
+
+
+def term_in(kept: bytes) -> dict[str, int] | None:
+    """Returns the last term of the job lease in kept values."""
+    term = json.loads(kept)["value"]["term"]
+    return {name: int(number) for name, number in term.items()} if term else None

@@ -1,0 +1,120 @@
+"""The metrics of a control plane, in the text form of Prometheus."""
+
+from collections.abc import Iterable
+
+from prometheus_client import CollectorRegistry, Counter, Gauge, Histogram, generate_latest
+from prometheus_client.exposition import CONTENT_TYPE_LATEST
+
+from hourstable.jobs import Counters
+
+CONTENT_TYPE = CONTENT_TYPE_LATEST
+SECONDS = (0.0005, 0.001, 0.0025, 0.005, 0.01, 0.025, 0.05, 0.1, 0.25, 0.5, 1.0, 2.5, 5.0, 10.0)
+
+
+class Metrics(Counters):
+    """What a control plane counts. OPERATIONS says what to watch."""
+
+    def __init__(self) -> None:
+        self.registry = registry = CollectorRegistry()
+        self.calls = Counter(
+            "hourstable_calls", "Calls of a table that were accepted and stored.",
+            ["job", "call"], registry=registry,
+        )
+        self.refusals = Counter(
+            "hourstable_refusals", "Calls of a table that it refused.",
+            ["job", "call", "refused"], registry=registry,
+        )
+        self.restarts = Counter(
+            "hourstable_restarts", "Tables that were restored from the store.",
+            ["job"], registry=registry,
+        )
+        self.conflicts = Counter(
+            "hourstable_conflicts", "Times that another control plane had written.",
+            ["job"], registry=registry,
+        )
+        self.request_seconds = Histogram(
+            "hourstable_request_seconds", "Time from a request to its answer, without GETs.",
+            ["call"], buckets=SECONDS, registry=registry,
+        )
+        self.store_seconds = Histogram(
+            "hourstable_store_seconds", "Time that the store took.",
+            ["operation"], buckets=SECONDS, registry=registry,
+        )
+        self.store_failures = Counter(
+            "hourstable_store_failures", "Times that the store failed.",
+            ["operation"], registry=registry,
+        )
+        self.limited = Counter(
+            "hourstable_limited", "Requests that were answered 413 or 429.",
+            ["limit"], registry=registry,
+        )
+        self.unauthorized = Counter(
+            "hourstable_unauthorized", "Requests without a right secret.", registry=registry
+        )
+        self.connections = Gauge(
+            "hourstable_open_connections", "Open connections.", registry=registry
+        )
+        self._gauges = Gauges(registry)
+
+    def made(self, job: str, do: str, refused: str | None) -> None:
+        if refused is None:
+            self.calls.labels(job, do).inc()
+        else:
+            self.refusals.labels(job, do, word_of(refused)).inc()
+
+    def restored(self, job: str) -> None:
+        self.restarts.labels(job).inc()
+
+    def replaced(self, job: str) -> None:
+        self.conflicts.labels(job).inc()
+
+    def stored(self, what: str, seconds: float, failed: bool) -> None:
+        self.store_seconds.labels(what).observe(seconds)
+        if failed:
+            self.store_failures.labels(what).inc()
+
+    def text(self, jobs: Iterable["Shown"]) -> bytes:
+        """Returns the text of all metrics."""
+        for shown in jobs:
+            self._gauges.show(shown)
+        made: bytes = generate_latest(self.registry)
+        return made
+
+
+class Shown:
+    """What the gauges of a job show."""
+
+    def __init__(self, job: str, numbers: dict[str, float]) -> None:
+        self.job, self.numbers = job, numbers
+
+
+class Gauges:
+    """The gauges of jobs, which are set when they are asked for."""
+
+    TEXTS = {
+        "generation": "The committed generation.",
+        "proposed": "1 while an assignment is proposed, else 0.",
+        "proposed_seconds": "For how long the assignment has been proposed, 0 if none is.",
+        "held": "1 if this control plane holds the table, else 0.",
+        "grace_seconds": "How long commits still wait for leases of before a restart.",
+        "tasks_alive": "Tasks that renewed their leases lately.",
+        "tasks_draining": "Tasks that are being drained.",
+        "rows": "Open rows of the table.",
+        "grants_made": "Grants that count as made, of the numbers of the policy.",
+        "numbers_left_ratio": "The part of the numbers of grants that is left.",
+    }
+
+    def __init__(self, registry: CollectorRegistry) -> None:
+        self._gauges = {
+            name: Gauge(f"hourstable_{name}", text, ["job"], registry=registry)
+            for name, text in self.TEXTS.items()
+        }
+
+    def show(self, shown: Shown) -> None:
+        for name, number in shown.numbers.items():
+            self._gauges[name].labels(shown.job).set(number)
+
+
+def word_of(name: str) -> str:
+    """Returns the word of a script for the name of a code."""
+    return name.lower().replace("_", "-")

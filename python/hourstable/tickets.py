@@ -1,0 +1,195 @@
+"""Tickets by hybrid logical clocks: numbers that keep the order of cause over processes that share
+no counter.
+
+A ticket has 64 bits: milliseconds of real time (48), a counter (8) and the process that drew it
+(8). The first two together are its place. A draw takes the greater of the last place, plus one, and
+the real time; a process that receives a message observes its ticket first. So each ticket of a
+process is above all that it drew or observed before, however far the real times of processes are
+apart, and no two processes draw the same one.
+"""
+
+import ctypes
+import fcntl
+import mmap
+import os
+import threading
+import time
+from collections.abc import Callable
+from pathlib import Path
+
+HEADER = "Hourstable-Ticket"
+COUNTER_BITS = 8
+PROCESS_BITS = 8
+PLACES = 1 << 56
+TICKETS = PLACES << PROCESS_BITS
+DAY = 86_400_000  # in milliseconds
+MAGIC = b"hourstable-ticket"
+
+
+def real_milliseconds() -> int:
+    """Returns the real time in milliseconds since 1970."""
+    return time.time_ns() // 1_000_000
+
+
+def process_of(ticket: int) -> int:
+    """Returns the number of the process that drew a ticket."""
+    return ticket & ((1 << PROCESS_BITS) - 1)
+
+
+def milliseconds_of(ticket: int) -> int:
+    """Returns the milliseconds of a ticket, which may be ahead of the real time at which it was
+    drawn."""
+    return ticket >> (PROCESS_BITS + COUNTER_BITS)
+
+
+def follow() -> int:
+    """Returns 0: tickets that are drawn with this in place of the real time only follow what was
+    observed.
+
+    So they do not come before the calls of a process whose real time is behind, and an audit finds
+    clocks not timely only if a message showed it.
+    """
+    return 0
+
+
+class Tickets:
+    """The hybrid logical clock of a process. Any thread may call it.
+
+    `path` names a file that outlasts the process. It has the last place that was drawn in this boot
+    of the machine, and one above all that were ever drawn, which is written `ahead` milliseconds
+    ahead: a draw costs no write, and the next process goes on above, also after a crash of the
+    machine. It is locked, so that no other process draws from it. With no path, nothing outlasts
+    the process.
+
+    Raises ValueError if `process` is not 0 to 255 or the file is none of tickets, and
+    BlockingIOError if another process draws from the file.
+    """
+
+    def __init__(
+        self,
+        process: int,
+        path: str | os.PathLike[str] | None,
+        *,
+        now: Callable[[], int] | None = None,
+        ahead: int = 10_000,
+    ) -> None:
+        if not 0 <= process < 1 << PROCESS_BITS:
+            raise ValueError(f"process {process} is not 0 to 255")
+        self.process = process
+        self._now = real_milliseconds if now is None else now
+        self._real = real_milliseconds if now is follow else self._now
+        self._ahead = ahead << COUNTER_BITS
+        self._lock = threading.Lock()
+        self._file = None if path is None else _Kept(Path(path))
+        self._last = 0 if self._file is None else self._file.last()
+
+    def draw(self) -> int:
+        """Returns a ticket above all that were drawn or observed before. Raises OverflowError if
+        there is none."""
+        with self._lock:
+            place = max(self._last + 1, self._now() << COUNTER_BITS)
+            if place >= PLACES:
+                raise OverflowError("no ticket is left")
+            if self._file is not None:
+                self._file.keep(place, self._ahead)
+            self._last = place
+            return place << PROCESS_BITS | self.process
+
+    def observe(self, ticket: int) -> None:
+        """Takes the ticket of a message that was received, before its effects draw one.
+
+        Raises ValueError, and observes nothing, if it is no number of 64 bits or is more than a day
+        ahead of the real time: one sender with a wrong clock would otherwise use up the tickets of
+        all.
+        """
+        if not 0 <= ticket < TICKETS:
+            raise ValueError(f"{ticket} is no ticket")
+        if milliseconds_of(ticket) > self._real() + DAY:
+            raise ValueError(f"ticket {ticket} is more than a day ahead")
+        with self._lock:
+            self._last = max(self._last, ticket >> PROCESS_BITS)
+
+    def observe_text(self, text: str | None) -> None:
+        """Observes the ticket in a header of a message; None, for no header, is nothing to
+        observe."""
+        if text is None:
+            return
+        if not (text.isascii() and text.isdigit()):
+            raise ValueError(f"{text[:40]!r} is no ticket")
+        self.observe(int(text))
+
+    def close(self) -> None:
+        """Closes the file, so that another process may draw from it. A ticket drawn later is kept
+        nowhere."""
+        with self._lock:
+            file, self._file = self._file, None
+            if file is not None:
+                file.close()
+
+
+class _Fields(ctypes.Structure):
+    """What the file has."""
+
+    _fields_ = [
+        ("magic", ctypes.c_char * 24),
+        ("boot", ctypes.c_char * 40),  # in which `last` was written
+        ("ceiling", ctypes.c_uint64),  # above each place that was ever drawn; it is on the disk
+        ("last", ctypes.c_uint64),  # drawn; it may be on no disk
+    ]
+
+
+class _Kept:
+    """The file of a process, in shared memory: what is written there outlasts a killed process."""
+
+    def __init__(self, path: Path) -> None:
+        self.path = path
+        self.file = os.open(path, os.O_RDWR | os.O_CREAT | os.O_CLOEXEC, 0o644)
+        try:
+            fcntl.flock(self.file, fcntl.LOCK_EX | fcntl.LOCK_NB)
+            self._open()
+        except BaseException:
+            os.close(self.file)
+            raise
+
+    def _open(self) -> None:
+        length = ctypes.sizeof(_Fields)
+        found = os.fstat(self.file).st_size
+        if found == 0:
+            os.posix_fallocate(self.file, 0, length)
+        elif found != length:
+            raise ValueError(f"{self.path} is no file of tickets")
+        self.memory = mmap.mmap(self.file, length)
+        self.fields = _Fields.from_buffer(self.memory)
+        if found == 0 or not any(self.memory[:]):  # as a crash while it was made leaves it
+            self.fields.magic = MAGIC
+        elif self.fields.magic != MAGIC:
+            raise ValueError(f"{self.path} is no file of tickets")
+
+    def last(self) -> int:
+        """Returns a place that is not below the last one drawn."""
+        boot, ceiling = _boot(), self.fields.ceiling
+        if boot and boot == self.fields.boot and self.fields.last < ceiling:
+            return int(self.fields.last)
+        self.fields.last = max(0, ceiling - 1)
+        self.fields.boot = boot
+        return int(self.fields.last)
+
+    def keep(self, place: int, ahead: int) -> None:
+        """Keeps a place that is about to be drawn, and if need be a new one above it."""
+        if place >= self.fields.ceiling:
+            self.fields.ceiling = min(place + ahead + 1, PLACES)
+            self.memory.flush()
+        self.fields.last = place
+
+    def close(self) -> None:
+        del self.fields
+        self.memory.close()
+        os.close(self.file)
+
+
+def _boot() -> bytes:
+    """Returns the id of this boot of the machine, or nothing where the system tells none."""
+    try:
+        return Path("/proc/sys/kernel/random/boot_id").read_bytes().strip()
+    except OSError:
+        return b""

@@ -1,0 +1,35 @@
+"""Waiting for something, but not for ever.
+
+`asyncio.wait_for` of Python 3.11 may swallow the cancellation of its caller. `asyncio.timeout` of
+3.11.2 raises CancelledError once aiohttp 3.8 timed out in the same task, since aiohttp cancels the
+task and takes no cancellation back. Here the work has a task of its own, and neither happens.
+"""
+
+import asyncio
+from collections.abc import Coroutine
+from typing import Any, TypeVar
+
+T = TypeVar("T")
+
+
+async def within(seconds: float, work: Coroutine[Any, Any, T]) -> T:
+    """Returns what a coroutine returns. Raises TimeoutError, and cancels it, if that takes longer
+    than these seconds."""
+    child = asyncio.create_task(work)
+    try:
+        await asyncio.wait({child}, timeout=seconds)
+        if child.done() and not child.cancelled():
+            return child.result()
+        raise TimeoutError
+    finally:
+        if not child.done():
+            child.cancel()
+            await asyncio.gather(child, return_exceptions=True)
+
+
+async def pause(seconds: float, event: asyncio.Event) -> None:
+    """Waits until an event is set, but not longer than these seconds."""
+    try:
+        await within(seconds, event.wait())
+    except TimeoutError:
+        pass

@@ -1,0 +1,165 @@
+"""Engines of stores for tests: each is started in a folder of its own, on loopback."""
+
+import http.client
+import os
+import pwd
+import shutil
+import signal
+import socket
+import subprocess
+import time
+from collections.abc import Callable, Iterator
+from contextlib import contextmanager
+from pathlib import Path
+
+POSTGRESQL = Path("/usr/lib/postgresql/15/bin")
+PATIENCE = 30.0
+
+
+def missing(kind: str) -> str | None:
+    """Returns why an engine cannot be started here, None if it can."""
+    if kind == "etcd" and shutil.which("etcd") is None:
+        return "there is no etcd (Debian's etcd-server)"
+    if kind == "postgresql":
+        if not (POSTGRESQL / "initdb").exists():
+            return f"there is no {POSTGRESQL}/initdb (Debian's postgresql-15)"
+        try:
+            import psycopg  # noqa: F401
+        except ImportError:
+            return "there is no psycopg (Debian's python3-psycopg)"
+        if os.geteuid() == 0 and _other_user() is None:
+            return "PostgreSQL does not run as root, and there is no user postgres or nobody"
+    return None
+
+
+def free_port() -> int:
+    with socket.create_server(("127.0.0.1", 0)) as server:
+        port: int = server.getsockname()[1]
+        return port
+
+
+def _other_user() -> pwd.struct_passwd | None:
+    for name in ("postgres", "nobody"):
+        try:
+            return pwd.getpwnam(name)
+        except KeyError:
+            pass
+    return None
+
+
+def _children_of(process: int) -> list[int]:
+    children = []
+    for status in Path("/proc").glob("[0-9]*/stat"):
+        try:
+            parent = int(status.read_text().rpartition(")")[2].split()[1])
+        except OSError:
+            continue
+        if parent == process:
+            children.append(int(status.parent.name))
+    return children
+
+
+class Engine:
+    """A process of an engine, which may be killed and started again over the same folder."""
+
+    def __init__(
+        self, words: list[str], user: pwd.struct_passwd | None, folder: Path, url: str,
+        is_ready: Callable[[], bool],
+    ) -> None:
+        self.words, self.user, self.folder, self.url = words, user, folder, url
+        self.is_ready = is_ready
+        self.process: subprocess.Popen[bytes] | None = None
+
+    def start(self) -> None:
+        uid = self.user.pw_uid if self.user else None
+        with open(self.folder / "engine.log", "ab") as log:
+            self.process = subprocess.Popen(
+                self.words, stdout=log, stderr=log, cwd=self.folder, user=uid
+            )
+        end = time.monotonic() + PATIENCE
+        while not self.is_ready():
+            if self.process.poll() is not None or time.monotonic() > end:
+                raise RuntimeError((self.folder / "engine.log").read_text()[-2000:])
+            time.sleep(0.05)
+
+    def kill(self) -> None:
+        """Kills the process and its children: a backend of PostgreSQL outlives it for a while."""
+        if self.process is not None:
+            children = _children_of(self.process.pid)
+            self.process.kill()
+            self.process.wait()
+            self.process = None
+            for child in children:
+                try:
+                    os.kill(child, signal.SIGKILL)
+                except ProcessLookupError:
+                    pass
+
+
+@contextmanager
+def postgresql(folder: Path) -> Iterator[Engine]:
+    user = _other_user() if os.geteuid() == 0 else None
+    folder.mkdir(parents=True)
+    if user:
+        os.chown(folder, user.pw_uid, user.pw_gid)
+    data, port = folder / "data", free_port()
+    subprocess.run(
+        [str(POSTGRESQL / "initdb"), "-D", str(data), "-U", "hourstable", "-A", "trust"],
+        check=True, stdout=subprocess.DEVNULL, cwd=folder, user=user.pw_uid if user else None,
+    )
+    words = [
+        str(POSTGRESQL / "postgres"), "-D", str(data), "-p", str(port),
+        "-k", "", "-c", "listen_addresses=127.0.0.1", "-c", "max_connections=50",
+    ]
+    url = f"postgresql://hourstable@127.0.0.1:{port}/postgres"
+    engine = Engine(words, user, folder, url, lambda: _takes_postgresql(url))
+    try:
+        engine.start()
+        yield engine
+    finally:
+        engine.kill()
+
+
+def _takes_postgresql(url: str) -> bool:
+    import psycopg
+
+    try:
+        psycopg.connect(url, connect_timeout=2).close()
+        return True
+    except psycopg.OperationalError:
+        return False
+
+
+@contextmanager
+def etcd(folder: Path) -> Iterator[Engine]:
+    folder.mkdir(parents=True)
+    port, peer = free_port(), free_port()
+    words = [
+        "etcd", "--data-dir", str(folder / "data"),
+        "--listen-client-urls", f"http://127.0.0.1:{port}",
+        "--advertise-client-urls", f"http://127.0.0.1:{port}",
+        "--listen-peer-urls", f"http://127.0.0.1:{peer}",
+        "--initial-advertise-peer-urls", f"http://127.0.0.1:{peer}",
+        "--initial-cluster", f"default=http://127.0.0.1:{peer}",
+    ]
+    url = f"etcd://127.0.0.1:{port}"
+    engine = Engine(words, None, folder, url, lambda: _takes_etcd(port))
+    try:
+        engine.start()
+        yield engine
+    finally:
+        engine.kill()
+
+
+def _takes_etcd(port: int) -> bool:
+    connection = http.client.HTTPConnection("127.0.0.1", port, timeout=2)
+    try:
+        connection.request("GET", "/health")
+        return b'"true"' in connection.getresponse().read()
+    except (OSError, http.client.HTTPException):
+        return False
+    finally:
+        connection.close()
+
+
+STARTS = {"postgresql": postgresql, "etcd": etcd}

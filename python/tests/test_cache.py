@@ -1,0 +1,130 @@
+"""Tests of examples/cache: the shelf of sessions, and the check that knows nothing of
+Hourstable."""
+
+import json
+import sys
+from pathlib import Path
+
+import pytest
+
+sys.path.insert(0, str(Path(__file__).resolve().parents[2] / "examples/cache"))
+
+import judge  # noqa: E402
+from shelf import NOTHING, Session, Shelf, Taken  # noqa: E402
+
+
+def written(folder: Path, name: str, lines: list[list[object]]) -> None:
+    with open(folder / name, "a", encoding="utf-8") as file:
+        for line in lines:
+            file.write(json.dumps(line) + "\n")
+
+
+def test_sessions_on_the_shelf(tmp_path: Path) -> None:
+    shelf = Shelf(tmp_path, "task-1")
+    assert shelf.newest("a/b") == NOTHING
+    first = NOTHING.after("x", "one")
+    shelf.fill("a/b", first)
+    shelf.fill("a/b", first.after("y", "two"))
+    assert Shelf(tmp_path, "task-2").newest("a/b") == Session(2, "two", ("y", "x"))
+    assert shelf.newest("a") == NOTHING
+
+
+def test_a_slot_is_filled_once(tmp_path: Path) -> None:
+    one, two = Shelf(tmp_path, "task-1"), Shelf(tmp_path, "task-2")
+    one.fill("key", NOTHING.after("x", "one"))
+    with pytest.raises(Taken):
+        two.fill("key", NOTHING.after("y", "two"))
+    assert two.newest("key").text == "one"
+    two.fill("key", two.newest("key").after("y", "two"))
+    assert one.newest("key").ids == ("y", "x")
+
+
+def test_a_session_knows_its_last_writes() -> None:
+    session = NOTHING
+    for number in range(40):
+        session = session.after(str(number), "")
+    assert session.version == 40
+    assert session.ids == tuple(str(number) for number in range(39, 7, -1))
+
+
+def shelf_of(folder: Path) -> Shelf:
+    return Shelf(folder / "shelf", "test")
+
+
+def test_a_run_without_faults(tmp_path: Path) -> None:
+    shelf = shelf_of(tmp_path)
+    first = NOTHING.after("x", "one")
+    second = first.after("y", "two")
+    shelf.fill("key", first)
+    shelf.fill("key", second)
+    written(tmp_path, "spans-1.jsonl", [[1, "key", "x", 1, 10, 20]])
+    written(tmp_path, "spans-2.jsonl", [[2, "key", "y", 2, 20, 30], [2, "other", "z", 1, 0, 99]])
+    written(
+        tmp_path, "acks-1.jsonl",
+        [["write", "key", "x", 1, 5, 25], ["read", "key", "", 1, 26, 27],
+         ["write", "key", "y", 2, 15, 35], ["read", "key", "", 2, 28, 34]],
+    )
+    assert judge.judge(tmp_path) == judge.Verdict([], 3, 2, 2)
+
+
+def test_two_tasks_at_once_are_found(tmp_path: Path) -> None:
+    # Task 2 writes while the first write of task 1 goes on, though task 1 wrote again meanwhile.
+    written(
+        tmp_path, "spans-1.jsonl", [[1, "key", "long", 1, 10, 90], [1, "key", "short", 2, 20, 30]]
+    )
+    written(tmp_path, "spans-2.jsonl", [[2, "key", "other", 3, 80, 95]])
+    faults, spans = judge.overlaps(tmp_path)
+    assert spans == 3
+    assert faults == ["key: task 1 wrote long until 90, and task 2 wrote other from 80 on"]
+
+
+def test_a_torn_last_line_is_left_out(tmp_path: Path) -> None:
+    written(tmp_path, "spans-1.jsonl", [[1, "key", "x", 1, 10, 20]])
+    with open(tmp_path / "spans-1.jsonl", "a", encoding="utf-8") as file:
+        file.write('[1, "key", "y"')
+    assert judge.overlaps(tmp_path) == ([], 1)
+
+
+def test_lost_writes_are_found(tmp_path: Path) -> None:
+    shelf = shelf_of(tmp_path)
+    shelf.fill("key", NOTHING.after("x", "one"))
+    written(
+        tmp_path, "acks-1.jsonl",
+        [["write", "key", "x", 1, 0, 1], ["write", "key", "y", 1, 0, 1],
+         ["write", "none", "z", 1, 0, 1]],
+    )
+    assert judge.judge(tmp_path).faults == [
+        "key: write y was acknowledged as version 1", "none: write z was acknowledged as version 1",
+    ]
+
+
+def test_a_session_that_was_begun_anew_is_found(tmp_path: Path) -> None:
+    shelf = shelf_of(tmp_path)
+    shelf.fill("key", Session(1, "", ("x",)))
+    shelf.fill("key", Session(2, "", ("y", "x")))
+    shelf.fill("key", Session(3, "", ("z", "x")))  # made of version 1
+    shelf.fill("key", Session(5, "", ("v", "u")))
+    assert judge.judge(tmp_path).faults == [
+        "key: version 3 is not made of version 2", "key: version 4 is missing",
+        "key: version 5 is not made of version 4",
+    ]
+
+
+def test_stale_reads_are_found(tmp_path: Path) -> None:
+    shelf = shelf_of(tmp_path)
+    shelf.fill("key", Session(1, "", ("x",)))
+    shelf.fill("key", Session(2, "", ("y", "x")))
+    written(
+        tmp_path, "acks-1.jsonl",
+        [["write", "key", "y", 2, 0, 50], ["read", "key", "", 1, 49, 99],
+         ["read", "key", "", 1, 51, 52]],
+    )
+    assert judge.judge(tmp_path).faults == ["key: asked at 51, version 1 was read after 2"]
+
+
+def test_a_read_is_not_older_than_one_before_it(tmp_path: Path) -> None:
+    (tmp_path / "shelf").mkdir()
+    written(
+        tmp_path, "acks-1.jsonl", [["read", "key", "", 3, 0, 10], ["read", "key", "", 2, 11, 12]]
+    )
+    assert judge.judge(tmp_path).faults == ["key: asked at 11, version 2 was read after 3"]

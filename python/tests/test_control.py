@@ -1,0 +1,692 @@
+"""The control plane over HTTP: what it answers, and that no answer leaves before the store has
+it."""
+
+import asyncio
+import json
+import threading
+import time
+from collections.abc import Callable
+from pathlib import Path
+from typing import Any
+
+import aiohttp
+import pytest
+
+import needed
+
+needed.library()
+
+from prometheus_client.parser import text_string_to_metric_families  # noqa: E402
+
+from hourstable import control  # noqa: E402
+from hourstable.control import Limits  # noqa: E402
+from hourstable.library import Slicelet  # noqa: E402
+from hourstable.store import Store, StoreFailed, open_store  # noqa: E402
+from serving import HALF, POLICY, Caller, assignment, lines_of, running  # noqa: E402
+
+WHOLE = [[0, [1]]]
+HALVES = [[0, [1]], [HALF, [2]]]
+
+
+@pytest.fixture
+def file(tmp_path: Path) -> Store:
+    return open_store(f"sqlite:{tmp_path}/jobs.sqlite")
+
+
+class Trouble:
+    """A store that is slow or fails on purpose, before or after a swap is written."""
+
+    def __init__(self, store: Store) -> None:
+        self._store = store
+        self.before: Callable[[], None] | None = None
+        self.after: Callable[[], None] | None = None
+
+    def __getattr__(self, name: str) -> Any:
+        return getattr(self._store, name)
+
+    def swap(self, job: str, version: int, kept: bytes, line: str | None) -> int:
+        before, after = self.before, self.after
+        if before is not None:
+            before()
+        made = self._store.swap(job, version, kept, line)
+        if after is not None:
+            after()
+        return made
+
+
+def fail() -> None:
+    raise StoreFailed("on purpose")
+
+
+async def begun(caller: Caller, slices: list[Any] = WHOLE) -> int:
+    """Creates the job and commits generation 1. Returns the term."""
+    assert (await caller.create()).status == 201
+    term = await caller.take()
+    await caller.change(term, 1, slices)
+    return term
+
+
+# Jobs ------------------------------------------------------------------------------------------
+
+
+async def test_a_job_is_created_once(file: Store, tmp_path: Path) -> None:
+    async with running(file, tmp_path / "logs") as (_, caller):
+        assert (await caller.get()).status == 404
+        assert (await caller.create()).status == 201
+        assert (await caller.create()).status == 200
+        assert (await caller.create({**POLICY, "redundancy": 1})).status == 200
+        assert (await caller.create({**POLICY, "guard": 2000})).status == 409
+        assert (await caller.ask("GET", "/jobs")).json == {"jobs": ["shop"]}
+        status = (await caller.get()).json
+        assert status["policy"] == POLICY
+        assert (status["phase"], status["committed"], status["pending"]) == ("idle", 0, None)
+        assert (status["term"], status["rows"], status["alive"]) == (None, [], [])
+
+
+@pytest.mark.parametrize("policy", [
+    [], "shop", {}, {**POLICY, "lives": 1}, {**POLICY, "guard": 0}, {**POLICY, "guard": "9"},
+    {**POLICY, "guard": 1 << 33}, {**POLICY, "skew": 1000}, {**POLICY, "redundancy": [2, 1]},
+    {**POLICY, "redundancy": [0, 1]}, {**POLICY, "redundancy": [1, 6]}, {**POLICY, "skew": -1},
+    {**POLICY, "skew": 1.5}, {**POLICY, "skew": True}, {**POLICY, "redundancy": [1]},
+])
+async def test_a_policy_outside_its_limits(file: Store, tmp_path: Path, policy: object) -> None:
+    async with running(file, tmp_path / "logs") as (_, caller):
+        assert (await caller.create(policy)).status == 400
+        assert (await caller.get()).status == 404
+
+
+async def test_names_of_jobs(file: Store, tmp_path: Path) -> None:
+    async with running(file, tmp_path / "logs") as (_, caller):
+        for name, status in [
+            ("j" * 64, 201), ("j" * 65, 400), ("shop-2.staging_A", 201), ("%C3%A9", 400),
+            ("a%2Fb", 400), ("..%2Fup", 400), ("..", 404), (".hidden", 400), ("a%00", 400),
+        ]:
+            caller.job = name
+            assert (await caller.create()).status == status, name
+            if status == 201:
+                await caller.take()
+    made = {path.parent for path in tmp_path.rglob("control-0.*.jsonl")}
+    assert made == {tmp_path / "logs" / name for name in ("j" * 64, "shop-2.staging_A")}
+
+
+async def test_lives_are_given_once(file: Store, tmp_path: Path) -> None:
+    async with running(file, tmp_path / "logs") as (_, caller):
+        await caller.create()
+        told = [(await caller.post("tasks/7/life")).json for _ in range(3)]
+        assert told == [{"life": n, "last": n - 1} for n in (1, 2, 3)]
+        assert (await caller.post("tasks/8/life")).json == {"life": 1, "last": 0}
+        for task in ("0", "65", "-1", "x", "1e1", "\u0661"):
+            assert (await caller.post(f"tasks/{task}/life")).status == 400, task
+    async with running(file, tmp_path / "logs") as (_, caller):
+        assert (await caller.post("tasks/7/life")).json == {"life": 4, "last": 3}
+
+
+# Calls of a table ------------------------------------------------------------------------------
+
+
+async def test_a_round(file: Store, tmp_path: Path) -> None:
+    async with running(file, tmp_path / "logs") as (_, caller):
+        term = await begun(caller)
+        granted = await caller.grant(1)
+        assert granted.status == 200
+        grant = granted.json["value"]
+        assert (grant["number"], grant["kind"], grant["generation"]) == ("1", "guard", "1")
+        assert granted.reading is not None
+        assert int(grant["until"]) == granted.reading + POLICY["guard"]
+        with Slicelet("shop", 1) as task:
+            task.start(1, granted.reading)
+            task.hear(granted.body, granted.reading)
+            assert task.serve(b"hello", granted.reading).generation == 1
+            note = task.release("guard", granted.reading)
+        freed = await caller.post("free", note)
+        assert (freed.status, freed.json) == (200, {"freed": 1})
+        assert (await caller.get()).json["term"]["number"] == term
+        renewed = (await caller.post("renew", {"term": term})).json
+        assert (renewed["number"], renewed["assigner"]) == (term, 1)
+    told = [(line["do"], line["reply"].split()[0]) for line in lines_of(tmp_path / "logs")]
+    assert told == [
+        ("take", "term"), ("propose", "proposed"), ("commit", "committed"), ("grant", "grant"),
+        ("free", "freed"), ("renew", "renewed"),
+    ]
+
+
+async def test_refusals_have_their_numbers(file: Store, tmp_path: Path) -> None:
+    async with running(file, tmp_path / "logs") as (_, caller):
+        await caller.create()
+        refused = await caller.grant(1)
+        assert (refused.status, refused.json) == (409, {"refused": "no-assignment", "told": {}})
+        taken = (await caller.post("take", {"assigner": 1})).json
+        await asyncio.sleep(0.01)
+        held = await caller.post("take", {"assigner": 2})
+        assert held.json == {"refused": "job-held", "told": {"until": taken["until"]}}
+        other = await caller.post("renew", {"term": 9})
+        assert other.json == {"refused": "not-holder", "told": {"number": 1}}
+        await caller.change(1, 1, WHOLE)
+        await caller.grant(1)
+        proposed = await caller.post("propose?term=1", assignment(2, [[0, [2]]]))
+        assert proposed.json == {"generation": 2}
+        held = await caller.post("commit", {"term": 1})
+        assert held.json == {
+            "refused": "held", "told": {"task": 1, "kind": "guard", "number": 1}
+        }
+
+
+async def test_refused_calls_are_logged(file: Store, tmp_path: Path) -> None:
+    async with running(file, tmp_path / "logs") as (_, caller):
+        await begun(caller)
+        assert (await caller.post("renew", {"term": 9})).json["refused"] == "not-holder"
+    replies = [line["reply"] for line in lines_of(tmp_path / "logs")]
+    assert replies[-1] == "refused not-holder 1"
+
+
+@pytest.mark.parametrize("call", [
+    "grant", "free", "take", "renew", "propose?term=1", "commit", "loads", "drain",
+])
+async def test_bodies_that_are_malformed(file: Store, tmp_path: Path, call: str) -> None:
+    async with running(file, tmp_path / "logs") as (_, caller):
+        await begun(caller)
+        before = len(lines_of(tmp_path / "logs"))
+        for body in (
+            b"", b"{", b"[]", b"{}", b"null", b"[" * 100_000, b"\xff", b'{"task":0,"life":1}',
+            b'{"task":65,"life":1}', b'{"task":true,"life":1}', b'{"task":"1","life":1}',
+            b'{"assigner":0}', b'{"assigner":18446744073709551616}', b'{"term":-1}',
+            b'{"term":1.5}', b'{"value":{}}', b'{"value":[]}',
+            *([b'{"task":1}', b'{"task":1,"loads":[[1,0,1]]}'] if call == "loads" else []),
+        ):
+            assert (await caller.post(call, body)).status == 400, (call, body)
+        assert len(lines_of(tmp_path / "logs")) == before
+        assert (await caller.grant(1)).status == 200
+
+
+async def test_a_message_of_another_job(file: Store, tmp_path: Path) -> None:
+    async with running(file, tmp_path / "logs") as (_, caller):
+        await caller.create()
+        term = await caller.take()
+        other = await caller.post(f"propose?term={term}", assignment(1, WHOLE, job="store"))
+        assert (other.status, other.json["error"]) == (400, "other-job")
+        assert (await caller.get()).json["pending"] is None
+
+
+async def test_retries_are_answered_as_the_first_time(file: Store, tmp_path: Path) -> None:
+    async with running(file, tmp_path / "logs") as (_, caller):
+        await caller.create()
+        term = await caller.take()
+        message = assignment(1, WHOLE)
+        first = await caller.post(f"propose?term={term}", message)
+        again = await caller.post(f"propose?term={term}", message)
+        assert (again.status, again.json) == (first.status, first.json) == (200, {"generation": 1})
+        assert first.reading is not None and again.reading is None
+        other = await caller.post(f"propose?term={term}", assignment(1, HALVES))
+        assert other.json["refused"] == "pending"
+        assert (await caller.post("commit", {"term": term})).reading is not None
+        for body in ({"term": term}, {"term": term, "generation": 1}):
+            again = await caller.post("commit", body)
+            assert (again.status, again.json, again.reading) == (200, {"generation": 1}, None)
+        wrong = await caller.post("commit", {"term": term, "generation": 2})
+        assert wrong.json["refused"] == "nothing-pending"
+        granted = await caller.grant(1)
+        with Slicelet("shop", 1) as task:
+            assert granted.reading is not None
+            task.start(1, granted.reading)
+            task.hear(granted.body, granted.reading)
+            note = task.release("guard", granted.reading)
+        told = [await caller.post("free", note) for _ in range(3)]
+        assert [one.json for one in told] == [{"freed": 1}] * 3
+        assert [one.reading is None for one in told] == [False, True, True]
+    lines = lines_of(tmp_path / "logs")
+    assert [line["do"] for line in lines if not line["reply"].startswith("refused")] == [
+        "take", "propose", "commit", "grant", "free",
+    ]
+
+
+async def test_retries_over_a_restart(file: Store, tmp_path: Path) -> None:
+    async with running(file, tmp_path / "logs") as (_, caller):
+        await caller.create()
+        term = await caller.take()
+        await caller.post(f"propose?term={term}", assignment(1, WHOLE))
+    async with running(file, tmp_path / "logs") as (_, caller):
+        again = await caller.post(f"propose?term={term}", assignment(1, WHOLE))
+        assert (again.status, again.json, again.reading) == (200, {"generation": 1}, None)
+        await caller.post("commit", {"term": term})
+    async with running(file, tmp_path / "logs") as (_, caller):
+        again = await caller.post("commit", {"term": term, "generation": 1})
+        assert (again.status, again.json, again.reading) == (200, {"generation": 1}, None)
+        refused = await caller.post("commit", {"term": term})
+        assert refused.json["refused"] == "nothing-pending"
+
+
+# Waiting ---------------------------------------------------------------------------------------
+
+
+async def test_a_get_that_waits(file: Store, tmp_path: Path) -> None:
+    async with running(file, tmp_path / "logs") as (_, caller):
+        await caller.create()
+        term = await caller.take()
+        waiting = asyncio.create_task(caller.get("/assignment?after=0"))
+        phase = asyncio.create_task(caller.get("/phase?committed=0&pending=0"))
+        await asyncio.sleep(0.2)
+        assert not waiting.done() and not phase.done()
+        await caller.post(f"propose?term={term}", assignment(1, HALVES))
+        assert (await phase).json == {"phase": "proposed", "committed": 0, "pending": 1}
+        assert not waiting.done()
+        await caller.post("commit", {"term": term})
+        found = (await asyncio.wait_for(waiting, 5)).json["value"]
+        assert found == {"generation": "1", "slices": [["0", [1]], [str(HALF), [2]]]}
+        assert (await caller.get("/assignment?after=0")).json["value"] == found
+        assert (await caller.get("/phase")).json == {
+            "phase": "idle", "committed": 1, "pending": None
+        }
+
+
+async def test_a_get_that_waits_in_vain(
+    file: Store, tmp_path: Path, monkeypatch: pytest.MonkeyPatch
+) -> None:
+    monkeypatch.setattr(control, "LONGEST_WAIT", 0.2)
+    async with running(file, tmp_path / "logs") as (_, caller):
+        await begun(caller)
+        assert (await caller.get("/assignment?after=1")).status == 204
+        found = await caller.get("/phase?committed=1&pending=0")
+        assert found.json == {"phase": "idle", "committed": 1, "pending": None}
+        assert (await caller.get("/assignment?after=x")).status == 400
+
+
+async def test_a_plane_that_stops_answers_who_waits(file: Store, tmp_path: Path) -> None:
+    async with running(file, tmp_path / "logs") as (plane, caller):
+        await begun(caller)
+        waiting = asyncio.create_task(caller.get("/assignment?after=1"))
+        await asyncio.sleep(0.1)
+        await asyncio.wait_for(plane.stop(), 5)
+        assert (await waiting).status == 204
+
+
+# Stored before it is answered ------------------------------------------------------------------
+
+
+async def test_no_answer_leaves_before_the_store_has_it(file: Store, tmp_path: Path) -> None:
+    """A swap is held up; until it is let go there is no answer, and no line in the log."""
+    trouble = Trouble(file)
+    gate, reached = threading.Event(), threading.Event()
+
+    def wait() -> None:
+        reached.set()
+        assert gate.wait(10)
+
+    async with running(trouble, tmp_path / "logs") as (_, caller):  # type: ignore[arg-type]
+        await begun(caller)
+        before = len(lines_of(tmp_path / "logs"))
+        for at, point in enumerate(("before", "after")):
+            gate.clear()
+            reached.clear()
+            setattr(trouble, point, wait)
+            asked = asyncio.create_task(caller.grant(1))
+            await asyncio.to_thread(reached.wait, 10)
+            await asyncio.sleep(0.2)
+            assert not asked.done()
+            assert len(lines_of(tmp_path / "logs")) == before + at
+            assert len((await caller.get()).json["rows"]) == at
+            setattr(trouble, point, None)
+            gate.set()
+            assert (await asked).status == 200
+            assert len(lines_of(tmp_path / "logs")) == before + at + 1
+            assert len((await caller.get()).json["rows"]) == at + 1
+
+
+async def test_a_store_that_is_too_slow(file: Store, tmp_path: Path) -> None:
+    """The caller is told to retry. The call goes on, and its effect and its line are kept."""
+    trouble, limits = Trouble(file), Limits(patience=0.3)
+    async with running(trouble, tmp_path / "logs", limits=limits) as (  # type: ignore[arg-type]
+        _, caller,
+    ):
+        await begun(caller)
+        trouble.before = lambda: time.sleep(0.8)
+        late = await caller.grant(1)
+        assert (late.status, late.json["refused"]) == (503, "store")
+        assert late.headers["Retry-After"] == "1"
+        trouble.before = None
+        await asyncio.sleep(0.8)
+        assert (await caller.grant(1)).json["value"]["number"] == "2"
+    assert [line["do"] for line in lines_of(tmp_path / "logs")][-2:] == ["grant", "grant"]
+
+
+async def test_a_store_that_fails_before_it_writes(file: Store, tmp_path: Path) -> None:
+    trouble = Trouble(file)
+    async with running(trouble, tmp_path / "logs") as (plane, caller):  # type: ignore[arg-type]
+        await begun(caller)
+        trouble.before = fail
+        failed = await caller.grant(1)
+        assert (failed.status, failed.json["refused"]) == (503, "store")
+        assert failed.reading is None
+        assert not plane.jobs["shop"].job.is_held
+        trouble.before = None
+        granted = await caller.grant(2)
+        assert granted.json["value"]["number"] == "1"
+    told = [(line["do"], line.get("task")) for line in lines_of(tmp_path / "logs")][3:]
+    assert told == [("restore", None), ("grant", 2)]
+
+
+async def test_a_store_that_fails_after_it_wrote(file: Store, tmp_path: Path) -> None:
+    """The number that was stored is not given again, and the line of the call is not lost."""
+    trouble = Trouble(file)
+    async with running(trouble, tmp_path / "logs") as (_, caller):  # type: ignore[arg-type]
+        await begun(caller)
+        trouble.after = fail
+        assert (await caller.grant(1)).status == 503
+        trouble.after = None
+        assert (await caller.grant(2)).json["value"]["number"] == "2"
+    lines = lines_of(tmp_path / "logs")
+    assert [(line["do"], line.get("task")) for line in lines][3:] == [
+        ("grant", 1), ("restore", None), ("grant", 2)
+    ]
+    restore = lines[4]
+    assert (restore["granted"], restore["last"]) == (1, lines[3]["at"])
+    assert restore["deadline"] == lines[3]["at"] + POLICY["guard"]
+    assert restore["reply"] == f"restored generation 1 grace {restore['deadline']}"
+
+
+async def test_a_restart_goes_on_with_grace(file: Store, tmp_path: Path) -> None:
+    async with running(file, tmp_path / "logs") as (_, caller):
+        term = await begun(caller)
+        granted = await caller.grant(1)
+        until = int(granted.json["value"]["until"])
+    async with running(file, tmp_path / "logs") as (plane, caller):
+        proposed = await caller.post(f"propose?term={term}", assignment(2, HALVES))
+        assert proposed.status == 200
+        assert granted.reading is not None and proposed.reading is not None
+        assert proposed.reading >= granted.reading
+        held = await caller.post("commit", {"term": term})
+        assert (held.status, held.json) == (409, {"refused": "grace", "told": {"until": until}})
+        assert plane.jobs["shop"].job.grace_left() > 0
+        again = await caller.grant(1)
+        assert again.json["value"]["number"] == "2"
+        assert again.json["value"]["kind"] == "bridge"
+
+
+@pytest.mark.parametrize("shared", [False, True])
+async def test_the_reading_of_a_refused_call_counts(
+    file: Store, tmp_path: Path, shared: bool
+) -> None:
+    """It is stored as that of a grant that nobody gets, or is not used: it is in no answer and in
+    no log."""
+    logs = tmp_path / "logs"
+    async with running(file, logs, shared=shared) as (_, caller):
+        await caller.create()
+        await caller.grant(1)  # perhaps at 0, which is stored
+        before = len(lines_of(logs))
+        await asyncio.sleep(0.05)
+        early = await caller.grant(1)
+        assert (early.status, early.reading) == (409, None)
+        assert len(lines_of(logs)) == before
+        await caller.change(await caller.take(), 1, WHOLE)
+        await caller.grant(1)
+        await asyncio.sleep(0.3)
+        refused = await caller.post("renew", {"term": 9})
+        assert refused.status == 409 and refused.reading is not None
+        assert lines_of(logs)[-1]["at"] == refused.reading
+    async with running(file, logs, shared=shared) as (_, caller):
+        again = await caller.grant(1)
+        assert again.reading is not None and again.reading >= refused.reading
+        assert again.json["value"]["number"] == "3"
+    restore = [line for line in lines_of(logs) if line["do"] == "restore"]
+    assert [(line["last"], line["granted"]) for line in restore] == [(refused.reading, 2)]
+    assert restore[0]["deadline"] == refused.reading + POLICY["guard"]
+
+
+async def test_most_grants_store_nothing(file: Store, tmp_path: Path) -> None:
+    """What is saved ahead covers grants up to the twentieth after it, which saves anew. A process
+    that is killed loses the numbers that are left; one that ends well loses none."""
+    trouble, swaps = Trouble(file), []
+    trouble.before = lambda: swaps.append(1)
+    logs, ahead = tmp_path / "logs", (20, 3000)
+    async with running(trouble, logs, ahead=ahead) as (plane, caller):  # type: ignore[arg-type]
+        await begun(caller)
+        swaps.clear()
+        told = [await caller.grant(1) for _ in range(42)]
+        assert len(swaps) == 2  # at grants 20 and 40; the commit saved ahead too
+        assert [int(one.json["value"]["number"]) for one in told] == list(range(1, 43))
+        swaps.clear()
+        assert (await caller.post("renew", {"term": 9})).status == 409
+        assert (await caller.get("/phase")).status == 200
+        assert not swaps
+        plane.jobs["shop"].job.drop()  # as a kill: nothing is settled
+        killed = await caller.grant(1)
+        assert int(killed.json["value"]["number"]) == 61  # after 40 and the 20 saved ahead
+        assert killed.reading is not None and told[-1].reading is not None
+        assert killed.reading >= told[-1].reading
+    async with running(trouble, logs, ahead=ahead) as (_, caller):  # type: ignore[arg-type]
+        again = await caller.grant(1)
+        assert int(again.json["value"]["number"]) == 62
+        assert again.reading is not None and again.reading >= killed.reading
+    restores = [line for line in lines_of(logs) if line["do"] == "restore"]
+    assert [line["granted"] for line in restores] == [60, 61]
+
+
+async def test_a_restart_after_saving_ahead_waits(file: Store, tmp_path: Path) -> None:
+    """The clock of the next process starts below the reading that was kept, by as much as it was
+    ahead, so it is not ahead of what tasks may have read: the first call waits."""
+    logs, ahead = tmp_path / "logs", (20, 700)
+    async with running(file, logs, ahead=ahead) as (plane, caller):
+        await begun(caller)
+        last = await caller.grant(1)
+        held = plane.jobs["shop"].job._held
+        assert held is not None and last.reading is not None
+        kept, begins = held.last, time.monotonic()
+        assert kept > last.reading
+        plane.jobs["shop"].job.drop()
+        next_one = await caller.grant(1)
+        waited = (time.monotonic() - begins) * 1000
+        assert next_one.reading is not None and next_one.reading >= kept
+        assert next_one.reading - last.reading <= waited + 10
+        await plane.stop()
+    async with running(file, logs, ahead=ahead) as (_, caller):  # it was settled
+        begins = time.monotonic()
+        assert (await caller.grant(1)).status == 200
+        assert time.monotonic() - begins < 0.3
+
+
+# Two planes ------------------------------------------------------------------------------------
+
+
+async def test_two_planes_never_both_write(url: str, job: str, tmp_path: Path) -> None:
+    """The second takes over when the first is still; the first then drops its table. Numbers of
+    grants are not given twice, and readings do not fall."""
+    first, second = open_store(url), open_store(url)
+    logs = tmp_path / "logs"
+    async with running(first, logs, 0, True) as (one, a), running(second, logs, 1, True) as (_, b):
+        a.job = b.job = job
+        await a.create()
+        term = await a.take()
+        await a.post(f"propose?term={term}", assignment(1, WHOLE, job))
+        await a.post("commit", {"term": term})
+        told = [await a.grant(1)]
+        busy = await b.grant(1)
+        assert (busy.status, busy.json["refused"]) == (503, "replaced")
+        assert int(busy.headers["Retry-After"]) >= 1
+        await asyncio.sleep(0.5)
+        told.append(await b.grant(1))
+        await asyncio.sleep(0.2)
+        assert not one.jobs[job].job.is_held  # it looked, and dropped its table
+        replaced = await a.grant(1)
+        assert (replaced.status, replaced.json["refused"]) == (503, "replaced")
+        told.append(await b.grant(1))
+        await asyncio.sleep(0.5)
+        told.append(await a.grant(1))
+        assert [answer.status for answer in told] == [200] * 4
+        assert [answer.json["value"]["number"] for answer in told] == ["1", "2", "3", "4"]
+        readings = [answer.reading for answer in told]
+        assert readings == sorted(readings)  # type: ignore[type-var]
+        assert (await b.get("/assignment?after=0")).json["value"]["generation"] == "1"
+    lines = lines_of(logs, job)
+    assert [line["do"] for line in lines] == [
+        "take", "propose", "commit", "grant", "restore", "grant", "grant", "restore", "grant",
+    ]
+    restores = [line["file"].split(".")[0] for line in lines if line["do"] == "restore"]
+    assert restores == ["control-1", "control-0"]
+    first.close()
+    second.close()
+
+
+async def test_a_plane_that_was_replaced_unseen(file: Store, tmp_path: Path) -> None:
+    """Another one writes between two calls: the call that meets the conflict has no answer."""
+    async with running(file, tmp_path / "logs", shared=True) as (plane, caller):
+        await begun(caller)
+        job = plane.jobs["shop"].job
+        stored = file.load("shop")
+        assert stored is not None and stored.line is not None
+        line = json.loads(stored.line.removeprefix("0 "))
+        line["ticket"] += (1 << 16) + 5  # a ticket of process 5
+        file.swap("shop", stored.version, stored.kept, "0 " + json.dumps(line))
+        job_held = job.is_held
+        answer = await caller.grant(1)
+        assert job_held and (answer.status, answer.json["refused"]) == (503, "replaced")
+        assert not job.is_held
+        assert [one["do"] for one in lines_of(tmp_path / "logs")] == ["take", "propose", "commit"]
+        await asyncio.sleep(0.5)
+        assert (await caller.grant(1)).json["value"]["number"] == "1"
+
+
+async def test_a_standby_sees_what_the_other_commits(url: str, job: str, tmp_path: Path) -> None:
+    first, second = open_store(url), open_store(url)
+    logs = tmp_path / "logs"
+    async with running(first, logs, 0, True) as (_, a), running(second, logs, 1, True) as (_, b):
+        a.job = b.job = job
+        await a.create()
+        assert (await b.get("/phase")).json["committed"] == 0
+        waiting = asyncio.create_task(b.get("/assignment?after=0"))
+        term = await a.take()
+        await a.post(f"propose?term={term}", assignment(1, HALVES, job))
+        await a.post("commit", {"term": term})
+        assert (await asyncio.wait_for(waiting, 5)).json["value"]["generation"] == "1"
+        assert (await b.post("tasks/3/life")).json["life"] == 1
+        assert (await a.post("tasks/3/life")).json["life"] == 2
+    first.close()
+    second.close()
+
+
+# Limits and callers ----------------------------------------------------------------------------
+
+
+async def test_bodies_have_a_limit(file: Store, tmp_path: Path) -> None:
+    async with running(file, tmp_path / "logs") as (_, caller):
+        await begun(caller)
+        most = json.dumps({"task": 1, "life": 1}).encode().ljust(1 << 20)
+        assert (await caller.post("grant", most)).status == 200
+        larger = await caller.post("grant", most + b" ")
+        assert (larger.status, larger.json["limit"]) == (413, "body")
+
+
+async def test_jobs_have_a_limit(file: Store, tmp_path: Path) -> None:
+    async with running(file, tmp_path / "logs", limits=Limits(jobs=2)) as (_, caller):
+        for name, status in [("a", 201), ("b", 201), ("c", 429), ("b", 200)]:
+            caller.job = name
+            answer = await caller.create()
+            assert answer.status == status
+            if status == 429:
+                assert answer.json["limit"] == "jobs" and "Retry-After" in answer.headers
+
+
+async def test_grants_of_a_task_have_a_rate(file: Store, tmp_path: Path) -> None:
+    limits = Limits(grants=2, burst=3)
+    async with running(file, tmp_path / "logs", limits=limits) as (_, caller):
+        await begun(caller)
+        told = [await caller.grant(1) for _ in range(5)]
+        assert [answer.status for answer in told] == [200] * 3 + [429] * 2
+        assert told[-1].json["limit"] == "grants"
+        assert told[-1].headers["Retry-After"] == "1"
+        assert (await caller.grant(2)).status == 200
+        await asyncio.sleep(0.6)
+        assert [(await caller.grant(1)).status for _ in range(2)] == [200, 429]
+
+
+async def test_connections_have_a_limit(file: Store, tmp_path: Path) -> None:
+    limits = Limits(connections=2)
+    async with running(file, tmp_path / "logs", limits=limits) as (_, caller):
+        async with aiohttp.ClientSession() as one, aiohttp.ClientSession() as two:
+            assert (await caller.ask("GET", "/healthz")).status == 200
+            assert (await Caller(caller.url, one).ask("GET", "/healthz")).status == 200
+            answer = await Caller(caller.url, two).ask("GET", "/healthz")
+            assert (answer.status, answer.json["limit"]) == (429, "connections")
+            assert "Retry-After" in answer.headers
+        await asyncio.sleep(0.1)
+        async with aiohttp.ClientSession() as three:
+            assert (await Caller(caller.url, three).ask("GET", "/healthz")).status == 200
+
+
+async def test_callers_have_a_secret(file: Store, tmp_path: Path) -> None:
+    secrets = ["correct horse battery", "a second one for a change"]
+    async with running(file, tmp_path / "logs", secrets=secrets) as (_, caller):
+        for given, status in [
+            (None, 401), ("Bearer wrong", 401), ("Bearer ", 401), (secrets[0], 401),
+            (f"Bearer {secrets[0]}", 404), (f"Bearer {secrets[1]}", 404),
+        ]:
+            headers = {"Authorization": given} if given is not None else {}
+            for method, path in [("GET", "/jobs/shop"), ("POST", "/jobs/shop/grant")]:
+                body = {"task": 1, "life": 1} if method == "POST" else None
+                assert (await caller.ask(method, path, body, headers)).status == status, given
+        assert (await caller.ask("GET", "/metrics")).status == 401
+        assert (await caller.ask("GET", "/healthz")).body == b"ok\n"
+
+
+async def test_tickets_go_both_ways(file: Store, tmp_path: Path) -> None:
+    async with running(file, tmp_path / "logs") as (_, caller):
+        await begun(caller)
+        first = int((await caller.ask("GET", "/healthz")).headers["Hourstable-Ticket"])
+        ahead = first + (5000 << 16)  # a sender whose real time is 5 s ahead
+        body = {"task": 1, "life": 1}
+        headers = {"Hourstable-Ticket": str(ahead)}
+        answer = await caller.ask("POST", "/jobs/shop/grant", body, headers)
+        assert int(answer.headers["Hourstable-Ticket"]) > ahead
+        for wrong in ("-1", "x", str(1 << 64), str(first + (200_000_000 << 16))):
+            headers = {"Hourstable-Ticket": wrong}
+            assert (await caller.ask("GET", "/jobs", None, headers)).status == 400
+    assert lines_of(tmp_path / "logs")[-1]["ticket"] > ahead
+
+
+async def test_metrics(file: Store, tmp_path: Path) -> None:
+    trouble = Trouble(file)
+    async with running(trouble, tmp_path / "logs") as (_, caller):  # type: ignore[arg-type]
+        await begun(caller)
+        await caller.grant(1)
+        await caller.post("renew", {"term": 7})
+        trouble.before = fail
+        await caller.grant(1)
+        trouble.before = None
+        await caller.grant(1)
+        answer = await caller.ask("GET", "/metrics")
+    found: dict[tuple[str, ...], float] = {}
+    families = text_string_to_metric_families(answer.body.decode())  # type: ignore[no-untyped-call]
+    for family in families:
+        assert family.name.startswith("hourstable_")
+        assert family.documentation.endswith(".")
+        for sample in family.samples:
+            labels = [sample.labels[name] for name in sorted(sample.labels)]
+            found[(sample.name, *labels)] = sample.value
+    assert found[("hourstable_calls_total", "grant", "shop")] == 2
+    assert found[("hourstable_refusals_total", "renew", "shop", "not-holder")] == 1
+    assert found[("hourstable_restarts_total", "shop")] == 1
+    assert found[("hourstable_store_failures_total", "swap")] == 1
+    assert found[("hourstable_generation", "shop")] == 1
+    assert found[("hourstable_held", "shop")] == 1
+    assert found[("hourstable_tasks_alive", "shop")] == 1
+    assert found[("hourstable_rows", "shop")] == 1
+    assert found[("hourstable_grants_made", "shop")] == 3  # one for the reading of the renewal
+    assert found[("hourstable_numbers_left_ratio", "shop")] == 1 - 3 / 1000
+    assert 0 < found[("hourstable_grace_seconds", "shop")] <= 1
+    assert found[("hourstable_open_connections",)] >= 1
+    assert found[("hourstable_request_seconds_count", "grant")] == 3
+
+
+async def test_a_damaged_job_keeps_no_other_from_being_served(
+    file: Store, tmp_path: Path
+) -> None:
+    async with running(file, tmp_path / "logs") as (_, caller):
+        for name in ("bad", "good"):
+            caller.job = name
+            await begun(caller)
+    stored = file.load("bad")
+    assert stored is not None
+    file.swap("bad", stored.version, b'{"no":"message"}', stored.line)
+    async with running(file, tmp_path / "logs") as (_, caller):
+        caller.job = "bad"
+        assert (await caller.grant(1)).status == 503
+        caller.job = "good"
+        assert (await caller.grant(1)).status == 200

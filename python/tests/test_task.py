@@ -1,0 +1,411 @@
+"""Tests of hourstable.task, over a control plane in the process of the test.
+
+A guard lease lasts 2 s there, long beside what a loaded machine takes for a message. The key
+"hello" is in the lower half of the slice keys, and "abc" in the upper half.
+"""
+
+import asyncio
+import os
+import shutil
+import subprocess
+import time
+from collections.abc import AsyncIterator, Callable
+from pathlib import Path
+from typing import Any
+
+import pytest
+from aiohttp import web
+
+from hourstable import logs
+from hourstable.calls import Rejected
+from hourstable.library import boottime_ticks
+from hourstable.ranges import KEYS
+from hourstable.task import ClockBroken, Denied, Drift, LeaseLost, Task
+from hourstable.waiting import within
+from planes import JOB, Plane
+
+HALF = 1 << 62
+LOWER, UPPER = [(0, HALF)], [(HALF, KEYS)]
+TO_ONE_AND_TWO = [(0, 1), (HALF, 2)]
+
+
+@pytest.fixture
+async def plane(tmp_path: Path) -> AsyncIterator[Plane]:
+    made = await Plane(tmp_path).start()
+    made.settle(1, TO_ONE_AND_TWO)
+    yield made
+    await made.stop()
+
+
+@pytest.fixture
+def task_of(plane: Plane, tmp_path: Path) -> Callable[..., Task]:
+    def made(number: int = 1, **given: Any) -> Task:
+        given = {"policy": plane.policy, "timeout": 2.0, **given}
+        return Task(plane.url, JOB, number, logs=tmp_path, **given)
+
+    return made
+
+
+async def until(holds: Callable[[], object], seconds: float = 20.0) -> None:
+    end = time.monotonic() + seconds
+    while not holds():
+        assert time.monotonic() < end, "it does not come true"
+        await asyncio.sleep(0.002)
+
+
+async def ground(task: Task, key: str) -> str:
+    """Returns the ground on which a key is denied, or nothing if it is served."""
+    try:
+        async with task.serving(key):
+            return ""
+    except Denied as denied:
+        return denied.ground
+
+
+def calls(folder: Path, *names: str) -> list[str]:
+    """Returns the calls of the tasks in the log, with their replies."""
+    found = [it for it in logs.merged(folder / JOB) if it["file"].startswith("task-")]
+    found = [it for it in found if not names or it["do"] in names]
+    return [f"{call['do']}: {call['reply']}" for call in found]
+
+
+async def test_keys_are_served_and_denied(
+    plane: Plane, task_of: Callable[..., Task], tmp_path: Path
+) -> None:
+    async with task_of() as task:
+        assert await ground(task, "hello") == "down"
+        await until(lambda: task.served() == LOWER)
+        assert await ground(task, "hello") == ""
+        assert await ground(task, "abc") == "not-owned"
+    log = calls(tmp_path)
+    assert log[:7] == [
+        "open: opened 0", "start: started 1", "hear: heard 1", "serve: served guard 1",
+        "hold: handle life 1 position 2", "check: continuous", "serve: denied not-owned 1",
+    ]
+    assert log[-1].startswith("release: released life 1 number ")
+    assert plane.held(1) == []
+
+
+async def test_a_lease_is_renewed_at_half_of_it(plane: Plane, task_of: Callable[..., Task]) -> None:
+    async with task_of() as task:
+        await until(lambda: task.served() == LOWER)
+        before = len(plane.asked)
+        async with task.serving("hello"):  # a block is no hindrance, and lasts over the renewals
+            await asyncio.sleep(3.5)
+        # Half of a lease is 1 s, a tenth earlier or later, and later by what messages take.
+        assert 2 <= len(plane.asked) - before <= 4
+
+
+async def test_a_change_waits_for_messages_and_not_for_leases(
+    plane: Plane, task_of: Callable[..., Task]
+) -> None:
+    lost: list[Any] = []
+    async with task_of(on_lose=lambda ranges, deadline: lost.append(ranges)) as task:
+        await until(lambda: task.served() == LOWER)
+        plane.propose(2, [(0, 2)])
+        assert await plane.commit_soon() < 1000
+        assert lost == [LOWER]
+        assert await ground(task, "hello") in ("ended", "not-owned", "no-lease")
+
+
+async def test_keys_that_stay_are_served_throughout(
+    plane: Plane, task_of: Callable[..., Task]
+) -> None:
+    gained: list[Any] = []
+    async with task_of(on_gain=gained.append) as task:
+        await until(lambda: task.served() == LOWER)
+        plane.propose(2, [(0, 1)])
+        committing = asyncio.create_task(plane.commit_soon())
+        while not committing.done():
+            assert await ground(task, "hello") == ""
+            await asyncio.sleep(0.001)
+        await until(lambda: len(gained) == 2)
+        assert gained == [LOWER, UPPER]
+        assert await ground(task, "hello") == ""
+        assert await ground(task, "abc") == ""
+        await until(lambda: plane.held(1) == ["guard"])
+
+
+async def test_an_open_block_ends_before_its_key_is_given_up(
+    plane: Plane, task_of: Callable[..., Task]
+) -> None:
+    async with task_of(patience=2.0) as task:
+        await until(lambda: task.served() == LOWER)
+        async with task.serving("hello") as lease:
+            plane.propose(2, [(0, 2)])
+            await until(lambda: task.served() == [])
+            assert await ground(task, "hello") == "moving"
+            await asyncio.sleep(0.1)
+            assert "guard" in plane.held(1)
+            lease.check()
+        assert await plane.commit_soon() < 1000
+
+
+async def test_a_block_that_does_not_end_loses_its_key(
+    plane: Plane, task_of: Callable[..., Task], tmp_path: Path
+) -> None:
+    async with task_of(patience=0.05) as task:
+        await until(lambda: task.served() == LOWER)
+        with pytest.raises(LeaseLost):
+            async with task.serving("hello"):
+                plane.propose(2, [(0, 2)])
+                assert await plane.commit_soon() < 1000
+    assert "check: broken" in calls(tmp_path, "check")
+
+
+def silent(plane: Plane) -> None:
+    """Lets the plane answer nobody."""
+
+    async def fault(_: web.Request) -> web.StreamResponse:
+        await asyncio.sleep(0.3)
+        return web.Response(status=503)
+
+    plane.fault = fault
+
+
+async def test_a_task_that_hears_nothing_stops_when_its_lease_ends(
+    plane: Plane, task_of: Callable[..., Task]
+) -> None:
+    lost: list[Any] = []
+    async with task_of(oldest=10_000, on_lose=lambda ranges, _: lost.append(ranges)) as task:
+        await until(lambda: task.served() == LOWER)
+        silent(plane)
+        assert await ground(task, "hello") == ""
+        await asyncio.sleep(2.5)
+        assert await ground(task, "hello") == "ended"
+        await until(lambda: lost == [LOWER])
+        plane.fault = None
+        await until(lambda: task.served() == LOWER)
+        assert await ground(task, "hello") == ""
+        assert task.clock_behind_total == 0
+
+
+async def test_an_answer_after_the_end_of_the_lease_is_none(
+    plane: Plane, task_of: Callable[..., Task], tmp_path: Path
+) -> None:
+    async with task_of(oldest=10_000) as task:
+        await until(lambda: task.served() == LOWER)
+        silent(plane)
+        with pytest.raises(LeaseLost):
+            async with task.serving("hello"):
+                await asyncio.sleep(2.6)
+    assert calls(tmp_path, "check") == ["check: broken"]
+
+
+async def test_a_block_that_raises_is_not_asked_again(
+    plane: Plane, task_of: Callable[..., Task], tmp_path: Path
+) -> None:
+    async with task_of() as task:
+        await until(lambda: task.served() == LOWER)
+        with pytest.raises(KeyError):
+            async with task.serving("hello"):
+                raise KeyError
+    assert calls(tmp_path, "check") == []
+
+
+async def test_a_process_that_was_suspended_finds_its_lease_ended(
+    plane: Plane, task_of: Callable[..., Task]
+) -> None:
+    """The local clock counts while the process is suspended."""
+    slept = [0]
+    async with task_of(local_clock=lambda: boottime_ticks() + slept[0], oldest=99_999) as task:
+        await until(lambda: task.served() == LOWER)
+        hold = task.hold("hello")
+        assert hold.continuous()
+        with pytest.raises(LeaseLost):
+            async with task.serving("hello"):
+                slept[0] = 5000
+        assert not hold.continuous()
+        assert await ground(task, "hello") == "ended"
+
+
+async def test_a_clock_that_is_too_old_stops_the_task(
+    plane: Plane, task_of: Callable[..., Task]
+) -> None:
+    # The newest sample may be 1,400 ms old; renewals come after 1,100 ms and a message.
+    async with task_of(oldest=1400) as task:
+        await until(lambda: task.served() == LOWER)
+        silent(plane)
+        await asyncio.sleep(1.6)  # the lease may not have ended, the clock is too old
+        assert await ground(task, "hello") == "clock-behind"
+        await until(lambda: task.clock_behind_total == 1)
+        plane.fault = None
+        await until(lambda: task.served() == LOWER)
+        assert b'hourstable_clock_behind_total{job="shop",task="1"} 1.0' in task.metrics.text()
+
+
+async def test_a_clock_that_breaks_its_drift_ends_the_task(
+    plane: Plane, task_of: Callable[..., Task], tmp_path: Path
+) -> None:
+    """The local clock goes at half its rate, and the drift that is given is 1 in 1,000."""
+    begun = boottime_ticks()
+    slow = lambda: (boottime_ticks() + begun) // 2  # noqa: E731
+    task = task_of(local_clock=slow, drift=Drift(1, 1000), oldest=10_000)
+    await task.start()
+    with pytest.raises(ClockBroken):
+        await within(20.0, task.wait())
+    assert task.clock_behind_total == 1
+    assert await ground(task, "hello") in ("no-lease", "not-owned")
+    await task.stop()
+    assert any(it.startswith("release: released life 1") for it in calls(tmp_path, "release"))
+
+
+async def test_a_grant_that_comes_too_late_is_not_heard(
+    plane: Plane, task_of: Callable[..., Task], tmp_path: Path
+) -> None:
+    """The process is suspended for 2,050 ms while the first grant, of 2 s, is on its way. The value
+    of its clock is then 2,050 ms ahead of the table and does not fall, so that further grants may
+    come too late, for 50 ms."""
+    slept = [0]
+
+    async def fault(request: web.Request) -> web.StreamResponse | None:
+        if not request.path.endswith("/grant") or slept[0]:
+            return None
+        answer = await plane.grant(request)
+        slept[0] = 2050
+        return answer
+
+    plane.fault = fault
+    async with task_of(local_clock=lambda: boottime_ticks() + slept[0], oldest=10_000) as task:
+        await until(lambda: task.served() == LOWER)
+    heard = calls(tmp_path, "start", "hear")
+    assert heard[0].startswith("start: started ") and heard[1] == "hear: refused too-late"
+    assert set(heard[2:-1]) <= {"hear: refused too-late"}
+    assert heard[-1].startswith("hear: heard ")
+
+
+async def test_the_next_process_of_a_task(
+    plane: Plane, task_of: Callable[..., Task], tmp_path: Path
+) -> None:
+    async with task_of() as task:
+        await until(lambda: task.served() == LOWER)
+        hold = task.hold("hello")
+    assert not hold.continuous()
+    async with task_of() as task:
+        await until(lambda: task.served() == LOWER)
+        assert await ground(task, "hello") == ""
+    begun = calls(tmp_path, "open", "start")
+    assert begun == ["open: opened 0", "start: started 1", "open: opened 1", "start: started 2"]
+    tickets = [call["ticket"] for call in logs.merged(tmp_path / JOB)]
+    assert len(set(tickets)) == len(tickets)
+
+
+async def test_no_two_processes_of_a_task(plane: Plane, task_of: Callable[..., Task]) -> None:
+    async with task_of():
+        with pytest.raises(BlockingIOError):
+            task_of()
+
+
+async def test_a_slicelet_that_is_nearly_full_is_replaced(
+    plane: Plane, task_of: Callable[..., Task], monkeypatch: pytest.MonkeyPatch, tmp_path: Path
+) -> None:
+    # It accepts 65,536 calls: start, three times hear; then fewer than 65,533 are left.
+    monkeypatch.setattr("hourstable.task.LAST_CALLS", 65_533)
+    async with task_of() as task:
+        await until(lambda: len(calls(tmp_path, "open")) == 2)
+        await until(lambda: task.served() == LOWER)
+    assert calls(tmp_path)[:6] == [
+        "open: opened 0", "start: started 1", "hear: heard 1", "hear: heard 2", "hear: heard 3",
+        "release: released life 1 number 3",
+    ]
+
+
+async def test_a_task_without_an_assignment_goes_on_asking(
+    task_of: Callable[..., Task], tmp_path: Path
+) -> None:
+    plane = await Plane(tmp_path / "other").start()
+    async with Task(plane.url, JOB, 1, logs=tmp_path / "other", timeout=0.5) as task:
+        await until(lambda: len(plane.asked) > 1)
+        assert await ground(task, "hello") == "no-lease"
+        plane.settle(1, TO_ONE_AND_TWO)
+        await until(lambda: task.served() == LOWER)
+    await plane.stop()
+
+
+async def test_loads_are_reported(plane: Plane, task_of: Callable[..., Task]) -> None:
+    async with task_of(report=0.1) as task:
+        await until(lambda: task.served() == LOWER)
+        for _ in range(3):
+            await ground(task, "hello")
+        await until(lambda: any(told["loads"] for told in plane.loads))
+    told = [it for it in plane.loads if it["loads"]]
+    # The slice key of "hello" is 0x1679286... (63 bits); 1,024 parts of the keys are 2^53 wide.
+    hello = 1_619_368_272_448_737_671
+    part = hello >> 53 << 53
+    assert told == [{"task": 1, "loads": [[str(part), str(part + (1 << 53)), 3]]}]
+
+
+async def test_another_policy_is_rejected(plane: Plane, task_of: Callable[..., Task]) -> None:
+    task = task_of(policy={**plane.policy, "guard": 401})
+    with pytest.raises(Rejected, match="another policy"):
+        await task.start()
+    await task.stop()
+
+
+async def test_a_note_that_is_lost_is_sent_again(
+    plane: Plane, task_of: Callable[..., Task]
+) -> None:
+    lost = [2]
+
+    async def fault(request: web.Request) -> web.StreamResponse | None:
+        if request.path.endswith("/free") and lost[0]:
+            lost[0] -= 1
+            return web.Response(status=503)
+        return None
+
+    async with task_of() as task:
+        await until(lambda: task.served() == LOWER)
+        plane.fault = fault
+        plane.propose(2, [(0, 2)])
+        assert await plane.commit_soon() < 1800
+        assert lost == [0]
+
+
+async def test_a_client_that_does_not_read_holds_up_nothing(
+    plane: Plane, task_of: Callable[..., Task]
+) -> None:
+    """The answer is longer than what sockets buffer, so it is underway during the change."""
+    async with task_of() as task:
+        await until(lambda: task.served() == LOWER)
+        sent = asyncio.Event()
+
+        async def handler(_: web.Request) -> web.Response:
+            async with task.serving("hello"):
+                body = bytes(1 << 26)
+            sent.set()
+            return web.Response(body=body)
+
+        app = web.Application()
+        app.router.add_get("/", handler)
+        runner = web.AppRunner(app)
+        await runner.setup()
+        await web.TCPSite(runner, "127.0.0.1", 0, shutdown_timeout=0.1).start()
+        _, writer = await asyncio.open_connection(*runner.addresses[0])
+        writer.write(b"GET / HTTP/1.1\r\nHost: task\r\n\r\n")
+        await sent.wait()
+        plane.propose(2, [(0, 2)])
+        assert await plane.commit_soon() < 1000
+        writer.transport.abort()
+        await runner.cleanup()
+
+
+async def test_the_log_is_one_run(
+    plane: Plane, task_of: Callable[..., Task], tmp_path: Path
+) -> None:
+    """The proved audit judges the calls of the plane and two tasks over two changes."""
+    program = os.environ.get("HOURSTABLE_PROGRAM") or shutil.which("hourstable")
+    if program is None:
+        pytest.skip("there is no program hourstable: HOURSTABLE_PROGRAM says where it is")
+    async with task_of(1) as one, task_of(2) as two:
+        await until(lambda: one.served() == LOWER and two.served() == UPPER)
+        for generation, slices in ((2, [(0, 2)]), (3, TO_ONE_AND_TWO)):
+            plane.propose(generation, slices)
+            await plane.commit_soon()
+            for key in ("hello", "abc"):
+                await ground(one, key)
+                await ground(two, key)
+        await until(lambda: one.served() == LOWER and two.served() == UPPER)
+    paths = logs.lay_out(tmp_path / JOB, tmp_path / "laid")
+    ran = subprocess.run([program, "audit", *paths], capture_output=True, text=True, check=False)
+    assert ran.stdout.startswith("audit one\n") and ran.stdout.endswith("timely yes\n"), ran
+    assert ran.returncode == 0
