@@ -1,0 +1,3 @@
+module hourstable
+
+go 1.19

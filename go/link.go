@@ -1,0 +1,6 @@
+//go:build !hourstable_static
+
+package hourstable
+
+// #cgo LDFLAGS: -lhourstable
+import "C"

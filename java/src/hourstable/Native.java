@@ -1,0 +1,40 @@
+package hourstable;
+
+/** The natives of {@code native/hourstable_jni.c}. */
+final class Native {
+    static {
+        System.loadLibrary("hourstable_jni");
+    }
+
+    private Native() {}
+
+    static native long placeNew();
+
+    static native void placeFree(long place);
+
+    static native String codeName(int code);
+
+    static native long sliceKey(byte[] key);
+
+    static native int sliceletOpen(long place, byte[] job, long task, int life);
+
+    static native int sliceletStart(long place, int life, long at);
+
+    static native int sliceletHear(long place, byte[] grant, long at, long[] out);
+
+    static native int sliceletRelease(long place, int kind, long at, byte[] note, long[] out);
+
+    static native int sliceletServe(long place, byte[] key, long at, long[] out);
+
+    static native int sliceletHold(long place, byte[] key, long at, long[] out);
+
+    static native int sliceletCheck(long place, long task, long sliceKey, long position, int life, long at);
+
+    static native int clerkOpen(long place, byte[] job);
+
+    static native int clerkLearn(long place, byte[] assignment, long[] out);
+
+    static native int clerkLook(long place, byte[] key, long[] out);
+
+    static native int clerkForget(long place);
+}

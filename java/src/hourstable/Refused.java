@@ -1,0 +1,68 @@
+package hourstable;
+
+import java.util.Locale;
+
+/**
+ * The exception of every call that is not done: the name of its code, and the numbers that the code comes with. Its message
+ * is that of scripts, such as {@code not-owned 3}. It has no stack trace, since a key that is not served is no fault.
+ */
+public final class Refused extends Exception {
+    private static final long serialVersionUID = 1;
+
+    private final int code;
+    private final String name;
+    private final long[] told;
+
+    private Refused(int code, String name, String message, long[] told) {
+        super(message, null, false, false);
+        this.code = code;
+        this.name = name;
+        this.told = told;
+    }
+
+    /** Returns if the code is that of a call that is done, and throws otherwise. */
+    static void check(int code, long[] told) throws Refused {
+        if (code == 0) {
+            return;
+        }
+        String name = Native.codeName(code);
+        throw new Refused(code, name, message(code, name, told), told);
+    }
+
+    private static String message(int code, String name, long[] told) {
+        switch (name) {
+            case "unknown":
+                return "code " + code;
+            case "HS_OLD_GENERATION":
+                return "old " + Long.toUnsignedString(told[1]);
+            case "HS_NOT_OWNED":
+                return "not-owned " + Long.toUnsignedString(told[1]);
+            case "HS_OLD":
+                return "old " + Long.toUnsignedString(told[0]);
+            case "HS_VERSION":
+                return "version " + Long.toUnsignedString(told[0]);
+            default:
+                return name.substring("HS_".length()).toLowerCase(Locale.ROOT).replace('_', '-');
+        }
+    }
+
+    /** The code, as in the header. */
+    public int code() {
+        return code;
+    }
+
+    /** The name of the code in the header, such as {@code HS_TOO_LATE}. */
+    public String name() {
+        return name;
+    }
+
+    /** The number of a grant, or the version of a message; 0 if the code sets none. */
+    public long number() {
+        return told[0];
+    }
+
+    /** The generation of a lease or an assignment; 0 if the code sets none. */
+    public long generation() {
+        return told[1];
+    }
+}

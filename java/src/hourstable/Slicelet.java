@@ -1,0 +1,138 @@
+package hourstable;
+
+import java.nio.charset.StandardCharsets;
+import java.util.Arrays;
+
+/**
+ * Knows the leases of a server task, and decides whether the task may serve a key: each decision is a call of the library.
+ * Readings are those of the task's clock, and all numbers are unsigned. Any threads may use one slicelet at the same time.
+ */
+public final class Slicelet extends Place {
+    /** The lease under which a key is served. */
+    public record Served(Kind kind, long generation) {}
+
+    /** A key that the task held when it took the handle. */
+    public record Handle(long task, long sliceKey, long position, int life) {}
+
+    /** What is done while the lease cannot be released. */
+    @FunctionalInterface
+    public interface Answer<T> {
+        T give(Served lease) throws Exception;
+    }
+
+    /** A slicelet of a task of a job. The name of the job has at most 64 bytes of UTF-8, and the task is 1 to 64. */
+    public Slicelet(String job, long task) throws Refused {
+        this(job, task, 0);
+    }
+
+    private Slicelet(String job, long task, int life) throws Refused {
+        int code = Native.sliceletOpen(address(), job.getBytes(StandardCharsets.UTF_8), task, life);
+        if (code != 0) {
+            close();
+        }
+        Refused.check(code, new long[5]);
+    }
+
+    /**
+     * The slicelet of a task's new process. {@code life} is the greatest life that the task ever started: only lives above
+     * it are started. Never call it beside a process of the task that may still run.
+     */
+    public static Slicelet resume(String job, long task, int life) throws Refused {
+        return new Slicelet(job, task, life);
+    }
+
+    /** Starts a life of the task, which holds no lease yet: HS_OLD_LIFE, HS_CLOCK_BACK, HS_HISTORY_FULL. */
+    public void start(int life, long at) throws Refused {
+        lock.writeLock().lock();
+        try {
+            Refused.check(Native.sliceletStart(address(), life, at), new long[5]);
+        } finally {
+            lock.writeLock().unlock();
+        }
+    }
+
+    /** Hears a grant, given as its message: its lease replaces the held one of its kind. */
+    public void hear(byte[] grant, long at) throws Refused {
+        long[] out = new long[5];
+        lock.writeLock().lock();
+        try {
+            Refused.check(Native.sliceletHear(address(), grant, at, out), out);
+        } finally {
+            lock.writeLock().unlock();
+        }
+    }
+
+    /** Gives up the lease of a kind, after the answers that are being given, and returns its note for the table. */
+    public byte[] release(Kind kind, long at) throws Refused {
+        byte[] note = new byte[512];
+        long[] out = new long[5];
+        lock.writeLock().lock();
+        try {
+            Refused.check(Native.sliceletRelease(address(), kind.number, at, note, out), new long[5]);
+        } finally {
+            lock.writeLock().unlock();
+        }
+        return Arrays.copyOf(note, (int) out[0]);
+    }
+
+    /**
+     * The lease under which the task may serve a key now: HS_DOWN, HS_CLOCK_BACK, HS_ENDED, HS_NOT_OWNED, HS_NO_LEASE. Once
+     * it has returned, another thread may release the lease: answer within {@link #serving} if one may.
+     */
+    public Served serve(byte[] key, long at) throws Refused {
+        long[] out = new long[5];
+        lock.readLock().lock();
+        try {
+            Refused.check(Native.sliceletServe(address(), key, at, out), out);
+        } finally {
+            lock.readLock().unlock();
+        }
+        return new Served(Kind.of(out[2]), out[1]);
+    }
+
+    /**
+     * Gives an answer if the task may serve a key. The lease is not released until the answer returns: start, hear, release
+     * and close wait for it, so the answer must call none of them.
+     */
+    public <T> T serving(byte[] key, long at, Answer<T> answer) throws Exception {
+        lock.readLock().lock();
+        try {
+            return answer.give(serve(key, at));
+        } finally {
+            lock.readLock().unlock();
+        }
+    }
+
+    /** Takes a handle on a key if the task may serve it, and otherwise throws as serve does. */
+    public Handle hold(byte[] key, long at) throws Refused {
+        long[] out = new long[5];
+        lock.readLock().lock();
+        try {
+            Refused.check(Native.sliceletHold(address(), key, at, out), out);
+        } finally {
+            lock.readLock().unlock();
+        }
+        return new Handle(out[0], out[1], out[2], (int) out[3]);
+    }
+
+    /** Returns if the task has held the key of a handle without a break, and may serve it now: HS_STRANGER, HS_BROKEN. */
+    public void check(Handle handle, long at) throws Refused {
+        lock.readLock().lock();
+        try {
+            int code = Native.sliceletCheck(
+                address(), handle.task(), handle.sliceKey(), handle.position(), handle.life(), at);
+            Refused.check(code, new long[5]);
+        } finally {
+            lock.readLock().unlock();
+        }
+    }
+
+    /** The slice key of a key. */
+    public static long sliceKey(byte[] key) {
+        long hashed = Native.sliceKey(key);
+        if (hashed < 0) {
+            throw new OutOfMemoryError("hourstable");
+        }
+        return hashed;
+    }
+}
