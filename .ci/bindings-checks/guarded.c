@@ -100,6 +100,12 @@ int32_t guarded_ended_note(const uint8_t *job, size_t job_len, uint64_t task, ui
     return returned(hs_ended_note(NAME, task, life, kind, OUT));
 }
 
+int32_t guarded_grant_read(const uint8_t *job, size_t job_len, const uint8_t *grant, size_t grant_len,
+                           struct hs_grant *out, uint64_t *boundaries, size_t boundaries_len, size_t *needed) {
+    return returned(hs_grant_read(NAME, READ_ALL(grant, grant_len), WRITTEN(out), WRITTEN_ALL(boundaries, boundaries_len),
+                                  WRITTEN(needed)));
+}
+
 int32_t guarded_slicelet_held(const struct hs_place *place, uint32_t kind, struct hs_held_lease *out) {
     return returned(hs_slicelet_held(READ_PLACE, kind, WRITTEN(out)));
 }
@@ -177,6 +183,11 @@ int32_t guarded_table_open(struct hs_place *place, const uint8_t *job, size_t jo
 
 int32_t guarded_table_kept(const struct hs_place *place, uint8_t *out, size_t out_len, size_t *needed) {
     return returned(hs_table_kept(READ_PLACE, OUT));
+}
+
+int32_t guarded_table_save(const struct hs_place *place, const uint8_t *saved, size_t saved_len, uint64_t grants,
+                           uint64_t ticks, uint8_t *out, size_t out_len, size_t *needed) {
+    return returned(hs_table_save(READ_PLACE, READ_ALL(saved, saved_len), grants, ticks, OUT));
 }
 
 int32_t guarded_table_restore(struct hs_place *place, const uint8_t *job, size_t job_len, const struct hs_policy *policy,

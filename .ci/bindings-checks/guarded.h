@@ -18,6 +18,8 @@ int32_t guarded_slicelet_resume(struct hs_place *place, const uint8_t *job, size
                                 uint32_t life);
 int32_t guarded_ended_note(const uint8_t *job, size_t job_len, uint64_t task, uint32_t life, uint32_t kind,
                            uint8_t *out, size_t out_len, size_t *needed);
+int32_t guarded_grant_read(const uint8_t *job, size_t job_len, const uint8_t *grant, size_t grant_len,
+                           struct hs_grant *out, uint64_t *boundaries, size_t boundaries_len, size_t *needed);
 int32_t guarded_slicelet_held(const struct hs_place *place, uint32_t kind, struct hs_held_lease *out);
 int32_t guarded_slicelet_next(const struct hs_place *place, const struct hs_phase *phase, uint64_t at,
                               uint32_t *action);
@@ -43,6 +45,8 @@ int32_t guarded_clerk_look_at(const struct hs_place *place, uint64_t slice_key, 
 int32_t guarded_clerk_forget(struct hs_place *place);
 int32_t guarded_table_open(struct hs_place *place, const uint8_t *job, size_t job_len, const struct hs_policy *policy);
 int32_t guarded_table_kept(const struct hs_place *place, uint8_t *out, size_t out_len, size_t *needed);
+int32_t guarded_table_save(const struct hs_place *place, const uint8_t *saved, size_t saved_len, uint64_t grants,
+                           uint64_t ticks, uint8_t *out, size_t out_len, size_t *needed);
 int32_t guarded_table_restore(struct hs_place *place, const uint8_t *job, size_t job_len, const struct hs_policy *policy,
                               const uint8_t *kept, size_t kept_len, struct hs_told *told);
 int32_t guarded_table_take(struct hs_place *place, uint64_t assigner, uint64_t at, struct hs_job_term *out,
@@ -95,6 +99,7 @@ int32_t guarded_session_last(const struct hs_place *place, uint8_t *out, size_t 
 #define hs_slicelet_open guarded_slicelet_open
 #define hs_slicelet_resume guarded_slicelet_resume
 #define hs_ended_note guarded_ended_note
+#define hs_grant_read guarded_grant_read
 #define hs_slicelet_held guarded_slicelet_held
 #define hs_slicelet_next guarded_slicelet_next
 #define hs_slicelet_calls_left guarded_slicelet_calls_left
@@ -113,6 +118,7 @@ int32_t guarded_session_last(const struct hs_place *place, uint8_t *out, size_t 
 #define hs_clerk_forget guarded_clerk_forget
 #define hs_table_open guarded_table_open
 #define hs_table_kept guarded_table_kept
+#define hs_table_save guarded_table_save
 #define hs_table_restore guarded_table_restore
 #define hs_table_take guarded_table_take
 #define hs_table_renew guarded_table_renew

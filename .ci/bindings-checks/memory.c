@@ -139,11 +139,32 @@ static int32_t give_kept(struct hs_place *place) {
     return give_text(hs_table_kept, place);
 }
 
+static const char new_kept[] = MESSAGE("kept", "\"committed\":null,\"deadline\":0,\"granted\":0,\"last\":0,\"pending\":null,"
+                                               "\"policy\":{\"bridge\":200,\"guard\":100,\"job\":1000,"
+                                               "\"numbers\":1000,\"redundancy\":[1,1],\"skew\":10},\"term\":null");
+
+static int32_t save_first(struct hs_place *place) {
+    static uint8_t out[512];
+    size_t needed = 0;
+    memset(out, '-', sizeof out);
+    int32_t code = hs_table_save(place, (const uint8_t *)"", 0, 10, 50, out, sizeof out, &needed);
+    HOLDS(code == HS_DONE || are_dashes(out, sizeof out));
+    return code;
+}
+
+/* What is saved is that of a new table. */
+static int32_t save_over(struct hs_place *place) {
+    static uint8_t out[512];
+    size_t needed = 0;
+    memset(out, '-', sizeof out);
+    int32_t code =
+        hs_table_save(place, (const uint8_t *)new_kept, strlen(new_kept), 10, 50, out, sizeof out, &needed);
+    HOLDS(code == HS_DONE || are_dashes(out, sizeof out));
+    return code;
+}
+
 static int32_t restore_table(struct hs_place *place) {
-    const char *text = MESSAGE("kept", "\"committed\":null,\"deadline\":0,\"granted\":0,\"last\":0,\"pending\":null,"
-                                       "\"policy\":{\"bridge\":200,\"guard\":100,\"job\":1000,\"numbers\":1000,"
-                                       "\"redundancy\":[1,1],\"skew\":10},\"term\":null");
-    return hs_table_restore(place, JOB, &policy, (const uint8_t *)text, strlen(text), fresh_told());
+    return hs_table_restore(place, JOB, &policy, (const uint8_t *)new_kept, strlen(new_kept), fresh_told());
 }
 
 static int32_t open_session(struct hs_place *place) {
@@ -169,6 +190,17 @@ static int32_t weigh(struct hs_place *place) {
     (void)place;
     int32_t code = hs_clock_evidence(JOB, (const uint8_t *)text, strlen(text), 5, &policy, &shown);
     HOLDS(shown == (code == HS_DONE ? 0 : UNTOLD));
+    return code;
+}
+
+static int32_t read_grant(struct hs_place *place) {
+    const char *text = GRANT("guard", "1", "7", ALL_KEYS, "2");
+    struct hs_grant grant = {1, 1, 1, 1, 1, 1, 1};
+    uint64_t boundaries[2] = {1, 1};
+    size_t needed = UNTOLD;
+    (void)place;
+    int32_t code = hs_grant_read(JOB, (const uint8_t *)text, strlen(text), &grant, boundaries, 2, &needed);
+    HOLDS(code == HS_DONE ? grant.number == 7 && needed == 2 : grant.number == 1 && needed == UNTOLD);
     return code;
 }
 
@@ -282,10 +314,13 @@ void check_memory(void) {
         {"rows", granted_table, list_rows, table_state},
         {"committed", granted_table, give_committed, table_state},
         {"kept", granted_table, give_kept, table_state},
+        {"save first", granted_table, save_first, table_state},
+        {"save over", granted_table, save_over, table_state},
         {"restore", steady_table, restore_table, table_state},
         {"session", knowing_clerk, open_session, clerk_state},
         {"plan", knowing_clerk, plan, clerk_state},
         {"evidence", knowing_clerk, weigh, clerk_state},
+        {"read grant", knowing_clerk, read_grant, clerk_state},
     };
     for (size_t at = 0; at < sizeof trials / sizeof *trials; at++)
         refuse_each(&trials[at]);

@@ -1,5 +1,5 @@
 """The codes, the functions with their parameters, the structs and the words of the header are those of
-examples/python/hourstable.py, and the codes those of docs/BINDINGS.md. hs_code_name names each code of the header. The
+python/hourstable/library.py, and the codes those of docs/BINDINGS.md. hs_code_name names each code of the header. The
 version of the header is that of the library.
 
 Run at the top of the repository, with HOURSTABLE_LIBRARY set.
@@ -9,8 +9,8 @@ import ctypes
 import re
 import sys
 
-sys.path.insert(0, "examples/python")
-import hourstable
+sys.path.insert(0, "python")
+from hourstable import library as hourstable
 
 with open("include/hourstable.h", encoding="utf-8") as file:
     header = file.read()

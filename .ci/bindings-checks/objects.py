@@ -1,4 +1,4 @@
-"""Checks what examples/python/hourstable.py adds to the library: numbers that do not fit are refused, refusals have the
+"""Checks what python/hourstable/library.py adds to the library: numbers that do not fit are refused, refusals have the
 texts of scripts, objects cannot be copied, and clocks can. Expected values are those of include/hourstable.h and of the
 refusals in docs/FORMATS.md.
 
@@ -7,16 +7,17 @@ Run at the top of the repository, with HOURSTABLE_LIBRARY set.
 
 import copy
 import ctypes
+import json
 import pickle
 import sys
 import time
 
-sys.path.insert(0, "examples/python")
+sys.path[:0] = ["python", "examples/python"]
 import handover
-import hourstable
-from hourstable import (
+from hourstable import library as hourstable
+from hourstable.library import (
     Clerk, HeldLease, JobTerm, KeyHandle, Phase, PlanPolicy, Policy, Refused, Table, TableClock, TaskClock, Told,
-    boottime_ticks, clock_evidence,
+    boottime_ticks, clock_evidence, read_grant,
 )
 
 U32, U64 = 1 << 32, 1 << 64
@@ -114,6 +115,7 @@ def check_places():
         raises(TypeError, "a place is not pickled", pickle.dumps, clerk)
 
 
+FIRST = b'{"job":"shop","type":"assignment","value":{"generation":"1","slices":[["0",[1]]]},"version":2}'
 GRANT = (b'{"type":"grant","value":{"ends":130,"generation":3,"kind":"guard","life":1,"number":7,'
          b'"ranges":[[0,9223372036854775808]],"task":2,"until":140},"version":1}')
 
@@ -183,6 +185,12 @@ def check_keeping():
     with Table("shop", policy) as table:
         term = table.take(1, at=5)
         kept = table.kept()
+        holds(table.save(kept, 10, 50) is None, "nothing is saved in place of what the table keeps")
+        holds(table.save(b"", 0, 50) == kept, "where nothing was saved, all is saved that the table keeps")
+        table.propose(term.number, FIRST, at=5)
+        saved = json.loads(table.save(kept, 10, 50))["value"]
+        holds((saved["granted"], saved["last"]) == ("10", "55"), f"10 grants and 50 ticks ahead: {saved}")
+        refuses("not-json", "values saved in place of bytes that are none", table.save, b"{", 10, 50)
     with Table.restore("shop", policy, kept) as restored:
         holds(restored.kept() == kept, "a restored table keeps the values that it was restored from")
         holds(restored.renew(term.number, at=6).number == term.number, "a restored table renews the term")
@@ -190,6 +198,15 @@ def check_keeping():
     other = Policy(1, 1, 9, 100, 200, 1000, 1000)
     refuses("other-policy", "kept values of another policy", Table.restore, "shop", other, kept)
     refuses("wrong-form", "a name of more than 64 bytes", Table, "j" * 65, policy)
+
+
+def check_grants():
+    read = read_grant("", GRANT)
+    holds(read[:7] == (7, 2, 1, "guard", 3, 130, 140) and read.ranges == [(0, 9223372036854775808)], f"a grant: {read}")
+    pairs = [[2 * at, 2 * at + 1] for at in range(100)]
+    long = GRANT.replace(b"[[0,9223372036854775808]]", json.dumps(pairs).encode())
+    holds(read_grant("", long).ranges == [tuple(pair) for pair in pairs], "a grant of 100 ranges")
+    refuses("other-job", "a grant of another job", read_grant, "shop", GRANT)
 
 
 def check_ticks():
@@ -207,6 +224,7 @@ check_task_clocks()
 check_table_clocks()
 check_evidence()
 check_keeping()
+check_grants()
 check_ticks()
 for fault in faults:
     print(f"not so: {fault}")

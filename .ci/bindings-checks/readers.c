@@ -99,11 +99,14 @@ static void reads_others(const struct places *all) {
     HOLDS(hs_session_last(&all->session, out, sizeof out, &needed) == HS_DONE && needed == 0);
 }
 
-/* It counts the copies that it makes of assignments, by atomic writes beside them. */
+/* They count the copies that they make of assignments, by atomic writes beside them. */
 static void reads_kept_values(const struct hs_place *table) {
-    uint8_t kept[512];
-    size_t needed = 0;
+    uint8_t kept[512], saved[512];
+    size_t needed = 0, saved_len = 0;
     HOLDS(hs_table_kept(table, kept, sizeof kept, &needed) == HS_DONE && needed < sizeof kept);
+    HOLDS(hs_table_save(table, kept, 0, 10, 50, saved, sizeof saved, &saved_len) == HS_DONE);
+    HOLDS(saved_len > 0 && saved_len < sizeof saved);
+    HOLDS(hs_table_save(table, saved, saved_len, 10, 50, kept, sizeof kept, &needed) == HS_DONE && needed == 0);
 }
 
 void check_readers(void) {

@@ -303,6 +303,39 @@ static void goes_on(void) {
     hs_place_free(&task);
 }
 
+static int32_t read(const char *job, const char *text, struct hs_grant *grant, uint64_t *boundaries, size_t room,
+                    size_t *needed) {
+    return hs_grant_read((const uint8_t *)job, strlen(job), (const uint8_t *)text, strlen(text), grant, boundaries, room,
+                         needed);
+}
+
+/* What a grant says: its numbers all differ. */
+static void reads_grants(void) {
+    const char *text = MESSAGE("grant", "\"ends\":95,\"generation\":3,\"kind\":\"bridge\",\"life\":4,\"number\":7,"
+                                        "\"ranges\":[[0,5],[9,10]],\"task\":6,\"until\":105");
+    const struct hs_grant wanted = {7, 6, 4, HS_BRIDGE, 3, 95, 105};
+    struct hs_grant grant = {1, 1, 1, 1, 1, 1, 1};
+    const struct hs_grant untold = grant;
+    uint64_t boundaries[5] = {1, 1, 1, 1, 1};
+    size_t needed = UNTOLD;
+    IS(read("", "{", &grant, boundaries, 5, &needed), HS_NOT_JSON);
+    IS(read("", NOTE("guard", "1", "7", "2"), &grant, boundaries, 5, &needed), HS_OTHER_TYPE);
+    IS(read("shop", text, &grant, boundaries, 5, &needed), HS_OTHER_JOB);
+    IS(read("\xff", text, &grant, boundaries, 5, &needed), HS_WRONG_FORM);
+    IS(read("", GRANT("guard", "1", "7", "[[5,5]]", "2"), &grant, boundaries, 5, &needed), HS_EMPTY);
+    HOLDS(memcmp(&grant, &untold, sizeof grant) == 0 && boundaries[0] == 1 && needed == UNTOLD);
+    IS(read("", text, &grant, boundaries, 3, &needed), HS_NO_ROOM);
+    HOLDS(memcmp(&grant, &wanted, sizeof grant) == 0 && boundaries[0] == 1 && needed == 4);
+    grant = untold;
+    IS(read("", text, &grant, boundaries, 5, &needed), HS_DONE);
+    HOLDS(memcmp(&grant, &wanted, sizeof grant) == 0 && needed == 4);
+    HOLDS(boundaries[0] == 0 && boundaries[1] == 5 && boundaries[2] == 9 && boundaries[3] == 10 && boundaries[4] == 1);
+    IS(read("", GRANT("guard", "1", "7", "[]", "2"), &grant, boundaries, 0, &needed), HS_DONE);
+    HOLDS(grant.kind == HS_GUARD && needed == 0);
+    IS(read("", GRANT("guard", "1", "7", "[[0,5],[5,10]]", "2"), &grant, boundaries, 2, &needed), HS_DONE);
+    HOLDS(boundaries[0] == 0 && boundaries[1] == 10 && needed == 2);
+}
+
 void check_slicelets(void) {
     struct hs_key_handle handle = {0, 0, 0, 0};
     struct hs_place place = opened();
@@ -321,4 +354,5 @@ void check_slicelets(void) {
     by_slice_key();
     resumes();
     goes_on();
+    reads_grants();
 }

@@ -10,7 +10,7 @@ import time
 from logs import DELAYED, LOST, READ, SAMPLED, TWICE, Cell, Log
 from plans import GRAIN, PAUSE, TABLE, U64, Plan, plan_of
 
-hourstable = importlib.import_module("hourstable")
+hourstable = importlib.import_module("hourstable.library")
 
 # What a set orders: a schedule begins; the table closes its clock, and opens it anew; a schedule is over.
 BEGIN, CLOSE, OPEN, END = b"B", b"C", b"O", b"E"

@@ -1,4 +1,4 @@
-"""One version: that of `hourstable --version`, of the header, of each pyproject.toml, and of CHANGELOG.md."""
+"""One version: that of `hourstable --version`, of the header, of each package of Python and Rust, and of CHANGELOG.md."""
 import re
 import subprocess
 from collections.abc import Iterator
@@ -31,13 +31,19 @@ def told(programs: Programs) -> str | None:
     return match[1] if match and ran.returncode == 0 else None
 
 
+def is_project(path: str) -> bool:
+    """Whether a file gives the version of a package. The file of a workspace gives none."""
+    name = path.rpartition("/")[2]
+    return name == "pyproject.toml" or (name == "Cargo.toml" and "[workspace]" not in (TOP / path).read_text())
+
+
 def check(programs: Programs) -> Iterator[Result]:
     """A result for each place that gives the version; the first is what the others are compared with."""
     newest = written("CHANGELOG.md", CHANGES)
     if newest is None:
         yield Result("CHANGELOG.md", [Fault("CHANGELOG.md", 1, "no heading `## X.Y.Z` gives the newest version")])
     places = {"include/hourstable.h": written("include/hourstable.h", HEADER), "hourstable --version": told(programs)}
-    places |= {it: written(it, PROJECT) for it in repository_files() if it.rpartition("/")[2] == "pyproject.toml"}
+    places |= {it: written(it, PROJECT) for it in repository_files() if is_project(it)}
     for place, version in places.items():
         why = f"version {version}, and the newest of CHANGELOG.md is {newest}" if version else "gives no version"
         yield Result(place, [] if version and version == newest else [Fault(place, 1, why)])

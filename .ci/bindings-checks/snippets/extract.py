@@ -1,4 +1,4 @@
-"""Writes the C++, Go and Rust files of docs/BINDINGS.md: the one block that is fenced as ```cpp, ```go or ```rust.
+"""Writes the C++ file of docs/BINDINGS.md: the one block that is fenced as ```cpp.
 
 usage: extract.py PAGE FOLDER
 """
@@ -6,21 +6,15 @@ import re
 import sys
 from pathlib import Path
 
-FILES = {"cpp": "place.hpp", "go": "hourstable.go", "rust": "hourstable.rs"}
-
 
 def main() -> int:
     page, folder = Path(sys.argv[1]), Path(sys.argv[2])
-    text = page.read_text(encoding="utf-8")
-    failed = 0
-    for language, name in FILES.items():
-        blocks = re.findall(rf"^```{language}\n(.*?)^```$", text, re.MULTILINE | re.DOTALL)
-        if len(blocks) != 1:
-            print(f"{page}: {len(blocks)} blocks are fenced as ```{language}; one whole file is wanted")
-            failed = 1
-        for block in blocks[:1]:
-            (folder / name).write_text(block, encoding="utf-8")
-    return failed
+    blocks = re.findall(r"^```cpp\n(.*?)^```$", page.read_text(encoding="utf-8"), re.MULTILINE | re.DOTALL)
+    if len(blocks) != 1:
+        print(f"{page}: {len(blocks)} blocks are fenced as ```cpp; one whole file is wanted")
+        return 1
+    (folder / "place.hpp").write_text(blocks[0], encoding="utf-8")
+    return 0
 
 
 sys.exit(main())
