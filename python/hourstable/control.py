@@ -120,7 +120,6 @@ class Plane:
         self._runner: web.AppRunner | None = None
         self._server: asyncio.Server | None = None
         self._poller: asyncio.Task[None] | None = None
-        self._working: set[asyncio.Task[Any]] = set()
 
     # Starting and ending ---------------------------------------------------------------------
 
@@ -152,8 +151,6 @@ class Plane:
             await self._runner.shutdown()
             await self._runner.server.shutdown(self.limits.patience)
             await self._runner.cleanup()
-        if self._working:
-            await asyncio.wait(self._working, timeout=self.limits.patience)
         settling = [asyncio.create_task(self._settle(one.job)) for one in self.jobs.values()]
         if settling:
             await asyncio.wait(settling, timeout=self.limits.patience)
@@ -162,7 +159,9 @@ class Plane:
         self._pool.shutdown(wait=False, cancel_futures=True)
 
     async def _settle(self, job: Job) -> None:
+        """Makes the calls of a job that wait, and settles it."""
         try:
+            await job.finish()
             await job.settle()
         except (StoreFailed, Conflict) as error:
             log.warning("%s was not settled: %s", job.name, error)
@@ -217,14 +216,11 @@ class Plane:
 
     async def call(self, job: Job, call: Call[T]) -> Made[T]:
         """Makes a call of a table. It goes on if its caller leaves or its time is over."""
-        task = asyncio.create_task(job.call(call))
-        self._working.add(task)
-        task.add_done_callback(self._working.discard)
-        task.add_done_callback(_retrieved)
-        await asyncio.wait([task], timeout=self.limits.patience)
-        if not task.done():
+        answer = job.call(call)
+        await asyncio.wait([answer], timeout=self.limits.patience)
+        if not answer.done():
             raise StoreFailed("the store did not answer in time")
-        return task.result()
+        return answer.result()
 
     async def grant(self, name: str, task: int, life: int) -> Made[bytes]:
         followed, now = await self.followed(name), time.monotonic()
@@ -489,12 +485,6 @@ class Turned(asyncio.Protocol):
                 % (len(self.BODY), self.BODY)
             )
             self._transport.close()
-
-
-def _retrieved(task: "asyncio.Task[Any]") -> None:
-    """Keeps asyncio from telling of an error that nobody waits for any more."""
-    if not task.cancelled():
-        task.exception()
 
 
 def _numbers_of(followed: Followed, now: float) -> dict[str, float]:

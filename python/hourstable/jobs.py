@@ -1,17 +1,18 @@
 """The jobs of a control plane: the table of each, its store and its log.
 
-The order in each call of a table: the reading and the ticket are taken, the library makes the call,
-what it changed is stored together with its line, the line goes to the log, and only then the answer
-leaves. If the store does not take it, the table is dropped and the answer with it. The next call
-restores a table from what is stored, as after a restart.
+Calls of a table that wait while the store is written are made together. The reading is taken. For
+each call in turn its ticket is drawn and the library makes the call. What all of them changed is
+stored by one write, together with their lines; the lines go to the log; and only then the answers
+leave. If the store does not take it, the table is dropped and all these answers with it. The next
+call restores a table from what is stored, as after a restart.
 """
 
 import asyncio
 import json
 import time
 from abc import ABC, abstractmethod
-from collections import OrderedDict
-from collections.abc import Callable
+from collections import OrderedDict, deque
+from collections.abc import Callable, Sequence
 from concurrent.futures import ThreadPoolExecutor
 from dataclasses import dataclass, field
 from pathlib import Path
@@ -25,7 +26,9 @@ from hourstable.tickets import Tickets, process_of
 
 T = TypeVar("T")
 MOST_NOTES = 4096  # of which a job remembers the answers
+MOST_TOGETHER = 256  # calls that are stored by one write
 WORDS = ("skew", "guard", "bridge", "job", "numbers")
+TERM = "term"  # the key of the calls of assigners
 
 
 class Replaced(Exception):
@@ -68,23 +71,24 @@ def last_in(kept: bytes) -> int:
 
 
 class Row(NamedTuple):
-    """What is stored as the line of a row: the line of the log, and by how many ticks the kept
-    values are ahead of the readings that were used. So the next process opens its clock right,
-    whatever it saves ahead itself."""
+    """What is stored as the line of a row: the lines of the log of the calls that were stored
+    together, and by how many ticks the kept values are ahead of the readings that were used. So the
+    next process opens its clock right, whatever it saves ahead itself."""
 
     ahead: int
-    line: str
+    lines: Sequence[str]
 
     def text(self) -> str:
-        return f"{self.ahead} {self.line}"
+        return f"{self.ahead} " + "\n".join(self.lines)
 
     @classmethod
     def read(cls, text: str) -> "Row":
-        ahead, _, line = text.partition(" ")
-        return cls(int(ahead), line)
+        ahead, _, lines = text.partition(" ")
+        return cls(int(ahead), lines.split("\n"))
 
     def ticket(self) -> int:
-        ticket: int = json.loads(self.line)["ticket"]
+        """Returns the ticket of the last call."""
+        ticket: int = json.loads(self.lines[-1])["ticket"]
         return ticket
 
 
@@ -117,6 +121,30 @@ class Made(NamedTuple, Generic[T]):
     result: T | None
     refusal: Refused | None
     at: int | None
+
+
+class Waiting(NamedTuple):
+    """A call of a table, and who waits for its answer."""
+
+    call: "Call[Any]"
+    answer: "asyncio.Future[Made[Any]]"
+
+    def tell(self, made: Made[Any]) -> None:
+        if not self.answer.done():
+            self.answer.set_result(made)
+
+    def fail(self, error: Exception) -> None:
+        if not self.answer.done():
+            self.answer.set_exception(error)
+            self.answer.exception()  # nobody may wait for it any more
+
+
+class Played(NamedTuple):
+    """A call that the table has, and the store and the log have not."""
+
+    waiting: Waiting
+    made: Made[Any]
+    line: str
 
 
 @dataclass
@@ -158,6 +186,8 @@ class Job:
         self.name, self.settings, self.tickets = name, settings, tickets
         self._store, self._pool, self._counters = store, pool, counters
         self._lock = asyncio.Lock()
+        self._waiting: deque[Waiting] = deque()
+        self._working: asyncio.Task[None] | None = None  # while calls wait
         self._held: Held | None = None
         self._log: logs.Log | None = None
         self._seen: tuple[int, float] | None = None  # a version, and since when it stands
@@ -339,7 +369,7 @@ class Job:
         return Held(table, clock, version, stored.kept, last, last, last, line)
 
     async def _write_restore(self, stored: Stored, row: Row) -> tuple[int, str]:
-        """Logs the last call that is stored, if that was not done, and stores and logs that the
+        """Logs the last calls that are stored, if that was not done, and stores and logs that the
         table is restored. Returns the new version and the line."""
         assert self._log is not None
         ticket = row.ticket()
@@ -347,8 +377,9 @@ class Job:
             self.tickets.observe(ticket)
         except ValueError as error:  # a host whose real time is a day ahead wrote it
             raise StoreFailed(f"the line that is stored of {self.name}: {error}") from error
-        if not self._log.holds(ticket):
-            self._log.append(row.line)
+        lacking = self._log.lacking(row.lines)
+        if lacking:
+            self._log.append(*lacking)
         value = json.loads(stored.kept)["value"]
         last, granted, deadline = (int(value[name]) for name in ("last", "granted", "deadline"))
         generation = int(value["committed"]["generation"]) if value["committed"] else 0
@@ -356,7 +387,7 @@ class Job:
             self.tickets.draw(), "restore", f"restored generation {generation} grace {deadline}",
             last=last, granted=granted, deadline=deadline,
         )
-        given = self.name, stored.version, stored.kept, Row(row.ahead, line).text()
+        given = self.name, stored.version, stored.kept, Row(row.ahead, [line]).text()
         version = await self.ask("swap", self._store.swap, *given)
         self._log.append(line)
         self.grace = deadline
@@ -365,63 +396,124 @@ class Job:
 
     # Calls of the table ----------------------------------------------------------------------
 
-    async def call(self, made_by: "Call[T]") -> Made[T]:
-        """Makes a call of the table, one at a time, and returns when the store has its effect.
+    def call(self, call: "Call[T]") -> "asyncio.Future[Made[T]]":
+        """Makes a call of the table. What is returned is done when the store has its effect.
 
-        Raises Replaced, StoreFailed and NoSuchJob; Malformed if the library cannot read what it was
-        given. Then nothing is known of the call, or it was not made.
+        It raises Replaced, StoreFailed and NoSuchJob; Malformed if the library cannot read what it
+        was given. Then nothing is known of the call, or it was not made.
         """
-        async with self._lock:
-            try:
-                held = await self._hold()
-                repeated = made_by.repeated(self)
-                if repeated is not None:
-                    return Made(repeated, None, None)
-                made = await self._make(held, made_by)
-            except Conflict as conflict:
-                self.drop()
-                self._counters.replaced(self.name)
-                raise Replaced(self.settings.standby) from conflict
-            except (Replaced, Malformed, NoSuchJob):
-                raise
-            except BaseException:
-                self.drop()  # the table may have what the store has not
-                raise
-            if made.result is not None:
-                made_by.done(self, made.result)
-            self._show_table(held.table)
-        refused = made.refusal.name if made.refusal else None
-        self._counters.made(self.name, made_by.do, refused)
-        return made
+        answer: asyncio.Future[Made[T]] = asyncio.get_running_loop().create_future()
+        self._waiting.append(Waiting(call, answer))
+        if self._working is None:
+            self._working = asyncio.create_task(self._work())
+        return answer
 
-    async def _make(self, held: Held, call: "Call[T]") -> Made[T]:
-        """Makes a call, stores it, and logs it, in this order."""
-        assert self._log is not None
-        at = await held.clock.wait()
-        ticket = self.tickets.draw()  # after the reading: a plane may be stopped in between
+    async def finish(self) -> None:
+        """Returns when no call waits."""
+        if self._working is not None:
+            await asyncio.wait([self._working])
+
+    async def _work(self) -> None:
+        """Makes the calls that wait."""
         try:
-            result = call.play(held.table, at)
-            made, reply = Made[T](result, None, at), call.tell(result)
-        except Refused as refusal:
-            if refusal.code < 0:
-                raise Malformed(str(refusal)) from refusal
-            made, reply = Made[T](None, refusal, at), logs.told_refusal(call.do, str(refusal))
-        line = logs.line_of(ticket, call.do, reply, **call.members, at=at)
-        if made.refusal is None:
-            held.accepted = at
-        kept = self._to_store(held, at, made.refusal is None)
+            while self._waiting:
+                async with self._lock:
+                    await self._make(self._next_together())
+        finally:
+            self._working = None
+
+    def _next_together(self) -> list[Waiting]:
+        """Takes the calls that are made together: those that wait, up to one whose answer may
+        depend on whether the store has an earlier one of them."""
+        taken: list[Waiting] = []
+        known: set[str] = set()
+        while self._waiting and len(taken) < MOST_TOGETHER:
+            key = self._waiting[0].call.key
+            if key is not None:
+                if key in known:
+                    break
+                known.add(key)
+            taken.append(self._waiting.popleft())
+        return taken
+
+    async def _make(self, together: list[Waiting]) -> None:
+        """Makes calls, stores and logs them, in this order, and answers each."""
+        error: Exception
+        try:
+            held = await self._hold()
+            at = await held.clock.wait()
+            played = self._play(held, together, at)
+            if played:
+                await self._keep(held, played, at)
+            return
+        except Conflict:
+            self._counters.replaced(self.name)
+            error = Replaced(self.settings.standby)
+        except (Replaced, Malformed, NoSuchJob) as why:  # before any call was played
+            for one in together:
+                one.fail(why)
+            return
+        except Exception as why:
+            error = why
+        except BaseException:
+            self.drop()
+            for one in together:
+                one.answer.cancel()
+            raise
+        self.drop()  # the table may have what the store has not
+        for one in together:
+            one.fail(error)
+
+    def _play(self, held: Held, together: list[Waiting], at: int) -> list[Played]:
+        """Plays calls on the table, and returns those that are to be stored. Those that repeat an
+        earlier call, or that the library cannot read, are answered."""
+        played = []
+        for one in together:
+            call = one.call
+            repeated = call.repeated(self)
+            if repeated is not None:
+                one.tell(Made(repeated, None, None))
+                continue
+            ticket = self.tickets.draw()  # after the reading: a plane may be stopped in between
+            try:
+                result = call.play(held.table, at)
+                made, reply = Made(result, None, at), call.tell(result)
+                held.accepted = at
+            except Refused as refusal:
+                if refusal.code < 0:
+                    one.fail(Malformed(str(refusal)))
+                    continue
+                made = Made(None, refusal, at)
+                reply = logs.told_refusal(call.do, str(refusal))
+            line = logs.line_of(ticket, call.do, reply, **call.members, at=at)
+            played.append(Played(one, made, line))
+        return played
+
+    async def _keep(self, held: Held, played: list[Played], at: int) -> None:
+        """Stores calls that were played, logs them, and answers them."""
+        assert self._log is not None
+        lines = [one.line for one in played]
+        kept = self._to_store(held, at, any(one.made.refusal is None for one in played))
         if kept is not None:
-            await self._swap(held, kept, at, line)
-        if at > held.last:  # a refused call whose reading is not stored: it is not used
-            return made._replace(at=None)
-        self._log.append(line)
-        held.line, held.at = line, at
-        return made
+            await self._swap(held, kept, at, lines)
+        is_used = at <= held.last  # else all were refused, and the reading is not stored
+        if is_used:
+            self._log.append(*lines)
+            held.line, held.at = lines[-1], at
+        for waiting, made, _ in played:
+            if made.refusal is None:
+                waiting.call.done(self, made.result)
+        self._show_table(held.table)
+        for waiting, made, _ in played:
+            refused = made.refusal.name if made.refusal else None
+            self._counters.made(self.name, waiting.call.do, refused)
+            waiting.tell(made if is_used else made._replace(at=None))
 
     def _to_store(self, held: Held, at: int, is_done: bool) -> bytes | None:
-        """Returns what to store of the table before the answer to a call leaves; None if nothing.
+        """Returns what to store of the table before answers leave; None if nothing. `is_done` says
+        whether one of the calls was accepted.
 
-        The reading of a refused call is stored as that of a grant that nobody gets, since a table
+        The reading of refused calls is stored as that of a grant that nobody gets, since a table
         keeps the readings of accepted calls alone. This cannot be done before an assignment is
         proposed, nor when all numbers are spent.
         """
@@ -436,10 +528,10 @@ class Job:
         kept = held.table.save(held.saved if is_covered else b"", grants, ticks)
         return None if kept is None or not (is_done or last_in(kept) >= at) else kept
 
-    async def _swap(self, held: Held, kept: bytes, at: int, line: str) -> None:
-        """Stores kept values with the line of the last call, which was made at a reading."""
+    async def _swap(self, held: Held, kept: bytes, at: int, lines: Sequence[str]) -> None:
+        """Stores kept values with the lines of the last calls, which were made at a reading."""
         last = last_in(kept)
-        text = Row(max(0, last - at), line).text()
+        text = Row(max(0, last - at), lines).text()
         held.version = await self.ask(
             "swap", self._store.swap, self.name, held.version, kept, text
         )
@@ -456,7 +548,7 @@ class Job:
             if held.at > held.accepted:
                 kept = held.table.save(b"", 1, held.at - held.accepted) or kept
             if last_in(kept) >= held.at:
-                await self._swap(held, kept, held.at, held.line)
+                await self._swap(held, kept, held.at, [held.line])
 
     def grace_left(self) -> int:
         """Returns for how many ticks commits still wait after the restart of a held table."""
@@ -481,10 +573,12 @@ class Job:
 
 
 class Call(ABC, Generic[T]):
-    """A call of a table: its name in logs, and the members of its line."""
+    """A call of a table: its name in logs, and the members of its line. `repeated` asks what earlier
+    calls of the same key did; None if it asks nothing."""
 
     do: str
     members: dict[str, object]
+    key: str | None = None
 
     @abstractmethod
     def play(self, table: Table, at: int) -> T:
@@ -526,7 +620,7 @@ class Free(Call[int]):
     def __init__(self, note: bytes) -> None:
         self.note, value = note, value_in(note)
         self.members = {"note": value}
-        self.key = json.dumps(value, sort_keys=True)
+        self.key: str = json.dumps(value, sort_keys=True)
 
     def play(self, table: Table, at: int) -> int:
         return table.free(self.note, at)
@@ -543,10 +637,23 @@ class Free(Call[int]):
             job.notes.popitem(last=False)
 
 
-class Take(Call[JobTerm]):
-    """An assigner takes the job lease. Its result is the term."""
+class OfTerm(Call[JobTerm]):
+    """A call that begins or prolongs a term of the job lease. Its result is the term."""
 
-    do = "take"
+    key = TERM
+    told: str
+
+    def tell(self, result: JobTerm) -> str:
+        return f"{self.told} {result.number} until {result.until}"
+
+    def done(self, job: Job, result: JobTerm) -> None:
+        job.term = term_of(result)
+
+
+class Take(OfTerm):
+    """An assigner takes the job lease."""
+
+    do, told = "take", "term"
 
     def __init__(self, assigner: int) -> None:
         self.assigner = assigner
@@ -555,17 +662,11 @@ class Take(Call[JobTerm]):
     def play(self, table: Table, at: int) -> JobTerm:
         return table.take(self.assigner, at)
 
-    def tell(self, result: JobTerm) -> str:
-        return f"term {result.number} until {result.until}"
 
-    def done(self, job: Job, result: JobTerm) -> None:
-        job.term = term_of(result)
+class Renew(OfTerm):
+    """The holder of a term renews it."""
 
-
-class Renew(Call[JobTerm]):
-    """The holder of a term renews it. Its result is the term."""
-
-    do = "renew"
+    do, told = "renew", "renewed"
 
     def __init__(self, term: int) -> None:
         self.term = term
@@ -574,17 +675,12 @@ class Renew(Call[JobTerm]):
     def play(self, table: Table, at: int) -> JobTerm:
         return table.renew(self.term, at)
 
-    def tell(self, result: JobTerm) -> str:
-        return f"renewed {result.number} until {result.until}"
-
-    def done(self, job: Job, result: JobTerm) -> None:
-        job.term = term_of(result)
-
 
 class Propose(Call[int]):
     """The holder of a term proposes an assignment. Its result is the generation."""
 
     do = "propose"
+    key = TERM
 
     def __init__(self, term: int, assignment: bytes) -> None:
         self.term, self.assignment = term, assignment
@@ -615,6 +711,7 @@ class Commit(Call[int]):
     """
 
     do = "commit"
+    key = TERM
 
     def __init__(self, term: int, generation: int | None) -> None:
         self.term, self.generation = term, generation

@@ -11,12 +11,13 @@ import mmap
 import os
 import re
 import time
-from collections.abc import Callable, Iterator, Mapping
+from collections.abc import Callable, Iterator, Mapping, Sequence
 from pathlib import Path
 from typing import Any
 
 ASSIGNERS, TASKS, CLERKS = 8, 64, 16  # the most that a job may have
 ENDING = ".jsonl"
+COMPACT = json.JSONEncoder(separators=(",", ":"))
 NAME = re.compile(r"[A-Za-z0-9_-][A-Za-z0-9._-]{0,63}")
 
 
@@ -32,7 +33,7 @@ def line_of(ticket: int, do: str, reply: str, **members: object) -> str:
     """Returns the line of a call: its ticket, its name, its other members and the words that its
     caller was told."""
     call = {"ticket": ticket, "do": do, **members, "reply": reply}
-    return json.dumps(call, separators=(",", ":"))
+    return COMPACT.encode(call)
 
 
 def told_refusal(do: str, words: str) -> str:
@@ -101,17 +102,19 @@ class Log:
         self.folder.mkdir(parents=True, exist_ok=True)
         self._turn_to(today())
 
-    def append(self, line: str) -> None:
-        """Writes a line, which the system has when this returns."""
+    def append(self, *lines: str) -> None:
+        """Writes lines, which the system has when this returns."""
         day = self._today()
         if day != self._day:
             self._turn_to(day)
-        _write_all(self._file, line.encode() + b"\n")
+        _write_all(self._file, "".join(f"{line}\n" for line in lines).encode())
 
-    def holds(self, ticket: int) -> bool:
-        """Whether one of the two newest files has a line of line_of with this ticket."""
+    def lacking(self, lines: Sequence[str]) -> list[str]:
+        """Returns those of the lines that are not in the two newest files. The lines are of line_of
+        and were appended together, so if the first one is missing, all are."""
         files = sorted(self.folder.glob(f"{self.name}.*{ENDING}"))[-2:]
-        return any(_has(path, b'{"ticket":%d,' % ticket) for path in files)
+        found = {line for path in files for line in _lines_from(path, lines[0].encode())}
+        return [line for line in lines if line.encode() not in found]
 
     def close(self) -> None:
         """Closes the file. Nothing is written later."""
@@ -165,12 +168,15 @@ def _mend(file: int) -> None:
         _write_all(file, b"\n")
 
 
-def _has(path: Path, sought: bytes) -> bool:
+def _lines_from(path: Path, line: bytes) -> list[bytes]:
+    """Returns the last occurrence of a line in a file and all lines after it, none if the file does
+    not have it."""
     with open(path, "rb") as file:
         if not os.fstat(file.fileno()).st_size:
-            return False
+            return []
         with mmap.mmap(file.fileno(), 0, access=mmap.ACCESS_READ) as text:
-            return text.rfind(sought) >= 0
+            at = text.rfind(b"\n" + line + b"\n")
+            return text[at + 1:].split(b"\n") if at >= 0 else []
 
 
 def files_of(folder: str | os.PathLike[str]) -> list[Path]:
