@@ -34,7 +34,8 @@ from hourstable.tickets import Tickets
 T = TypeVar("T")
 Handler = Callable[[web.Request], Awaitable[web.StreamResponse]]
 READING = "Hourstable-Reading"
-TASKS = range(1, 65)
+TASKS, LIVES = range(1, 65), range(1, 1 << 32)
+JSON = {"Content-Type": "application/json"}
 LONGEST_WAIT = 30.0  # seconds of a waiting GET
 MIB = 1 << 20
 
@@ -216,13 +217,20 @@ class Plane:
 
     async def call(self, job: Job, call: Call[T]) -> Made[T]:
         """Makes a call of a table. It goes on if its caller leaves or its time is over."""
-        answer = job.call(call)
-        await asyncio.wait([answer], timeout=self.limits.patience)
-        if not answer.done():
-            raise StoreFailed("the store did not answer in time")
-        return answer.result()
+        return await self._in_time(job.call(call))
 
-    async def grant(self, name: str, task: int, life: int) -> Made[bytes]:
+    async def _in_time(self, answer: "asyncio.Future[Made[T]]") -> Made[T]:
+        loop = asyncio.get_running_loop()
+        timer = loop.call_later(self.limits.patience, _give_up, answer)
+        try:
+            return await answer
+        finally:
+            timer.cancel()
+
+    async def begin_grant(
+        self, name: str, task: int, life: int
+    ) -> "asyncio.Future[Made[bytes]]":
+        """Asks the table for a grant. Raises NoSuchJob and Limited."""
         followed, now = await self.followed(name), time.monotonic()
         bucket = followed.buckets.setdefault(
             task, Bucket(self.limits.grants, self.limits.burst, now)
@@ -231,7 +239,7 @@ class Plane:
         if after > 0:
             raise Limited("grants", after)
         followed.seen[task] = now
-        return await self.call(followed.job, Grant(task, life))
+        return followed.job.call(Grant(task, life))
 
     async def create(self, name: str, given: object) -> bool:
         """Creates a job, and returns whether it is new. Raises Malformed, Limited and Conflict, if
@@ -282,26 +290,26 @@ class Plane:
 
     def application(self) -> web.Application:
         made = web.Application(
-            client_max_size=self.limits.body + 1, middlewares=[self._around, self._answered]
+            client_max_size=self.limits.body + 1, middlewares=[self._around]
         )
-        made.add_routes([
-            web.get("/healthz", self._healthz),
-            web.get("/metrics", self._metrics),
-            web.get("/jobs", self._get_jobs),
-            web.get("/jobs/{job}", self._get_job),
-            web.put("/jobs/{job}", self._put_job),
-            web.get("/jobs/{job}/assignment", self._get_assignment),
-            web.get("/jobs/{job}/phase", self._get_phase),
-            web.get("/jobs/{job}/loads", self._get_loads),
-            web.post("/jobs/{job}/loads", self._post_loads),
-            web.post("/jobs/{job}/drain", self._post_drain),
-            web.post("/jobs/{job}/tasks/{task}/life", self._post_life),
+        made.add_routes([  # they are looked at in this order: the calls of tasks come first
             web.post("/jobs/{job}/grant", self._post_grant),
+            web.get("/jobs/{job}/phase", self._get_phase),
             web.post("/jobs/{job}/free", self._post_free),
+            web.post("/jobs/{job}/loads", self._post_loads),
+            web.get("/jobs/{job}/loads", self._get_loads),
+            web.get("/jobs/{job}/assignment", self._get_assignment),
+            web.post("/jobs/{job}/tasks/{task}/life", self._post_life),
             web.post("/jobs/{job}/take", self._post_take),
             web.post("/jobs/{job}/renew", self._post_renew),
             web.post("/jobs/{job}/propose", self._post_propose),
             web.post("/jobs/{job}/commit", self._post_commit),
+            web.post("/jobs/{job}/drain", self._post_drain),
+            web.get("/jobs/{job}", self._get_job),
+            web.put("/jobs/{job}", self._put_job),
+            web.get("/jobs", self._get_jobs),
+            web.get("/healthz", self._healthz),
+            web.get("/metrics", self._metrics),
         ])
         return made
 
@@ -318,7 +326,7 @@ class Plane:
             self.tickets.observe_text(request.headers.get(ticketing.HEADER))
         except ValueError as error:
             return failure(400, str(error))
-        made = await handler(request)
+        made = await self._answered(request, handler)
         made.headers[ticketing.HEADER] = str(self.tickets.draw())
         if request.method != "GET":
             route = request.match_info.route.resource
@@ -333,7 +341,6 @@ class Plane:
         equal = [hmac.compare_digest(given, b"Bearer " + secret) for secret in self._secrets]
         return any(equal)
 
-    @web.middleware
     async def _answered(self, request: web.Request, handler: Handler) -> web.StreamResponse:
         """Answers what a handler raises."""
         try:
@@ -430,9 +437,8 @@ class Plane:
         return answer_of({"life": life, "last": life - 1})
 
     async def _post_grant(self, request: web.Request) -> web.Response:
-        name, given = job_in(request), await json_of(request)
-        task, life = member(given, "task", TASKS), member(given, "life", range(1, 1 << 32))
-        made = await self.grant(name, task, life)
+        name, (task, life) = job_in(request), asker_in(await json_of(request))
+        made = await self._in_time(await self.begin_grant(name, task, life))
         return told(made, message_of)
 
     async def _post_free(self, request: web.Request) -> web.Response:
@@ -487,6 +493,11 @@ class Turned(asyncio.Protocol):
             self._transport.close()
 
 
+def _give_up(answer: "asyncio.Future[Any]") -> None:
+    if not answer.done():
+        answer.set_exception(StoreFailed("the store did not answer in time"))
+
+
 def _numbers_of(followed: Followed, now: float) -> dict[str, float]:
     job = followed.job
     assert job.policy is not None
@@ -539,15 +550,17 @@ def member(given: dict[str, Any], name: str, limits: range) -> int:
     return value
 
 
+def asker_in(given: dict[str, Any]) -> tuple[int, int]:
+    """Returns the task and the life that ask for a grant."""
+    return member(given, "task", TASKS), member(given, "life", LIVES)
+
+
 def answer_of(value: object, status: int = 200) -> web.Response:
-    return web.Response(
-        body=json.dumps(value, separators=(",", ":")).encode(), status=status,
-        content_type="application/json",
-    )
+    return message_of(logs.COMPACT.encode(value).encode(), status)
 
 
-def message_of(message: bytes) -> web.Response:
-    return web.Response(body=message, content_type="application/json")
+def message_of(message: bytes, status: int = 200) -> web.Response:
+    return web.Response(body=message, status=status, headers=JSON)
 
 
 def failure(status: int, error: str, after: float | None = None, **members: str) -> web.Response:
