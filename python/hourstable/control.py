@@ -38,6 +38,7 @@ TASKS, LIVES = range(1, 65), range(1, 1 << 32)
 JSON = {"Content-Type": "application/json"}
 LONGEST_WAIT = 30.0  # seconds of a waiting GET
 MIB = 1 << 20
+MOST_GRANTS = 1024  # of one request
 
 log = logging.getLogger("hourstable.control")
 
@@ -60,6 +61,12 @@ class Limited(Exception):
     def __init__(self, limit: str, after: float) -> None:
         super().__init__(f"limit of {limit}")
         self.limit, self.after = limit, after
+
+
+ANSWERED = (
+    Malformed, NoSuchJob, Conflict, LivesSpent, Limited, Replaced, StoreFailed, MemoryError,
+    web.HTTPException,
+)
 
 
 class Bucket:
@@ -300,6 +307,7 @@ class Plane:
             web.get("/jobs/{job}/loads", self._get_loads),
             web.get("/jobs/{job}/assignment", self._get_assignment),
             web.post("/jobs/{job}/tasks/{task}/life", self._post_life),
+            web.post("/grants", self._post_grants),
             web.post("/jobs/{job}/take", self._post_take),
             web.post("/jobs/{job}/renew", self._post_renew),
             web.post("/jobs/{job}/propose", self._post_propose),
@@ -345,27 +353,30 @@ class Plane:
         """Answers what a handler raises."""
         try:
             return await handler(request)
-        except Malformed as error:
-            return failure(400, str(error))
-        except NoSuchJob as error:
-            return failure(404, f"there is no job {error}")
-        except Conflict as error:
-            return failure(409, str(error))
-        except LivesSpent as error:
-            return failure(409, str(error))
-        except Limited as limited:
-            self.metrics.limited.labels(limited.limit).inc()
-            return failure(429, str(limited), limited.after, limit=limited.limit)
-        except web.HTTPRequestEntityTooLarge:
-            self.metrics.limited.labels("body").inc()
-            return failure(413, f"a body has at most {self.limits.body} bytes", limit="body")
-        except web.HTTPException as error:
-            return failure(error.status, error.reason)
-        except Replaced as replaced:
-            return failure(503, str(replaced), replaced.after, refused="replaced")
-        except (StoreFailed, MemoryError) as error:
-            log.warning("%s %s: %s", request.method, request.path, error)
-            return failure(503, "the store failed", 1, refused="store")
+        except ANSWERED as error:
+            return self._failure_of(request, error)
+
+    def _failure_of(self, request: web.Request, error: Exception) -> web.Response:
+        """Returns the answer to a request that raised one of ANSWERED."""
+        match error:
+            case Malformed():
+                return failure(400, str(error))
+            case NoSuchJob():
+                return failure(404, f"there is no job {error}")
+            case Conflict() | LivesSpent():
+                return failure(409, str(error))
+            case Limited():
+                self.metrics.limited.labels(error.limit).inc()
+                return failure(429, str(error), error.after, limit=error.limit)
+            case web.HTTPRequestEntityTooLarge():
+                self.metrics.limited.labels("body").inc()
+                return failure(413, f"a body has at most {self.limits.body} bytes", limit="body")
+            case web.HTTPException():
+                return failure(error.status, error.reason)
+            case Replaced():
+                return failure(503, str(error), error.after, refused="replaced")
+        log.warning("%s %s: %s", request.method, request.path, error)
+        return failure(503, "the store failed", 1, refused="store")
 
     async def _healthz(self, _: web.Request) -> web.Response:
         return web.Response(text="ok\n")
@@ -440,6 +451,43 @@ class Plane:
         name, (task, life) = job_in(request), asker_in(await json_of(request))
         made = await self._in_time(await self.begin_grant(name, task, life))
         return told(made, message_of)
+
+    async def _post_grants(self, request: web.Request) -> web.Response:
+        """Answers several grants, each as a call of its own would be answered."""
+        asked = (await json_of(request)).get("grants")
+        if not isinstance(asked, list) or not 1 <= len(asked) <= MOST_GRANTS:
+            raise Malformed(f"grants is no list of 1 to {MOST_GRANTS}")
+        begun = [await self._begun(one) for one in asked]
+        waiting = [one for one in begun if isinstance(one, asyncio.Future)]
+        if waiting:
+            await asyncio.wait(waiting, timeout=self.limits.patience)
+        answers = [self._grant_part(request, one) for one in begun]
+        return message_of(b'{"answers":[%s]}' % b",".join(answers))
+
+    async def _begun(self, asked: object) -> "asyncio.Future[Made[bytes]] | Exception":
+        """Asks for one of several grants, or says why that is not done."""
+        try:
+            if not isinstance(asked, dict):
+                raise Malformed("a grant is no object")
+            return await self.begin_grant(name_in(asked.get("job")), *asker_in(asked))
+        except ANSWERED as error:
+            return error
+
+    def _grant_part(
+        self, request: web.Request, begun: "asyncio.Future[Made[bytes]] | Exception"
+    ) -> bytes:
+        """Returns the answer of one of several grants: its status, its reading and its body."""
+        try:
+            if isinstance(begun, Exception):
+                raise begun
+            _give_up(begun)
+            made = begun.result()
+            status, body = (200, made.result) if made.refusal is None else (409, refused(made))
+            reading = b"null" if made.at is None else b"%d" % made.at
+            return b'{"status":%d,"reading":%s,"body":%s}' % (status, reading, body)
+        except ANSWERED as error:
+            failed = self._failure_of(request, error)
+            return b'{"status":%d,"reading":null,"body":%s}' % (failed.status, failed.body)
 
     async def _post_free(self, request: web.Request) -> web.Response:
         job = (await self.followed(job_in(request))).job
@@ -519,10 +567,14 @@ def _numbers_of(followed: Followed, now: float) -> dict[str, float]:
 
 
 def job_in(request: web.Request) -> str:
-    name = request.match_info["job"]
-    if not logs.NAME.fullmatch(name):
+    return name_in(request.match_info["job"])
+
+
+def name_in(given: object) -> str:
+    """Returns the name of a job. Raises Malformed."""
+    if not isinstance(given, str) or not logs.NAME.fullmatch(given):
         raise Malformed("the name of a job is that of a folder: 1 to 64 letters, digits, . _ and -")
-    return name
+    return given
 
 
 def number_in(request: web.Request, name: str, default: int) -> int:
@@ -571,11 +623,17 @@ def failure(status: int, error: str, after: float | None = None, **members: str)
     return made
 
 
+def refused(made: Made[Any]) -> bytes:
+    """Returns the body of the answer of a call that a table refused."""
+    assert made.refusal is not None
+    why = {"refused": word_of(made.refusal.name), "told": made.refusal.carried}
+    return logs.COMPACT.encode(why).encode()
+
+
 def told(made: Made[T], answer: Callable[[T], web.Response]) -> web.Response:
     """Returns the answer of a call of a table."""
     if made.refusal is not None:
-        refused = {"refused": word_of(made.refusal.name), "told": made.refusal.carried}
-        response = answer_of(refused, 409)
+        response = message_of(refused(made), 409)
     else:
         assert made.result is not None
         response = answer(made.result)

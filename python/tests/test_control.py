@@ -19,10 +19,10 @@ needed.library()
 from prometheus_client.parser import text_string_to_metric_families  # noqa: E402
 
 from hourstable import control  # noqa: E402
-from hourstable.control import Limits  # noqa: E402
+from hourstable.control import Limits, Plane  # noqa: E402
 from hourstable.library import Slicelet  # noqa: E402
 from hourstable.store import Store, StoreFailed, open_store  # noqa: E402
-from serving import HALF, POLICY, Caller, assignment, lines_of, running  # noqa: E402
+from serving import HALF, POLICY, Answer, Caller, assignment, lines_of, running  # noqa: E402
 
 WHOLE = [[0, [1]]]
 HALVES = [[0, [1]], [HALF, [2]]]
@@ -381,6 +381,185 @@ async def test_a_store_that_fails_after_it_wrote(file: Store, tmp_path: Path) ->
     assert (restore["granted"], restore["last"]) == (1, lines[3]["at"])
     assert restore["deadline"] == lines[3]["at"] + POLICY["guard"]
     assert restore["reply"] == f"restored generation 1 grace {restore['deadline']}"
+
+
+# Calls that wait together ------------------------------------------------------------------------
+
+
+class Slow(Trouble):
+    """A store whose next swap waits until it may go on."""
+
+    def __init__(self, store: Store) -> None:
+        super().__init__(store)
+        self.swaps = 0
+        self._next: list[threading.Event] = []
+
+    def hold_up(self) -> threading.Event:
+        """Lets the next swap wait for what is returned."""
+        self._next.append(threading.Event())
+        return self._next[-1]
+
+    def swap(self, job: str, version: int, kept: bytes, line: str | None) -> int:
+        self.swaps += 1
+        if self._next:
+            assert self._next.pop(0).wait(10)
+        return super().swap(job, version, kept, line)
+
+
+async def told_together(
+    plane: Plane, slow: Slow, caller: Caller, calls: list[tuple[str, object]],
+    then: Callable[[], None] = lambda: None,
+) -> list[Answer]:
+    """Makes a grant, and calls that wait while it is stored; calls `then` before they are. Returns
+    the answers to these calls."""
+    job, go = plane.jobs["shop"].job, slow.hold_up()
+    first = asyncio.create_task(caller.grant(1))
+    waiting = []
+    for at, (call, body) in enumerate(calls):
+        while slow._next or len(job._waiting) < at:
+            await asyncio.sleep(0.001)
+        waiting.append(asyncio.create_task(caller.post(call, body)))
+    while len(job._waiting) < len(calls):
+        await asyncio.sleep(0.001)
+    held_up = slow.hold_up()
+    go.set()
+    assert (await first).status == 200
+    then()
+    held_up.set()
+    return list(await asyncio.gather(*waiting))
+
+
+GRANTS: list[tuple[str, object]] = [("grant", {"task": task, "life": 1}) for task in range(2, 10)]
+
+
+async def test_calls_that_wait_are_stored_by_one_write(file: Store, tmp_path: Path) -> None:
+    slow, logs = Slow(file), tmp_path / "logs"
+    async with running(slow, logs, shared=True) as (plane, caller):  # type: ignore[arg-type]
+        term = await begun(caller)
+        slow.swaps = 0
+        calls = [*GRANTS, ("free", b'{"value":{}}'), ("renew", {"term": 9})]
+        told = await told_together(plane, slow, caller, calls)
+        assert slow.swaps == 2
+        assert [one.status for one in told] == [200] * 8 + [400, 409]
+        granted = [one.json["value"] for one in told[:8]]
+        assert [(one["task"], int(one["number"])) for one in granted] == [
+            (task, task) for task in range(2, 10)
+        ]
+        readings = {one.reading for one in told[:8] + told[9:]}
+        assert len(readings) == 1
+        stored = file.load("shop")
+        assert stored is not None and stored.line is not None
+        lines = [json.loads(line) for line in stored.line.removeprefix("0 ").split("\n")]
+        assert [line["reply"].split()[0] for line in lines] == ["grant"] * 8 + ["refused"]
+        assert (await caller.post("renew", {"term": term})).status == 200
+    logged = [{**line, "file": None} for line in lines_of(logs)]
+    assert logged[-10:-1] == [{**line, "file": None} for line in lines]
+
+
+async def test_a_failed_write_answers_none_of_them(file: Store, tmp_path: Path) -> None:
+    slow, logs = Slow(file), tmp_path / "logs"
+    async with running(slow, logs, shared=True) as (plane, caller):  # type: ignore[arg-type]
+        await begun(caller)
+        told = await told_together(
+            plane, slow, caller, GRANTS, lambda: setattr(slow, "before", fail)
+        )
+        assert [(one.status, one.json["refused"]) for one in told] == [(503, "store")] * 8
+        assert {one.reading for one in told} == {None}
+        assert not plane.jobs["shop"].job.is_held
+        slow.before = None
+        assert (await caller.grant(2)).json["value"]["number"] == "2"
+    told_of = [(line["do"], line.get("task")) for line in lines_of(logs)][3:]
+    assert told_of == [("grant", 1), ("restore", None), ("grant", 2)]
+
+
+async def test_a_write_that_failed_late_loses_no_line(file: Store, tmp_path: Path) -> None:
+    slow, logs = Slow(file), tmp_path / "logs"
+    async with running(slow, logs, shared=True) as (plane, caller):  # type: ignore[arg-type]
+        await begun(caller)
+        told = await told_together(
+            plane, slow, caller, GRANTS, lambda: setattr(slow, "after", fail)
+        )
+        assert [one.status for one in told] == [503] * 8
+        slow.after = None
+        assert (await caller.grant(2)).json["value"]["number"] == "10"
+    told_of = [(line["do"], line.get("task")) for line in lines_of(logs)][3:]
+    assert told_of == [
+        *(("grant", task) for task in range(1, 10)), ("restore", None), ("grant", 2)
+    ]
+
+
+async def test_a_conflict_answers_none_of_them(file: Store, tmp_path: Path) -> None:
+    slow, logs = Slow(file), tmp_path / "logs"
+    async with running(slow, logs, shared=True) as (plane, caller):  # type: ignore[arg-type]
+        await begun(caller)
+
+        def write_first() -> None:
+            stored = file.load("shop")
+            assert stored is not None
+            file.swap("shop", stored.version, stored.kept, stored.line)
+
+        told = await told_together(plane, slow, caller, GRANTS, write_first)
+        assert [(one.status, one.json["refused"]) for one in told] == [(503, "replaced")] * 8
+        assert (await caller.grant(2)).json["value"]["number"] == "2"
+    assert [line["do"] for line in lines_of(logs)][3:] == ["grant", "restore", "grant"]
+
+
+async def test_a_note_that_waits_twice_frees_once(file: Store, tmp_path: Path) -> None:
+    slow, logs = Slow(file), tmp_path / "logs"
+    async with running(slow, logs, shared=True) as (plane, caller):  # type: ignore[arg-type]
+        await begun(caller)
+        granted = await caller.grant(2)
+        assert granted.reading is not None
+        with Slicelet("shop", 2) as task:
+            task.start(1, granted.reading)
+            task.hear(granted.body, granted.reading)
+            note = task.release("guard", granted.reading)
+        told = await told_together(plane, slow, caller, [("free", note)] * 2)
+        assert [(one.status, one.json) for one in told] == [(200, {"freed": 1})] * 2
+    assert [line["do"] for line in lines_of(logs)][4:] == ["grant", "free"]
+
+
+async def test_several_grants_of_one_call(file: Store, tmp_path: Path) -> None:
+    """Each is answered as a call of its own would be."""
+    logs, limits = tmp_path / "logs", Limits(grants=1, burst=2)
+    async with running(file, logs, shared=True, limits=limits) as (_, caller):
+        await begun(caller)
+        caller.job = "empty"
+        await caller.create()
+
+        def asked(job: object, task: int) -> dict[str, object]:
+            return {"job": job, "task": task, "life": 1}
+
+        both = [asked("shop", 1), asked("shop", 2)]
+        body = {"grants": [
+            *both, asked("none", 1), *both, asked("empty", 1), *both, asked("shop", 65),
+            asked(7, 1), 3,
+        ]}
+        answer = await caller.ask("POST", "/grants", body)
+        told = answer.json["answers"]
+        assert [one["status"] for one in told] == [
+            200, 200, 404, 200, 200, 409, 429, 429, 400, 400, 400
+        ]
+        numbers = [one["body"]["value"]["number"] for one in told if one["status"] == 200]
+        assert numbers == ["1", "2", "3", "4"]
+        assert {one["reading"] is None for one in told[:2] + told[3:5]} == {False}
+        assert told[5]["body"] == {"refused": "no-assignment", "told": {}}
+        assert told[6]["body"]["limit"] == "grants"
+        for wrong in ({}, {"grants": []}, {"grants": {}}, {"grants": both * 513}):
+            assert (await caller.ask("POST", "/grants", wrong)).status == 400
+    assert [line["do"] for line in lines_of(logs)][3:] == ["grant"] * 4
+
+
+async def test_several_grants_while_the_store_is_slow(file: Store, tmp_path: Path) -> None:
+    trouble, limits = Trouble(file), Limits(patience=0.3)
+    async with running(
+        trouble, tmp_path / "logs", limits=limits  # type: ignore[arg-type]
+    ) as (_, caller):
+        await begun(caller)
+        trouble.before = lambda: time.sleep(0.8)
+        body = {"grants": [{"job": "shop", "task": 1, "life": 1}]}
+        told = (await caller.ask("POST", "/grants", body)).json["answers"]
+        assert [(one["status"], one["body"]["refused"]) for one in told] == [(503, "store")]
 
 
 async def test_a_restart_goes_on_with_grace(file: Store, tmp_path: Path) -> None:

@@ -111,16 +111,36 @@ def test_a_log_of_another_job_is_refused(tmp_path: Path) -> None:
         Log(tmp_path, "task-1", logs.job_line({**POLICY, "guard": 101}))
 
 
-def test_whether_a_line_is_there(tmp_path: Path) -> None:
+def test_which_lines_are_not_there(tmp_path: Path) -> None:
     days = iter(["2026-11-27", "2026-11-27", "2026-11-28", "2026-11-29", "2026-11-29"])
     log = Log(tmp_path, "control", JOB, today=lambda: next(days))
-    log.append(line_of(11, "lose", "lost 0"))
-    log.append(line_of(12, "lose", "lost 0"))
-    log.append(line_of(13, "lose", "lost 0"))
-    log.append(line_of(140, "lose", "lost 0"))
-    assert [log.holds(it) for it in (12, 13, 140)] == [True, True, True]
-    assert not log.holds(11)  # in an older file than the two newest
-    assert [log.holds(it) for it in (1, 14, 1400)] == [False] * 3
+    one, two, three, four, five = (line_of(it, "lose", "lost 0") for it in (1, 2, 3, 14, 5))
+    log.append(one)
+    log.append(two)
+    log.append(three, four)
+    log.append(five)
+    for there in ([two], [three, four], [four], [three, four, five], [five]):
+        assert log.lacking(there) == []
+    assert log.lacking([one]) == [one]  # in an older file than the two newest
+    for ticket in (4, 140, 1400):
+        absent = line_of(ticket, "lose", "lost 0")
+        assert log.lacking([absent]) == [absent]
+    assert log.lacking([line_of(5, "lose", "lost 1")]) != []
+
+
+def test_lines_of_a_torn_write_are_missing(tmp_path: Path) -> None:
+    lines = [line_of(it, "lose", "lost 0") for it in range(1, 9)]
+    Log(tmp_path, "control", JOB, today=lambda: "2026-11-27").append(*lines)
+    path = tmp_path / "control.2026-11-27.jsonl"
+    whole = path.read_text()
+    for cut in range(len(JOB) + 1, len(whole) + 1):
+        path.write_text(whole[:cut])
+        log = Log(tmp_path, "control", JOB, today=lambda: "2026-11-27")
+        lacking = log.lacking(lines)
+        if lacking:
+            log.append(*lacking)
+        log.close()
+        assert path.read_text() == whole
 
 
 def test_logs_laid_out_for_an_audit(tmp_path: Path) -> None:
