@@ -8,8 +8,7 @@ import signal
 import socket
 import subprocess
 import time
-from collections.abc import Callable, Iterator
-from contextlib import contextmanager
+from collections.abc import Callable
 from pathlib import Path
 
 POSTGRESQL = Path("/usr/lib/postgresql/15/bin")
@@ -60,7 +59,8 @@ def _children_of(process: int) -> list[int]:
 
 
 class Engine:
-    """A process of an engine, which may be killed and started again over the same folder."""
+    """A process of an engine, which may be killed and started again over the same folder. It runs
+    within a `with`."""
 
     def __init__(
         self, words: list[str], user: pwd.struct_passwd | None, folder: Path, url: str,
@@ -69,6 +69,17 @@ class Engine:
         self.words, self.user, self.folder, self.url = words, user, folder, url
         self.is_ready = is_ready
         self.process: subprocess.Popen[bytes] | None = None
+
+    def __enter__(self) -> "Engine":
+        try:
+            self.start()
+        except BaseException:
+            self.kill()
+            raise
+        return self
+
+    def __exit__(self, *_: object) -> None:
+        self.kill()
 
     def start(self) -> None:
         uid = self.user.pw_uid if self.user else None
@@ -96,8 +107,7 @@ class Engine:
                     pass
 
 
-@contextmanager
-def postgresql(folder: Path) -> Iterator[Engine]:
+def postgresql(folder: Path) -> Engine:
     user = _other_user() if os.geteuid() == 0 else None
     folder.mkdir(parents=True)
     if user:
@@ -112,12 +122,7 @@ def postgresql(folder: Path) -> Iterator[Engine]:
         "-k", "", "-c", "listen_addresses=127.0.0.1", "-c", "max_connections=50",
     ]
     url = f"postgresql://hourstable@127.0.0.1:{port}/postgres"
-    engine = Engine(words, user, folder, url, lambda: _takes_postgresql(url))
-    try:
-        engine.start()
-        yield engine
-    finally:
-        engine.kill()
+    return Engine(words, user, folder, url, lambda: _takes_postgresql(url))
 
 
 def _takes_postgresql(url: str) -> bool:
@@ -130,8 +135,7 @@ def _takes_postgresql(url: str) -> bool:
         return False
 
 
-@contextmanager
-def etcd(folder: Path) -> Iterator[Engine]:
+def etcd(folder: Path) -> Engine:
     folder.mkdir(parents=True)
     port, peer = free_port(), free_port()
     words = [
@@ -142,13 +146,7 @@ def etcd(folder: Path) -> Iterator[Engine]:
         "--initial-advertise-peer-urls", f"http://127.0.0.1:{peer}",
         "--initial-cluster", f"default=http://127.0.0.1:{peer}",
     ]
-    url = f"etcd://127.0.0.1:{port}"
-    engine = Engine(words, None, folder, url, lambda: _takes_etcd(port))
-    try:
-        engine.start()
-        yield engine
-    finally:
-        engine.kill()
+    return Engine(words, None, folder, f"etcd://127.0.0.1:{port}", lambda: _takes_etcd(port))
 
 
 def _takes_etcd(port: int) -> bool:
