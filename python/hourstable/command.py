@@ -4,6 +4,7 @@ import argparse
 import asyncio
 import logging
 import os
+import resource
 import shutil
 import signal
 import ssl
@@ -24,6 +25,7 @@ from hourstable.store import StoreFailed, open_store
 from hourstable.tickets import Tickets
 
 PROGRAM = "HOURSTABLE_PROGRAM"
+OTHER_FILES = 256  # logs, connections of the store, and so on
 
 
 def main(words: list[str] | None = None) -> int:
@@ -143,6 +145,7 @@ async def _run_control(chosen: argparse.Namespace) -> int:
     host, _, port = chosen.listen.rpartition(":")
     if not host or not port.isdigit():
         raise ValueError(f"{chosen.listen!r} is not HOST:PORT")
+    raise_open_files(chosen.most_connections)
     store = open_store(chosen.store)
     shared = store.several if chosen.shared is None else chosen.shared
     folder = Path(chosen.logs)
@@ -176,6 +179,19 @@ async def _run_control(chosen: argparse.Namespace) -> int:
     store.close()
     tickets.close()
     return 0
+
+
+def raise_open_files(connections: int) -> None:
+    """Lets the process have so many connections open, and other files, if the system allows it."""
+    least, most = resource.getrlimit(resource.RLIMIT_NOFILE)
+    wanted = max(least, connections + OTHER_FILES)
+    if most != resource.RLIM_INFINITY and wanted > most:
+        logging.getLogger("hourstable").warning(
+            "only %d files may be open, with %d connections: raise the limit (LimitNOFILE)", most,
+            connections,
+        )
+        wanted = most
+    resource.setrlimit(resource.RLIMIT_NOFILE, (wanted, most))
 
 
 def signalled() -> asyncio.Event:

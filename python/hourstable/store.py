@@ -9,7 +9,9 @@ Any thread may call a store. Each call is durable when it returns.
 
 import base64
 import http.client
+import importlib.util
 import json
+import os
 import queue
 import random
 import sqlite3
@@ -222,9 +224,7 @@ class PostgresqlStore(Store):
     server, and of its synchronous standbys, before it returns."""
 
     def __init__(self, url: str) -> None:
-        import psycopg  # not needed by the other stores
-
-        self._url, self._psycopg = url, psycopg
+        self._url, self._psycopg = url, _psycopg()
         self._idle: queue.LifoQueue[Any] = queue.LifoQueue()
         self._create_table()
 
@@ -318,6 +318,16 @@ class PostgresqlStore(Store):
     def _swap_lives(self, job: str, compared: Any, lives: str) -> bool:
         update = "UPDATE hourstable_jobs SET lives = %s WHERE job = %s AND lives = %s"
         return self._run(update, lives, job, compared)[1] == 1
+
+
+def _psycopg() -> Any:
+    """Imports psycopg, which the other stores do not need. In Python alone it waits by select,
+    which fails once a process has 1,024 open files; so another way is chosen."""
+    if not any(map(importlib.util.find_spec, ("psycopg_c", "psycopg_binary"))):
+        os.environ.setdefault("PSYCOPG_WAIT_FUNC", "wait_selector")
+    import psycopg
+
+    return psycopg
 
 
 class EtcdStore(Store):

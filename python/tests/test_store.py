@@ -1,5 +1,7 @@
 """Each store: what is written is read, of two writers one writes, and no life is given twice."""
 
+import subprocess
+import sys
 import threading
 from collections import Counter
 from concurrent.futures import ThreadPoolExecutor
@@ -215,3 +217,21 @@ def test_writes_of_sqlite_are_synced(tmp_path: Path) -> None:
     store = open_store(f"sqlite:{tmp_path}/jobs.sqlite")
     connection = store._connection  # type: ignore[attr-defined]
     assert connection.execute("PRAGMA synchronous").fetchone() == (2,)  # FULL
+
+
+MANY_FILES = """
+import os, resource, sys
+from hourstable.store import open_store
+most = resource.getrlimit(resource.RLIMIT_NOFILE)[1]
+resource.setrlimit(resource.RLIMIT_NOFILE, (2048, most))
+files = [os.open(os.devnull, os.O_RDONLY) for _ in range(1100)]
+store, job = open_store(sys.argv[1]), sys.argv[2]
+version = store.create(job, "{}", b"{}")
+print(store.swap(job, version, b"[]", None) > version)
+"""
+
+
+def test_a_process_with_many_open_files(url: str, job: str) -> None:
+    words = [sys.executable, "-c", MANY_FILES, url, job]
+    ran = subprocess.run(words, capture_output=True, text=True, check=False)
+    assert (ran.stdout, ran.stderr) == ("True\n", "")
