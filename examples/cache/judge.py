@@ -13,12 +13,12 @@ IDS = 32  # how many ids of writes a slot has
 
 
 class Span(NamedTuple):
-    """A task wrote a key between two times."""
+    """A task worked for a key between two times."""
 
     begun: int
     ended: int
     task: int
-    write: str
+    what: str
 
 
 class Verdict(NamedTuple):
@@ -42,10 +42,10 @@ def lines_of(folder: Path, names: str) -> Iterator[list[Any]]:
 
 
 def overlaps(folder: Path) -> tuple[list[str], int]:
-    """Finds writes of a key by two tasks at once."""
+    """Finds keys for which two tasks worked at once."""
     spans: dict[str, list[Span]] = defaultdict(list)
-    for task, key, write, _, begun, ended in lines_of(folder, "spans-*.jsonl"):
-        spans[key].append(Span(begun, ended, task, write))
+    for task, key, what, begun, ended in lines_of(folder, "spans-*.jsonl"):
+        spans[key].append(Span(begun, ended, task, what))
     faults = []
     for key, them in sorted(spans.items()):
         them.sort()
@@ -54,8 +54,8 @@ def overlaps(folder: Path) -> tuple[list[str], int]:
             for task, before in latest.items():
                 if task != span.task and before.ended > span.begun:
                     faults.append(
-                        f"{key}: task {task} wrote {before.write} until {before.ended}, and task"
-                        f" {span.task} wrote {span.write} from {span.begun} on"
+                        f"{key}: task {task} worked until {before.ended} ({before.what}), and task"
+                        f" {span.task} from {span.begun} on ({span.what})"
                     )
             if span.task not in latest or latest[span.task].ended < span.ended:
                 latest[span.task] = span

@@ -37,15 +37,16 @@ from hourstable.tickets import Tickets, follow, real_milliseconds  # noqa: E402
 
 
 class Spans:
-    """When this task wrote which key, by a clock that all processes of the machine share: from
-    after it was told that it owns the key to before it asked again. One line for each write that
-    was answered. Nothing of Hourstable is in it."""
+    """When this task worked for which key, by a clock that all processes of the machine share: from
+    after it was told that it owns the key to before it asked again, and was told the same. One line
+    for each read and write, also for one that came too late for the shelf. Nothing of Hourstable is
+    in it."""
 
     def __init__(self, path: Path, task: int) -> None:
         self.file, self.task = open(path, "a", encoding="utf-8"), task
 
-    def note(self, key: str, write: str, version: int, begun: int, ended: int) -> None:
-        line = [self.task, key, write, version, begun, ended]
+    def note(self, key: str, what: str, begun: int, ended: int) -> None:
+        line = [self.task, key, what, begun, ended]
         self.file.write(json.dumps(line) + "\n")
         self.file.flush()
 
@@ -85,6 +86,7 @@ class Cache:
 
     async def write(self, request: web.Request) -> web.Response:
         key, asked = request.match_info["key"], await request.json()
+        taken: Taken | None = None
         async with self.turns.setdefault(key, asyncio.Lock()):
             async with self.task.serving(key) as lease:
                 begun = time.monotonic_ns()
@@ -93,18 +95,26 @@ class Cache:
                 if asked["id"] not in session.ids:
                     session = session.after(asked["id"], asked["text"])
                     lease.check()
-                    if asked["keep"]:
-                        self.keep(key, session)
-                    self.memory[key] = hold, session
+                    try:
+                        if asked["keep"]:
+                            self.keep(key, session)
+                        self.memory[key] = hold, session
+                    except Taken as why:
+                        taken = why
                 ended = time.monotonic_ns()
-            self.spans.note(key, asked["id"], session.version, begun, ended)
+            self.spans.note(key, f"write {asked['id']}", begun, ended)
+        if taken is not None:
+            raise taken
         return web.json_response({"version": session.version})
 
     async def read(self, request: web.Request) -> web.Response:
         key = request.match_info["key"]
         async with self.task.serving(key):
+            begun = time.monotonic_ns()
             _, session = self.session(key)
             await self.think()
+            ended = time.monotonic_ns()
+        self.spans.note(key, "read", begun, ended)
         if not session.version:
             return web.json_response({"version": 0}, status=404)
         return web.json_response({"version": session.version, "text": session.text})

@@ -57,8 +57,8 @@ def test_a_run_without_faults(tmp_path: Path) -> None:
     second = first.after("y", "two")
     shelf.fill("key", first)
     shelf.fill("key", second)
-    written(tmp_path, "spans-1.jsonl", [[1, "key", "x", 1, 10, 20]])
-    written(tmp_path, "spans-2.jsonl", [[2, "key", "y", 2, 20, 30], [2, "other", "z", 1, 0, 99]])
+    written(tmp_path, "spans-1.jsonl", [[1, "key", "write x", 10, 20]])
+    written(tmp_path, "spans-2.jsonl", [[2, "key", "write y", 20, 30], [2, "other", "read", 0, 99]])
     written(
         tmp_path, "acks-1.jsonl",
         [["write", "key", "x", 1, 5, 25], ["read", "key", "", 1, 26, 27],
@@ -68,18 +68,21 @@ def test_a_run_without_faults(tmp_path: Path) -> None:
 
 
 def test_two_tasks_at_once_are_found(tmp_path: Path) -> None:
-    # Task 2 writes while the first write of task 1 goes on, though task 1 wrote again meanwhile.
+    # Task 2 reads while the first write of task 1 goes on, though task 1 wrote again meanwhile.
     written(
-        tmp_path, "spans-1.jsonl", [[1, "key", "long", 1, 10, 90], [1, "key", "short", 2, 20, 30]]
+        tmp_path, "spans-1.jsonl",
+        [[1, "key", "write long", 10, 90], [1, "key", "write short", 20, 30]],
     )
-    written(tmp_path, "spans-2.jsonl", [[2, "key", "other", 3, 80, 95]])
+    written(tmp_path, "spans-2.jsonl", [[2, "key", "read", 80, 95]])
     faults, spans = judge.overlaps(tmp_path)
     assert spans == 3
-    assert faults == ["key: task 1 wrote long until 90, and task 2 wrote other from 80 on"]
+    assert faults == [
+        "key: task 1 worked until 90 (write long), and task 2 from 80 on (read)"
+    ]
 
 
 def test_a_torn_last_line_is_left_out(tmp_path: Path) -> None:
-    written(tmp_path, "spans-1.jsonl", [[1, "key", "x", 1, 10, 20]])
+    written(tmp_path, "spans-1.jsonl", [[1, "key", "write x", 10, 20]])
     with open(tmp_path / "spans-1.jsonl", "a", encoding="utf-8") as file:
         file.write('[1, "key", "y"')
     assert judge.overlaps(tmp_path) == ([], 1)
