@@ -14,19 +14,21 @@ import ssl
 import time
 from collections.abc import Awaitable, Callable
 from concurrent.futures import ThreadPoolExecutor
-from dataclasses import dataclass
+from dataclasses import dataclass, field
 from typing import Any, TypeVar
 
 from aiohttp import web
 
-from hourstable import logs
+from hourstable import logs, page
 from hourstable import tickets as ticketing
 from hourstable.jobs import (
     Call, Commit, Free, Grant, Job, Made, Malformed, Propose, Renew, Replaced, Settings, Take,
     is_number, policy_of, term_of,
 )
+from hourstable.keys import KeyTold
+from hourstable.lanes import Lanes
 from hourstable.library import Refused, Table
-from hourstable.loads import Loads
+from hourstable.loads import Denials, Loads
 from hourstable.metrics import CONTENT_TYPE, Metrics, Shown, word_of
 from hourstable.store import Conflict, LivesSpent, NoSuchJob, Store, StoreFailed
 from hourstable.tickets import Tickets
@@ -37,8 +39,10 @@ READING = "Hourstable-Reading"
 TASKS, LIVES = range(1, 65), range(1, 1 << 32)
 JSON = {"Content-Type": "application/json"}
 LONGEST_WAIT = 30.0  # seconds of a waiting GET
+MOST_KEY = 4096  # characters of a key that is asked about
 MIB = 1 << 20
 MOST_GRANTS = 1024  # of one request
+PUBLIC = {"/healthz", *page.FILES}  # what is answered without a secret
 
 log = logging.getLogger("hourstable.control")
 
@@ -93,6 +97,8 @@ class Followed:
     loads: Loads
     buckets: dict[int, Bucket]
     seen: dict[int, float]  # tasks, and when they asked for a grant last
+    lanes: Lanes = field(default_factory=Lanes)
+    denials: dict[int, Denials] = field(default_factory=dict)  # as tasks reported them last
 
     def alive(self, now: float) -> list[int]:
         """Returns the tasks that asked for a grant in the last guard term. For one guard term after
@@ -224,7 +230,18 @@ class Plane:
 
     async def call(self, job: Job, call: Call[T]) -> Made[T]:
         """Makes a call of a table. It goes on if its caller leaves or its time is over."""
-        return await self._in_time(job.call(call))
+        return await self._in_time(self._begin(job, call))
+
+    def _begin(self, job: Job, call: Call[T]) -> "asyncio.Future[Made[T]]":
+        """Begins a call of a table, and shows it to those who look once it is made."""
+        answer = job.call(call)
+        answer.add_done_callback(lambda done: self._saw(job, call, done))
+        return answer
+
+    def _saw(self, job: Job, call: Call[T], done: "asyncio.Future[Made[T]]") -> None:
+        followed = self.jobs.get(job.name)
+        if followed is not None and not done.cancelled() and done.exception() is None:
+            followed.lanes.saw(job, call, done.result())
 
     async def _in_time(self, answer: "asyncio.Future[Made[T]]") -> Made[T]:
         loop = asyncio.get_running_loop()
@@ -246,7 +263,7 @@ class Plane:
         if after > 0:
             raise Limited("grants", after)
         followed.seen[task] = now
-        return followed.job.call(Grant(task, life))
+        return self._begin(followed.job, Grant(task, life))
 
     async def create(self, name: str, given: object) -> bool:
         """Creates a job, and returns whether it is new. Raises Malformed, Limited and Conflict, if
@@ -318,6 +335,11 @@ class Plane:
             web.get("/jobs", self._get_jobs),
             web.get("/healthz", self._healthz),
             web.get("/metrics", self._metrics),
+            web.get("/overview", self._get_overview),
+            web.get("/jobs/{job}/leases", self._get_leases),
+            web.get("/jobs/{job}/slices", self._get_slices),
+            web.get("/jobs/{job}/key", self._get_key),
+            *page.routes(),
         ])
         return made
 
@@ -325,7 +347,7 @@ class Plane:
     async def _around(self, request: web.Request, handler: Handler) -> web.StreamResponse:
         """Checks the secret, observes the ticket, and counts."""
         begun = time.monotonic()
-        if request.path != "/healthz" and not self._knows(request):
+        if request.path not in PUBLIC and not self._knows(request):
             self.metrics.unauthorized.inc()
             answer = failure(401, "the secret is missing or wrong")
             answer.headers["WWW-Authenticate"] = "Bearer"
@@ -397,6 +419,26 @@ class Plane:
     async def _get_job(self, request: web.Request) -> web.Response:
         return answer_of(await self.status(job_in(request)))
 
+    async def _get_overview(self, _: web.Request) -> web.Response:
+        now = time.monotonic()
+        return answer_of({"jobs": [page.overview_of(it, now) for it in self.jobs.values()]})
+
+    async def _get_leases(self, request: web.Request) -> web.Response:
+        followed = await self.followed(job_in(request))
+        return answer_of(page.leases_of(followed, time.monotonic()))
+
+    async def _get_slices(self, request: web.Request) -> web.Response:
+        followed = await self.followed(job_in(request))
+        return answer_of(page.slices_of(followed, time.monotonic()))
+
+    async def _get_key(self, request: web.Request) -> web.Response:
+        followed, key = await self.followed(job_in(request)), request.query.get("key")
+        if key is None or len(key) > MOST_KEY:
+            raise Malformed(f"key is missing or has more than {MOST_KEY} characters")
+        alive = followed.alive(time.monotonic())
+        told = KeyTold(followed.job, followed.lanes, alive, followed.draining(), key)
+        return answer_of(told.value())
+
     async def _get_assignment(self, request: web.Request) -> web.Response:
         job = (await self.followed(job_in(request))).job
         after, until = number_in(request, "after", 0), time.monotonic() + LONGEST_WAIT
@@ -429,7 +471,9 @@ class Plane:
         followed, given = await self.followed(job_in(request)), await json_of(request)
         task = member(given, "task", TASKS)
         try:
+            denials = Denials.read(given)
             followed.loads.report(task, given.get("loads"), time.monotonic())
+            followed.denials[task] = denials
         except ValueError as error:
             raise Malformed(str(error)) from error
         return web.Response(status=204)

@@ -550,14 +550,20 @@ class Job:
             if last_in(kept) >= held.at:
                 await self._swap(held, kept, held.at, [held.line])
 
+    def reading(self) -> int | None:
+        """Returns the reading of the table's clock, to show it; None if another plane holds the
+        table, or it is not yet at the last reading that was stored."""
+        try:
+            return self._held.clock.read() if self._held is not None else None
+        except Refused:
+            return None
+
     def grace_left(self) -> int:
         """Returns for how many ticks commits still wait after the restart of a held table."""
         if self._held is None:
             return 0
-        try:
-            return max(0, self.grace - self._held.clock.read())
-        except Refused:
-            return self.grace
+        at = self.reading()
+        return self.grace if at is None else max(0, self.grace - at)
 
     def kept(self) -> dict[str, Any]:
         """Returns the value of what is stored of a table that this plane holds."""

@@ -1,10 +1,13 @@
-"""Loads of ranges of slice keys, as tasks report them."""
+"""What tasks report: the loads of ranges of slice keys, and how often they denied keys."""
+
+from typing import Any, NamedTuple
 
 from hourstable.jobs import is_number
 
 KEYS = 1 << 63  # slice keys are below it
 MOST_LOAD = 1 << 40
 KEPT_FOR = 60.0  # seconds for which a report counts
+GROUNDS = ("down", "clock-back", "ended", "not-owned", "no-lease", "moving", "clock-behind")
 
 
 class Loads:
@@ -27,6 +30,26 @@ class Loads:
             for at, pieces in self._reports.values() if at >= now - KEPT_FOR
             for low, high, load in pieces
         ]
+
+
+class Denials(NamedTuple):
+    """What a process of a task counted since its start."""
+
+    denied: dict[str, int]  # by the ground
+    clock_behind: int  # times that its clock stopped it
+    calls_left: int | None  # that its slicelet still accepts
+
+    @classmethod
+    def read(cls, given: dict[str, Any]) -> "Denials":
+        """Returns what a report says of denials; each member may be missing. Raises ValueError if
+        one has another form."""
+        denied, behind = given.get("denied", {}), given.get("clock_behind", 0)
+        left = given.get("calls_left")
+        if not isinstance(denied, dict) or not set(denied) <= set(GROUNDS):
+            raise ValueError(f"denied has the members {', '.join(GROUNDS)}")
+        if not all(is_number(it) for it in (*denied.values(), behind, 0 if left is None else left)):
+            raise ValueError("counts are whole numbers")
+        return cls(denied, behind, left)
 
 
 def _piece_of(piece: object) -> tuple[int, int, int]:

@@ -106,6 +106,7 @@ class Metrics:
     def __init__(self, job: str, task: int) -> None:
         self.registry = CollectorRegistry()
         self._values = (job, str(task))
+        self.denials: Counts[str] = Counts()  # by the ground
         self.requests = self._counter("requests", "questions for a key")
         self.lost = self._counter("lease_lost", "answers that came after the end of their lease")
         self.behind = self._counter("clock_behind", "times that the clock stopped the task")
@@ -121,6 +122,7 @@ class Metrics:
         )
 
     def denied(self, ground: str) -> None:
+        self.denials[ground] += 1
         self._denied.labels(*self._values, ground).inc()
 
     def heard(self, kind: str) -> None:
@@ -592,7 +594,7 @@ class Task:
             await _awaited(self._on_lose(lost, deadline))
 
     async def _report(self) -> None:
-        """Reports how many requests each part of the keys had."""
+        """Reports how many requests each part of the keys had, and why keys were denied."""
         while True:
             await asyncio.sleep(self._report_every)
             counts, self._loads = self._loads, Counts()
@@ -601,8 +603,14 @@ class Task:
                 [str(part * width), str((part + 1) * width), count]
                 for part, count in sorted(counts.items())
             ]
+            told = {
+                "task": self.task, "loads": loads, "denied": dict(self.metrics.denials),
+                "clock_behind": self.clock_behind_total,
+            }
+            if self._leases is not None:
+                told["calls_left"] = self._leases.calls_left()
             try:
-                await self._control.call("POST", "/loads", {"task": self.task, "loads": loads})
+                await self._control.call("POST", "/loads", told)
             except Unreachable as why:
                 self._note_unreachable(why)
 

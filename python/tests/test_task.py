@@ -332,7 +332,9 @@ async def test_loads_are_reported(plane: Plane, task_of: Callable[..., Task]) ->
     # The slice key of "hello" is 0x1679286... (63 bits); 1,024 parts of the keys are 2^53 wide.
     hello = 1_619_368_272_448_737_671
     part = hello >> 53 << 53
-    assert told == [{"task": 1, "loads": [[str(part), str(part + (1 << 53)), 3]]}]
+    assert [it["loads"] for it in told] == [[[str(part), str(part + (1 << 53)), 3]]]
+    assert (told[0]["task"], told[0]["clock_behind"]) == (1, 0)
+    assert set(told[0]["denied"]) <= {"down", "no-lease"}  # before the first lease was heard
 
 
 async def test_another_policy_is_rejected(plane: Plane, task_of: Callable[..., Task]) -> None:
