@@ -6,6 +6,7 @@ from prometheus_client import CollectorRegistry, Counter, Gauge, Histogram, gene
 from prometheus_client.exposition import CONTENT_TYPE_LATEST
 
 from hourstable.jobs import Counters
+from hourstable.library import library_version
 
 CONTENT_TYPE = CONTENT_TYPE_LATEST
 SECONDS = (0.0005, 0.001, 0.0025, 0.005, 0.01, 0.025, 0.05, 0.1, 0.25, 0.5, 1.0, 2.5, 5.0, 10.0)
@@ -33,11 +34,11 @@ class Metrics(Counters):
             ["job"], registry=registry,
         )
         self.request_seconds = Histogram(
-            "hourstable_request_seconds", "Time from a request to its answer, without GETs.",
+            "hourstable_request_seconds", "Seconds from a request to its answer, GETs left out.",
             ["call"], buckets=SECONDS, registry=registry,
         )
         self.store_seconds = Histogram(
-            "hourstable_store_seconds", "Time that the store took.",
+            "hourstable_store_seconds", "Seconds that an operation of the store took.",
             ["operation"], buckets=SECONDS, registry=registry,
         )
         self.store_failures = Counter(
@@ -55,6 +56,11 @@ class Metrics(Counters):
             "hourstable_open_connections", "Open connections.", registry=registry
         )
         self._gauges = Gauges(registry)
+        build = Gauge(
+            "hourstable_build_info", "1, with the version of the library.", ["version"],
+            registry=registry,
+        )
+        build.labels(".".join(map(str, library_version()))).set(1)
 
     def made(self, job: str, do: str, refused: str | None) -> None:
         if refused is None:
@@ -94,9 +100,9 @@ class Gauges:
     TEXTS = {
         "generation": "The committed generation.",
         "proposed": "1 while an assignment is proposed, else 0.",
-        "proposed_seconds": "For how long the assignment has been proposed, 0 if none is.",
+        "proposed_seconds": "Seconds since the assignment was proposed, 0 if none is.",
         "held": "1 if this control plane holds the table, else 0.",
-        "grace_seconds": "How long commits still wait for leases of before a restart.",
+        "grace_seconds": "Seconds for which commits still wait for leases of before a restart.",
         "tasks_alive": "Tasks that renewed their leases lately.",
         "tasks_draining": "Tasks that are being drained.",
         "rows": "Open rows of the table.",

@@ -107,18 +107,20 @@ class Metrics:
         self.registry = CollectorRegistry()
         self._values = (job, str(task))
         self.denials: Counts[str] = Counts()  # by the ground
-        self.requests = self._counter("requests", "questions for a key")
-        self.lost = self._counter("lease_lost", "answers that came after the end of their lease")
-        self.behind = self._counter("clock_behind", "times that the clock stopped the task")
-        self.lives = self._counter("lives", "lives begun")
-        self.unreachable = self._counter("control_unreachable", "calls that no plane answered")
-        self.left = self._gauge("calls_left", "calls that the slicelet still accepts")
-        self.keys = self._gauge("served_share", "share of all slice keys that the task may serve")
+        self.requests = self._counter("requests", "Questions for a key.")
+        self.lost = self._counter("lease_lost", "Answers after the end of their lease.")
+        self.behind = self._counter("clock_behind", "Times that the clock stopped the task.")
+        self.lives = self._counter("lives", "Lives that were begun.")
+        self.unreachable = self._counter("control_unreachable", "Calls that no plane answered.")
+        self.left = self._gauge("calls_left", "Calls that the slicelet still accepts.")
+        self.keys = self._gauge("served_share", "The part of all slice keys that it may serve.")
         self._denied = Counter(
-            "hourstable_denied", "denials", ["job", "task", "ground"], registry=self.registry
+            "hourstable_denied", "Questions that were denied.", ["job", "task", "ground"],
+            registry=self.registry,
         )
         self._heard = Counter(
-            "hourstable_heard", "leases heard", ["job", "task", "kind"], registry=self.registry
+            "hourstable_heard", "Leases that were heard.", ["job", "task", "kind"],
+            registry=self.registry,
         )
 
     def denied(self, ground: str) -> None:
