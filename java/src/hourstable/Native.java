@@ -30,6 +30,36 @@ final class Native {
 
     static native int sliceletCheck(long place, long task, long sliceKey, long position, int life, long at);
 
+    static native long[] grantRead(byte[] job, byte[] grant, long[] out);
+
+    static native int tableOpen(long place, byte[] job, long[] policy);
+
+    static native int tableRestore(long place, byte[] job, long[] policy, byte[] kept, long[] out);
+
+    static native byte[] tableKept(long place, long[] out);
+
+    static native byte[] tableSave(long place, byte[] saved, long grants, long ticks, long[] out);
+
+    static native int tableTake(long place, long assigner, long at, long[] out);
+
+    static native int tableRenew(long place, long number, long at, long[] out);
+
+    static native int tablePropose(long place, long number, byte[] assignment, long at, long[] out);
+
+    static native int tableCommit(long place, long number, long at, long[] out);
+
+    static native byte[] tableGrant(long place, long task, int life, long at, long[] out);
+
+    static native int tableFree(long place, byte[] note, long at, long[] out);
+
+    static native int tableRestart(long place, long[] out);
+
+    static native int tablePhase(long place, long[] out);
+
+    static native long[] tableRows(long place, long[] out);
+
+    static native byte[] tableCommitted(long place, long[] out);
+
     static native int clerkOpen(long place, byte[] job);
 
     static native int clerkLearn(long place, byte[] assignment, long[] out);

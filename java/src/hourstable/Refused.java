@@ -35,15 +35,22 @@ public final class Refused extends Exception {
                 return "code " + code;
             case "HS_OLD_GENERATION":
                 return "old " + Long.toUnsignedString(told[1]);
-            case "HS_NOT_OWNED":
-                return "not-owned " + Long.toUnsignedString(told[1]);
-            case "HS_OLD":
-                return "old " + Long.toUnsignedString(told[0]);
-            case "HS_VERSION":
-                return "version " + Long.toUnsignedString(told[0]);
+            case "HS_NOT_OWNED", "HS_STALE_BASE":
+                return word(name) + " " + Long.toUnsignedString(told[1]);
+            case "HS_OLD", "HS_VERSION", "HS_NOT_HOLDER":
+                return word(name) + " " + Long.toUnsignedString(told[0]);
+            case "HS_JOB_HELD", "HS_GRACE", "HS_NOT_YET":
+                return word(name) + " " + Long.toUnsignedString(told[4]);
+            case "HS_HELD":
+                String kind = Kind.of(told[2]).name().toLowerCase(Locale.ROOT);
+                return String.join(" ", "held", Long.toString(told[3]), kind, Long.toUnsignedString(told[0]));
             default:
-                return name.substring("HS_".length()).toLowerCase(Locale.ROOT).replace('_', '-');
+                return word(name);
         }
+    }
+
+    private static String word(String name) {
+        return name.substring("HS_".length()).toLowerCase(Locale.ROOT).replace('_', '-');
     }
 
     /** The code, as in the header. */
@@ -56,7 +63,7 @@ public final class Refused extends Exception {
         return name;
     }
 
-    /** The number of a grant, or the version of a message; 0 if the code sets none. */
+    /** The number of a grant or a term, or the version of a message; 0 if the code sets none. */
     public long number() {
         return told[0];
     }
@@ -64,5 +71,15 @@ public final class Refused extends Exception {
     /** The generation of a lease or an assignment; 0 if the code sets none. */
     public long generation() {
         return told[1];
+    }
+
+    /** A task; 0 if the code sets none. */
+    public long task() {
+        return told[3];
+    }
+
+    /** A reading, in ticks; 0 if the code sets none. */
+    public long until() {
+        return told[4];
     }
 }

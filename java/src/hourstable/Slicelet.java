@@ -41,6 +41,14 @@ public final class Slicelet extends Place {
         return new Slicelet(job, task, life);
     }
 
+    /**
+     * Reads a grant of a job from its message. Its task holds the ranges once it has heard the grant, until it hears another
+     * one of its kind or releases the lease. HS_WRONG_FORM if the name is not that of a job, codes of messages.
+     */
+    public static Grant readGrant(String job, byte[] grant) throws Refused {
+        return Grant.read(job, grant);
+    }
+
     /** Starts a life of the task, which holds no lease yet: HS_OLD_LIFE, HS_CLOCK_BACK, HS_HISTORY_FULL. */
     public void start(int life, long at) throws Refused {
         lock.writeLock().lock();

@@ -2,7 +2,9 @@ package hourstable;
 
 import static java.nio.charset.StandardCharsets.UTF_8;
 
+import java.util.ArrayList;
 import java.util.Arrays;
+import java.util.List;
 import java.util.concurrent.CountDownLatch;
 import java.util.concurrent.atomic.AtomicBoolean;
 import java.util.concurrent.atomic.AtomicReference;
@@ -155,6 +157,13 @@ public final class LibraryTest {
 
     /** Calls that change something wait for a reader, and calls that only read do not. */
     private static void locks() throws Exception {
+        try (Table table = steadyTable()) {
+            is("grant waits", waits(table, () -> table.grant(1, 1, 5)), true);
+            is("take waits", waits(table, () -> table.take(1, 5)), true);
+            is("save waits", waits(table, () -> table.save(new byte[0], 0, 0)), false);
+            is("rows waits", waits(table, table::rows), false);
+            is("phase waits", waits(table, table::phase), false);
+        }
         try (Slicelet task = new Slicelet("shop", 2); Clerk clerk = new Clerk("shop")) {
             is("start waits", waits(task, () -> task.start(1, 0)), true);
             is("hear waits", waits(task, () -> task.hear(grant(1, 1000), 1)), true);
@@ -199,8 +208,121 @@ public final class LibraryTest {
         return thread;
     }
 
+    private static final Table.Policy POLICY = new Table.Policy(1, 1, 10, 100, 100, 1000, 1000);
+
+    private static byte[] assignment(int generation, String slices) {
+        return ("{\"job\":\"shop\",\"type\":\"assignment\",\"value\":{\"generation\":\"" + generation
+            + "\",\"slices\":" + slices + "},\"version\":2}").getBytes(UTF_8);
+    }
+
+    /** A table whose generation 1 gives all keys to task 1, at reading 2. */
+    private static Table steadyTable() throws Refused {
+        Table table = new Table("shop", POLICY);
+        is("take", table.take(1, 0), new Table.Term(1, 1, 1000));
+        table.propose(1, assignment(1, "[[\"0\",[1]]]"), 1);
+        is("commit", table.commit(1, 2), 1L);
+        return table;
+    }
+
+    private static void tables() throws Exception {
+        refuses("a guard of 0", "HS_WRONG_FORM", "wrong-form",
+            () -> new Table("shop", new Table.Policy(1, 1, 0, 0, 100, 1000, 1000)));
+        try (Table table = steadyTable()) {
+            refuses("take again", "HS_JOB_HELD", "job-held 1000", () -> table.take(2, 3));
+            refuses("another term", "HS_NOT_HOLDER", "not-holder 1", () -> table.renew(2, 3));
+            is("renew", table.renew(1, 3), new Table.Term(1, 1, 1003));
+            refuses("nothing proposed", "HS_NOTHING_PENDING", "nothing-pending", () -> table.commit(1, 3));
+            is("the grant", new String(table.grant(1, 1, 5), UTF_8),
+                "{\"job\":\"shop\",\"type\":\"grant\",\"value\":{\"ends\":\"95\",\"generation\":\"1\","
+                    + "\"kind\":\"guard\",\"life\":1,\"number\":\"1\",\"ranges\":"
+                    + "[[\"0\",\"9223372036854775808\"]],\"task\":1,\"until\":\"105\"},\"version\":2}");
+            is("rows", table.rows(), List.of(new Table.Row(1, 1, 1, Kind.GUARD, 1, 105)));
+            refuses("a stale base", "HS_STALE_BASE", "stale-base 1",
+                () -> table.propose(1, assignment(3, "[[\"0\",[1]]]"), 6));
+            table.propose(1, assignment(2, "[[\"0\",[2]]]"), 6);
+            is("phase", table.phase(), new Table.Phase(1, 2));
+            refuses("held", "HS_HELD", "held 1 guard 1", () -> table.commit(1, 7));
+            refuses("a lower reading", "HS_CLOCK_BACK", "clock-back", () -> table.grant(1, 1, 4));
+            is("the assignment", new String(table.committed(), UTF_8),
+                new String(assignment(1, "[[\"0\",[1]]]"), UTF_8));
+            byte[] kept = table.kept();
+            try (Table restored = Table.restore("shop", POLICY, kept)) {
+                refuses("grace", "HS_GRACE", "grace 105", () -> restored.commit(1, 8));
+                is("commit after the grace", restored.commit(1, 105), 2L);
+            }
+            refuses("another policy", "HS_OTHER_POLICY", "other-policy",
+                () -> Table.restore("shop", new Table.Policy(1, 1, 10, 100, 100, 1000, 999), kept));
+            String note = "{\"job\":\"shop\",\"type\":\"note\",\"value\":{\"kind\":\"guard\",\"life\":1,"
+                + "\"number\":\"1\",\"task\":1},\"version\":2}";
+            is("free", table.free(note.getBytes(UTF_8), 8), 1L);
+            refuses("free again", "HS_NO_ROW", "no-row", () -> table.free(note.getBytes(UTF_8), 8));
+            is("commit", table.commit(1, 9), 2L);
+            table.grant(2, 1, 10);
+            is("restart", table.restart(), 1L);
+        }
+    }
+
+    /**
+     * The table has made one grant, at 5, whose row ends at 105. Saved 10 grants and 50 ticks ahead, it has made 11, at 55,
+     * whose rows end by 155.
+     */
+    private static void saves() throws Exception {
+        try (Table table = steadyTable()) {
+            table.grant(1, 1, 5);
+            String ahead = new String(table.kept(), UTF_8).replace("\"deadline\":\"105\"", "\"deadline\":\"155\"")
+                .replace("\"granted\":\"1\"", "\"granted\":\"11\"").replace("\"last\":\"5\"", "\"last\":\"55\"");
+            byte[] saved = table.save(new byte[0], 10, 50).orElseThrow();
+            is("what is saved", new String(saved, UTF_8), ahead);
+            table.grant(1, 1, 55);
+            is("nothing has to be saved", table.save(saved, 10, 50).isEmpty(), true);
+            table.grant(1, 1, 56);
+            is("something has to be saved", table.save(saved, 10, 50).isPresent(), true);
+            refuses("in place of bytes", "HS_NOT_JSON", "not-json", () -> table.save("{".getBytes(UTF_8), 10, 50));
+        }
+    }
+
+    private static void reads() throws Exception {
+        Grant read = Slicelet.readGrant("shop", grant(7, 8));
+        is("the grant", read, new Grant(7, 2, 1, Kind.GUARD, 3, 8, 18, List.of(new Grant.Range(0, Long.MIN_VALUE))));
+        refuses("of another job", "HS_OTHER_JOB", "other-job", () -> Slicelet.readGrant("store", grant(7, 8)));
+        StringBuilder ranges = new StringBuilder();
+        List<Grant.Range> wanted = new ArrayList<>();
+        for (int start = 0; start < 200; start += 2) {
+            ranges.append(start == 0 ? "[" : ",[").append(String.format("\"%d\",\"%d\"]", start, start + 1));
+            wanted.add(new Grant.Range(start, start + 1));
+        }
+        String longer = new String(grant(7, 8), UTF_8).replace("[\"0\",\"9223372036854775808\"]", ranges);
+        is("100 ranges", Slicelet.readGrant("shop", longer.getBytes(UTF_8)).ranges(), wanted);
+    }
+
+    /** Texts and rows of more than the first room: 64 tasks own 1,024 slices in turn, and ask for two grants each. */
+    private static void grows() throws Exception {
+        try (Table table = steadyTable()) {
+            StringBuilder slices = new StringBuilder();
+            for (int slice = 0; slice < 1024; slice++) {
+                String start = Long.toString(slice * (1L << 53));
+                slices.append(slice == 0 ? "[" : ",").append(String.format("[\"%s\",[%d]]", start, slice % 64 + 1));
+            }
+            byte[] wide = assignment(2, slices.append("]").toString());
+            table.propose(1, wide, 3);
+            table.commit(1, 4);
+            is("the assignment", new String(table.committed(), UTF_8), new String(wide, UTF_8));
+            for (int number = 0; number < 128; number++) {
+                Grant read = Slicelet.readGrant("shop", table.grant(number % 64 + 1, 1, 5));
+                is("ranges of a grant", read.ranges().size(), 16);
+            }
+            List<Table.Row> rows = table.rows();
+            is("how many rows", rows.size(), 128);
+            is("the last row", rows.get(127), new Table.Row(128, 64, 1, Kind.GUARD, 2, 105));
+        }
+    }
+
     public static void main(String[] words) throws Exception {
         serves();
+        tables();
+        saves();
+        reads();
+        grows();
         handles();
         resumes();
         looks();
