@@ -32,13 +32,9 @@ type PlanPolicy struct {
 // ticks. ErrWrongForm if id is 0.
 func NewAssigner(id, job uint64) (*Assigner, error) {
 	assigner := new(Assigner)
-	err := assigner.open(func(place *C.struct_hs_place) C.int32_t {
-		return C.hs_assigner_open(place, C.uint64_t(id), C.uint64_t(job))
+	return opened(assigner, &assigner.place, func(place *C.struct_hs_place) error {
+		return done(C.hs_assigner_open(place, C.uint64_t(id), C.uint64_t(job)), nil)
 	})
-	if err != nil {
-		return nil, err
-	}
-	return assigner, nil
 }
 
 // Adopt keeps a term that a table gave. ErrNotAdopted.
@@ -83,10 +79,10 @@ func Plan(job string, assignment []byte, loads, tasks []uint64, policy PlanPolic
 		low: C.uint64_t(policy.Low), high: C.uint64_t(policy.High), churn: C.uint64_t(policy.Churn),
 		cold: C.uint64_t(policy.Cold), hot: C.uint64_t(policy.Hot), most: C.uint64_t(policy.Most),
 	}
-	return text(messageRoom, func(out *C.uint8_t, length C.size_t, needed *C.size_t) C.int32_t {
+	return text(messageRoom, func(to buffer) C.int32_t {
 		return C.hs_plan(first(name), C.size_t(len(name)), first(assignment), C.size_t(len(assignment)),
 			firstNumber(loads), C.size_t(len(loads)), firstNumber(tasks), C.size_t(len(tasks)), &given,
-			out, length, needed)
+			to.at, to.length, to.needed)
 	})
 }
 

@@ -16,13 +16,9 @@ type Owners struct {
 // name is not that of a job.
 func NewClerk(job string) (*Clerk, error) {
 	name, clerk := []byte(job), new(Clerk)
-	err := clerk.open(func(place *C.struct_hs_place) C.int32_t {
-		return C.hs_clerk_open(place, first(name), C.size_t(len(name)))
+	return opened(clerk, &clerk.place, func(place *C.struct_hs_place) error {
+		return done(C.hs_clerk_open(place, first(name), C.size_t(len(name))), nil)
 	})
-	if err != nil {
-		return nil, err
-	}
-	return clerk, nil
 }
 
 // Learn keeps an assignment, given as its message. Codes of messages, then

@@ -14,7 +14,7 @@ import (
 //	if errors.Is(err, hourstable.ErrTooLate) { .. }
 //
 // docs/BINDINGS.md says what each code means. A code never changes its meaning; a
-// later library may return codes that stand not here.
+// later library may return codes that are not here.
 type Code int32
 
 // Why a key is not served.
@@ -122,7 +122,9 @@ const (
 func (c Code) Name() string { return C.GoString(C.hs_code_name(C.int32_t(c))) }
 
 // Error returns the word of scripts, such as held.
-func (c Code) Error() string { return "hourstable: " + c.word() }
+func (c Code) Error() string { return prefix + c.word() }
+
+const prefix = "hourstable: "
 
 func (c Code) word() string {
 	name := c.Name()
@@ -150,23 +152,23 @@ type Refused struct {
 func (r *Refused) Unwrap() error { return r.Code }
 
 // Error returns the text of Reply.
-func (r *Refused) Error() string { return "hourstable: " + r.Reply() }
+func (r *Refused) Error() string { return prefix + r.Reply() }
 
 // Reply returns the reply of scripts and of logs (docs/AUDIT.md) without its
 // first word, such as "held 1 guard 2" for "refused held 1 guard 2".
 func (r *Refused) Reply() string {
-	word := r.Code.word()
+	numbers := []any{r.Code.word()}
 	switch r.Code {
 	case ErrNotOwned, ErrStaleBase, ErrOldGeneration:
-		return fmt.Sprintf("%s %d", word, r.Generation)
+		numbers = append(numbers, r.Generation)
 	case ErrOld, ErrNotHolder, ErrVersion:
-		return fmt.Sprintf("%s %d", word, r.Number)
+		numbers = append(numbers, r.Number)
 	case ErrJobHeld, ErrGrace, ErrNotYet:
-		return fmt.Sprintf("%s %d", word, r.Until)
+		numbers = append(numbers, r.Until)
 	case ErrHeld:
-		return fmt.Sprintf("%s %d %s %d", word, r.Task, r.Kind, r.Number)
+		numbers = append(numbers, r.Task, r.Kind, r.Number)
 	}
-	return word
+	return strings.TrimSuffix(fmt.Sprintln(numbers...), "\n")
 }
 
 // done returns nil for HS_DONE, and otherwise a *Refused. told holds nothing but

@@ -104,16 +104,17 @@ type place struct {
 	c     C.struct_hs_place
 }
 
-// open creates the place and the object in it, by a function hs_KIND_open.
-func (p *place) open(object func(*C.struct_hs_place) C.int32_t) error {
+// opened returns a value whose place p holds the object that a function hs_KIND_open
+// or hs_KIND_restore creates.
+func opened[T any](value *T, p *place, object func(*C.struct_hs_place) error) (*T, error) {
 	if err := done(C.hs_place_new(&p.c), nil); err != nil {
-		return err
+		return nil, err
 	}
-	if err := done(object(&p.c), nil); err != nil {
+	if err := object(&p.c); err != nil {
 		C.hs_place_free(&p.c)
-		return err
+		return nil, err
 	}
-	return nil
+	return value, nil
 }
 
 // close frees what the value holds.
@@ -145,13 +146,20 @@ func firstNumber(numbers []uint64) *C.uint64_t {
 
 var noNumber [1]C.uint64_t
 
+// buffer is where a call writes a text, and how many bytes it has.
+type buffer struct {
+	at     *C.uint8_t
+	length C.size_t
+	needed *C.size_t
+}
+
 // text returns the bytes that a call writes. If they do not fit, it makes the
 // call again, which has changed nothing, with a longer buffer.
-func text(room int, call func(out *C.uint8_t, length C.size_t, needed *C.size_t) C.int32_t) ([]byte, error) {
+func text(room int, call func(buffer) C.int32_t) ([]byte, error) {
 	for {
 		out := make([]byte, room)
 		var needed C.size_t
-		err := done(call(first(out), C.size_t(room), &needed), nil)
+		err := done(call(buffer{first(out), C.size_t(room), &needed}), nil)
 		if err == nil {
 			return out[:needed], nil
 		}

@@ -67,13 +67,9 @@ const (
 // most 64 bytes of UTF-8, and task is 1 to 64: otherwise ErrWrongForm.
 func NewSlicelet(job string, task uint64) (*Slicelet, error) {
 	name, slicelet := []byte(job), new(Slicelet)
-	err := slicelet.open(func(place *C.struct_hs_place) C.int32_t {
-		return C.hs_slicelet_open(place, first(name), C.size_t(len(name)), C.uint64_t(task))
+	return opened(slicelet, &slicelet.place, func(place *C.struct_hs_place) error {
+		return done(C.hs_slicelet_open(place, first(name), C.size_t(len(name)), C.uint64_t(task)), nil)
 	})
-	if err != nil {
-		return nil, err
-	}
-	return slicelet, nil
 }
 
 // ResumeSlicelet returns the slicelet of a task's new process. life is the
@@ -81,13 +77,9 @@ func NewSlicelet(job string, task uint64) (*Slicelet, error) {
 // are started. Never call it beside a process of the task that may still run.
 func ResumeSlicelet(job string, task uint64, life uint32) (*Slicelet, error) {
 	name, slicelet := []byte(job), new(Slicelet)
-	err := slicelet.open(func(place *C.struct_hs_place) C.int32_t {
-		return C.hs_slicelet_resume(place, first(name), C.size_t(len(name)), C.uint64_t(task), C.uint32_t(life))
+	return opened(slicelet, &slicelet.place, func(place *C.struct_hs_place) error {
+		return done(C.hs_slicelet_resume(place, first(name), C.size_t(len(name)), C.uint64_t(task), C.uint32_t(life)), nil)
 	})
-	if err != nil {
-		return nil, err
-	}
-	return slicelet, nil
 }
 
 // EndedNote returns the note of a job that gives back all leases of a kind of a
@@ -95,9 +87,9 @@ func ResumeSlicelet(job string, task uint64, life uint32) (*Slicelet, error) {
 // still run.
 func EndedNote(job string, task uint64, life uint32, kind Kind) ([]byte, error) {
 	name := []byte(job)
-	return text(noteRoom, func(out *C.uint8_t, length C.size_t, needed *C.size_t) C.int32_t {
+	return text(noteRoom, func(to buffer) C.int32_t {
 		return C.hs_ended_note(first(name), C.size_t(len(name)), C.uint64_t(task), C.uint32_t(life),
-			C.uint32_t(kind), out, length, needed)
+			C.uint32_t(kind), to.at, to.length, to.needed)
 	})
 }
 
@@ -174,8 +166,8 @@ func (s *Slicelet) Hear(grant []byte, at uint64) error {
 func (s *Slicelet) Release(kind Kind, at uint64) ([]byte, error) {
 	s.mutex.Lock()
 	defer s.mutex.Unlock()
-	return text(noteRoom, func(out *C.uint8_t, length C.size_t, needed *C.size_t) C.int32_t {
-		return C.hs_slicelet_release(&s.c, C.uint32_t(kind), C.uint64_t(at), out, length, needed)
+	return text(noteRoom, func(to buffer) C.int32_t {
+		return C.hs_slicelet_release(&s.c, C.uint32_t(kind), C.uint64_t(at), to.at, to.length, to.needed)
 	})
 }
 
@@ -224,26 +216,26 @@ func servedBy(it C.struct_served) (Served, error) {
 // Hold takes a handle on a key if the task may serve it, and otherwise returns the
 // code of Serve.
 func (s *Slicelet) Hold(key []byte, at uint64) (Handle, error) {
-	s.mutex.RLock()
-	defer s.mutex.RUnlock()
-	var out C.struct_hs_key_handle
-	var told C.struct_hs_told
-	code := C.hs_slicelet_hold(&s.c, first(key), C.size_t(len(key)), C.uint64_t(at), &out, &told)
-	return handleOf(out), done(code, &told)
+	return s.hold(func(out *C.struct_hs_key_handle, told *C.struct_hs_told) C.int32_t {
+		return C.hs_slicelet_hold(&s.c, first(key), C.size_t(len(key)), C.uint64_t(at), out, told)
+	})
 }
 
 // HoldAt is Hold by slice key, without the hash of the key.
 func (s *Slicelet) HoldAt(sliceKey, at uint64) (Handle, error) {
+	return s.hold(func(out *C.struct_hs_key_handle, told *C.struct_hs_told) C.int32_t {
+		return C.hs_slicelet_hold_at(&s.c, C.uint64_t(sliceKey), C.uint64_t(at), out, told)
+	})
+}
+
+// hold makes a call that writes a handle.
+func (s *Slicelet) hold(call func(*C.struct_hs_key_handle, *C.struct_hs_told) C.int32_t) (Handle, error) {
 	s.mutex.RLock()
 	defer s.mutex.RUnlock()
 	var out C.struct_hs_key_handle
 	var told C.struct_hs_told
-	code := C.hs_slicelet_hold_at(&s.c, C.uint64_t(sliceKey), C.uint64_t(at), &out, &told)
-	return handleOf(out), done(code, &told)
-}
-
-func handleOf(it C.struct_hs_key_handle) Handle {
-	return Handle{uint64(it.task), uint64(it.slice_key), uint64(it.position), uint32(it.life)}
+	err := done(call(&out, &told), &told)
+	return Handle{uint64(out.task), uint64(out.slice_key), uint64(out.position), uint32(out.life)}, err
 }
 
 // Check returns nil if the task has held the key of a handle without a break since

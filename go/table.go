@@ -41,13 +41,9 @@ type Table struct{ place }
 // job, or a number of the policy is outside its limits.
 func NewTable(job string, policy Policy) (*Table, error) {
 	name, given, table := []byte(job), policy.c(), new(Table)
-	err := table.open(func(place *C.struct_hs_place) C.int32_t {
-		return C.hs_table_open(place, first(name), C.size_t(len(name)), &given)
+	return opened(table, &table.place, func(place *C.struct_hs_place) error {
+		return done(C.hs_table_open(place, first(name), C.size_t(len(name)), &given), nil)
 	})
-	if err != nil {
-		return nil, err
-	}
-	return table, nil
 }
 
 // RestoreTable returns the table of a job that kept these values, as Restart leaves
@@ -56,25 +52,19 @@ func NewTable(job string, policy Policy) (*Table, error) {
 // ErrTooManyGrants, ErrDeadlineRange.
 func RestoreTable(job string, policy Policy, kept []byte) (*Table, error) {
 	name, given, table := []byte(job), policy.c(), new(Table)
-	var told C.struct_hs_told
-	if err := done(C.hs_place_new(&table.c), nil); err != nil {
-		return nil, err
-	}
-	code := C.hs_table_restore(&table.c, first(name), C.size_t(len(name)), &given, first(kept), C.size_t(len(kept)),
-		&told)
-	if err := done(code, &told); err != nil {
-		table.close()
-		return nil, err
-	}
-	return table, nil
+	return opened(table, &table.place, func(place *C.struct_hs_place) error {
+		var told C.struct_hs_told
+		return done(C.hs_table_restore(place, first(name), C.size_t(len(name)), &given, first(kept),
+			C.size_t(len(kept)), &told), &told)
+	})
 }
 
 // Kept returns the message of the kept values of the table: all of it but its rows.
 func (t *Table) Kept() ([]byte, error) {
 	t.mutex.RLock()
 	defer t.mutex.RUnlock()
-	return text(messageRoom, func(out *C.uint8_t, length C.size_t, needed *C.size_t) C.int32_t {
-		return C.hs_table_kept(&t.c, out, length, needed)
+	return text(messageRoom, func(to buffer) C.int32_t {
+		return C.hs_table_kept(&t.c, to.at, to.length, to.needed)
 	})
 }
 
@@ -86,9 +76,9 @@ func (t *Table) Kept() ([]byte, error) {
 func (t *Table) Save(saved []byte, grants, ticks uint64) ([]byte, error) {
 	t.mutex.RLock()
 	defer t.mutex.RUnlock()
-	message, err := text(messageRoom, func(out *C.uint8_t, length C.size_t, needed *C.size_t) C.int32_t {
+	message, err := text(messageRoom, func(to buffer) C.int32_t {
 		return C.hs_table_save(&t.c, first(saved), C.size_t(len(saved)), C.uint64_t(grants), C.uint64_t(ticks),
-			out, length, needed)
+			to.at, to.length, to.needed)
 	})
 	if len(message) == 0 {
 		return nil, err
@@ -102,27 +92,27 @@ const messageRoom = 1024
 // Take gives the job lease to an assigner, and returns its term. ErrWrongForm if
 // assigner is 0, ErrReadingRange, ErrClockBack, ErrJobHeld.
 func (t *Table) Take(assigner, at uint64) (Term, error) {
-	t.mutex.Lock()
-	defer t.mutex.Unlock()
-	var out C.struct_hs_job_term
-	var told C.struct_hs_told
-	code := C.hs_table_take(&t.c, C.uint64_t(assigner), C.uint64_t(at), &out, &told)
-	return termOf(out), done(code, &told)
+	return t.term(func(out *C.struct_hs_job_term, told *C.struct_hs_told) C.int32_t {
+		return C.hs_table_take(&t.c, C.uint64_t(assigner), C.uint64_t(at), out, told)
+	})
 }
 
 // Renew renews the term with this number, and returns it. ErrReadingRange,
 // ErrClockBack, ErrNotHolder.
 func (t *Table) Renew(number, at uint64) (Term, error) {
+	return t.term(func(out *C.struct_hs_job_term, told *C.struct_hs_told) C.int32_t {
+		return C.hs_table_renew(&t.c, C.uint64_t(number), C.uint64_t(at), out, told)
+	})
+}
+
+// term makes a call that writes a term of the job lease.
+func (t *Table) term(call func(*C.struct_hs_job_term, *C.struct_hs_told) C.int32_t) (Term, error) {
 	t.mutex.Lock()
 	defer t.mutex.Unlock()
 	var out C.struct_hs_job_term
 	var told C.struct_hs_told
-	code := C.hs_table_renew(&t.c, C.uint64_t(number), C.uint64_t(at), &out, &told)
-	return termOf(out), done(code, &told)
-}
-
-func termOf(it C.struct_hs_job_term) Term {
-	return Term{uint64(it.number), uint64(it.assigner), uint64(it.until)}
+	err := done(call(&out, &told), &told)
+	return Term{uint64(out.number), uint64(out.assigner), uint64(out.until)}, err
 }
 
 // Propose proposes an assignment, given as its message, under the term with this
@@ -155,8 +145,8 @@ func (t *Table) Commit(number, at uint64) (uint64, error) {
 func (t *Table) Grant(task uint64, life uint32, at uint64) ([]byte, error) {
 	t.mutex.Lock()
 	defer t.mutex.Unlock()
-	return text(messageRoom, func(out *C.uint8_t, length C.size_t, needed *C.size_t) C.int32_t {
-		return C.hs_table_grant(&t.c, C.uint64_t(task), C.uint32_t(life), C.uint64_t(at), out, length, needed)
+	return text(messageRoom, func(to buffer) C.int32_t {
+		return C.hs_table_grant(&t.c, C.uint64_t(task), C.uint32_t(life), C.uint64_t(at), to.at, to.length, to.needed)
 	})
 }
 
@@ -217,8 +207,8 @@ func (t *Table) Rows() ([]Row, error) {
 func (t *Table) Committed() ([]byte, error) {
 	t.mutex.RLock()
 	defer t.mutex.RUnlock()
-	return text(messageRoom, func(out *C.uint8_t, length C.size_t, needed *C.size_t) C.int32_t {
-		return C.hs_table_committed(&t.c, out, length, needed)
+	return text(messageRoom, func(to buffer) C.int32_t {
+		return C.hs_table_committed(&t.c, to.at, to.length, to.needed)
 	})
 }
 
