@@ -1,0 +1,230 @@
+package service
+
+import (
+	"context"
+	"errors"
+	"net/http"
+	"net/http/httptest"
+	"os"
+	"path/filepath"
+	"reflect"
+	"strings"
+	"testing"
+	"time"
+
+	"hourstable"
+)
+
+func ranges(edges ...uint64) []hourstable.Range {
+	var made []hourstable.Range
+	for at := 0; at < len(edges); at += 2 {
+		made = append(made, hourstable.Range{First: edges[at], End: edges[at+1]})
+	}
+	return made
+}
+
+func TestRanges(t *testing.T) {
+	for _, it := range []struct{ some, others, minus, union []hourstable.Range }{
+		{ranges(), ranges(1, 3), ranges(), ranges(1, 3)},
+		{ranges(1, 3), ranges(), ranges(1, 3), ranges(1, 3)},
+		{ranges(1, 9), ranges(3, 5), ranges(1, 3, 5, 9), ranges(1, 9)},
+		{ranges(1, 3, 5, 9), ranges(2, 6), ranges(1, 2, 6, 9), ranges(1, 9)},
+		{ranges(1, 3), ranges(3, 5), ranges(1, 3), ranges(1, 5)},
+		{ranges(1, 3), ranges(0, 5), ranges(), ranges(0, 5)},
+		{ranges(6, 8), ranges(1, 2), ranges(6, 8), ranges(1, 2, 6, 8)},
+	} {
+		if found := minus(it.some, it.others); !reflect.DeepEqual(found, it.minus) {
+			t.Errorf("%v minus %v is %v", it.some, it.others, found)
+		}
+		if found := union(it.some, it.others); !reflect.DeepEqual(found, it.union) {
+			t.Errorf("%v and %v are %v", it.some, it.others, found)
+		}
+	}
+	if holds(ranges(1, 3), 3) || !holds(ranges(1, 3), 1) {
+		t.Error("a range has its first key and not its end")
+	}
+}
+
+func drawn(t *testing.T, from *tickets) uint64 {
+	t.Helper()
+	ticket, err := from.draw()
+	if err != nil {
+		t.Fatal(err)
+	}
+	return ticket
+}
+
+// Tickets rise over processes, also after one that lost what was not on the disk.
+func TestTicketsOutlastAProcess(t *testing.T) {
+	path := filepath.Join(t.TempDir(), "task-1.ticket")
+	one, err := openTickets(64, path)
+	if err != nil {
+		t.Fatal(err)
+	}
+	if _, err := openTickets(64, path); err == nil {
+		t.Error("two processes draw from one file")
+	}
+	first, second := drawn(t, one), drawn(t, one)
+	if first>>8 != 1 || second>>8 != 2 || second&255 != 64 {
+		t.Errorf("drawn %d %d", first, second)
+	}
+	if err := one.observe("66816"); err != nil || drawn(t, one)>>8 != 262 { // 66816 is 261 * 256
+		t.Errorf("observed 261: %v", err)
+	}
+	one.close()
+	again, err := openTickets(64, path)
+	if err != nil || drawn(t, again)>>8 != 263 {
+		t.Errorf("the next process: %v", err)
+	}
+	again.close()
+	text, _ := os.ReadFile(path)
+	copy(text[bootAt:], strings.Repeat("x", 36)) // as after a crash of the machine
+	os.WriteFile(path, text, 0o644)
+	after, err := openTickets(64, path)
+	if err != nil || drawn(t, after)>>8 < 263 {
+		t.Errorf("after a crash: %v", err)
+	}
+	after.close()
+	os.WriteFile(path, []byte("no tickets"), 0o644)
+	if _, err := openTickets(64, path); err == nil {
+		t.Error("a file of something else is opened")
+	}
+}
+
+func TestTicketsThatAreNotObserved(t *testing.T) {
+	from, _ := openTickets(64, "")
+	for _, text := range []string{"-1", "x", "18446744073709551616", "18446744073709551615"} {
+		if from.observe(text) == nil {
+			t.Errorf("observed %s", text)
+		}
+	}
+	if drawn(t, from)>>8 != 1 {
+		t.Error("what was not observed counts")
+	}
+}
+
+func TestLogs(t *testing.T) {
+	folder := t.TempDir()
+	path := filepath.Join(folder, "task-1."+utcDay()+".jsonl")
+	tell := func(ticket uint64) {
+		t.Helper()
+		log, err := openLog(folder, "task-1", []byte(`{"job":{}}`))
+		if err != nil {
+			t.Fatal(err)
+		}
+		defer log.close()
+		if err := log.tell(ticket, "start", "started 1", map[string]any{"at": 7}); err != nil {
+			t.Fatal(err)
+		}
+	}
+	holds := func(wanted string) {
+		t.Helper()
+		if text, _ := os.ReadFile(path); string(text) != wanted {
+			t.Errorf("%q, not %q", text, wanted)
+		}
+	}
+	line := func(ticket string) string {
+		return `{"at":7,"do":"start","reply":"started 1","ticket":` + ticket + "}\n"
+	}
+	tell(1)
+	holds("{\"job\":{}}\n" + line("1"))
+	text, _ := os.ReadFile(path)
+	os.WriteFile(path, append(text, `{"at":8,"do":"st`...), 0o644) // torn
+	tell(2)
+	holds("{\"job\":{}}\n" + line("1") + line("2"))
+	text, _ = os.ReadFile(path)
+	os.WriteFile(path, text[:len(text)-1], 0o644) // its end is torn
+	tell(3)
+	holds("{\"job\":{}}\n" + line("1") + line("2") + line("3"))
+	if _, err := openLog(folder, "task-1", []byte(`{"job":1}`)); err == nil {
+		t.Error("the log of another job is opened")
+	}
+}
+
+func plane(t *testing.T, handler http.HandlerFunc) string {
+	t.Helper()
+	server := httptest.NewServer(handler)
+	t.Cleanup(server.Close)
+	return server.URL
+}
+
+func controlOf(t *testing.T, urls ...string) *control {
+	t.Helper()
+	from, _ := openTickets(64, "")
+	return &control{
+		job: "shop", secret: "0123456789abcdef", client: http.DefaultClient, tickets: from, urls: urls,
+		local: func() (uint64, error) { return 7, nil }, timeout: time.Second,
+	}
+}
+
+func TestAnotherPlaneIsAsked(t *testing.T) {
+	asked := 0
+	down := plane(t, func(out http.ResponseWriter, _ *http.Request) {
+		asked++
+		out.Header().Set("Retry-After", "3")
+		out.WriteHeader(http.StatusServiceUnavailable)
+	})
+	up := plane(t, func(out http.ResponseWriter, in *http.Request) {
+		if in.URL.Path != "/jobs/shop/grant" || in.Header.Get("Authorization") != "Bearer 0123456789abcdef" {
+			t.Error(in.URL, in.Header)
+		}
+		out.Header().Set(readingHeader, "12")
+		out.Header().Set(ticketHeader, "66816")
+		out.Write([]byte("{}"))
+	})
+	asks := controlOf(t, down, up)
+	for range [2]int{} {
+		made, err := asks.call(context.Background(), "POST", "/grant", nil, time.Second)
+		if err != nil || made.reading == nil || *made.reading != 12 || made.sent != 7 {
+			t.Error(made, err)
+		}
+	}
+	if asked != 1 {
+		t.Errorf("the plane that is down was asked %d times", asked)
+	}
+	if drawn(t, asks.tickets)>>8 < 262 {
+		t.Error("the ticket of the answer was not observed")
+	}
+	_, err := controlOf(t, down).call(context.Background(), "POST", "/grant", nil, time.Second)
+	wait, failed := waitOf(err, &backoff{least: time.Millisecond, most: time.Millisecond})
+	if !errors.Is(err, ErrUnreachable) || failed != nil || wait != 3*time.Second {
+		t.Error(err, wait, failed)
+	}
+}
+
+func TestWhatAStatusMeans(t *testing.T) {
+	status := 0
+	asks := controlOf(t, plane(t, func(out http.ResponseWriter, _ *http.Request) { out.WriteHeader(status) }))
+	for status = range map[int]bool{404: true, 429: true, 500: true, 503: true} {
+		if _, err := asks.call(context.Background(), "GET", "", nil, time.Second); !errors.Is(err, ErrUnreachable) {
+			t.Error(status, err)
+		}
+	}
+	for _, status = range []int{400, 401, 413} {
+		var rejected *Rejected
+		_, err := asks.call(context.Background(), "GET", "", nil, time.Second)
+		if !errors.As(err, &rejected) || rejected.Status != status {
+			t.Error(status, err)
+		}
+	}
+}
+
+// A call ends with its context, and at its limit of time it may be made again.
+func TestContextsOfCalls(t *testing.T) {
+	ended := make(chan struct{})
+	asks := controlOf(t, plane(t, func(_ http.ResponseWriter, in *http.Request) {
+		select {
+		case <-in.Context().Done():
+		case <-ended:
+		}
+	}))
+	defer close(ended)
+	if _, err := asks.call(context.Background(), "GET", "", nil, 20*time.Millisecond); !errors.Is(err, ErrUnreachable) {
+		t.Error("at its limit:", err)
+	}
+	ctx, cancel := context.WithCancel(context.Background())
+	time.AfterFunc(20*time.Millisecond, cancel)
+	if _, err := asks.call(ctx, "GET", "", nil, time.Minute); !errors.Is(err, context.Canceled) {
+		t.Error("cancelled:", err)
+	}
+}
