@@ -750,13 +750,13 @@ int32_t hs_session_open(struct hs_place *place, const uint8_t *line, size_t line
 
 /* Plays the step on a line, and writes the line of its reply. A line that is not a step, such as a
  * blank one, changes nothing, and its reply says why (`error: ..`). HS_NO_ROOM: the step was
- * played, and hs_session_last writes its reply. HS_NO_MEMORY: the session was destroyed, and the
- * place is empty. */
+ * played, and hs_session_last writes its reply; `needed` is 0 if there was no memory to write it.
+ * HS_NO_MEMORY: the step was not played, and the last reply is the one before. */
 int32_t hs_session_answer(struct hs_place *place, const uint8_t *line, size_t line_len, uint8_t *out, size_t out_len,
                           size_t *needed);
 
 /* Writes the last reply of hs_session_answer, even one that found no room; nothing before the
- * first. HS_NO_ROOM. */
+ * first. HS_NO_ROOM or HS_NO_MEMORY. */
 int32_t hs_session_last(const struct hs_place *place, uint8_t *out, size_t out_len, size_t *needed);
 
 #ifdef __cplusplus

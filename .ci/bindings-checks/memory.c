@@ -251,29 +251,90 @@ static void refuse_places(void) {
     HOLDS(!place.at);
 }
 
-/* A session that runs out of memory in an answer is destroyed, and its place is empty. */
-static void refuse_answers(void) {
-    const char *step = "{\"do\":\"take\",\"assigner\":1,\"at\":0}";
-    for (size_t number = 1;; number++) {
-        struct hs_place place = new_place();
-        uint8_t out[64];
-        size_t needed = 0;
-        IS(open_session(&place), HS_DONE);
-        memset(out, '-', sizeof out);
-        refuse_allocation(number);
-        int32_t code = hs_session_answer(&place, (const uint8_t *)step, strlen(step), out, sizeof out, &needed);
-        int fell_short = was_refused();
-        refuse_allocation(0);
-        if (!fell_short) {
-            IS(code, HS_DONE);
-            hs_place_free(&place);
-            break;
-        }
-        IS(code, HS_NO_MEMORY);
+/* Checks that the last reply of a session is this text. */
+static void last_is(const struct hs_place *place, const char *wanted) {
+    uint8_t out[64];
+    size_t needed = UNTOLD;
+    IS(hs_session_last(place, out, sizeof out, &needed), HS_DONE);
+    HOLDS(needed == strlen(wanted) && memcmp(out, wanted, needed) == 0);
+}
+
+/* Answers a line. `out` has dashes and `needed` is UNTOLD before the call. */
+static int32_t answer(struct hs_place *place, const char *line, uint8_t out[64], size_t *needed) {
+    memset(out, '-', 64);
+    *needed = UNTOLD;
+    return hs_session_answer(place, (const uint8_t *)line, strlen(line), out, 64, needed);
+}
+
+static struct hs_place answered_session(uint32_t json) {
+    struct hs_place place = new_place();
+    uint8_t out[64];
+    size_t needed;
+    IS(hs_session_open(&place, (const uint8_t *)job, strlen(job), json), HS_DONE);
+    IS(answer(&place, "{\"do\":\"phase\"}", out, &needed), HS_DONE);
+    return place;
+}
+
+/* The replies of an answered session, of a step that takes memory, and of that step once more. */
+struct replies {
+    uint32_t json;
+    const char *before, *after, *again;
+};
+
+/* Answers a line with an allocation failing. The step is played once: at HS_NO_MEMORY by the next call,
+ * and otherwise by this one, even if there was no memory to write its reply. Returns the code. */
+static int32_t answer_short(const struct replies *replies, size_t number, int *fell_short) {
+    const char *step = "{\"do\":\"load\",\"task\":1,\"key\":\"hello\",\"weight\":5}";
+    struct hs_place place = answered_session(replies->json);
+    uint8_t out[64];
+    size_t needed;
+    refuse_allocation(number);
+    int32_t code = answer(&place, step, out, &needed);
+    *fell_short = was_refused();
+    refuse_allocation(0);
+    if (code != HS_DONE) {
         HOLDS(are_dashes(out, sizeof out));
-        IS(hs_session_last(&place, out, sizeof out, &needed), HS_OTHER_PLACE);
-        hs_place_free(&place);
+        HOLDS(needed == (code == HS_NO_MEMORY ? UNTOLD : 0));
     }
+    if (code == HS_NO_MEMORY) {
+        last_is(&place, replies->before);
+        IS(answer(&place, step, out, &needed), HS_DONE);
+    }
+    last_is(&place, replies->after);
+    IS(answer(&place, step, out, &needed), HS_DONE);
+    last_is(&place, replies->again);
+    hs_place_free(&place);
+    return code;
+}
+
+static void refuse_answers(const struct replies *replies) {
+    int fell_short = 1, unplayed = 0, unwritten = 0;
+    for (size_t number = 1; fell_short; number++) {
+        int32_t code = answer_short(replies, number, &fell_short);
+        HOLDS(code == HS_DONE || (fell_short && (code == HS_NO_MEMORY || code == HS_NO_ROOM)));
+        unplayed += code == HS_NO_MEMORY;
+        unwritten += code == HS_NO_ROOM;
+    }
+    HOLDS(unplayed && unwritten);
+}
+
+static struct hs_place session_in_text(void) {
+    return answered_session(0);
+}
+
+static struct hs_place session_in_json(void) {
+    return answered_session(1);
+}
+
+static int32_t give_last(struct hs_place *place) {
+    return give_text(hs_session_last, place);
+}
+
+static uint64_t session_state(struct hs_place *place) {
+    uint8_t out[64];
+    size_t needed = 0;
+    IS(hs_session_last(place, out, sizeof out, &needed), HS_DONE);
+    return sum_bytes(0, out, needed);
 }
 
 /* The calls that take no memory, as the header says. */
@@ -321,10 +382,18 @@ void check_memory(void) {
         {"plan", knowing_clerk, plan, clerk_state},
         {"evidence", knowing_clerk, weigh, clerk_state},
         {"read grant", knowing_clerk, read_grant, clerk_state},
+        {"last reply", session_in_text, give_last, session_state},
+        {"last reply as JSON", session_in_json, give_last, session_state},
+    };
+    const struct replies replies[] = {
+        {0, "phase steady 0\n", "recorded 5\n", "recorded 10\n"},
+        {1, "{\"generation\":0,\"phase\":\"steady\",\"reply\":\"phase\"}\n", "{\"reply\":\"recorded\",\"total\":5}\n",
+         "{\"reply\":\"recorded\",\"total\":10}\n"},
     };
     for (size_t at = 0; at < sizeof trials / sizeof *trials; at++)
         refuse_each(&trials[at]);
     refuse_places();
-    refuse_answers();
+    for (size_t at = 0; at < sizeof replies / sizeof *replies; at++)
+        refuse_answers(&replies[at]);
     takes_none();
 }

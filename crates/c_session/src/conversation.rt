@@ -1,19 +1,19 @@
 //! A session with its last reply.
 
-ghost use Rattle.std.specs.Prelude.{IfOk, IfErr, string_bytes};
-ghost use Rattle.c_session.specs.Conversations.{IsBegun, IsNotBegun, IsContinued};
-ghost use Rattle.c_numbers.specs.Outputs.{IsGivenWhole, output};
+ghost use Rattle.std.specs.Prelude.{IfOk, IfErr};
+ghost use Rattle.c_session.specs.Conversations.{IsBegun, IsNotBegun, IsContinued, last_text};
+ghost use Rattle.c_numbers.specs.Outputs.{IsGivenUnlessMemory, output};
 
 use c_numbers::{Answer, give};
 use diagnosis::AnswerError;
-use session::{ReplyForm, Session};
+use session::{ReplyForm, Session, Turn};
 use std::alloc::Global;
 
-/// A session that keeps its last reply, to give it again if it did not fit.
+/// A session that keeps its last reply, to give it again if it was not written.
 #[derive(Drop)]
 pub struct Conversation {
     session: Session,
-    line: String,
+    turn: Option<Turn>,
 }
 
 impl Conversation {
@@ -29,7 +29,7 @@ impl Conversation {
         match Session::open(alloc, form, line) {
             Ok(session) => Ok(Conversation {
                 session,
-                line: String::new(alloc),
+                turn: None,
             }),
             Err(AnswerError::Refused(_)) => Err(Answer::NoJob),
             Err(_) => Err(Answer::NoMemory),
@@ -39,21 +39,35 @@ impl Conversation {
     /// Answers a line, and writes the line of its reply to `out`.
     ///
     /// If `NoRoom` is returned, the line was answered all the same, and [`last`](Self::last) gives
-    /// its reply. If `NoMemory` is returned, it is not known whether the step was played.
+    /// its reply: it is longer than `out`, or there was no memory to write it and `needed` is 0. If
+    /// `NoMemory` is returned, nothing was played and the last reply is the one before.
     pub fn answer(&mut self, line: &[u8], out: &mut [u8], needed: &mut usize) -> Answer
         ensures { IsContinued line.now self.old self.new (output out.old needed.old) (output out.new needed.new) result }
     {
-        let Ok(text) = self.session.answer(line) else {
+        let Ok(turn) = self.session.turn(line) else {
             return Answer::NoMemory;
         };
-        self.line = text;
-        self.last(out, needed)
+        self.turn = Some(turn);
+        let answer = self.last(out, needed);
+        if answer == Answer::NoMemory {
+            *needed = 0;
+            return Answer::NoRoom;
+        }
+        answer
     }
 
     /// Writes the line of the last reply to `out`, nothing before the first.
+    ///
+    /// Takes memory for the line, and returns `NoMemory` if there is none.
     pub fn last(&self, out: &mut [u8], needed: &mut usize) -> Answer
-        ensures { IsGivenWhole (string_bytes self.now.line) (output out.old needed.old) (output out.new needed.new) result }
+        ensures { IsGivenUnlessMemory (last_text self.now) (output out.old needed.old) (output out.new needed.new) result }
     {
-        give(self.line.as_str().as_bytes(), out, needed)
+        let Some(turn) = &self.turn else {
+            return give(b"", out, needed);
+        };
+        match self.session.turn_text(turn) {
+            Ok(text) => give(text.as_str().as_bytes(), out, needed),
+            Err(_) => Answer::NoMemory,
+        }
     }
 }

@@ -1,14 +1,12 @@
 -- Sessions in places.
-use Rattle.std.specs.Prelude.{◌≡◌, ◌≢◌, ◌⊎◌, ◌==◌, ℕ, ℤ, List, Option, Some, if◌then◌else◌}
+use Rattle.std.specs.Prelude.{◌≡◌, ◌⊎◌, ◌==◌, ℕ, ℤ, List, if◌then◌else◌}
 use Rattle.session.specs.declared.answer.ReplyForm.{ReplyForm}
 use Rattle.session.specs.declared.answer.ReplyForm.TheVariants.{Text, Json}
-use Rattle.c_numbers.specs.declared.answer.Answer.{Answer}
-use Rattle.c_numbers.specs.declared.answer.Answer.TheVariants.{Done, NoMemory, OtherPlace}
+use Rattle.c_numbers.specs.declared.answer.Answer.TheVariants.{Done}
 use Rattle.c_numbers.specs.Numbers.{answer_number}
-use Rattle.c_numbers.specs.Outputs.{Output}
-use Rattle.c_session.specs.Conversations.{IsBegun, IsContinued, IsNotBegun}
+use Rattle.c_session.specs.Conversations.{IsBegun, IsNotBegun}
 use Rattle.c_place.specs.declared.held.Held.{Held}
-use Rattle.c_place.specs.declared.held.Held.TheVariants.{Nothing, Session}
+use Rattle.c_place.specs.declared.held.Held.TheVariants.{Session}
 use Rattle.hourstable_c.specs.Returned.{Returns}
 
 -- how answers are written: as text for 0
@@ -24,10 +22,3 @@ IsSessionPut form line _ = ⊥
 abbrev pub IsSessionOpened : ReplyForm → List ℕ → Held → Held → ℤ → Type 0
 IsSessionOpened form line was now number =
     ((number ≡ answer_number Done) × IsSessionPut form line now) ⊎ (Returns (IsNotBegun line) number × (now ≡ was))
-
--- a line of the session that stands there was answered; where memory ran out nothing stands there any more
-abbrev pub IsSessionAnswered : List ℕ → Option Held → Option Held → Output ℕ → Output ℕ → Answer → Type 0
-IsSessionAnswered line (Some (Session old)) (Some (Session new)) was now answer = IsContinued line old new was now answer × (answer ≢ NoMemory)
-IsSessionAnswered line (Some (Session old)) (Some Nothing) was now answer = (answer ≡ NoMemory) × (now ≡ was)
-IsSessionAnswered line (Some (Session old)) new was now answer = ⊥
-IsSessionAnswered line old new was now answer = (answer ≡ OtherPlace) × (new ≡ old) × (now ≡ was)

@@ -1,12 +1,13 @@
 //! Exports for sessions.
 
-ghost use Rattle.std.specs.Prelude.{◌≡◌, Some, string_bytes};
-ghost use Rattle.c_numbers.specs.Outputs.{IsGivenWhole, output};
+ghost use Rattle.std.specs.Prelude.{◌≡◌};
+ghost use Rattle.c_numbers.specs.Outputs.{IsGivenUnlessMemory, output};
+ghost use Rattle.c_session.specs.Conversations.{IsContinued, last_text};
 ghost use Rattle.hourstable_c.specs.Kinds.{is_session};
 ghost use Rattle.hourstable_c.specs.Opened.{AtPlace, IsClosed};
 ghost use Rattle.hourstable_c.specs.Places.{OnSession};
 ghost use Rattle.hourstable_c.specs.Returned.{Returns};
-ghost use Rattle.hourstable_c.specs.Sessions.{IsSessionAnswered, IsSessionOpened, form_of};
+ghost use Rattle.hourstable_c.specs.Sessions.{IsSessionOpened, form_of};
 
 use crate::place_exports::close_where;
 use c_numbers::Answer;
@@ -44,22 +45,9 @@ pub extern "C" fn hs_session_open(alloc: Global, place: &mut Place, line: &[u8],
     }
 }
 
-#[tactic(auto, using(crate::proofs::Conversing::gives_up))]
-// Answers a line. If memory runs out, the session is destroyed.
-fn answer_held(held: &mut Held, line: &[u8], out: &mut [u8], needed: &mut usize) -> Answer
-    ensures { IsSessionAnswered line.now (Some held.old) (Some held.new) (output out.old needed.old) (output out.new needed.new) result }
-{
-    let Held::Session(conversation) = held else {
-        return Answer::OtherPlace;
-    };
-    let answer = conversation.answer(line, out, needed);
-    if answer == Answer::NoMemory {
-        held.put(Held::Nothing);
-    }
-    answer
-}
-
 /// Answers a line, and writes the line of its reply to `out`.
+///
+/// Out of memory leaves the session as it is. Of a step that was played, the reply can be had again.
 #[unsafe(no_mangle)]
 #[tactic(auto, using(crate::proofs::Returning::returns))]
 pub extern "C" fn hs_session_answer(
@@ -68,20 +56,24 @@ pub extern "C" fn hs_session_answer(
     out: &mut [u8],
     needed: &mut usize,
 ) -> i32
-    ensures { Returns (IsSessionAnswered line.now place.old.value place.new.value (output out.old needed.old) (output out.new needed.new)) result }
+    ensures { OnSession place.old.value place.new.value (output out.new needed.new ≡ output out.old needed.old) result
+        (λ old new. Returns (IsContinued line.now old new (output out.old needed.old) (output out.new needed.new)) result) }
 {
-    match place.held() {
-        Some(held) => answer_held(held, line, out, needed).number(),
-        None => Answer::OtherPlace.number(),
+    let Some(held) = place.held() else {
+        return Answer::OtherPlace.number();
+    };
+    match held {
+        Held::Session(conversation) => conversation.answer(line, out, needed).number(),
+        _ => Answer::OtherPlace.number(),
     }
 }
 
-/// Writes the last reply line to `out`, also if it did not fit before.
+/// Writes the last reply line to `out`, also if it was not written before.
 #[unsafe(no_mangle)]
 #[tactic(auto, using(crate::proofs::Returning::returns))]
 pub extern "C" fn hs_session_last(place: &mut Place, out: &mut [u8], needed: &mut usize) -> i32
     ensures { OnSession place.old.value place.new.value (output out.new needed.new ≡ output out.old needed.old) result
-        (λ old new. (new ≡ old) × Returns (IsGivenWhole (string_bytes old.line) (output out.old needed.old) (output out.new needed.new)) result) }
+        (λ old new. (new ≡ old) × Returns (IsGivenUnlessMemory (last_text old) (output out.old needed.old) (output out.new needed.new)) result) }
 {
     let Some(held) = place.read() else {
         return Answer::OtherPlace.number();

@@ -1,6 +1,6 @@
 -- Parts of a line, one after another.
-use Rattle.std.proofs.Common.{◌≡◌, ◌≢◌, ◌∙◌, ◌<◌, ◌+◌, ◌-◌, ◌≤◌, ◌||◌, ℕ, Bool, true, false, cond, List, [], ◌∷◌, ◌++◌, All, Option, Some, None, get_or, get_or-take, length, length-append, take, append_assoc, refl, sym, ap, subst, arith}
-use Rattle.std.specs.Prelude.{nat_lt, nat_eq, IfSome, slice_index}
+use Rattle.std.proofs.Common.{◌≡◌, ◌≢◌, ◌∙◌, ◌<◌, ◌+◌, ◌-◌, ◌≤◌, ◌||◌, ℕ, Bool, true, false, cond, List, [], ◌++◌, All, Option, Some, None, get_or, get_or-take, length, length-append, take, append_assoc, refl, sym, ap, subst, arith}
+use Rattle.std.specs.Prelude.{IfSome, slice_index}
 use Rattle.std.specs.Io.{StopsAt, StartsWith}
 use Rattle.std.proofs.lemmas.Bool.Decides.{nat_tests}
 use Rattle.std.proofs.lemmas.List.{length-take-le, append-nil}
@@ -11,8 +11,7 @@ use Rattle.std.proofs.BufReadLemmas.{Consumes_through, Consumes_shown, zero_unle
 use Rattle.std.proofs.Transfers.{StopsAt-append, StopsAt-take}
 use Rattle.session.specs.declared.line_reading.TheConstants.{MOST_LINE_BYTES}
 use Rattle.session.specs.Lines.{is_long}
-use Rattle.session.specs.Talks.{IsLine}
-use Rattle.session.specs.LinesRead.{IsKept, IsLineRead}
+use Rattle.session.specs.LinesRead.{IsLineRead}
 use Rattle.session.specs.internals.Reading.{IsPart}
 use Rattle.session.proofs.Bytes.{consumes_more, consumes_none}
 

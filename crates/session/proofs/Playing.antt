@@ -1,71 +1,79 @@
--- A step that was played alone.
-use Rattle.std.proofs.Common.{◌≡◌, ℕ, true, List, [], ◌∷◌, length, slice_index_or, refl, sym, subst, ap, arith, IfOk, Result, Ok, Err}
+-- A step that was played alone, and one that was not.
+use Rattle.std.proofs.Common.{◌≡◌, ℕ, List, [], ◌∷◌, ◌++◌, length, refl, sym, subst, ap, arith, length-append, inl, inr, string_bytes, IfOk, Result, Ok, Err}
+use Rattle.cluster.specs.declared.call.ClusterCall.{ClusterCall}
+use Rattle.cluster.specs.Pasts.{Past as Calls}
+use Rattle.cluster.specs.Clusters.{LeadsTo as LeadsToCluster}
 use Rattle.world.specs.Jobs.{Job}
 use Rattle.world.specs.declared.step.Step.{Step}
+use Rattle.world.specs.declared.reply.Refusal.{Refusal}
 use Rattle.world.specs.declared.reply.Reply.{Reply}
 use Rattle.world.specs.declared.reply.Reply.TheVariants as reply
-use Rattle.world.specs.Pasts.{Past}
+use Rattle.world.specs.declared.world.World.{World}
+use Rattle.world.specs.Pasts.{Past, event}
+use Rattle.world.specs.Calls.{call_of, calls_in, with_call}
 use Rattle.world.specs.Worlds.{LeadsTo}
-use Rattle.world.specs.Runs.{IsRun, past_after}
-use Rattle.service.specs.Output.{is_answer}
+use Rattle.world.specs.Runs.{past_after}
+use Rattle.session.specs.declared.answer.ReplyForm.{ReplyForm}
 use Rattle.session.specs.declared.session.Session.{Session}
-use Rattle.session.specs.Answers.{answer_text}
-use Rattle.session.specs.Turns.{IsPlayedAs}
+use Rattle.session.specs.declared.turn.Turn.{Turn}
+use Rattle.session.specs.declared.turn.Turn.TheVariants as turn
+use Rattle.session.specs.Answers.{answer_text, error_text, turn_text}
+use Rattle.session.specs.Turns.{IsTurn, IsTurned, IsUnplayed}
 
-one_reply : (replies : List Reply) (r : Reply) → length replies ≡ 1 → r ≡ slice_index_or replies 0 r → replies ≡ r ∷ []
-one_reply [] r many first = absurd (omega (arith, many))
-one_reply (s ∷ []) r many first = ap (λ x. x ∷ []) (sym first)
-one_reply (s ∷ t ∷ replies) r many first = absurd (omega (arith, many))
+-- the last of one reply
+pub one_reply : (replies rest : List Reply) (r : Reply) → length replies ≡ 1 → replies ≡ rest ++ r ∷ [] → replies ≡ r ∷ []
+one_reply replies [] r many parts = parts
+one_reply replies (s ∷ rest) r many parts =
+    let len : length replies ≡ length (s ∷ rest ++ r ∷ []) = ap (λ (rs : List Reply). length rs) parts in
+    absurd (let both = length-append rest (r ∷ []) in omega (arith, len, both, many))
 
-is_answered : (r : Reply) → (r ≡ reply.NoMemory → ⊥) → is_answer r ≡ true
-is_answered reply.NoMemory other = absurd (other refl)
-is_answered (reply.Key key) other = refl
-is_answered (reply.Assigned generation slices) other = refl
-is_answered (reply.Owners tasks) other = refl
-is_answered (reply.Verdict verdict) other = refl
-is_answered (reply.Term term) other = refl
-is_answered (reply.Renewed term) other = refl
-is_answered (reply.Proposed generation) other = refl
-is_answered (reply.Committed generation) other = refl
-is_answered (reply.Phase phase) other = refl
-is_answered (reply.Rows rows) other = refl
-is_answered (reply.Granted number kind generation table_ends ends) other = refl
-is_answered (reply.Freed rows) other = refl
-is_answered (reply.Lost rows) other = refl
-is_answered (reply.Started life) other = refl
-is_answered (reply.Heard number) other = refl
-is_answered (reply.Released number note) other = refl
-is_answered (reply.Holding number handle) other = refl
-is_answered reply.Continuous other = refl
-is_answered reply.Broken other = refl
-is_answered (reply.Learnt generation) other = refl
-is_answered (reply.Found found) other = refl
-is_answered reply.Forgotten other = refl
-is_answered (reply.Recorded total) other = refl
-is_answered (reply.Gathered loads totals) other = refl
-is_answered (reply.Planned plan) other = refl
-is_answered (reply.Next action) other = refl
-is_answered reply.Restarted other = refl
-is_answered (reply.Refused refusal) other = refl
+-- the calls of the machines are the same after a step that is out of memory
+no_call : (job : Job) (calls : Calls) (made : Result ClusterCall Refusal) → with_call job reply.NoMemory made calls ≡ calls
+no_call job calls (Ok made) = refl
+no_call job calls (Err why) = refl
 
-played : (step : Step) (old new : Session) (replies : List Reply) (r : Reply) (text : List ℕ) → replies ≡ r ∷ []
-    → ((job : Job) (past : Past) → LeadsTo job past old.world → LeadsTo job (past_after past (step ∷ []) replies) new.world)
-    → ((job : Job) (past : Past) → LeadsTo job past old.world → IsRun job (past_after past (step ∷ []) replies))
-    → (r ≡ reply.NoMemory → ⊥) → text ≡ answer_text old.form r → IsPlayedAs step old new text
-played step old new replies r text one leads run answers said = record {
-  reply = r;
-  leads = λ past at. subst (λ (rs : List Reply). LeadsTo old.job (past_after past (step ∷ []) rs) new.world) one (leads old.job past at);
-  run = λ past at. subst (λ (rs : List Reply). IsRun old.job (past_after past (step ∷ []) rs)) one (run old.job past at);
-  answers = is_answered r answers;
-  text_is = said;
+-- a past leads to a world where it does so with one more step that is out of memory
+not_played : (job : Job) (past : Past) (step : Step) (world : World) → LeadsTo job (event step reply.NoMemory ∷ past) world → LeadsTo job past world
+unfolding LeadsTo
+not_played job past step world keeps = record {
+  run = keeps.run.1;
+  cluster = subst (λ (calls : Calls). LeadsToCluster job calls world.cluster) (no_call job (calls_in job past) (call_of job past (calls_in job past) step)) keeps.cluster;
+  same_job = keeps.same_job;
+  draft = keeps.draft;
+  assigners = keeps.assigners;
+  shares = keeps.shares;
+  book = keeps.book;
 }
 
--- a step was played, and its reply was written where there was memory for it
-pub is_played : {T E : Type 0} (bytes : T → List ℕ) (written : Result T E) (step : Step) (old new : Session) (replies : List Reply) (r : Reply)
-    → length replies ≡ 1 → r ≡ slice_index_or replies 0 r
+pub is_unplayed : (step : Step) (old new : Session) (replies : List Reply) → replies ≡ reply.NoMemory ∷ [] → new.job ≡ old.job
     → ((job : Job) (past : Past) → LeadsTo job past old.world → LeadsTo job (past_after past (step ∷ []) replies) new.world)
-    → ((job : Job) (past : Past) → LeadsTo job past old.world → IsRun job (past_after past (step ∷ []) replies))
-    → (r ≡ reply.NoMemory → ⊥) → IfOk written (λ text. bytes text ≡ answer_text old.form r) → IfOk written (λ text. IsPlayedAs step old new (bytes text))
-is_played bytes (Ok text) step old new replies r many first leads run answers said =
-    played step old new replies r (bytes text) (one_reply replies r many first) leads run answers said
-is_played bytes (Err e) step old new replies r many first leads run answers said = said
+    → IsUnplayed old new
+is_unplayed step old new replies one same leads past at =
+    let led : LeadsTo old.job (event step reply.NoMemory ∷ past) new.world = subst (λ (rs : List Reply). LeadsTo old.job (past_after past (step ∷ []) rs) new.world) one (leads old.job past at) in
+    subst (λ (j : Job). LeadsTo j past new.world) (sym same) (not_played old.job past step new.world led)
+
+turned : (line : List ℕ) (old new : Session) (answer : Turn) (text : List ℕ) → IsTurn line old new answer → new.form ≡ old.form
+    → text ≡ turn_text new.form answer → IsTurned line old new text
+turned line old new (turn.Played r) text is same said = inl (record {
+  step = is.0;
+  says = is.1;
+  played = record {
+    reply = r;
+    leads = is.2.leads;
+    run = is.2.run;
+    answers = is.2.answers;
+    text_is = subst (λ (f : ReplyForm). text ≡ answer_text f r) same said;
+  };
+})
+turned line old new (turn.Unread words) text is same said = inr (record {
+  says = is.0;
+  words = string_bytes words;
+  kept = is.1;
+  text_is = subst (λ (f : ReplyForm). text ≡ error_text f (string_bytes words)) same said;
+})
+
+-- a line was answered, and the answer was written where there was memory for it
+pub is_turned : {T E : Type 0} (bytes : T → List ℕ) (written : Result T E) (line : List ℕ) (old new : Session) (answer : Turn) → IsTurn line old new answer
+    → new.form ≡ old.form → IfOk written (λ text. bytes text ≡ turn_text new.form answer) → IfOk written (λ text. IsTurned line old new (bytes text))
+is_turned bytes (Ok text) line old new answer is same said = turned line old new answer (bytes text) is same said
+is_turned bytes (Err e) line old new answer is same said = said

@@ -1,6 +1,5 @@
 -- Replies as JSON have no fractions.
-use Rattle.std.proofs.Common.{◌≡◌, ℕ, false, List, [], ◌∷◌, Option, Some, None, refl, sym, subst}
-use Rattle.serde_json.specs.Data.{Data}
+use Rattle.std.proofs.Common.{◌≡◌, ℕ, false, Option, Some, None, refl}
 use Rattle.serde_json.specs.Written.{has_float}
 use Rattle.assignment.specs.declared.slice.Slice.{Slice}
 use Rattle.policy_rules.specs.declared.answer.Ground.{Ground}

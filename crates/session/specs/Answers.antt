@@ -1,5 +1,5 @@
 -- How a line is answered.
-use Rattle.std.specs.Prelude.{ℕ, List, [], ◌∷◌, ◌++◌, codes}
+use Rattle.std.specs.Prelude.{ℕ, List, [], ◌∷◌, ◌++◌, codes, string_bytes}
 use Rattle.serde_json.specs.Data.{Data, string}
 use Rattle.serde_json.specs.Written.{compact_text}
 use Rattle.world.specs.declared.reply.Reply.{Reply}
@@ -7,6 +7,8 @@ use Rattle.service.specs.Lines.{line_of}
 use Rattle.wire.specs.Objects.{object_data}
 use Rattle.session.specs.declared.answer.ReplyForm.{ReplyForm}
 use Rattle.session.specs.declared.answer.ReplyForm.TheVariants as form
+use Rattle.session.specs.declared.turn.Turn.{Turn}
+use Rattle.session.specs.declared.turn.Turn.TheVariants as turn
 use Rattle.session.specs.Replies.{reply_data}
 
 -- the line of a reply
@@ -22,6 +24,11 @@ error_data words = object_data ((codes "error", string words) ∷ [])
 abbrev pub error_text : ReplyForm → List ℕ → List ℕ
 error_text form.Text words = codes "error: " ++ words ++ codes "\n"
 error_text form.Json words = compact_text (error_data words) ++ codes "\n"
+
+-- the line for an answer: of the reply to a step, or for the words on a line that is no step
+abbrev pub turn_text : ReplyForm → Turn → List ℕ
+turn_text form (turn.Played reply) = answer_text form reply
+turn_text form (turn.Unread words) = error_text form (string_bytes words)
 
 -- the words for a line that is too long
 abbrev pub long_words : List ℕ

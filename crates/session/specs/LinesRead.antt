@@ -1,5 +1,5 @@
 -- Lines that were read, and what is kept of them.
-use Rattle.std.specs.Prelude.{◌≡◌, ◌⊎◌, ℕ, nat_eq, Bool, ◌||◌, not, true, false, List, [], Option, length}
+use Rattle.std.specs.Prelude.{◌≡◌, ◌⊎◌, ℕ, nat_eq, Bool, ◌||◌, not, false, List, [], Option, length}
 use Rattle.session.specs.Lines.{is_blank, is_long}
 use Rattle.session.specs.Talks.{IsLine, IsNextLine, HasNoLine}
 

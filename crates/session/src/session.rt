@@ -1,14 +1,15 @@
 //! A session: a job and its world, which the steps on lines change.
 
-ghost use Rattle.std.specs.Prelude.{◌≡◌, [], IfOk, IfErr, string_bytes};
-ghost use Rattle.world.specs.Pasts.{Past};
+ghost use Rattle.std.specs.Prelude.{◌≡◌, [], IfOk, IfErr, OnErr, string_bytes};
+ghost use Rattle.session.specs.Answers.{turn_text};
 ghost use Rattle.session.specs.Lines.{SaysJob, IsNoJob};
-ghost use Rattle.session.specs.Turns.{IsAt, IsPlayedAs, IsTurned};
+ghost use Rattle.session.specs.Turns.{IsAt, IsReplied, IsTurn, IsTurned, IsUnplayed};
 ghost use Rattle.session.specs.internals.Reading.{IsReadTurned, SaysFirst, SaysNoFirst};
 
 use crate::answer::{LONG_WORDS, ReplyForm, answer_text, error_text};
 use crate::line_reading::LineRead;
 use crate::reading::{NoStep, job_said, long_job_faults, step_said};
+use crate::turn::Turn;
 use diagnosis::AnswerError;
 use std::alloc::{AllocError, Global};
 use world::{Job, Reply, Step, World};
@@ -40,20 +41,45 @@ impl Session {
         })
     }
 
+    /// Plays the step on the line after all earlier ones, and returns its reply.
+    ///
+    /// A line that is not a step changes nothing, and the answer says how to fix it. If memory runs
+    /// out, the step was not played: later lines are answered as if this one had not been read.
+    pub fn turn(&mut self, line: &[u8]) -> Result<Turn, AllocError>
+        ensures job { self.new.job ≡ self.old.job }
+        ensures form { self.new.form ≡ self.old.form }
+        ensures ok { IfOk result (IsTurn line.now self.old self.new) }
+        ensures err { OnErr result (IsUnplayed self.old self.new) }
+    {
+        match step_said(self.alloc, self.job, line) {
+            Ok(step) => Ok(Turn::Played(self.play(step)?)),
+            Err(NoStep::Line(words)) => Ok(Turn::Unread(words)),
+            Err(NoStep::Memory) => Err(AllocError),
+        }
+    }
+
+    /// Returns the line for an answer of this session.
+    pub fn turn_text(&self, turn: &Turn) -> Result<String, AllocError>
+        ensures { IfOk result (λ text. string_bytes text ≡ turn_text self.now.form turn.now) }
+    {
+        match turn {
+            Turn::Played(reply) => answer_text(self.alloc, self.form, reply),
+            Turn::Unread(words) => error_text(self.alloc, self.form, words.as_str()),
+        }
+    }
+
     /// Plays the step on the line after all earlier ones, and returns the line of its reply.
     ///
     /// A line that is not a step changes nothing, and its reply says how to fix it. If memory runs
     /// out, it is not known whether the step was played, and the caller must discard the session.
+    /// A caller that goes on calls [`turn`](Self::turn) and [`turn_text`](Self::turn_text).
     pub fn answer(&mut self, line: &[u8]) -> Result<String, AllocError>
         ensures job { self.new.job ≡ self.old.job }
         ensures form { self.new.form ≡ self.old.form }
         ensures ok { IfOk result (λ text. IsTurned line.now self.old self.new (string_bytes text)) }
     {
-        match step_said(self.alloc, self.job, line) {
-            Ok(step) => self.play(step),
-            Err(NoStep::Line(words)) => error_text(self.alloc, self.form, words.as_str()),
-            Err(NoStep::Memory) => Err(AllocError),
-        }
+        let turn = self.turn(line)?;
+        self.turn_text(&turn)
     }
 
     // Opens a session for the job on a line that was read.
@@ -86,16 +112,18 @@ impl Session {
         self.answer(line.bytes.as_slice())
     }
 
-    // Plays a step and returns the line of its reply. An out-of-memory reply is an error.
-    fn play(&mut self, step: Step) -> Result<String, AllocError>
+    // Plays a step and returns its reply. An out-of-memory reply is an error.
+    fn play(&mut self, step: Step) -> Result<Reply, AllocError>
         ensures job { self.new.job ≡ self.old.job }
         ensures form { self.new.form ≡ self.old.form }
-        ensures ok { IfOk result (λ text. IsPlayedAs step self.old self.new (string_bytes text)) }
+        ensures ok { IfOk result (IsReplied step self.old self.new) }
+        ensures err { OnErr result (IsUnplayed self.old self.new) }
     {
-        let replies = self.world.run(&[step])?;
-        match &replies[0] {
-            Reply::NoMemory => Err(AllocError),
-            reply => answer_text(self.alloc, self.form, reply),
+        let mut replies = self.world.run(&[step])?;
+        match replies.pop() {
+            Some(Reply::NoMemory) => Err(AllocError),
+            Some(reply) => Ok(reply),
+            None => Err(AllocError),
         }
     }
 }

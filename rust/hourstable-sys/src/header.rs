@@ -555,10 +555,10 @@ extern "C" {
     pub fn hs_session_open(place: *mut hs_place, line: *const u8, line_len: usize, json: u32) -> i32;
     /// Plays the step on a line, and writes the line of its reply. A line that is not a step, such as a
     /// blank one, changes nothing, and its reply says why (`error: ..`). HS_NO_ROOM: the step was
-    /// played, and hs_session_last writes its reply. HS_NO_MEMORY: the session was destroyed, and the
-    /// place is empty.
+    /// played, and hs_session_last writes its reply; `needed` is 0 if there was no memory to write it.
+    /// HS_NO_MEMORY: the step was not played, and the last reply is the one before.
     pub fn hs_session_answer(place: *mut hs_place, line: *const u8, line_len: usize, out: *mut u8, out_len: usize, needed: *mut usize) -> i32;
     /// Writes the last reply of hs_session_answer, even one that found no room; nothing before the
-    /// first. HS_NO_ROOM.
+    /// first. HS_NO_ROOM or HS_NO_MEMORY.
     pub fn hs_session_last(place: *const hs_place, out: *mut u8, out_len: usize, needed: *mut usize) -> i32;
 }

@@ -1,4 +1,4 @@
-use Rattle.std.proofs.Common.{rules, ◌≡◌, ◌+◌, ◌<◌, true, false, length, subst, arith}
+use Rattle.std.proofs.Common.{rules, ◌+◌, ◌<◌, length, subst, arith}
 use Rattle.session.specs.declared.line_reading.TheConstants.{MOST_LINE_BYTES}
 use Rattle.session.specs.internals.Reading.{IsPart}
 use Rattle.session.proofs.PartReading.{no_parts, one_more, let_go, whole_line, also_consumed, were_consumed}

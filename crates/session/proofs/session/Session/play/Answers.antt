@@ -1,12 +1,14 @@
-use Rattle.std.proofs.Common.{refl, string_bytes}
-use Rattle.session.proofs.Playing.{is_played}
+use Rattle.std.proofs.Common.{◌≡◌, [], ◌∷◌, ◌++◌, refl, subst}
+use Rattle.world.specs.declared.reply.Reply.{Reply}
+use Rattle.world.specs.declared.reply.Reply.TheVariants.{NoMemory}
+use Rattle.session.proofs.Playing.{one_reply, is_unplayed}
 use Rattle.session.proofs.session.Session.play.Goals as goal
 
-pub returns : goal.returns
-returns c = record {
-  job = refl;
-  form = refl;
-  ok = is_played string_bytes c.answer_text.result c.args.step c.args.self.now
-      record { alloc = c.args.self.now.alloc; form = c.args.self.now.form; job = c.args.self.now.job; world = c.run.new.self } c.in_ok-replies.replies.items c.index.result.now
-      c.in_ok-replies.ensures.answers c.index.ensures c.in_ok-replies.ensures.leads c.in_ok-replies.ensures.run c.in_default.not-NoMemory c.answer_text.ensures;
-}
+pub returns-in-Some-NoMemory-clause-err : goal.returns-in-Some-NoMemory-clause-err
+returns-in-Some-NoMemory-clause-err c =
+    let old = c.args.self.now in
+    let replies = c.in_ok-replies.replies.items in
+    let rest = c.pop.new.self.items in
+    let parts : replies ≡ rest ++ NoMemory ∷ [] = subst (λ (r : Reply). replies ≡ rest ++ r ∷ []) c.in-Some-NoMemory.field-0-is c.in-Some-NoMemory.ensures.items in
+    is_unplayed c.args.step old record { alloc = old.alloc; form = old.form; job = old.job; world = c.run.new.self } replies
+    (one_reply replies rest NoMemory c.in_ok-replies.ensures.answers parts) refl c.in_ok-replies.ensures.leads
