@@ -2,7 +2,6 @@
 use Rattle.std.specs.Prelude.{ℤ, pos, negsuc}
 use Rattle.policy_rules.specs.declared.answer.Ground.{Ground}
 use Rattle.policy_rules.specs.declared.answer.Ground.TheVariants as ground
-use Rattle.policy_rules.specs.declared.answer.Verdict.TheVariants.{Allow, Deny}
 use Rattle.slice_ranges.specs.declared.error.RangesError.{RangesError}
 use Rattle.slice_ranges.specs.declared.error.RangesError.TheVariants as pairs
 use Rattle.assignment.specs.declared.error.AssignmentError.{AssignmentError}
@@ -117,8 +116,8 @@ unread_number (refusal.Ranges why) = ranges_number why
 
 abbrev pub answer_number : Answer → ℤ
 answer_number answer.Done = pos 0
-answer_number (answer.Judged (Allow kind generation)) = pos 0
-answer_number (answer.Judged (Deny why)) = ground_number why
+answer_number (answer.Leased lease) = pos 0
+answer_number (answer.Denied why) = ground_number why
 answer_number (answer.Slicelet why) = slicelet_number why
 answer_number answer.Broken = pos 14
 answer_number answer.Stranger = pos 15

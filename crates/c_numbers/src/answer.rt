@@ -2,16 +2,16 @@
 
 ghost use Rattle.std.specs.Prelude.{◌≡◌};
 ghost use Rattle.c_numbers.specs.Numbers.{answer_number};
-ghost use Rattle.c_numbers.specs.Told.{answer_told, ground_told, slicelet_told, table_told};
+ghost use Rattle.c_numbers.specs.Told.{answer_told, ground_told, lease_told, slicelet_told, table_told};
 
 use crate::refusals::{
     clock_number, ground_number, kept_number, plan_number, slicelet_number, table_number,
 };
-use crate::told::{Told, kind_number};
+use crate::told::{LeaseTold, Told, kind_number};
 use crate::unread::unread_number;
 use clocks::ClockRefusal;
 use lease_table::{KeptFault, TableError};
-use policy_rules::{Ground, Verdict};
+use policy_rules::Ground;
 use slicelet::SliceletError;
 use weighted_move::PlanError;
 use wire::Refusal;
@@ -21,8 +21,10 @@ use wire::Refusal;
 pub enum Answer {
     /// The call succeeded.
     Done,
-    /// The key may be served under a lease, or is denied.
-    Judged(Verdict),
+    /// The lease was heard, or the key may be served under it.
+    Leased(LeaseTold),
+    /// The key may not be served.
+    Denied(Ground),
     /// The slicelet refused the call.
     Slicelet(SliceletError),
     /// The key handle is not continuous.
@@ -66,14 +68,8 @@ impl Answer {
         ensures { result ≡ answer_number self.now }
     {
         match *self {
-            Answer::Done | Answer::Committed(_) => 0,
-            Answer::Judged(
-                Verdict::Allow {
-                    kind: _,
-                    generation: _,
-                },
-            ) => 0,
-            Answer::Judged(Verdict::Deny(ground)) => ground_number(ground),
+            Answer::Done | Answer::Leased(_) | Answer::Committed(_) => 0,
+            Answer::Denied(ground) => ground_number(ground),
             Answer::Slicelet(error) => slicelet_number(error),
             Answer::Broken => 14,
             Answer::Stranger => 15,
@@ -109,11 +105,8 @@ fn tell_answer(answer: &Answer, told: &mut Told)
     ensures { told.new ≡ answer_told answer.now told.old }
 {
     match *answer {
-        Answer::Judged(Verdict::Allow { kind, generation }) => {
-            told.kind = kind_number(kind);
-            told.generation = generation;
-        }
-        Answer::Judged(Verdict::Deny(ground)) => tell_ground(ground, told),
+        Answer::Leased(lease) => tell_lease(lease, told),
+        Answer::Denied(ground) => tell_ground(ground, told),
         Answer::Slicelet(error) => tell_slicelet(error, told),
         Answer::Committed(generation) | Answer::OldGeneration(generation) => {
             told.generation = generation;
@@ -122,6 +115,15 @@ fn tell_answer(answer: &Answer, told: &mut Told)
         Answer::Unread(Refusal::Version(version)) => told.number = version,
         _ => {}
     }
+}
+
+fn tell_lease(lease: LeaseTold, told: &mut Told)
+    ensures { told.new ≡ lease_told lease told.old }
+{
+    told.number = lease.number;
+    told.generation = lease.generation;
+    told.kind = kind_number(lease.kind);
+    told.until = lease.until;
 }
 
 fn tell_ground(ground: Ground, told: &mut Told)

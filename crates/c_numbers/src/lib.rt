@@ -14,5 +14,5 @@ mod unread;
 pub use answer::Answer;
 pub use job::job_of;
 pub use output::give;
-pub use told::{Told, kind_number};
+pub use told::{LeaseTold, Told, kind_number};
 pub use unread::unread_answer;

@@ -5,6 +5,19 @@ ghost use Rattle.c_numbers.specs.Told.{kind_number};
 
 use policy_rules::Kind;
 
+/// A lease of a task, as an answer tells it.
+#[derive(Clone, Copy, Debug, PartialEq, Eq)]
+pub struct LeaseTold {
+    /// Its kind.
+    pub kind: Kind,
+    /// The number of its grant.
+    pub number: u64,
+    /// The generation that it was granted for.
+    pub generation: u64,
+    /// The first reading of the task's clock, in ticks, at which it has ended.
+    pub until: u64,
+}
+
 /// The details of an answer.
 ///
 /// Fields that an answer does not set are unchanged.
@@ -19,7 +32,7 @@ pub struct Told {
     pub kind: u64,
     /// The task, 1 to 64.
     pub task: u64,
-    /// A reading, in ticks.
+    /// A reading, in ticks: until when a lease, a term or a grace lasts.
     pub until: u64,
 }
 

@@ -4,7 +4,6 @@ use Rattle.machines.specs.Numbers.{is_within}
 use Rattle.assignment.specs.declared.task.TheConstants.{TASKS}
 use Rattle.slice_ranges.specs.declared.key.TheConstants.{KEYS}
 use Rattle.policy_rules.specs.declared.answer.Ground.{Ground}
-use Rattle.policy_rules.specs.declared.answer.Verdict.TheVariants.{Deny}
 use Rattle.slicelet.specs.declared.call.SliceletCall.{SliceletCall}
 use Rattle.slicelet.specs.declared.error.Stranger.{Stranger}
 use Rattle.slicelet.specs.declared.handle.KeyHandle.{KeyHandle}
@@ -27,7 +26,7 @@ handle_of n = if is_within n.task TASKS && nat_lt n.slice_key KEYS
 -- what is answered where a handle was asked for
 abbrev pub held_answer : Result KeyHandle Ground → Answer
 held_answer (Ok handle) = answer.Done
-held_answer (Err why) = answer.Judged (Deny why)
+held_answer (Err why) = answer.Denied why
 
 -- what is written of a handle that was taken, and nothing where it was denied
 abbrev pub held_numbers : Result KeyHandle Ground → HandleNumbers → HandleNumbers

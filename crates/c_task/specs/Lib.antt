@@ -1,4 +1,5 @@
 pub mod Answers
+pub mod Leases
 pub mod SliceletCalls
 pub mod Releases
 pub mod Keys
@@ -6,5 +7,6 @@ pub mod KeyHandles
 pub mod Owners
 pub mod ClerkCalls
 pub mod SliceKeys
+pub mod PermittedKeys
 pub mod Processes
 pub mod GrantNumbers

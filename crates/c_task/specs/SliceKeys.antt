@@ -5,21 +5,22 @@ use Rattle.clerk.specs.Steps.{look_at}
 use Rattle.slicelet.specs.declared.call.SliceletCall.{SliceletCall}
 use Rattle.slicelet.specs.States.{SliceletState}
 use Rattle.c_numbers.specs.declared.answer.Answer.{Answer}
-use Rattle.c_numbers.specs.declared.answer.Answer.TheVariants.{Judged, WrongForm}
+use Rattle.c_numbers.specs.declared.answer.Answer.TheVariants.{WrongForm}
 use Rattle.c_task.specs.ClerkCalls.{IsLookedUp}
 use Rattle.c_task.specs.declared.key_handle.HandleNumbers.{HandleNumbers}
 use Rattle.c_task.specs.declared.owners.OwnersNumbers.{OwnersNumbers}
 use Rattle.c_task.specs.KeyHandles.{held_answer, held_numbers}
 use Rattle.c_task.specs.Keys.{rule_at, rule_at_after, taken_at}
+use Rattle.c_task.specs.Leases.{IsServed}
 
 -- whether the key may be served: over what the slicelet knows, and over calls
-abbrev pub served_at : Option ℕ → SliceletState → ℕ → Answer
-served_at None s at = WrongForm
-served_at (Some key) s at = Judged (rule_at key s at)
+abbrev pub IsServedAt : Option ℕ → SliceletState → ℕ → Answer → Type 0
+IsServedAt None s at answer = answer ≡ WrongForm
+IsServedAt (Some key) s at answer = IsServed (rule_at key s at) s answer
 
-abbrev pub served_after : Option ℕ → List SliceletCall → ℕ → Answer
-served_after None calls at = WrongForm
-served_after (Some key) calls at = Judged (rule_at_after key calls at)
+abbrev pub IsServedAfter : Option ℕ → List SliceletCall → SliceletState → ℕ → Answer → Type 0
+IsServedAfter None calls s at answer = answer ≡ WrongForm
+IsServedAfter (Some key) calls s at answer = IsServed (rule_at_after key calls at) s answer
 
 -- what is answered where a handle on the key was asked for, and what is written of the handle
 abbrev pub held_at : Option ℕ → SliceletState → ℕ → Answer

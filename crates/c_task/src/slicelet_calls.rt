@@ -8,15 +8,16 @@ ghost use Rattle.slicelet.specs.Accepted.{StandsAfter};
 ghost use Rattle.slicelet.specs.Continuity.{handle_on};
 ghost use Rattle.c_task.specs.KeyHandles.{IsCheckAnswered, check_answer, checked_answer, handle_of, held_answer, held_numbers};
 ghost use Rattle.c_task.specs.Keys.{rule_at, rule_at_after, rule_for, rule_for_after, slice_key_of, taken_at, taken_by};
-ghost use Rattle.c_task.specs.SliceKeys.{held_after, held_at, numbers_at, served_after, served_at};
+ghost use Rattle.c_task.specs.Leases.{IsServed};
+ghost use Rattle.c_task.specs.SliceKeys.{IsServedAfter, IsServedAt, held_after, held_at, numbers_at};
 ghost use Rattle.c_task.specs.SliceletCalls.{IsGrantHeard, IsStarted, opened};
 
-use crate::answers::slicelet_answer;
+use crate::answers::heard_answer;
 use crate::key_handle::{HandleNumbers, slice_key_of};
+use crate::serving::serve_key;
 use assignment::TaskId;
 use c_numbers::{Answer, unread_answer};
 use lease_table::Grant;
-use policy_rules::Verdict;
 use slice_ranges::{SliceKey, slice_key};
 use slicelet::{Slicelet, Stranger};
 use std::alloc::Global;
@@ -41,33 +42,37 @@ pub fn start(slicelet: &mut Slicelet, life: u32, at: u64) -> Answer
 }
 
 /// Decodes a grant from its message, which is one of the job, and hears it.
+///
+/// Returns the lease that the task now holds of its kind, or why the grant was not heard.
 #[tactic(auto, using(crate::proofs::Steps::taken))]
 pub fn hear(alloc: Global, job: &JobName, slicelet: &mut Slicelet, grant: &[u8], at: u64) -> Answer
     ensures { IsGrantHeard job.now grant.now at slicelet.old slicelet.new result }
 {
     match decode::<Grant>(alloc, job, grant) {
-        Ok(grant) => slicelet_answer(slicelet.hear(&grant, at)),
+        Ok(grant) => heard_answer(&grant, slicelet.hear(&grant, at)),
         Err(why) => unread_answer(why),
     }
 }
 
-/// Returns whether the task may serve a key.
+/// Returns the lease under which the task may serve a key, or why it may not.
 pub fn serve(slicelet: &Slicelet, key: &[u8], at: u64) -> Answer
-    ensures state { result ≡ Answer.Judged (rule_for key.now slicelet.now at) }
+    ensures state { IsServed (rule_for key.now slicelet.now at) slicelet.now result }
     ensures calls { (calls : List SliceletCall) → StandsAfter calls slicelet.now
-        → result ≡ Answer.Judged (rule_for_after key.now calls at) }
+        → IsServed (rule_for_after key.now calls at) slicelet.now result }
 {
-    Answer::Judged(slicelet.serve(slice_key(key), at))
+    serve_key(slicelet, slice_key(key), at)
 }
 
-/// Returns whether the task may serve the keys of a slice key. `WrongForm` if it is no slice key.
+/// Returns the lease under which the task may serve the keys of a slice key, or why it may not.
+///
+/// `WrongForm` if it is no slice key.
 pub fn serve_at(slicelet: &Slicelet, slice_key: u64, at: u64) -> Answer
-    ensures state { result ≡ served_at (slice_key_of slice_key) slicelet.now at }
+    ensures state { IsServedAt (slice_key_of slice_key) slicelet.now at result }
     ensures calls { (calls : List SliceletCall) → StandsAfter calls slicelet.now
-        → result ≡ served_after (slice_key_of slice_key) calls at }
+        → IsServedAfter (slice_key_of slice_key) calls slicelet.now at result }
 {
     match slice_key_of(slice_key) {
-        Some(key) => Answer::Judged(slicelet.serve(key, at)),
+        Some(key) => serve_key(slicelet, key, at),
         None => Answer::WrongForm,
     }
 }
@@ -109,7 +114,7 @@ fn take_handle(slicelet: &Slicelet, key: SliceKey, at: u64, out: &mut HandleNumb
             *out = HandleNumbers::of(&handle);
             Answer::Done
         }
-        Err(why) => Answer::Judged(Verdict::Deny(why)),
+        Err(why) => Answer::Denied(why),
     }
 }
 

@@ -5,6 +5,7 @@ ghost use Rattle.c_numbers.specs.Jobs.{job_of};
 ghost use Rattle.c_numbers.specs.Outputs.{output};
 ghost use Rattle.c_place.specs.declared.held.Held.TheVariants as held;
 ghost use Rattle.c_table.specs.Terms.{phase_of};
+ghost use Rattle.c_task.specs.PermittedKeys.{ArePermittedGiven};
 ghost use Rattle.c_task.specs.Processes.{IsHeldTold, IsNextTold, IsNoteFor, note_for, opened_anew};
 ghost use Rattle.c_task.specs.Releases.{kind_of};
 ghost use Rattle.hourstable_c.specs.Opened.{AtPlace, IsOpened, with_job};
@@ -15,7 +16,7 @@ ghost use Rattle.slicelet.specs.declared.slicelet.TheConstants.{CALLS};
 use c_numbers::{Answer, job_of};
 use c_place::{Held, Place};
 use c_table::PhaseNumbers;
-use c_task::{HeldNumbers, calls_left, ended_note, held, next, resume_slicelet};
+use c_task::{HeldNumbers, calls_left, ended_note, held, next, permitted, resume_slicelet};
 use std::alloc::Global;
 
 /// Creates the slicelet of a task's new process in `place`, destroying what was there.
@@ -91,6 +92,28 @@ pub extern "C" fn hs_slicelet_held(place: &mut Place, kind: u32, out: &mut HeldN
     };
     match thing {
         Held::Slicelet(_, slicelet) => held(slicelet, kind, out).number(),
+        _ => Answer::OtherPlace.number(),
+    }
+}
+
+/// Writes the boundaries of the keys that the task may serve.
+#[unsafe(no_mangle)]
+#[tactic(auto, using(crate::proofs::Returning::returns))]
+pub extern "C" fn hs_slicelet_permitted(
+    place: &mut Place,
+    at: u64,
+    boundaries: &mut [u64],
+    needed: &mut usize,
+) -> i32
+    ensures { OnSlicelet place.old.value place.new.value (output boundaries.new needed.new ≡ output boundaries.old needed.old) result
+        (λ job old new. (new ≡ old)
+        × Returns (ArePermittedGiven old at (output boundaries.old needed.old) (output boundaries.new needed.new)) result) }
+{
+    let Some(held) = place.read() else {
+        return Answer::OtherPlace.number();
+    };
+    match held {
+        Held::Slicelet(_, slicelet) => permitted(slicelet, at, boundaries, needed).number(),
         _ => Answer::OtherPlace.number(),
     }
 }

@@ -6,8 +6,9 @@ ghost use Rattle.c_numbers.specs.Outputs.{output};
 ghost use Rattle.c_place.specs.declared.held.Held.TheVariants as held;
 ghost use Rattle.c_task.specs.Keys.{rule_for, slice_key_of, taken_by};
 ghost use Rattle.c_task.specs.KeyHandles.{check_answer, handle_of, held_answer, held_numbers};
+ghost use Rattle.c_task.specs.Leases.{IsServed};
 ghost use Rattle.c_task.specs.Releases.{IsReleased, kind_of};
-ghost use Rattle.c_task.specs.SliceKeys.{held_at, numbers_at, served_at};
+ghost use Rattle.c_task.specs.SliceKeys.{IsServedAt, held_at, numbers_at};
 ghost use Rattle.c_task.specs.SliceletCalls.{IsGrantHeard, IsStarted, opened};
 ghost use Rattle.hourstable_c.specs.Kinds.{is_slicelet};
 ghost use Rattle.hourstable_c.specs.Opened.{AtPlace, IsClosed, IsOpened, with_job};
@@ -58,7 +59,7 @@ pub extern "C" fn hs_slicelet_start(place: &mut Place, life: u32, at: u64) -> i3
     }
 }
 
-/// Decodes a grant from its message and hears it.
+/// Decodes a grant from its message and hears it; `told` has its lease.
 #[unsafe(no_mangle)]
 #[tactic(auto, using(crate::proofs::Returning::tells))]
 pub extern "C" fn hs_slicelet_hear(
@@ -105,13 +106,12 @@ pub extern "C" fn hs_slicelet_release(
     }
 }
 
-/// Returns whether the task may serve a key.
+/// Returns whether the task may serve a key; `told` has the lease under which it may.
 #[unsafe(no_mangle)]
 #[tactic(auto, using(crate::proofs::Returning::tells))]
 pub extern "C" fn hs_slicelet_serve(place: &mut Place, key: &[u8], at: u64, told: &mut Told) -> i32
     ensures { OnSlicelet place.old.value place.new.value (told.new ≡ told.old) result
-        (λ job old new. (new ≡ old) × Tells (λ answer. answer ≡ Answer.Judged (rule_for key.now old at))
-        told.old told.new result) }
+        (λ job old new. (new ≡ old) × Tells (IsServed (rule_for key.now old at) old) told.old told.new result) }
 {
     let Some(held) = place.read() else {
         return Answer::OtherPlace.number();
@@ -122,7 +122,7 @@ pub extern "C" fn hs_slicelet_serve(place: &mut Place, key: &[u8], at: u64, told
     }
 }
 
-/// Returns whether the task may serve the keys of a slice key.
+/// Returns whether the task may serve the keys of a slice key, as [`hs_slicelet_serve`] does.
 #[unsafe(no_mangle)]
 #[tactic(auto, using(crate::proofs::Returning::tells))]
 pub extern "C" fn hs_slicelet_serve_at(
@@ -132,8 +132,7 @@ pub extern "C" fn hs_slicelet_serve_at(
     told: &mut Told,
 ) -> i32
     ensures { OnSlicelet place.old.value place.new.value (told.new ≡ told.old) result
-        (λ job old new. (new ≡ old) × Tells (λ answer. answer ≡ served_at (slice_key_of slice_key) old at)
-        told.old told.new result) }
+        (λ job old new. (new ≡ old) × Tells (IsServedAt (slice_key_of slice_key) old at) told.old told.new result) }
 {
     let Some(held) = place.read() else {
         return Answer::OtherPlace.number();

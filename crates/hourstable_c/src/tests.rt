@@ -44,5 +44,6 @@ fn serves_a_key_until_the_lease_ends(rt: HostRuntime) -> Result<(), Fail> {
     assert_eq!(rt; [nowhere, made, freed], [-18, 0, -18]);
     assert_eq!(rt; codes, [0, 0, 0, 0, 3, 0]);
     assert_eq!(rt; (told.kind, told.generation), (1, 3));
+    assert_eq!(rt; (told.number, told.until), (7, 8));
     Ok(())
 }
