@@ -7,3 +7,4 @@ pub mod Assigners
 pub mod Plans
 pub mod Keeping
 pub mod Saving
+pub mod AssignmentNumbers

@@ -1,10 +1,13 @@
-//! The calls of a table, an assigner and the planner as C makes them: with numbers and bytes.
+//! The calls of a table, an assigner and the planner as C makes them, and of assignments: with numbers
+//! and bytes.
 //!
 //! Each call returns an answer, and writes what else it gives through references. A call that fails
-//! writes nothing, except the length of a list that does not fit.
+//! writes nothing, except the length of a list that does not fit, and the generation of an assignment
+//! whose slices do not fit.
 #![tactic(auto)]
 
 mod assigner_calls;
+mod assignment_numbers;
 mod plan_calls;
 mod policy_numbers;
 mod row_numbers;
@@ -15,6 +18,7 @@ mod table_texts;
 mod terms;
 
 pub use assigner_calls::{adopt, next, open_assigner};
+pub use assignment_numbers::{SliceNumbers, new_assignment, read_assignment, read_slice};
 pub use plan_calls::plan;
 pub use policy_numbers::{PlanPolicyNumbers, PolicyNumbers};
 pub use row_numbers::RowNumbers;

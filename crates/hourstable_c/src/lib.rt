@@ -5,6 +5,7 @@
 #![tactic(auto)]
 
 mod assigner_exports;
+mod assignment_exports;
 mod clerk_exports;
 mod clock_exports;
 mod grant_exports;
