@@ -25,7 +25,7 @@ func TestReadersBesideAWriter(t *testing.T) {
 		go func() {
 			defer readers.Done()
 			for {
-				if served, err := task.Serve([]byte("apples"), 500); err != nil || served != (Served{Guard, 3}) {
+				if served, err := task.Serve([]byte("apples"), 500); err != nil || served.Kind != Guard || served.Generation != 3 {
 					t.Errorf("serve: %v, %v", served, err)
 				}
 				if err := task.Check(handle, 500); err != nil {

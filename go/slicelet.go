@@ -31,7 +31,9 @@ type Slicelet struct{ place }
 // Served is the lease under which a key is served.
 type Served struct {
 	Kind       Kind
-	Generation uint64
+	Generation uint64 // that it was granted for
+	Number     uint64 // of its grant
+	Until      uint64 // the first reading of the task's clock at which it has ended
 }
 
 // Handle is a key that the task held when it took the handle.
@@ -130,12 +132,16 @@ func ReadGrant(job string, message []byte) (Grant, error) {
 }
 
 func grantOf(it C.struct_hs_grant, edges []uint64) Grant {
+	return Grant{uint64(it.number), uint64(it.task), uint64(it.life), Kind(it.kind), uint64(it.generation),
+		uint64(it.ends), uint64(it.table_ends), rangesOf(edges)}
+}
+
+func rangesOf(edges []uint64) []Range {
 	ranges := make([]Range, 0, len(edges)/2)
 	for at := 0; at+1 < len(edges); at += 2 {
 		ranges = append(ranges, Range{edges[at], edges[at+1]})
 	}
-	return Grant{uint64(it.number), uint64(it.task), uint64(it.life), Kind(it.kind), uint64(it.generation),
-		uint64(it.ends), uint64(it.table_ends), ranges}
+	return ranges
 }
 
 // noteRoom is enough for every note.
@@ -210,7 +216,7 @@ func servedBy(it C.struct_served) (Served, error) {
 		told := it.told
 		return Served{}, done(it.code, &told)
 	}
-	return Served{Kind(it.told.kind), uint64(it.told.generation)}, nil
+	return Served{Kind(it.told.kind), uint64(it.told.generation), uint64(it.told.number), uint64(it.told.until)}, nil
 }
 
 // Hold takes a handle on a key if the task may serve it, and otherwise returns the
@@ -258,6 +264,27 @@ func (s *Slicelet) Held(kind Kind) (Lease, error) {
 	var out C.struct_hs_held_lease
 	code := C.hs_slicelet_held(&s.c, C.uint32_t(kind), &out)
 	return Lease{uint64(out.number), uint64(out.generation), uint64(out.until)}, done(code, nil)
+}
+
+// Permitted returns the ranges of the slice keys that the task may serve at a reading;
+// they rise, and do not touch. What it gained and lost by Hear or Release is how they
+// differ before and after it. ErrNoMemory.
+func (s *Slicelet) Permitted(at uint64) ([]Range, error) {
+	s.mutex.RLock()
+	defer s.mutex.RUnlock()
+	edges := make([]uint64, 64)
+	for {
+		var needed C.size_t
+		code := C.hs_slicelet_permitted(&s.c, C.uint64_t(at), firstNumber(edges), C.size_t(len(edges)), &needed)
+		switch code {
+		case C.HS_DONE:
+			return rangesOf(edges[:needed]), nil
+		case C.HS_NO_ROOM:
+			edges = make([]uint64, needed)
+		default:
+			return nil, done(code, nil)
+		}
+	}
 }
 
 // Next returns what the task does next about its leases, in a phase of the table.

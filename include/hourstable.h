@@ -332,13 +332,15 @@ enum hs_task_action {
     HS_TASK_REST = 6       /* nothing */
 };
 
-/* Numbers that a code comes with. Fields that a code does not set are unchanged. */
+/* Numbers that a code comes with. A call sets just the fields that its code names, unless its comment
+ * says otherwise: hs_slicelet_hear, _serve and _serve_at tell a lease where they are done. */
 struct hs_told {
     uint64_t number;     /* of a grant, of a term, or the version of a message */
     uint64_t generation; /* of a lease or an assignment */
     uint64_t kind;       /* of a lease, an hs_kind */
     uint64_t task;       /* 1 to 64 */
-    uint64_t until;      /* a reading, in ticks */
+    uint64_t until;      /* a reading, in ticks; of a lease, the first of the task's clock at which it
+                            has ended */
 };
 
 /* A key handle: a key that the task held when it took the handle. */
@@ -371,6 +373,14 @@ struct hs_grant {
 struct hs_owners {
     uint64_t generation;
     uint64_t count;
+    uint64_t tasks[5];
+};
+
+/* A slice of an assignment: it goes up to the start of the next one, or to the last key, and the first
+ * `count` of `tasks` own its keys. */
+struct hs_slice {
+    uint64_t start; /* its first slice key */
+    uint64_t count; /* how many tasks own its keys, 1 to 5 */
     uint64_t tasks[5];
 };
 
@@ -509,7 +519,8 @@ int32_t hs_grant_read(const uint8_t *job, size_t job_len, const uint8_t *grant, 
  * HS_HISTORY_FULL. */
 int32_t hs_slicelet_start(struct hs_place *place, uint32_t life, uint64_t at);
 
-/* Hears a grant, given as its message: its lease replaces the held one of its kind. Message codes,
+/* Hears a grant, given as its message: its lease replaces the held one of its kind. HS_DONE, with
+ * told.kind, told.number, told.generation and told.until of this lease; otherwise message codes,
  * then HS_NOT_STARTED, HS_CLOCK_BACK, HS_OTHER_TASK, HS_OTHER_LIFE, HS_OLD, HS_TOO_LATE,
  * HS_HISTORY_FULL, HS_NO_MEMORY. */
 int32_t hs_slicelet_hear(struct hs_place *place, const uint8_t *grant, size_t grant_len, uint64_t at,
@@ -521,8 +532,9 @@ int32_t hs_slicelet_hear(struct hs_place *place, const uint8_t *grant, size_t gr
 int32_t hs_slicelet_release(struct hs_place *place, uint32_t kind, uint64_t at, uint8_t *out, size_t out_len,
                             size_t *needed);
 
-/* Whether the task may serve a key now: HS_DONE, with told.kind and told.generation of the lease,
- * or HS_DOWN, HS_CLOCK_BACK, HS_ENDED, HS_NOT_OWNED, HS_NO_LEASE. Takes no memory. */
+/* Whether the task may serve a key now: HS_DONE, with told.kind, told.number, told.generation and
+ * told.until of the lease under which it may, or HS_DOWN, HS_CLOCK_BACK, HS_ENDED, HS_NOT_OWNED,
+ * HS_NO_LEASE. Takes no memory. */
 int32_t hs_slicelet_serve(const struct hs_place *place, const uint8_t *key, size_t key_len, uint64_t at,
                           struct hs_told *told);
 
@@ -546,6 +558,14 @@ int32_t hs_slicelet_check(const struct hs_place *place, const struct hs_key_hand
 /* Writes the lease of a kind that the task holds, which may have ended. HS_WRONG_FORM,
  * HS_NOTHING_HELD. Takes no memory. */
 int32_t hs_slicelet_held(const struct hs_place *place, uint32_t kind, struct hs_held_lease *out);
+
+/* Writes to `boundaries` the keys that the task may serve at the reading `at`, which are those that
+ * hs_slicelet_serve_at allows: ranges, each as its first slice key and the one after its last, as
+ * hs_grant_read writes them. *needed is how many boundaries there are, two for each range, and 0 if
+ * there is no such key. What the task gained by a call, and what it lost, is how the keys before it and
+ * after it differ; a lease that ends takes keys without a call. HS_NO_ROOM or HS_NO_MEMORY. */
+int32_t hs_slicelet_permitted(const struct hs_place *place, uint64_t at, uint64_t *boundaries, size_t boundaries_len,
+                              size_t *needed);
 
 /* Writes what the task does next about its leases, an hs_task_action, in a phase of the table:
  * starts a life; asks for a lease of the phase, if it holds none that is live; gives up the lease of
@@ -653,6 +673,30 @@ int32_t hs_table_rows(const struct hs_place *place, struct hs_row *out, size_t o
 /* Writes the message of the committed assignment. HS_NO_ASSIGNMENT, then HS_NO_ROOM or
  * HS_NO_MEMORY. */
 int32_t hs_table_committed(const struct hs_place *place, uint8_t *out, size_t out_len, size_t *needed);
+
+/* Assignments. ---------------------------------------------------------------------------------------------------- */
+
+/* Writes the message, of a job, of the assignment of a generation that has these slices, for
+ * hs_table_propose. The first slice starts at 0, and each starts above the one before it; owners may
+ * stand in any order. HS_WRONG_FORM if `job` is not the name of a job, HS_NO_SLICES,
+ * HS_FIRST_NOT_ZERO, HS_NOT_RISING, HS_PAST_END, HS_NO_OWNER, HS_TOO_MANY_OWNERS, HS_OWNER_TWICE,
+ * HS_BAD_TASK, HS_TOO_MANY_SLICES, then HS_NO_ROOM. Each code is looked for in all slices before the
+ * next one. HS_NO_MEMORY may come in place of any code but the first. */
+int32_t hs_assignment_new(const uint8_t *job, size_t job_len, uint64_t generation, const struct hs_slice *slices,
+                          size_t slices_len, uint8_t *out, size_t out_len, size_t *needed);
+
+/* Reads an assignment of a job, given as its message: writes its generation, and its slices in the
+ * order of their starts, each with its owners in rising order, then zeros. *needed is how many slices
+ * there are, at most 1,024. HS_WRONG_FORM if `job` is not the name of a job, then message codes, then
+ * HS_NO_ROOM, at which `generation` is written nonetheless, or HS_NO_MEMORY. */
+int32_t hs_assignment_read(const uint8_t *job, size_t job_len, const uint8_t *assignment, size_t assignment_len,
+                           uint64_t *generation, struct hs_slice *out, size_t out_len, size_t *needed);
+
+/* Reads from an assignment of a job, given as its message, the slice that has a slice key. The whole
+ * message is read: a clerk that has learnt it looks up keys faster. HS_WRONG_FORM if `job` is not the
+ * name of a job or no key has this slice key, then message codes. */
+int32_t hs_assignment_slice(const uint8_t *job, size_t job_len, const uint8_t *assignment, size_t assignment_len,
+                            uint64_t slice_key, struct hs_slice *out);
 
 /* Assigners. ------------------------------------------------------------------------------------------------------ */
 

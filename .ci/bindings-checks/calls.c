@@ -11,11 +11,20 @@ static int32_t carried(int32_t code) {
     return code;
 }
 
+/* The same of a grant that is heard, which tells its lease: that of a GRANT ends at 95, and no other field is set. */
+static int32_t heard(int32_t code) {
+    if (code != HS_DONE)
+        return carried(code);
+    HOLDS(told.number != UNTOLD && told.generation != UNTOLD && told.until != UNTOLD && told.task == UNTOLD);
+    HOLDS(told.kind == HS_GUARD || told.kind == HS_BRIDGE);
+    return code;
+}
+
 int32_t hear_bytes(struct hs_place *place, const char *grant, size_t length, uint64_t at) {
     uint8_t *copy = block_of(grant, length);
     int32_t code = hs_slicelet_hear(place, copy, length, at, fresh_told());
     drop_block(copy);
-    return carried(code);
+    return heard(code);
 }
 
 int32_t hear(struct hs_place *place, const char *grant, uint64_t at) {

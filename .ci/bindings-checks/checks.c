@@ -70,6 +70,7 @@ int main(void) {
     check("clerks", check_clerks);
     check("tables", check_tables);
     check("assigners", check_assigners);
+    check("assignments", check_assignments);
     check("plans", check_plans);
     check("clocks", check_clocks);
     check("sessions", check_sessions);

@@ -119,6 +119,7 @@ void check_slicelets(void);
 void check_clerks(void);
 void check_tables(void);
 void check_assigners(void);
+void check_assignments(void);
 void check_plans(void);
 void check_clocks(void);
 void check_sessions(void);

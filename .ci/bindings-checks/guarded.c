@@ -110,6 +110,11 @@ int32_t guarded_slicelet_held(const struct hs_place *place, uint32_t kind, struc
     return returned(hs_slicelet_held(READ_PLACE, kind, WRITTEN(out)));
 }
 
+int32_t guarded_slicelet_permitted(const struct hs_place *place, uint64_t at, uint64_t *boundaries,
+                                   size_t boundaries_len, size_t *needed) {
+    return returned(hs_slicelet_permitted(READ_PLACE, at, WRITTEN_ALL(boundaries, boundaries_len), WRITTEN(needed)));
+}
+
 int32_t guarded_slicelet_next(const struct hs_place *place, const struct hs_phase *phase, uint64_t at,
                               uint32_t *action) {
     return returned(hs_slicelet_next(READ_PLACE, READ(phase), at, WRITTEN(action)));
@@ -238,6 +243,21 @@ int32_t guarded_table_rows(const struct hs_place *place, struct hs_row *out, siz
 
 int32_t guarded_table_committed(const struct hs_place *place, uint8_t *out, size_t out_len, size_t *needed) {
     return returned(hs_table_committed(READ_PLACE, OUT));
+}
+
+int32_t guarded_assignment_new(const uint8_t *job, size_t job_len, uint64_t generation, const struct hs_slice *slices,
+                               size_t slices_len, uint8_t *out, size_t out_len, size_t *needed) {
+    return returned(hs_assignment_new(NAME, generation, READ_ALL(slices, slices_len), OUT));
+}
+
+int32_t guarded_assignment_read(const uint8_t *job, size_t job_len, const uint8_t *assignment, size_t assignment_len,
+                                uint64_t *generation, struct hs_slice *out, size_t out_len, size_t *needed) {
+    return returned(hs_assignment_read(NAME, READ_ALL(assignment, assignment_len), WRITTEN(generation), OUT));
+}
+
+int32_t guarded_assignment_slice(const uint8_t *job, size_t job_len, const uint8_t *assignment, size_t assignment_len,
+                                 uint64_t slice_key, struct hs_slice *out) {
+    return returned(hs_assignment_slice(NAME, READ_ALL(assignment, assignment_len), slice_key, WRITTEN(out)));
 }
 
 int32_t guarded_assigner_open(struct hs_place *place, uint64_t id, uint64_t job) {

@@ -21,6 +21,8 @@ int32_t guarded_ended_note(const uint8_t *job, size_t job_len, uint64_t task, ui
 int32_t guarded_grant_read(const uint8_t *job, size_t job_len, const uint8_t *grant, size_t grant_len,
                            struct hs_grant *out, uint64_t *boundaries, size_t boundaries_len, size_t *needed);
 int32_t guarded_slicelet_held(const struct hs_place *place, uint32_t kind, struct hs_held_lease *out);
+int32_t guarded_slicelet_permitted(const struct hs_place *place, uint64_t at, uint64_t *boundaries,
+                                   size_t boundaries_len, size_t *needed);
 int32_t guarded_slicelet_next(const struct hs_place *place, const struct hs_phase *phase, uint64_t at,
                               uint32_t *action);
 int32_t guarded_slicelet_calls_left(const struct hs_place *place, uint64_t *left);
@@ -64,6 +66,12 @@ int32_t guarded_table_restart(struct hs_place *place, uint64_t *lost);
 int32_t guarded_table_phase(const struct hs_place *place, struct hs_phase *out);
 int32_t guarded_table_rows(const struct hs_place *place, struct hs_row *out, size_t out_len, size_t *needed);
 int32_t guarded_table_committed(const struct hs_place *place, uint8_t *out, size_t out_len, size_t *needed);
+int32_t guarded_assignment_new(const uint8_t *job, size_t job_len, uint64_t generation, const struct hs_slice *slices,
+                               size_t slices_len, uint8_t *out, size_t out_len, size_t *needed);
+int32_t guarded_assignment_read(const uint8_t *job, size_t job_len, const uint8_t *assignment, size_t assignment_len,
+                                uint64_t *generation, struct hs_slice *out, size_t out_len, size_t *needed);
+int32_t guarded_assignment_slice(const uint8_t *job, size_t job_len, const uint8_t *assignment, size_t assignment_len,
+                                 uint64_t slice_key, struct hs_slice *out);
 int32_t guarded_assigner_open(struct hs_place *place, uint64_t id, uint64_t job);
 int32_t guarded_assigner_adopt(struct hs_place *place, const struct hs_job_term *term);
 int32_t guarded_assigner_restart(struct hs_place *place);
@@ -101,6 +109,7 @@ int32_t guarded_session_last(const struct hs_place *place, uint8_t *out, size_t 
 #define hs_ended_note guarded_ended_note
 #define hs_grant_read guarded_grant_read
 #define hs_slicelet_held guarded_slicelet_held
+#define hs_slicelet_permitted guarded_slicelet_permitted
 #define hs_slicelet_next guarded_slicelet_next
 #define hs_slicelet_calls_left guarded_slicelet_calls_left
 #define hs_slicelet_start guarded_slicelet_start
@@ -130,6 +139,9 @@ int32_t guarded_session_last(const struct hs_place *place, uint8_t *out, size_t 
 #define hs_table_phase guarded_table_phase
 #define hs_table_rows guarded_table_rows
 #define hs_table_committed guarded_table_committed
+#define hs_assignment_new guarded_assignment_new
+#define hs_assignment_read guarded_assignment_read
+#define hs_assignment_slice guarded_assignment_slice
 #define hs_assigner_open guarded_assigner_open
 #define hs_assigner_adopt guarded_assigner_adopt
 #define hs_assigner_restart guarded_assigner_restart

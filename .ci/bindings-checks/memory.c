@@ -204,6 +204,48 @@ static int32_t read_grant(struct hs_place *place) {
     return code;
 }
 
+static int32_t list_permitted(struct hs_place *place) {
+    uint64_t boundaries[2] = {1, 1};
+    size_t needed = UNTOLD;
+    int32_t code = hs_slicelet_permitted(place, 6, boundaries, 2, &needed);
+    HOLDS(code == HS_DONE ? needed == 2 && boundaries[0] == 0 : needed == UNTOLD && boundaries[0] == 1);
+    return code;
+}
+
+static int32_t make_assignment(struct hs_place *place) {
+    const struct hs_slice slices[2] = {{0, 1, {2}}, {9, 2, {3, 1}}};
+    uint8_t out[256];
+    size_t needed = UNTOLD;
+    (void)place;
+    memset(out, '-', sizeof out);
+    int32_t code = hs_assignment_new(JOB, 7, slices, 2, out, sizeof out, &needed);
+    HOLDS(code == HS_DONE ? needed < sizeof out : needed == UNTOLD && are_dashes(out, sizeof out));
+    return code;
+}
+
+static int32_t read_assignment(struct hs_place *place) {
+    const char *text = ASSIGNMENT("7", HALVES);
+    struct hs_slice slices[2];
+    uint64_t generation = UNTOLD;
+    size_t needed = UNTOLD;
+    (void)place;
+    memset(slices, '-', sizeof slices);
+    int32_t code = hs_assignment_read(JOB, (const uint8_t *)text, strlen(text), &generation, slices, 2, &needed);
+    HOLDS(code == HS_DONE ? generation == 7 && needed == 2
+                          : generation == UNTOLD && needed == UNTOLD && are_dashes((uint8_t *)slices, sizeof slices));
+    return code;
+}
+
+static int32_t find_slice(struct hs_place *place) {
+    const char *text = ASSIGNMENT("7", HALVES);
+    struct hs_slice slice;
+    (void)place;
+    memset(&slice, '-', sizeof slice);
+    int32_t code = hs_assignment_slice(JOB, (const uint8_t *)text, strlen(text), 9, &slice);
+    HOLDS(code == HS_DONE ? slice.count == 1 : are_dashes((uint8_t *)&slice, sizeof slice));
+    return code;
+}
+
 static uint64_t state_when_done(const struct trial *trial) {
     struct hs_place place = trial->begin();
     IS(trial->call(&place), HS_DONE);
@@ -382,6 +424,10 @@ void check_memory(void) {
         {"plan", knowing_clerk, plan, clerk_state},
         {"evidence", knowing_clerk, weigh, clerk_state},
         {"read grant", knowing_clerk, read_grant, clerk_state},
+        {"permitted", serving_task, list_permitted, slicelet_state},
+        {"make assignment", knowing_clerk, make_assignment, clerk_state},
+        {"read assignment", knowing_clerk, read_assignment, clerk_state},
+        {"find slice", knowing_clerk, find_slice, clerk_state},
         {"last reply", session_in_text, give_last, session_state},
         {"last reply as JSON", session_in_json, give_last, session_state},
     };

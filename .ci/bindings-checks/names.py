@@ -1,6 +1,7 @@
 """The codes, the functions with their parameters, the structs and the words of the header are those of
 python/hourstable/library.py, and the codes those of docs/BINDINGS.md. hs_code_name names each code of the header. The
-version of the header is that of the library.
+version of the header is that of the library. The function `minus` of docs/BINDINGS.md is the one that slicelets.c
+tries.
 
 Run at the top of the repository, with HOURSTABLE_LIBRARY set.
 """
@@ -16,6 +17,8 @@ with open("include/hourstable.h", encoding="utf-8") as file:
     header = file.read()
 with open("docs/BINDINGS.md", encoding="utf-8") as file:
     page = file.read()
+with open(".ci/bindings-checks/slicelets.c", encoding="utf-8") as file:
+    checks = file.read()
 in_header = {name: int(number) for name, number in re.findall(r"HS_(\w+) = (-?\d+)", header.split("enum hs_kind")[0])}
 in_python = {name: number for number, name in enumerate(hourstable.REFUSALS)}
 in_python.update({name: -number for number, name in enumerate(hourstable.UNREAD)})
@@ -68,6 +71,9 @@ faults = [what for what, same in [
     ("names of hs_code_name", named == {name: name for name in in_header}),
     ("codes in Python", in_python == in_header),
     ("codes in docs/BINDINGS.md", in_page == in_header),
+    ("minus of docs/BINDINGS.md", any(
+        "size_t minus(" in block and block in checks
+        for block in re.findall(r"^```c\n(.*?)^```$", page, re.M | re.S))),
     ("functions in Python", set(declared) == set(functions)),
     ("version of the library", hourstable.library_version() == version),
     ("text of the version", version_text == [".".join(map(str, version))]),

@@ -17,7 +17,7 @@ import handover
 from hourstable import library as hourstable
 from hourstable.library import (
     Clerk, HeldLease, JobTerm, KeyHandle, Phase, PlanPolicy, Policy, Refused, Table, TableClock, TaskClock, Told,
-    boottime_ticks, clock_evidence, read_grant,
+    Slicelet, boottime_ticks, clock_evidence, new_assignment, read_assignment, read_grant, slice_of,
 )
 
 U32, U64 = 1 << 32, 1 << 64
@@ -120,6 +120,40 @@ GRANT = (b'{"type":"grant","value":{"ends":130,"generation":3,"kind":"guard","li
          b'"ranges":[[0,9223372036854775808]],"task":2,"until":140},"version":1}')
 
 
+
+def check_leases():
+    """GRANT is of guard lease 7 of generation 3, on all keys until 130."""
+    lease = ("guard", 3, 7, 130)
+    with Slicelet("", 2) as task:
+        task.start(1, 5)
+        holds(task.permitted(5) == [], "a task that heard no grant may serve no key")
+        holds(task.hear(GRANT, 6) == lease, "a grant that is heard tells its lease")
+        holds(task.serve(b"apples", 7) == lease and task.serve_at(5, 7) == lease, "a key is served under the lease")
+        holds(task.permitted(129) == [(0, 1 << 63)] and task.permitted(130) == [], "what the task may serve")
+
+
+def check_assignments():
+    holds(new_assignment("shop", 1, [(0, [1])]) == FIRST, "the message of an assignment")
+    holds(read_assignment("shop", FIRST) == (1, [(0, [1])]), "what an assignment says")
+    slices = [(at << 50, [64, at % 63 + 1]) for at in range(100)]
+    rising = [(start, sorted(owners)) for start, owners in slices]
+    holds(read_assignment("", new_assignment("", 9, slices)) == (9, rising), "an assignment of a hundred slices")
+    message, keys = new_assignment("", 9, slices), (0, (1 << 50) - 1, 1 << 50, (1 << 63) - 1)
+    found = [slice_of("", message, key) for key in keys]
+    holds(found == [rising[at] for at in (0, 0, 1, 99)], f"slices of keys: {found}")
+    refuses("wrong-form", "a slice of no key", slice_of, "", FIRST, 1 << 63)
+    for text, owners in [
+        ("no-owner", []), ("too-many-owners", [1, 2, 3, 4, 5, 6]), ("owner-twice", [1, 1]), ("bad-task", [65]),
+    ]:
+        refuses(text, f"a slice of {owners}", new_assignment, "", 1, [(0, owners)])
+    refuses("no-slices", "no slice", new_assignment, "", 1, [])
+    refuses("first-not-zero", "a first slice at 1", new_assignment, "", 1, [(1, [1])])
+    refuses("not-rising", "slices that do not rise", new_assignment, "", 1, [(0, [1]), (0, [1])])
+    refuses("past-end", "a slice past the end", new_assignment, "", 1, [(0, [1]), (1 << 63, [1])])
+    refuses("other-job", "an assignment of another job", read_assignment, "", FIRST)
+    raises(ValueError, "a slice that starts at 2^64", new_assignment, "", 1, [(U64, [1])])
+
+
 def numbers_of(clock):
     return [getattr(clock, name) for name, _ in clock._fields_]
 
@@ -220,6 +254,8 @@ check_numbers()
 check_refusals()
 check_replies()
 check_places()
+check_leases()
+check_assignments()
 check_task_clocks()
 check_table_clocks()
 check_evidence()

@@ -44,6 +44,7 @@ static void refuse_slicelet(struct hs_place *place) {
     IS(hs_slicelet_check(place, &handle, 5), HS_OTHER_PLACE);
     IS(hs_slicelet_held(place, HS_GUARD, &held), HS_OTHER_PLACE);
     HOLDS(held.number == 5 && held.generation == 5 && held.until == 5);
+    IS(hs_slicelet_permitted(place, 5, &left, 1, &needed), HS_OTHER_PLACE);
     IS(hs_slicelet_next(place, &phase, 5, &action), HS_OTHER_PLACE);
     IS(hs_slicelet_calls_left(place, &left), HS_OTHER_PLACE);
     HOLDS(action == 5 && left == 5);

@@ -38,7 +38,7 @@ static void reads_served(const struct hs_place *task, const struct hs_key_handle
     struct hs_told served = {0};
     struct hs_key_handle taken = {0};
     HOLDS(hs_slicelet_serve(task, HELLO, 6, &served) == HS_DONE);
-    HOLDS(served.kind == HS_GUARD && served.generation == 3);
+    HOLDS(served.kind == HS_GUARD && served.number == 7 && served.generation == 3 && served.until == 95);
     HOLDS(hs_slicelet_serve(task, HELLO, 95, &served) == HS_ENDED);
     HOLDS(hs_slicelet_serve_at(task, handle->slice_key, 94, &served) == HS_DONE);
     HOLDS(hs_slicelet_hold(task, HELLO, 6, &taken, &served) == HS_DONE);
@@ -99,6 +99,13 @@ static void reads_others(const struct places *all) {
     HOLDS(hs_session_last(&all->session, out, sizeof out, &needed) == HS_DONE && needed == 0);
 }
 
+static void reads_permitted(const struct hs_place *task) {
+    uint64_t boundaries[2] = {1, 1};
+    size_t needed = 0;
+    HOLDS(hs_slicelet_permitted(task, 6, boundaries, 2, &needed) == HS_DONE && needed == 2);
+    HOLDS(boundaries[0] == 0 && boundaries[1] == (uint64_t)1 << 63);
+}
+
 /* They count the copies that they make of assignments, by atomic writes beside them. */
 static void reads_kept_values(const struct hs_place *table) {
     uint8_t kept[512], saved[512];
@@ -119,6 +126,7 @@ void check_readers(void) {
     HOLDS(allocations == before);
     reads_others(all);
     protect_memory(PROT_READ | PROT_WRITE);
+    reads_permitted(&all->task);
     reads_kept_values(&all->table);
     hs_place_free(&all->task);
     hs_place_free(&all->clerk);

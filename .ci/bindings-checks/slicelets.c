@@ -83,15 +83,16 @@ static void hears(struct hs_place *place) {
     STAYS(slicelet_state(place), hear(place, all_keys, 95), HS_TOO_LATE);
     IS(serve(place, 5), HS_NO_LEASE);
     IS(hear(place, GRANT("bridge", "1", "8", "[[0,5],[9,10]]", "2"), 5), HS_DONE);
+    HOLDS(tells(8, 3, HS_BRIDGE, UNTOLD, 95));
     IS(serve(place, 5), HS_NOT_OWNED);
     HOLDS(tells(UNTOLD, 3, UNTOLD, UNTOLD, UNTOLD));
     IS(hear(place, all_keys, 5), HS_DONE);
-    HOLDS(tells(UNTOLD, UNTOLD, UNTOLD, UNTOLD, UNTOLD));
+    HOLDS(tells(7, 3, HS_GUARD, UNTOLD, 95));
     STAYS(slicelet_state(place), hear(place, all_keys, 5), HS_OLD);
     HOLDS(tells(7, UNTOLD, UNTOLD, UNTOLD, UNTOLD));
     IS(serve(place, 4), HS_CLOCK_BACK);
     IS(serve(place, 94), HS_DONE);
-    HOLDS(tells(UNTOLD, 3, HS_GUARD, UNTOLD, UNTOLD));
+    HOLDS(tells(7, 3, HS_GUARD, UNTOLD, 95));
     IS(serve(place, 95), HS_ENDED);
     HOLDS(tells(UNTOLD, UNTOLD, UNTOLD, UNTOLD, UNTOLD));
 }
@@ -208,10 +209,11 @@ static void two_leases(void) {
     const char *bridge = MESSAGE("grant", "\"ends\":99,\"generation\":4,\"kind\":\"bridge\",\"life\":1,\"number\":9,"
                                           "\"ranges\":[[0,4611686018427387904]],\"task\":2,\"until\":109");
     IS(hear(&place, bridge, 6), HS_DONE);
+    HOLDS(tells(9, 4, HS_BRIDGE, UNTOLD, 99));
     IS(serve(&place, 94), HS_DONE);
-    HOLDS(tells(UNTOLD, 3, HS_GUARD, UNTOLD, UNTOLD));
+    HOLDS(tells(7, 3, HS_GUARD, UNTOLD, 95));
     IS(serve(&place, 95), HS_DONE);
-    HOLDS(tells(UNTOLD, 4, HS_BRIDGE, UNTOLD, UNTOLD));
+    HOLDS(tells(9, 4, HS_BRIDGE, UNTOLD, 99));
     IS(hs_slicelet_serve(&place, ABC, 98, fresh_told()), HS_ENDED);
     IS(hear(&place, GRANT("guard", "1", "10", "[[0,5]]", "2"), 7), HS_DONE);
     IS(hs_slicelet_serve(&place, ABC, 94, fresh_told()), HS_NOT_OWNED);
@@ -226,7 +228,7 @@ static void by_slice_key(void) {
     const uint64_t hello = hs_slice_key(HELLO), keys = (uint64_t)1 << 63;
     struct hs_key_handle handle = {5, 5, 5, 5};
     IS(hs_slicelet_serve_at(&task, hello, 6, fresh_told()), HS_DONE);
-    HOLDS(tells(UNTOLD, 3, HS_GUARD, UNTOLD, UNTOLD));
+    HOLDS(tells(7, 3, HS_GUARD, UNTOLD, 95));
     IS(hs_slicelet_serve_at(&task, keys - 1, 6, fresh_told()), HS_DONE);
     IS(hs_slicelet_serve_at(&task, hello, 95, fresh_told()), HS_ENDED);
     IS(hs_slicelet_serve_at(&task, keys, 6, fresh_told()), HS_WRONG_FORM);
@@ -303,6 +305,66 @@ static void goes_on(void) {
     hs_place_free(&task);
 }
 
+/* Whether the keys that the task may serve at the reading are these ranges: it is given room for one boundary more. */
+static int permits(struct hs_place *task, uint64_t at, const uint64_t *wanted, size_t count) {
+    uint64_t boundaries[8];
+    size_t needed = UNTOLD;
+    memset(boundaries, '-', sizeof boundaries);
+    IS(hs_slicelet_permitted(task, at, boundaries, count + 1, &needed), HS_DONE);
+    HOLDS(are_dashes((uint8_t *)&boundaries[needed], sizeof boundaries - needed * sizeof *boundaries));
+    return needed == count && memcmp(boundaries, wanted, count * sizeof *boundaries) == 0;
+}
+
+/* Writes the keys of `some` that are not in `others`, and returns how many boundaries they have: at most those
+ * of both. */
+static size_t minus(const uint64_t *some, size_t some_len, const uint64_t *others, size_t others_len, uint64_t *out) {
+    size_t one = 0, other = 0, made = 0;
+    while (one < some_len || other < others_len) {
+        uint64_t a = one < some_len ? some[one] : UINT64_MAX, b = other < others_len ? others[other] : UINT64_MAX;
+        uint64_t key = a < b ? a : b;
+        one += a == key;
+        other += b == key;
+        if ((one % 2 == 1 && other % 2 == 0) != (made % 2 == 1))
+            out[made++] = key;
+    }
+    return made;
+}
+
+/* What was gained from the first to the second ranges of the check below, and lost from the second to the third. */
+static void tells_apart(const uint64_t guards[4], const uint64_t both[2], const uint64_t bridges[2]) {
+    const uint64_t gained[] = {5, 9}, lost[] = {0, 3, 10, 12};
+    uint64_t out[6];
+    HOLDS(minus(both, 2, guards, 4, out) == 2 && memcmp(out, gained, sizeof gained) == 0);
+    HOLDS(minus(guards, 4, both, 2, out) == 0 && minus(both, 2, both, 2, out) == 0);
+    HOLDS(minus(both, 2, bridges, 2, out) == 4 && memcmp(out, lost, sizeof lost) == 0);
+    HOLDS(minus(guards, 4, out, 0, out) == 4 && memcmp(out, guards, 4 * sizeof *guards) == 0);
+}
+
+/* The ranges of the guard lease are [0, 5) and [9, 12) until 95, those of the bridge lease [3, 10) until 99. */
+static void permits_ranges(void) {
+    const char *bridge = MESSAGE("grant", "\"ends\":99,\"generation\":4,\"kind\":\"bridge\",\"life\":1,\"number\":9,"
+                                          "\"ranges\":[[3,10]],\"task\":2,\"until\":109");
+    const uint64_t guards[] = {0, 5, 9, 12}, both[] = {0, 12}, bridges[] = {3, 10};
+    struct hs_place task = new_place();
+    uint64_t boundaries[3];
+    uint8_t out[256];
+    size_t needed = UNTOLD;
+    memset(boundaries, '-', sizeof boundaries);
+    IS(hs_slicelet_open(&task, JOB, 2), HS_DONE);
+    HOLDS(permits(&task, 5, NULL, 0));
+    IS(hs_slicelet_start(&task, 1, 3), HS_DONE);
+    IS(hear(&task, GRANT("guard", "1", "7", "[[0,5],[9,12]]", "2"), 5), HS_DONE);
+    HOLDS(permits(&task, 94, guards, 4) && permits(&task, 4, NULL, 0) && permits(&task, 95, NULL, 0));
+    IS(hs_slicelet_permitted(&task, 5, boundaries, 3, &needed), HS_NO_ROOM);
+    HOLDS(needed == 4 && are_dashes((uint8_t *)boundaries, sizeof boundaries));
+    IS(hear(&task, bridge, 6), HS_DONE);
+    HOLDS(permits(&task, 94, both, 2) && permits(&task, 95, bridges, 2) && permits(&task, 99, NULL, 0));
+    IS(hs_slicelet_release(&task, HS_GUARD, 7, out, sizeof out, &needed), HS_DONE);
+    HOLDS(permits(&task, 7, bridges, 2));
+    tells_apart(guards, both, bridges);
+    hs_place_free(&task);
+}
+
 static int32_t read(const char *job, const char *text, struct hs_grant *grant, uint64_t *boundaries, size_t room,
                     size_t *needed) {
     return hs_grant_read((const uint8_t *)job, strlen(job), (const uint8_t *)text, strlen(text), grant, boundaries, room,
@@ -354,5 +416,6 @@ void check_slicelets(void) {
     by_slice_key();
     resumes();
     goes_on();
+    permits_ranges();
     reads_grants();
 }

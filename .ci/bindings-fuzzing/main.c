@@ -83,8 +83,13 @@ static void begin(const struct target *target, struct field *field) {
     field->inputs = field->taken = 0;
 }
 
-/* Whether the fields of hs_told that the code does not set are unchanged. */
-static int carries_no_more(int32_t code, struct hs_told told) {
+/* Whether the fields of hs_told that the code does not set are unchanged. A grant that is heard tells its lease. */
+static int carries_no_more(const struct target *target, int32_t code, struct hs_told told) {
+    if (code == HS_DONE && strcmp(target->name, "hear") == 0) {
+        if (told.kind != HS_GUARD && told.kind != HS_BRIDGE)
+            return 0;
+        told.number = told.generation = told.kind = told.until = 5;
+    }
     if (code == HS_OLD || code == HS_VERSION || code == HS_NOT_HOLDER)
         told.number = 5;
     if (code == HS_OLD_GENERATION || code == HS_STALE_BASE)
@@ -100,7 +105,7 @@ static void play(const struct target *target, struct field *field) {
     size_t most = largest_allocation(), sum = whole_allocation();
     MUST(code >= LOWEST && code <= HIGHEST && code != HS_NO_MEMORY && code != HS_OTHER_PLACE);
     MUST(most <= TIMES_INPUT * now.length + BESIDE_INPUT);
-    MUST(carries_no_more(code, told));
+    MUST(carries_no_more(target, code, told));
     field->codes[code - LOWEST]++;
     field->largest = most > field->largest ? most : field->largest;
     field->whole = sum > field->whole ? sum : field->whole;

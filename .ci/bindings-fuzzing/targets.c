@@ -157,6 +157,23 @@ static int32_t plan(struct hs_place *place, struct input input, struct hs_told *
     return code;
 }
 
+/* Reads an assignment by numbers. A clerk must learn the message that is made of them. */
+static int32_t read_slices(struct hs_place *place, struct input input, struct hs_told *told) {
+    static struct hs_slice slices[1024];
+    uint64_t generation = 99;
+    size_t count = 99, length = 0;
+    int32_t code = hs_assignment_read(NO_NAME, input.bytes, input.length, &generation, slices, COUNT(slices), &count);
+    MUST(code != HS_NO_ROOM && (code == HS_DONE || (generation == 99 && count == 99)));
+    if (code == HS_DONE) {
+        uint8_t *out = room_of(LONGEST_INPUT);
+        int32_t made = hs_assignment_new(NO_NAME, generation, slices, count, out, LONGEST_INPUT, &length);
+        MUST(made == HS_NO_ROOM || made == HS_DONE);
+        MUST(made == HS_NO_ROOM || hs_clerk_forget(place) == HS_DONE);
+        MUST(made == HS_NO_ROOM || hs_clerk_learn(place, out, length, told) == HS_DONE);
+    }
+    return code;
+}
+
 /* Weighs a grant, under a policy that is mostly one. No place and no `told` is passed. */
 static int32_t weigh(struct hs_place *place, struct input input, struct hs_told *told) {
     struct hs_policy weighed = policy;
@@ -266,6 +283,7 @@ const struct target targets[] = {
     {"propose", assignments, COUNT(assignments), begin_table, propose, table_state},
     {"free", notes, COUNT(notes), begin_table, free_rows, table_state},
     {"plan", assignments, COUNT(assignments), begin_clerk, plan, clerk_state},
+    {"read", assignments, COUNT(assignments), begin_clerk, read_slices, clerk_state},
     {"evidence", grants, COUNT(grants), begin_clerk, weigh, clerk_state},
     {"session", jobs, COUNT(jobs), begin_session, open_session, session_state},
     {"answer", lines, COUNT(lines), begin_session, answer, session_state},

@@ -160,6 +160,13 @@ class Grant(Numbers):
     table_ends: int
 
 
+class Slice(ctypes.Structure):
+    _fields_ = fields("start count") + [("tasks", ctypes.c_uint64 * 5)]
+    start: int
+    count: int
+    tasks: ctypes.Array[ctypes.c_uint64]
+
+
 class Owners(ctypes.Structure):
     _fields_ = fields("generation count") + [("tasks", ctypes.c_uint64 * 5)]
     generation: int
@@ -300,12 +307,19 @@ class Found(NamedTuple):
 class Served(NamedTuple):
     kind: str
     generation: int
+    number: int
+    until: int
 
 
 class Held(NamedTuple):
     number: int
     generation: int
     until: int
+
+
+class AssignmentRead(NamedTuple):
+    generation: int
+    slices: list[tuple[int, list[int]]]
 
 
 class GrantRead(NamedTuple):
@@ -332,6 +346,7 @@ DECLARED: dict[str, list[CType]] = {
     "ended_note": [*BYTES, U64, U32, U32, *OUT],
     "grant_read": [*BYTES, *BYTES, P(Grant), P(ctypes.c_uint64), SIZE, P(ctypes.c_size_t)],
     "slicelet_held": [P(Place), U32, P(HeldLease)],
+    "slicelet_permitted": [P(Place), U64, P(ctypes.c_uint64), SIZE, P(ctypes.c_size_t)],
     "slicelet_next": [P(Place), P(Phase), U64, P(ctypes.c_uint32)],
     "slicelet_calls_left": [P(Place), P(ctypes.c_uint64)],
     "slicelet_start": [P(Place), U32, U64],
@@ -361,6 +376,11 @@ DECLARED: dict[str, list[CType]] = {
     "table_phase": [P(Place), P(Phase)],
     "table_rows": [P(Place), P(Row), SIZE, P(ctypes.c_size_t)],
     "table_committed": [P(Place), *OUT],
+    "assignment_new": [*BYTES, U64, P(Slice), SIZE, *OUT],
+    "assignment_read": [
+        *BYTES, *BYTES, P(ctypes.c_uint64), P(Slice), SIZE, P(ctypes.c_size_t),
+    ],
+    "assignment_slice": [*BYTES, *BYTES, U64, P(Slice)],
     "assigner_open": [P(Place), U64, U64],
     "assigner_adopt": [P(Place), P(JobTerm)],
     "assigner_restart": [P(Place)],
@@ -421,6 +441,23 @@ def text_of(call: Callable[..., int], *given: CType) -> bytes:
     return room.raw[: needed.value]
 
 
+def list_of(c_type: CType, call: Callable[..., int], *given: CType) -> list[Any]:
+    """Returns the list that a call writes. If it does not fit, calls again with a longer buffer."""
+    room, needed = (c_type * 64)(), ctypes.c_size_t()
+    code = call(*given, room, len(room), ctypes.byref(needed))
+    if code == -2:
+        room = (c_type * needed.value)()
+        code = call(*given, room, len(room), ctypes.byref(needed))
+    done(code)
+    return list(room[: needed.value])
+
+
+def ranges_of(boundaries: list[int]) -> list[tuple[int, int]]:
+    """Returns the ranges of these boundaries, each as its first slice key and the one after its
+    last."""
+    return list(zip(boundaries[::2], boundaries[1::2]))
+
+
 def library_version() -> Version:
     """The version of the loaded library: major, minor and patch."""
     version = LibraryVersion()
@@ -448,18 +485,42 @@ def read_grant(job: str, grant: bytes) -> GrantRead:
     """Returns what a grant of a job says. `ends` is a reading of the task's clock, `table_ends` one
     of the table's. A range is its first slice key and the one after its last; the ranges rise, and
     do not touch."""
-    numbers, needed, edges = Grant(), ctypes.c_size_t(), (ctypes.c_uint64 * 64)()
+    numbers = Grant()
     given = (*named(job), grant, len(grant), ctypes.byref(numbers))
-    code = library.hs_grant_read(*given, edges, len(edges), ctypes.byref(needed))
-    if code == -2:
-        edges = (ctypes.c_uint64 * needed.value)()
-        code = library.hs_grant_read(*given, edges, len(edges), ctypes.byref(needed))
-    done(code)
-    ranges = list(zip(edges[: needed.value : 2], edges[1 : needed.value : 2]))
+    ranges = ranges_of(list_of(ctypes.c_uint64, library.hs_grant_read, *given))
     return GrantRead(
         numbers.number, numbers.task, numbers.life, KIND_WORDS[numbers.kind], numbers.generation,
         numbers.ends, numbers.table_ends, ranges,
     )
+
+
+def new_assignment(job: str, generation: int, slices: Iterable[tuple[int, Iterable[int]]]) -> bytes:
+    """Returns the message of the assignment of a generation of a job. A slice is its first slice key
+    and its owners; the first one starts at 0, and each above the one before it."""
+    listed = [(start, list(owners)) for start, owners in slices]
+    numbers = (Slice * len(listed))()
+    for at, (start, owners) in enumerate(listed):
+        tasks = array_of(ctypes.c_uint64, [*owners, 0, 0, 0, 0, 0][:5])
+        numbers[at] = Slice(fitting(ctypes.c_uint64, start), len(owners), tasks)
+    return text_of(library.hs_assignment_new, *named(job), generation, numbers, len(numbers))
+
+
+def read_assignment(job: str, assignment: bytes) -> AssignmentRead:
+    """Returns what an assignment of a job says: its generation, and its slices by their starts, each
+    with its owners in rising order."""
+    generation = ctypes.c_uint64()
+    given = (*named(job), assignment, len(assignment), ctypes.byref(generation))
+    slices = list_of(Slice, library.hs_assignment_read, *given)
+    return AssignmentRead(generation.value, [(s.start, list(s.tasks[: s.count])) for s in slices])
+
+
+def slice_of(job: str, assignment: bytes, slice_key: int) -> tuple[int, list[int]]:
+    """Returns the slice of an assignment of a job that has a slice key: its first slice key and its
+    owners."""
+    found = Slice()
+    given = (*named(job), assignment, len(assignment), slice_key, ctypes.byref(found))
+    done(library.hs_assignment_slice(*given))
+    return found.start, list(found.tasks[: found.count])
 
 
 def plan(
@@ -563,15 +624,23 @@ class Slicelet(Standing):
     def start(self, life: int, at: int) -> None:
         self.do("start", life, at)
 
-    def hear(self, grant: bytes, at: int) -> None:
+    def served(self) -> Served:
+        """Returns the lease that the last call told."""
+        told = self.told
+        return Served(KIND_WORDS[told.kind], told.generation, told.number, told.until)
+
+    def hear(self, grant: bytes, at: int) -> Served:
+        """Hears a grant, and returns its lease, under which keys are served until `until`."""
         self.do("hear", grant, len(grant), at, self.told_by())
+        return self.served()
 
     def release(self, kind: str, at: int) -> bytes:
         return self.text("release", KINDS[kind], at)
 
     def serve(self, key: bytes, at: int) -> Served:
+        """Returns the lease under which the task may serve a key."""
         self.do("serve", key, len(key), at, self.told_by())
-        return Served(KIND_WORDS[self.told.kind], self.told.generation)
+        return self.served()
 
     def hold(self, key: bytes, at: int) -> KeyHandle:
         handle = KeyHandle()
@@ -581,7 +650,7 @@ class Slicelet(Standing):
     def serve_at(self, slice_key: int, at: int) -> Served:
         """Serves a key by its slice key, which need not be hashed again."""
         self.do("serve_at", slice_key, at, self.told_by())
-        return Served(KIND_WORDS[self.told.kind], self.told.generation)
+        return self.served()
 
     def hold_at(self, slice_key: int, at: int) -> KeyHandle:
         """Takes a handle on a key by its slice key."""
@@ -597,6 +666,12 @@ class Slicelet(Standing):
         held = HeldLease()
         self.do("held", KINDS[kind], ctypes.byref(held))
         return Held(held.number, held.generation, held.until)
+
+    def permitted(self, at: int) -> list[tuple[int, int]]:
+        """Returns the ranges of the slice keys that the task may serve. A range is its first slice key
+        and the one after its last; the ranges rise, and do not touch."""
+        place = ctypes.byref(self.standing())
+        return ranges_of(list_of(ctypes.c_uint64, self.function("permitted"), place, at))
 
     def next(self, phase: Phase, at: int) -> str:
         """Returns what the task does next about its leases, in a phase of the table: one of
@@ -702,14 +777,7 @@ class Table(Standing):
         return phase
 
     def rows(self) -> list[Row]:
-        rows, needed, call = (Row * 64)(), ctypes.c_size_t(), self.function("rows")
-        place = ctypes.byref(self.standing())
-        code = call(place, rows, len(rows), ctypes.byref(needed))
-        if code == -2:
-            rows = (Row * needed.value)()
-            code = call(place, rows, len(rows), ctypes.byref(needed))
-        done(code)
-        return list(rows[: needed.value])
+        return list_of(Row, self.function("rows"), ctypes.byref(self.standing()))
 
     def committed(self) -> bytes:
         return self.text("committed")

@@ -8,8 +8,11 @@ import java.util.Arrays;
  * Readings are those of the task's clock, and all numbers are unsigned. Any threads may use one slicelet at the same time.
  */
 public final class Slicelet extends Place {
-    /** The lease under which a key is served. */
-    public record Served(Kind kind, long generation) {}
+    /**
+     * The lease under which a key is served: its generation, the number of its grant, and the first reading of the task's
+     * clock at which it has ended.
+     */
+    public record Served(Kind kind, long generation, long number, long until) {}
 
     /** A key that the task held when it took the handle. */
     public record Handle(long task, long sliceKey, long position, int life) {}
@@ -95,7 +98,7 @@ public final class Slicelet extends Place {
         } finally {
             lock.readLock().unlock();
         }
-        return new Served(Kind.of(out[2]), out[1]);
+        return new Served(Kind.of(out[2]), out[1], out[0], out[4]);
     }
 
     /**

@@ -59,8 +59,8 @@ public final class LibraryTest {
             refuses("a version", "HS_VERSION", "version 3", () -> task.hear("{\"version\":3}".getBytes(UTF_8), 4));
             task.hear(grant(7, 8), 5);
             refuses("hear again", "HS_OLD", "old 7", () -> task.hear(grant(7, 9), 5));
-            is("serve", task.serve(HELLO, 7), new Slicelet.Served(Kind.GUARD, 3));
-            is("serve a key of 300 bytes", task.serve(new byte[300], 7), new Slicelet.Served(Kind.GUARD, 3));
+            is("serve", task.serve(HELLO, 7), new Slicelet.Served(Kind.GUARD, 3, 7, 8));
+            is("serve a key of 300 bytes", task.serve(new byte[300], 7), new Slicelet.Served(Kind.GUARD, 3, 7, 8));
             refuses("serve at the end", "HS_ENDED", "ended", () -> task.serve(HELLO, 8));
             refuses("no bridge", "HS_NOTHING_HELD", "nothing-held", () -> task.release(Kind.BRIDGE, 8));
             is("the note", new String(task.release(Kind.GUARD, 8), UTF_8),

@@ -169,7 +169,8 @@ pub const HS_GIVE_UP_BRIDGE: u32 = 5;
 /// nothing
 pub const HS_TASK_REST: u32 = 6;
 
-/// Numbers that a code comes with. Fields that a code does not set are unchanged.
+/// Numbers that a code comes with. A call sets just the fields that its code names, unless its comment
+/// says otherwise: hs_slicelet_hear, _serve and _serve_at tell a lease where they are done.
 #[repr(C)]
 #[derive(Clone, Copy, Debug, Default, PartialEq, Eq)]
 pub struct hs_told {
@@ -181,7 +182,8 @@ pub struct hs_told {
     pub kind: u64,
     /// 1 to 64
     pub task: u64,
-    /// a reading, in ticks
+    /// a reading, in ticks; of a lease, the first of the task's clock at which it
+    /// has ended
     pub until: u64,
 }
 
@@ -229,6 +231,18 @@ pub struct hs_grant {
 #[derive(Clone, Copy, Debug, Default, PartialEq, Eq)]
 pub struct hs_owners {
     pub generation: u64,
+    pub count: u64,
+    pub tasks: [u64; 5],
+}
+
+/// A slice of an assignment: it goes up to the start of the next one, or to the last key, and the first
+/// `count` of `tasks` own its keys.
+#[repr(C)]
+#[derive(Clone, Copy, Debug, Default, PartialEq, Eq)]
+pub struct hs_slice {
+    /// its first slice key
+    pub start: u64,
+    /// how many tasks own its keys, 1 to 5
     pub count: u64,
     pub tasks: [u64; 5],
 }
@@ -405,7 +419,8 @@ extern "C" {
     /// Starts a life of the task, which holds no lease yet. Takes no memory. HS_OLD_LIFE, HS_CLOCK_BACK,
     /// HS_HISTORY_FULL.
     pub fn hs_slicelet_start(place: *mut hs_place, life: u32, at: u64) -> i32;
-    /// Hears a grant, given as its message: its lease replaces the held one of its kind. Message codes,
+    /// Hears a grant, given as its message: its lease replaces the held one of its kind. HS_DONE, with
+    /// told.kind, told.number, told.generation and told.until of this lease; otherwise message codes,
     /// then HS_NOT_STARTED, HS_CLOCK_BACK, HS_OTHER_TASK, HS_OTHER_LIFE, HS_OLD, HS_TOO_LATE,
     /// HS_HISTORY_FULL, HS_NO_MEMORY.
     pub fn hs_slicelet_hear(place: *mut hs_place, grant: *const u8, grant_len: usize, at: u64, told: *mut hs_told) -> i32;
@@ -413,8 +428,9 @@ extern "C" {
     /// table. HS_WRONG_FORM, HS_NOT_STARTED, HS_CLOCK_BACK, HS_NOTHING_HELD, HS_HISTORY_FULL, then
     /// HS_NO_ROOM or HS_NO_MEMORY. The lease is still held unless the call is done.
     pub fn hs_slicelet_release(place: *mut hs_place, kind: u32, at: u64, out: *mut u8, out_len: usize, needed: *mut usize) -> i32;
-    /// Whether the task may serve a key now: HS_DONE, with told.kind and told.generation of the lease,
-    /// or HS_DOWN, HS_CLOCK_BACK, HS_ENDED, HS_NOT_OWNED, HS_NO_LEASE. Takes no memory.
+    /// Whether the task may serve a key now: HS_DONE, with told.kind, told.number, told.generation and
+    /// told.until of the lease under which it may, or HS_DOWN, HS_CLOCK_BACK, HS_ENDED, HS_NOT_OWNED,
+    /// HS_NO_LEASE. Takes no memory.
     pub fn hs_slicelet_serve(place: *const hs_place, key: *const u8, key_len: usize, at: u64, told: *mut hs_told) -> i32;
     /// The same by slice key, for a caller that keeps the slice keys of its keys: most of hs_slicelet_serve
     /// is the hash of the key. HS_WRONG_FORM if no key has this slice key, which is 2^63 or more.
@@ -430,6 +446,12 @@ extern "C" {
     /// Writes the lease of a kind that the task holds, which may have ended. HS_WRONG_FORM,
     /// HS_NOTHING_HELD. Takes no memory.
     pub fn hs_slicelet_held(place: *const hs_place, kind: u32, out: *mut hs_held_lease) -> i32;
+    /// Writes to `boundaries` the keys that the task may serve at the reading `at`, which are those that
+    /// hs_slicelet_serve_at allows: ranges, each as its first slice key and the one after its last, as
+    /// hs_grant_read writes them. *needed is how many boundaries there are, two for each range, and 0 if
+    /// there is no such key. What the task gained by a call, and what it lost, is how the keys before it and
+    /// after it differ; a lease that ends takes keys without a call. HS_NO_ROOM or HS_NO_MEMORY.
+    pub fn hs_slicelet_permitted(place: *const hs_place, at: u64, boundaries: *mut u64, boundaries_len: usize, needed: *mut usize) -> i32;
     /// Writes what the task does next about its leases, an hs_task_action, in a phase of the table:
     /// starts a life; asks for a lease of the phase, if it holds none that is live; gives up the lease of
     /// the other kind, which delays the next commit; or nothing. It does not ask before a lease ends: ask
@@ -505,6 +527,22 @@ extern "C" {
     /// Writes the message of the committed assignment. HS_NO_ASSIGNMENT, then HS_NO_ROOM or
     /// HS_NO_MEMORY.
     pub fn hs_table_committed(place: *const hs_place, out: *mut u8, out_len: usize, needed: *mut usize) -> i32;
+    /// Writes the message, of a job, of the assignment of a generation that has these slices, for
+    /// hs_table_propose. The first slice starts at 0, and each starts above the one before it; owners may
+    /// stand in any order. HS_WRONG_FORM if `job` is not the name of a job, HS_NO_SLICES,
+    /// HS_FIRST_NOT_ZERO, HS_NOT_RISING, HS_PAST_END, HS_NO_OWNER, HS_TOO_MANY_OWNERS, HS_OWNER_TWICE,
+    /// HS_BAD_TASK, HS_TOO_MANY_SLICES, then HS_NO_ROOM. Each code is looked for in all slices before the
+    /// next one. HS_NO_MEMORY may come in place of any code but the first.
+    pub fn hs_assignment_new(job: *const u8, job_len: usize, generation: u64, slices: *const hs_slice, slices_len: usize, out: *mut u8, out_len: usize, needed: *mut usize) -> i32;
+    /// Reads an assignment of a job, given as its message: writes its generation, and its slices in the
+    /// order of their starts, each with its owners in rising order, then zeros. *needed is how many slices
+    /// there are, at most 1,024. HS_WRONG_FORM if `job` is not the name of a job, then message codes, then
+    /// HS_NO_ROOM, at which `generation` is written nonetheless, or HS_NO_MEMORY.
+    pub fn hs_assignment_read(job: *const u8, job_len: usize, assignment: *const u8, assignment_len: usize, generation: *mut u64, out: *mut hs_slice, out_len: usize, needed: *mut usize) -> i32;
+    /// Reads from an assignment of a job, given as its message, the slice that has a slice key. The whole
+    /// message is read: a clerk that has learnt it looks up keys faster. HS_WRONG_FORM if `job` is not the
+    /// name of a job or no key has this slice key, then message codes.
+    pub fn hs_assignment_slice(job: *const u8, job_len: usize, assignment: *const u8, assignment_len: usize, slice_key: u64, out: *mut hs_slice) -> i32;
     /// Creates a new assigner in `place`, destroying what was there. It keeps no term. A job lease lasts
     /// `job` ticks. HS_WRONG_FORM if `id` is 0.
     pub fn hs_assigner_open(place: *mut hs_place, id: u64, job: u64) -> i32;

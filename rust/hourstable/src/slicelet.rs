@@ -15,6 +15,8 @@ pub struct Slicelet(Place);
 pub struct Serving<'slicelet> {
     kind: Kind,
     generation: u64,
+    number: u64,
+    until: u64,
     slicelet: PhantomData<&'slicelet Slicelet>,
 }
 
@@ -25,6 +27,16 @@ impl Serving<'_> {
 
     pub fn generation(&self) -> u64 {
         self.generation
+    }
+
+    /// Of its grant.
+    pub fn number(&self) -> u64 {
+        self.number
+    }
+
+    /// The first reading of the task's clock at which it has ended.
+    pub fn until(&self) -> u64 {
+        self.until
     }
 }
 
@@ -118,7 +130,8 @@ impl Slicelet {
 
     fn serving(&self, it: hs_told) -> Serving<'_> {
         let kind = Kind::from_number(it.kind).expect("a key is served under a lease of a kind");
-        Serving { kind, generation: it.generation, slicelet: PhantomData }
+        let hs_told { generation, number, until, .. } = it;
+        Serving { kind, generation, number, until, slicelet: PhantomData }
     }
 
     /// Takes a handle on a key if the task may serve it, and otherwise returns the code of `serve`.
@@ -151,6 +164,21 @@ impl Slicelet {
         let mut out = sys::hs_held_lease::default();
         done(unsafe { sys::hs_slicelet_held(self.0.read(), kind as u32, &mut out) })?;
         Ok(Lease { number: out.number, generation: out.generation, until: out.until })
+    }
+
+    /// The ranges of the slice keys that the task may serve at a reading; they rise, and do not touch. What it gained and
+    /// lost by `hear` or `release` is how they differ before and after it. `NO_MEMORY`.
+    pub fn permitted(&self, at: u64) -> Result<Vec<Range<u64>>, Refused> {
+        let (place, mut edges, mut needed) = (self.0.read(), vec![0; 64], 0);
+        loop {
+            let (room, length) = (edges.as_mut_ptr(), edges.len());
+            let call = unsafe { sys::hs_slicelet_permitted(place, at, room, length, &mut needed) };
+            match done(call) {
+                Ok(()) => return Ok(ranges_of(&edges[..needed])),
+                Err(refused) if refused.code() == Code::NO_ROOM => edges.resize(needed, 0),
+                Err(refused) => return Err(refused),
+            }
+        }
     }
 
     /// What the task does next about its leases, in a phase of the table. It does not ask before a lease ends: ask before
@@ -224,9 +252,13 @@ pub fn read_grant(job: &str, grant: &[u8]) -> Result<Grant, Refused> {
         }
     }
     let kind = Kind::from_number(out.kind).expect("a grant is of a kind");
-    let ranges = edges[..needed].chunks_exact(2).map(|it| it[0]..it[1]).collect();
+    let ranges = ranges_of(&edges[..needed]);
     let sys::hs_grant { number, task, life, generation, ends, table_ends, .. } = out;
     Ok(Grant { number, task, life, kind, generation, ends, table_ends, ranges })
+}
+
+fn ranges_of(edges: &[u64]) -> Vec<Range<u64>> {
+    edges.chunks_exact(2).map(|it| it[0]..it[1]).collect()
 }
 
 /// The note of a job that gives back all leases of a kind of a life that ended with its process. No process of the task in

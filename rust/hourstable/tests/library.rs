@@ -62,6 +62,7 @@ fn a_hand_over_as_in_job_c() {
     task.hear(&grant, 6).unwrap();
     let serving = task.serve(b"hello", 7).unwrap();
     assert_eq!((serving.kind(), serving.generation()), (Kind::Guard, 1));
+    assert_eq!((serving.number(), serving.until()), (1, 95));
     table.propose(1, &assignment(2, r#"[["0",[2]]]"#), 20).unwrap();
     let refused = table.commit(1, 21).unwrap_err();
     assert_eq!((refused.task(), refused.kind(), refused.number()), (1, Some(Kind::Guard), 1));
@@ -108,6 +109,8 @@ fn keys_that_are_not_owned() {
     refuses(task.serve(b"hello", 6), Code::NOT_OWNED, "not-owned 3");
     refuses(task.hold_at(HALF - 1, 6), Code::NOT_OWNED, "not-owned 3");
     assert_eq!(task.serve_at(HALF, 6).unwrap().generation(), 3);
+    assert_eq!(task.permitted(6).unwrap(), [HALF..2 * HALF]);
+    assert!(task.permitted(8).unwrap().is_empty());
     refuses(task.serve_at(2 * HALF, 6), Code::WRONG_FORM, "wrong-form");
 }
 
