@@ -10,6 +10,8 @@ from pathlib import Path
 HERE = Path(__file__).resolve().parent
 TOP = HERE.parents[1]
 PACKAGE = TOP / "python"
+ARCHIVE = TOP / "crates/hourstable_c/out/libhourstable_c.a"
+PROGRAM = TOP / "crates/hourstable/out/hourstable"
 NEEDED = {"aiohttp": "python3-aiohttp", "prometheus_client": "python3-prometheus-client"}
 
 
@@ -32,19 +34,46 @@ def run_with_packages() -> None:
 def library(made: Path) -> Path:
     """Returns the shared object of the library. It is that of HOURSTABLE_LIBRARY or beside the
     package, or is linked in the folder `made` from the archive that `rt lib` makes."""
-    given = os.environ.get("HOURSTABLE_LIBRARY")
-    beside = PACKAGE / "hourstable/libhourstable.so"
-    archive = TOP / "crates/hourstable_c/out/libhourstable_c.a"
-    if given:
-        return Path(given).resolve()
-    if beside.exists():
-        return beside
-    if not archive.exists():
+    found = _shared()
+    if found is not None:
+        return found
+    if not ARCHIVE.exists():
         raise Missing(
             "there is no libhourstable.so: run `rt lib` in crates/hourstable_c, which proves and"
             " builds it, or set HOURSTABLE_LIBRARY"
         )
-    return _linked(archive, made)
+    return _linked(ARCHIVE, made)
+
+
+def _shared() -> Path | None:
+    """Returns the shared object that was given or is beside the package."""
+    given = os.environ.get("HOURSTABLE_LIBRARY")
+    beside = PACKAGE / "hourstable/libhourstable.so"
+    if given:
+        return Path(given).resolve()
+    return beside if beside.exists() else None
+
+
+def build_missing(given: str | None) -> None:
+    """Proves and builds what the example lacks: the library, and the program that audits unless it
+    is given."""
+    crates = []
+    if _shared() is None and not ARCHIVE.exists():
+        crates.append((ARCHIVE, ["rt", "lib"]))
+    if _program(given) is None:
+        crates.append((PROGRAM, ["rt", "run", "--", "--version"]))
+    for made, words in crates:
+        folder = made.parents[1]
+        print(
+            f"{' '.join(words)} in {folder.relative_to(TOP)}: proves and builds it, once; from"
+            " nothing this takes most of an hour on four processors", flush=True,
+        )
+        try:
+            subprocess.run(words, cwd=folder, check=True, stdin=subprocess.DEVNULL)
+        except FileNotFoundError as why:
+            raise Missing("there is no rt: install the kit that README.md names") from why
+        except subprocess.CalledProcessError as why:
+            raise Missing(f"{' '.join(words)} in {folder} failed") from why
 
 
 def _linked(archive: Path, made: Path) -> Path:
@@ -70,13 +99,15 @@ def _said(words: list[str]) -> str:
 
 def program(given: str | None) -> Path:
     """Returns the program `hourstable`, which audits."""
-    built = TOP / "crates/hourstable/out/hourstable"
-    found = given or os.environ.get("HOURSTABLE_PROGRAM") or shutil.which("hourstable")
-    if found is None and built.exists():
-        found = str(built)
+    found = _program(given)
     if found is None:
         raise Missing(
             "there is no hourstable to audit with: run `rt run` in crates/hourstable, which proves"
             " and builds it, or say where by --hourstable"
         )
     return Path(found).resolve()
+
+
+def _program(given: str | None) -> str | None:
+    found = given or os.environ.get("HOURSTABLE_PROGRAM") or shutil.which("hourstable")
+    return found or (str(PROGRAM) if PROGRAM.exists() else None)
