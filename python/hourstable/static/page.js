@@ -29,6 +29,7 @@ const MEANINGS = {
 
 const at = (id) => document.getElementById(id);
 const known = {}; // what the places of the page show, as text
+const asked = { phase: "", at: 0, slices: null }; // the slices that were answered last
 let timer = 0;
 let turn = 0;
 
@@ -468,9 +469,10 @@ async function look(mine) {
 async function lookAt(mine, job, key) {
   const path = `/jobs/${encodeURIComponent(job)}`;
   const words = new URLSearchParams({ key });
-  const [leases, slices, told] = await Promise.all([
-    ask(`${path}/leases`), ask(`${path}/slices`), key ? ask(`${path}/key?${words}`) : null,
+  const [leases, told] = await Promise.all([
+    ask(`${path}/leases`), key ? ask(`${path}/key?${words}`) : null,
   ]);
+  const slices = await slicesOf(path, leases);
   if (mine !== turn) return;
   document.title = `${job} - Hourstable`;
   at("name").textContent = job;
@@ -483,6 +485,17 @@ async function lookAt(mine, job, key) {
   showDenials(leases);
   list("clocks", clocksOf(leases));
   tell(`As of ${new Date().toLocaleTimeString()}.`);
+}
+
+// The slices are asked for again if the phase has changed, and else every ten seconds, for their loads.
+async function slicesOf(path, leases) {
+  const phase = `${path} ${leases.committed} ${leases.proposed} ${leases.holder}`;
+  if (phase !== asked.phase || Date.now() > asked.at + 5 * EVERY) {
+    asked.slices = await ask(`${path}/slices`);
+    asked.phase = phase;
+    asked.at = Date.now();
+  }
+  return asked.slices;
 }
 
 function askForSecret() {
