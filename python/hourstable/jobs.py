@@ -193,6 +193,7 @@ class Job:
         self._seen: tuple[int, float] | None = None  # a version, and since when it stands
         self._changed = asyncio.Event()
         self._rows: list[library.Row] = []
+        self._owners: tuple[bytes | None, set[int]] = None, set()  # those of an assignment
         self.policy: Policy | None = None
         self.members: dict[str, Any] = {}
         self.view = View(0, 0, None)
@@ -312,10 +313,13 @@ class Job:
 
     def owners(self) -> set[int]:
         """Returns the tasks that own keys in the committed assignment."""
-        if self.view.assignment is None:
+        assignment = self.view.assignment
+        if assignment is None:
             return set()
-        slices = numbers_of(value_in(self.view.assignment))["slices"]
-        return {owner for _, owners in slices for owner in owners}
+        if self._owners[0] is not assignment:
+            slices = numbers_of(value_in(assignment))["slices"]
+            self._owners = assignment, {owner for _, owners in slices for owner in owners}
+        return set(self._owners[1])
 
     def rows(self) -> list[library.Row]:
         """Returns the open rows of the table, none if another plane holds it. While a call is not
