@@ -351,14 +351,14 @@ static void permits_ranges(void) {
     size_t needed = UNTOLD;
     memset(boundaries, '-', sizeof boundaries);
     IS(hs_slicelet_open(&task, JOB, 2), HS_DONE);
-    HOLDS(permits(&task, 5, NULL, 0));
+    HOLDS(permits(&task, 5, guards, 0));
     IS(hs_slicelet_start(&task, 1, 3), HS_DONE);
     IS(hear(&task, GRANT("guard", "1", "7", "[[0,5],[9,12]]", "2"), 5), HS_DONE);
-    HOLDS(permits(&task, 94, guards, 4) && permits(&task, 4, NULL, 0) && permits(&task, 95, NULL, 0));
+    HOLDS(permits(&task, 94, guards, 4) && permits(&task, 4, guards, 0) && permits(&task, 95, guards, 0));
     IS(hs_slicelet_permitted(&task, 5, boundaries, 3, &needed), HS_NO_ROOM);
     HOLDS(needed == 4 && are_dashes((uint8_t *)boundaries, sizeof boundaries));
     IS(hear(&task, bridge, 6), HS_DONE);
-    HOLDS(permits(&task, 94, both, 2) && permits(&task, 95, bridges, 2) && permits(&task, 99, NULL, 0));
+    HOLDS(permits(&task, 94, both, 2) && permits(&task, 95, bridges, 2) && permits(&task, 99, guards, 0));
     IS(hs_slicelet_release(&task, HS_GUARD, 7, out, sizeof out, &needed), HS_DONE);
     HOLDS(permits(&task, 7, bridges, 2));
     tells_apart(guards, both, bridges);
