@@ -345,15 +345,17 @@ class Plane:
 
     @web.middleware
     async def _around(self, request: web.Request, handler: Handler) -> web.StreamResponse:
-        """Checks the secret, observes the ticket, and counts."""
-        begun = time.monotonic()
-        if request.path not in PUBLIC and not self._knows(request):
+        """Checks the secret, observes the ticket, and counts. What is answered without a secret
+        observes no ticket, so that a stranger does not move those of the plane."""
+        begun, is_public = time.monotonic(), request.path in PUBLIC
+        if not is_public and not self._knows(request):
             self.metrics.unauthorized.inc()
             answer = failure(401, "the secret is missing or wrong")
             answer.headers["WWW-Authenticate"] = "Bearer"
             return answer
         try:
-            self.tickets.observe_text(request.headers.get(ticketing.HEADER))
+            if not is_public:
+                self.tickets.observe_text(request.headers.get(ticketing.HEADER))
         except ValueError as error:
             return failure(400, str(error))
         made = await self._answered(request, handler)

@@ -99,7 +99,7 @@ async def test_names_of_jobs(file: Store, tmp_path: Path) -> None:
     async with running(file, tmp_path / "logs") as (_, caller):
         for name, status in [
             ("j" * 64, 201), ("j" * 65, 400), ("shop-2.staging_A", 201), ("%C3%A9", 400),
-            ("a%2Fb", 400), ("..%2Fup", 400), ("..", 404), (".hidden", 400), ("a%00", 400),
+            ("a%2Fb", 400), ("..%2Fup", 400), ("..", 405), (".hidden", 400), ("a%00", 400),
         ]:
             caller.job = name
             assert (await caller.create()).status == status, name

@@ -20,6 +20,7 @@ import browser  # noqa: E402
 from hourstable import page  # noqa: E402
 from hourstable.store import SqliteStore, Store  # noqa: E402
 from hourstable.task import Denied, Task  # noqa: E402
+from hourstable.tickets import HEADER, real_milliseconds  # noqa: E402
 from serving import HALF, POLICY, Caller, assignment, running  # noqa: E402
 from test_command import SECRET, process  # noqa: E402
 
@@ -64,9 +65,12 @@ async def test_files_are_public_and_data_are_not(file: Store, tmp_path: Path) ->
             assert told.headers["X-Content-Type-Options"] == "nosniff"
         for path in ("/overview", "/jobs", "/jobs/shop/leases", "/jobs/shop/key?key=a"):
             assert (await caller.ask("GET", path)).status == 401, path
+        ahead = (real_milliseconds() + 3_600_000) << 16
+        await caller.ask("GET", "/", headers={HEADER: str(ahead)})
         headers = {"Authorization": f"Bearer {SECRET}"}
         told = await caller.ask("GET", "/overview", headers=headers)
         assert (told.status, told.json) == (200, {"jobs": []})
+        assert int(told.headers[HEADER]) < ahead  # a stranger does not move the tickets
 
 
 def test_the_html_has_no_script_or_style_of_its_own() -> None:
