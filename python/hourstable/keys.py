@@ -108,8 +108,9 @@ class KeyTold:
         told += [self._denied(it) for it in self.verdicts if not it.served and self._matters(it)]
         rest = sum(not it.served and not self._matters(it) for it in self.verdicts)
         if rest:
-            which = "1 other task is" if rest == 1 else f"{rest} other tasks are"
-            told.append(f"{which} denied: no lease that runs covers the key for them.")
+            which = "1 other task is denied: none of its" if rest == 1 else (
+                f"{rest} other tasks are denied: none of their")
+            told.append(f"{which} leases that run covers the key.")
         return told
 
     def _matters(self, verdict: Verdict) -> bool:
