@@ -106,7 +106,7 @@ class Process:
         return status
 
 
-def wait_for(url: str, process: Process, seconds: float = 30.0) -> None:
+def wait_for(url: str, process: Process, seconds: float = 120.0) -> None:
     """Waits until a process answers."""
     end = time.monotonic() + seconds
     while time.monotonic() < end:

@@ -167,7 +167,9 @@ class Plane:
             await self._runner.cleanup()
         settling = [asyncio.create_task(self._settle(one.job)) for one in self.jobs.values()]
         if settling:
-            await asyncio.wait(settling, timeout=self.limits.patience)
+            _, late = await asyncio.wait(settling, timeout=self.limits.patience)
+            for one in late:
+                one.cancel()
         for followed in self.jobs.values():
             followed.job.close()
         self._pool.shutdown(wait=False, cancel_futures=True)

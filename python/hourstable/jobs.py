@@ -576,7 +576,9 @@ class Job:
         return value
 
     def close(self) -> None:
-        """Closes the table and the log."""
+        """Closes the table and the log. Calls that still wait are not answered."""
+        if self._working is not None:
+            self._working.cancel()
         self.drop()
         if self._log is not None:
             self._log.close()

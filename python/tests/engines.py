@@ -12,7 +12,7 @@ from collections.abc import Callable
 from pathlib import Path
 
 POSTGRESQL = Path("/usr/lib/postgresql/15/bin")
-PATIENCE = 30.0
+PATIENCE = 120.0  # a server that was killed replays its log, perhaps beside much other work
 
 
 def missing(kind: str) -> str | None:
