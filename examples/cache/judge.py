@@ -1,5 +1,11 @@
-"""Judges what tasks wrote and what clients were told. It knows nothing of Hourstable: it reads the
+"""Judges what tasks did and what clients were told. It knows nothing of Hourstable: it reads the
 spans of the tasks, the acknowledgements of the clients and the shelf, whose times are of one clock.
+
+It finds only what showed. A task that answers after the end of its lease shows if clients still
+ask it while others ask the new owner: both the task and some clients are cut off from the control
+planes. A commit that does not wait for a bridge lease shows if the task that holds it is cut off
+just then, and a second change gives its keys away before that lease ends. Most runs have neither,
+so the audit finds bugs that this check does not.
 """
 
 import json
