@@ -1,4 +1,5 @@
 //! The calls of the library, with expected values that were worked out by hand, or are those of `examples/c`.
+use std::ops::Range;
 use std::sync::RwLock;
 use std::thread;
 
@@ -109,7 +110,7 @@ fn keys_that_are_not_owned() {
     refuses(task.serve(b"hello", 6), Code::NOT_OWNED, "not-owned 3");
     refuses(task.hold_at(HALF - 1, 6), Code::NOT_OWNED, "not-owned 3");
     assert_eq!(task.serve_at(HALF, 6).unwrap().generation(), 3);
-    assert_eq!(task.permitted(6).unwrap(), [HALF..2 * HALF]);
+    assert_eq!(task.permitted(6).unwrap(), [Range { start: HALF, end: 2 * HALF }]);
     assert!(task.permitted(8).unwrap().is_empty());
     refuses(task.serve_at(2 * HALF, 6), Code::WRONG_FORM, "wrong-form");
 }
