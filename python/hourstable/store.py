@@ -19,8 +19,9 @@ import threading
 import time
 import urllib.parse
 from abc import ABC, abstractmethod
+from collections import deque
 from collections.abc import Callable, Iterator
-from contextlib import contextmanager
+from contextlib import contextmanager, suppress
 from typing import Any, NamedTuple
 
 PATIENCE = 5.0  # seconds that an engine may take
@@ -133,13 +134,34 @@ def _lives_of(text: str) -> dict[int, Life]:
     return {int(task): Life(*life) for task, life in json.loads(text).items()}
 
 
+class _Write:
+    """A write that waits for its turn, and then what came of it."""
+
+    def __init__(self, statement: str, values: tuple[object, ...]) -> None:
+        self.statement, self.values = statement, values
+        self.count: int | None = None  # of the rows that were written, once it is done
+        self.error: Exception | None = None
+
+    def is_done(self) -> bool:
+        return self.count is not None or self.error is not None
+
+    def outcome(self) -> int:
+        if self.error is not None:
+            raise self.error
+        assert self.count is not None
+        return self.count
+
+
 class SqliteStore(Store):
-    """A store in a file, for control planes on one host. A write is synced before it returns."""
+    """A store in a file, for control planes on one host. A write is synced before it returns.
+
+    Writes that come during another one are done in one transaction, with one sync."""
 
     several = False
 
     def __init__(self, path: str) -> None:
         self._lock = threading.Lock()
+        self._waiting: deque[_Write] = deque()
         try:
             self._connection = sqlite3.connect(
                 path, timeout=PATIENCE, isolation_level=None, check_same_thread=False
@@ -153,39 +175,72 @@ class SqliteStore(Store):
         except sqlite3.Error as error:
             raise StoreFailed(f"SQLite: {error}") from error
 
-    def _run(self, statement: str, *values: object) -> tuple[list[Any], int]:
+    def _read(self, statement: str, *values: object) -> list[Any]:
         with self._lock:
             try:
-                cursor = self._connection.execute(statement, values)
-                return cursor.fetchall(), cursor.rowcount
-            except sqlite3.IntegrityError as error:
-                raise Conflict(str(error)) from error
+                return self._connection.execute(statement, values).fetchall()
             except sqlite3.Error as error:
                 raise StoreFailed(f"SQLite: {error}") from error
 
+    def _write(self, statement: str, *values: object) -> int:
+        """Returns how many rows were written. Raises Conflict at a row that is there already."""
+        mine = _Write(statement, values)
+        self._waiting.append(mine)
+        with self._lock:
+            if not mine.is_done():
+                self._write_waiting()
+        return mine.outcome()
+
+    def _write_waiting(self) -> None:
+        """Does all writes that wait, this thread's among them. After an error none of them is known
+        to be done."""
+        writes = [self._waiting.popleft() for _ in range(len(self._waiting))]
+        try:
+            self._connection.execute("BEGIN IMMEDIATE")
+            counts = [self._try(write) for write in writes]
+            self._connection.execute("COMMIT")
+        except Exception as error:
+            for write in writes:
+                write.error = StoreFailed(f"SQLite: {error}")
+            with suppress(sqlite3.Error):
+                self._connection.rollback()
+            return
+        for write, count in zip(writes, counts):
+            if isinstance(count, Conflict):
+                write.error = count
+            else:
+                write.count = count
+
+    def _try(self, write: _Write) -> int | Conflict:
+        """Does a write of the transaction. One that meets a row that is there does nothing."""
+        try:
+            return self._connection.execute(write.statement, write.values).rowcount
+        except sqlite3.IntegrityError as error:
+            return Conflict(str(error))
+
     def jobs(self) -> list[str]:
-        return [job for job, in self._run("SELECT job FROM jobs ORDER BY job")[0]]
+        return [job for job, in self._read("SELECT job FROM jobs ORDER BY job")]
 
     def create(self, job: str, policy: str, kept: bytes) -> int:
-        self._run(
+        self._write(
             "INSERT INTO jobs VALUES (?, 1, ?, ?, NULL, '{}')", job, policy, kept.decode()
         )
         return 1
 
     def load(self, job: str) -> Stored | None:
         select = "SELECT version, policy, kept, line FROM jobs WHERE job = ?"
-        return _stored_in(self._run(select, job)[0])
+        return _stored_in(self._read(select, job))
 
     def version(self, job: str) -> int | None:
-        rows = self._run("SELECT version FROM jobs WHERE job = ?", job)[0]
+        rows = self._read("SELECT version FROM jobs WHERE job = ?", job)
         return int(rows[0][0]) if rows else None
 
     def swap(self, job: str, version: int, kept: bytes, line: str | None) -> int:
-        count = self._run(
+        count = self._write(
             "UPDATE jobs SET version = version + 1, kept = ?, line = ?"
             " WHERE job = ? AND version = ?",
             kept.decode(), line, job, version,
-        )[1]
+        )
         return _after_swap(job, version, count)
 
     def close(self) -> None:
@@ -193,11 +248,11 @@ class SqliteStore(Store):
             self._connection.close()
 
     def _read_lives(self, job: str) -> tuple[str, Any]:
-        return _lives_in(job, self._run("SELECT lives FROM jobs WHERE job = ?", job)[0])
+        return _lives_in(job, self._read("SELECT lives FROM jobs WHERE job = ?", job))
 
     def _swap_lives(self, job: str, compared: Any, lives: str) -> bool:
         update = "UPDATE jobs SET lives = ? WHERE job = ? AND lives = ?"
-        return self._run(update, lives, job, compared)[1] == 1
+        return self._write(update, lives, job, compared) == 1
 
 
 def _stored_in(rows: list[Any]) -> Stored | None:

@@ -1,10 +1,14 @@
 """Each store: what is written is read, of two writers one writes, and no life is given twice."""
 
+import sqlite3
 import subprocess
 import sys
 import threading
+import time
 from collections import Counter
-from concurrent.futures import ThreadPoolExecutor
+from collections.abc import Callable
+from concurrent.futures import Future, ThreadPoolExecutor
+from contextlib import closing
 from pathlib import Path
 
 import pytest
@@ -12,7 +16,8 @@ import pytest
 import engines
 from conftest import folder_for_engines
 from hourstable.store import (
-    LAST_LIFE, Conflict, Life, LivesSpent, NoSuchJob, Store, Stored, StoreFailed, open_store,
+    LAST_LIFE, Conflict, Life, LivesSpent, NoSuchJob, SqliteStore, Store, Stored, StoreFailed,
+    open_store,
 )
 
 POLICY = '{"guard":1000}'
@@ -235,3 +240,68 @@ def test_a_process_with_many_open_files(url: str, job: str) -> None:
     words = [sys.executable, "-c", MANY_FILES, url, job]
     ran = subprocess.run(words, capture_output=True, text=True, check=False)
     assert (ran.stdout, ran.stderr) == ("True\n", "")
+
+
+def written_at_once(
+    path: Path, store: SqliteStore, writes: list[Callable[[], int]]
+) -> list[Future[int]]:
+    """Makes the first write, and the others while it waits for another one's transaction."""
+    said: list[str] = []
+    store._connection.set_trace_callback(said.append)
+    with (
+        closing(sqlite3.connect(path, isolation_level=None)) as other,
+        ThreadPoolExecutor(len(writes)) as pool,
+    ):
+        other.execute("BEGIN IMMEDIATE")
+        futures = [pool.submit(writes[0])]
+        wait_until(lambda: "BEGIN IMMEDIATE" in said)
+        futures += map(pool.submit, writes[1:])
+        wait_until(lambda: len(store._waiting) == len(writes) - 1)
+        other.execute("ROLLBACK")
+    assert said.count("BEGIN IMMEDIATE") == 2
+    return futures
+
+
+def wait_until(holds: Callable[[], bool]) -> None:
+    end = time.monotonic() + 5
+    while not holds():
+        assert time.monotonic() < end
+        time.sleep(0.001)
+
+
+def test_writes_of_sqlite_that_wait_share_a_transaction(tmp_path: Path) -> None:
+    with closing(SqliteStore(str(tmp_path / "jobs.sqlite"))) as store:
+        for job in "abc":
+            store.create(job, "policy", b"kept")
+        done, one, old, again, new = written_at_once(tmp_path / "jobs.sqlite", store, [
+            lambda: store.swap("a", 1, b"first", None),
+            lambda: store.swap("b", 1, b"second", "line"),
+            lambda: store.swap("c", 2, b"of a version that is not there", None),
+            lambda: store.create("c", "policy", b"again"),
+            lambda: store.create("d", "policy", b"new"),
+        ])
+        assert (done.result(), one.result(), new.result()) == (2, 2, 1)
+        for refused in (old, again):
+            with pytest.raises(Conflict):
+                refused.result()
+        assert store.jobs() == ["a", "b", "c", "d"]
+        assert store.load("b") == Stored(2, "policy", b"second", "line")
+        assert store.load("c") == Stored(1, "policy", b"kept", None)
+
+
+def test_a_transaction_of_sqlite_that_fails_writes_nothing(tmp_path: Path) -> None:
+    with closing(SqliteStore(str(tmp_path / "jobs.sqlite"))) as store:
+        for job in "abc":
+            store.create(job, "policy", b"kept")
+        store._connection.execute("PRAGMA max_page_count = 10")
+        done, small, large = written_at_once(tmp_path / "jobs.sqlite", store, [
+            lambda: store.swap("a", 1, b"first", None),
+            lambda: store.swap("b", 1, b"second", None),
+            lambda: store.swap("c", 1, b"x" * 1_000_000, None),
+        ])
+        assert done.result() == 2
+        for failed in (small, large):
+            with pytest.raises(StoreFailed):
+                failed.result()
+        assert [store.version(job) for job in "abc"] == [2, 1, 1]
+        assert store.swap("b", 1, b"second", None) == 2
