@@ -25,7 +25,7 @@ def lay(folder: Path, packages: Path) -> None:
     """What a trial needs: the packages, the scripts, and examples with what they print."""
     shutil.copytree(packages, folder / "packages")
     shutil.copytree(PARTS, folder / "parts", ignore=shutil.ignore_patterns("__pycache__"))
-    for path in tracked("examples/c", "examples/python", "examples/scripts"):
+    for path in tracked("examples/c", "examples/python", "examples/scripts", "examples/cache", "python/tests/engines.py"):
         (folder / path).parent.mkdir(parents=True, exist_ok=True)
         shutil.copy(TOP / path, folder / path)
     shutil.copytree(TOP / "crates/slicer_live", folder / "examples/slicer_live", ignore=shutil.ignore_patterns("out"))

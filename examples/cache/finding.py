@@ -9,7 +9,6 @@ from pathlib import Path
 
 HERE = Path(__file__).resolve().parent
 TOP = HERE.parents[1]
-PACKAGE = TOP / "python"
 ARCHIVE = TOP / "crates/hourstable_c/out/libhourstable_c.a"
 PROGRAM = TOP / "crates/hourstable/out/hourstable"
 NEEDED = {"aiohttp": "python3-aiohttp", "prometheus_client": "python3-prometheus-client"}
@@ -17,6 +16,17 @@ NEEDED = {"aiohttp": "python3-aiohttp", "prometheus_client": "python3-prometheus
 
 class Missing(Exception):
     """Something that the example cannot do without."""
+
+
+def package() -> Path:
+    """Returns the folder that has the package `hourstable`: that of this checkout, or, where only
+    the examples are, the one that a wheel was installed in."""
+    beside = TOP / "python"
+    found = None if (beside / "hourstable").exists() else importlib.util.find_spec("hourstable")
+    return Path(found.origin).resolve().parents[1] if found and found.origin else beside
+
+
+PACKAGE = package()
 
 
 def run_with_packages() -> None:
