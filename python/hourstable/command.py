@@ -59,7 +59,7 @@ def parser() -> argparse.ArgumentParser:
 def _control_words(words: argparse.ArgumentParser) -> None:
     words.set_defaults(run=_control)
     words.add_argument("--store", required=True, metavar="URL",
-                       help="sqlite:FILE, postgresql://.. or etcd://HOST:PORT")
+                       help="sqlite:FILE, postgresql://.., etcd://HOST:PORT,.. or etcds://..")
     words.add_argument("--listen", required=True, metavar="HOST:PORT")
     words.add_argument("--logs", required=True, metavar="FOLDER",
                        help="for the logs of all jobs, and the ticket of this process")

@@ -15,12 +15,13 @@ import os
 import queue
 import random
 import sqlite3
+import ssl
 import threading
 import time
 import urllib.parse
 from abc import ABC, abstractmethod
 from collections import deque
-from collections.abc import Callable, Iterator
+from collections.abc import Callable, Iterator, Sequence
 from contextlib import contextmanager, suppress
 from typing import Any, NamedTuple
 
@@ -387,19 +388,35 @@ def _psycopg() -> Any:
 
 class EtcdStore(Store):
     """A store in three keys a job of etcd: /hourstable/policy/JOB, /hourstable/table/JOB and
-    /hourstable/lives/JOB. A version is the revision at which the second was written."""
+    /hourstable/lives/JOB. A version is the revision at which the second was written.
+
+    It asks one of the members, and another one after that one failed."""
 
     POLICY, TABLE, LIVES = "/hourstable/policy/", "/hourstable/table/", "/hourstable/lives/"
 
-    def __init__(self, host: str, port: int) -> None:
-        self._host, self._port = host, port
+    def __init__(
+        self, members: Sequence[tuple[str, int]], tls: ssl.SSLContext | None = None
+    ) -> None:
+        self._members, self._tls = deque(members), tls
         self._idle: queue.LifoQueue[http.client.HTTPConnection] = queue.LifoQueue()
+
+    def _connect(self) -> http.client.HTTPConnection:
+        host, port = self._members[0]
+        if self._tls is None:
+            return http.client.HTTPConnection(host, port, timeout=PATIENCE)
+        return http.client.HTTPSConnection(host, port, timeout=PATIENCE, context=self._tls)
+
+    def _leave(self, connection: http.client.HTTPConnection) -> None:
+        """Closes a connection that failed, and asks another member from now on."""
+        connection.close()
+        if self._members[0] == (connection.host, connection.port):
+            self._members.rotate(-1)
 
     def _ask(self, call: str, body: dict[str, Any]) -> dict[str, Any]:
         try:
             connection = self._idle.get_nowait()
         except queue.Empty:
-            connection = http.client.HTTPConnection(self._host, self._port, timeout=PATIENCE)
+            connection = self._connect()
         try:
             connection.request("POST", f"/v3/kv/{call}", json.dumps(body))
             answer = connection.getresponse()
@@ -408,10 +425,10 @@ class EtcdStore(Store):
                 raise StoreFailed(f"etcd: {answer.status} {text[:200]!r}")
             told: dict[str, Any] = json.loads(text)
         except (OSError, http.client.HTTPException, ValueError) as error:
-            connection.close()
+            self._leave(connection)
             raise StoreFailed(f"etcd: {error!r}") from error
         except BaseException:
-            connection.close()
+            self._leave(connection)
             raise
         self._idle.put(connection)
         return told
@@ -506,15 +523,43 @@ def _text(encoded: str) -> str:
     return base64.b64decode(encoded).decode()
 
 
+def _etcd_of(url: urllib.parse.SplitResult) -> EtcdStore:
+    """Returns the store of etcd://HOST:PORT,.. or etcds://HOST:PORT,..?ca=FILE&cert=FILE&key=FILE.
+    Raises ValueError."""
+    members = [urllib.parse.urlsplit(f"//{member}") for member in url.netloc.split(",")]
+    if url.path or url.fragment or not all(it.hostname and "@" not in it.netloc for it in members):
+        raise ValueError("no members")
+    files = dict(urllib.parse.parse_qsl(url.query, strict_parsing=bool(url.query)))
+    if not files.keys() <= ({"ca", "cert", "key"} if url.scheme == "etcds" else set()):
+        raise ValueError("other words")
+    tls = _tls_of(files) if url.scheme == "etcds" else None
+    return EtcdStore([(str(it.hostname), it.port or 2379) for it in members], tls)
+
+
+def _tls_of(files: dict[str, str]) -> ssl.SSLContext:
+    try:
+        tls = ssl.create_default_context(cafile=files.get("ca"))
+        tls.minimum_version = ssl.TLSVersion.TLSv1_2
+        if "cert" in files:
+            tls.load_cert_chain(files["cert"], files.get("key"))
+        return tls
+    except OSError as error:
+        raise StoreFailed(f"etcd: {error}") from error
+
+
 def open_store(url: str) -> Store:
-    """Returns the store of a URL: sqlite:FILE, postgresql://.. as libpq reads it, or
-    etcd://HOST:PORT. Raises ValueError if it is another, and StoreFailed."""
+    """Returns the store of a URL: sqlite:FILE, postgresql://.. as libpq reads it,
+    etcd://HOST:PORT,.. of one or several members, or etcds://HOST:PORT,.. with
+    ?ca=FILE&cert=FILE&key=FILE if the system's authorities do not sign them, or they want a
+    certificate. Raises ValueError if it is another, and StoreFailed."""
     kind, _, rest = url.partition(":")
     if kind == "sqlite" and rest:
         return SqliteStore(rest)
     if kind in ("postgresql", "postgres"):
         return PostgresqlStore(url)
-    parts = urllib.parse.urlsplit(url)
-    if kind == "etcd" and parts.hostname and not (parts.path or parts.query or parts.username):
-        return EtcdStore(parts.hostname, parts.port or 2379)
-    raise ValueError(f"{url!r} is no store: sqlite:FILE, postgresql://.. or etcd://HOST:PORT")
+    if kind in ("etcd", "etcds"):
+        with suppress(ValueError):
+            return _etcd_of(urllib.parse.urlsplit(url))
+    raise ValueError(
+        f"{url!r} is no store: sqlite:FILE, postgresql://.., etcd://HOST:PORT or etcds://HOST:PORT"
+    )

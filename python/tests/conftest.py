@@ -1,6 +1,7 @@
 """Fixtures: a store of each kind, over an engine that runs as long as the tests."""
 
 import shutil
+import subprocess
 import tempfile
 from collections.abc import Callable, Iterator
 from contextlib import ExitStack, contextmanager
@@ -63,3 +64,23 @@ def job(request: pytest.FixtureRequest) -> str:
     """A name that no other test uses: engines outlast tests."""
     job.number = getattr(job, "number", 0) + 1  # type: ignore[attr-defined]
     return f"job-{job.number}"  # type: ignore[attr-defined]
+
+
+@pytest.fixture
+def certificates(tmp_path: Path) -> Path:
+    """An authority, and a certificate of it for a plane and for a caller."""
+    if shutil.which("openssl") is None:
+        pytest.skip("there is no openssl")
+
+    def run(*words: str) -> None:
+        subprocess.run(["openssl", *words], cwd=tmp_path, check=True, capture_output=True)
+
+    run("req", "-x509", "-newkey", "rsa:2048", "-nodes", "-keyout", "ca.key", "-out", "ca.pem",
+        "-subj", "/CN=authority", "-days", "2")
+    (tmp_path / "names").write_text("subjectAltName=IP:127.0.0.1\n")
+    for name in ("plane", "caller"):
+        run("req", "-newkey", "rsa:2048", "-nodes", "-keyout", f"{name}.key", "-out", f"{name}.csr",
+            "-subj", f"/CN={name}")
+        run("x509", "-req", "-in", f"{name}.csr", "-CA", "ca.pem", "-CAkey", "ca.key",
+            "-CAcreateserial", "-out", f"{name}.pem", "-days", "2", "-extfile", "names")
+    return tmp_path

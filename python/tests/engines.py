@@ -6,6 +6,7 @@ import pwd
 import shutil
 import signal
 import socket
+import ssl
 import subprocess
 import time
 from collections.abc import Callable
@@ -136,21 +137,54 @@ def _takes_postgresql(url: str) -> bool:
 
 
 def etcd(folder: Path) -> Engine:
+    return etcd_members(folder, 1)[0]
+
+
+def etcd_members(folder: Path, count: int) -> list[Engine]:
+    """The members of a cluster. None of them is ready before most of them run."""
+    ports, peers = ([free_port() for _ in range(count)] for _ in range(2))
+    cluster = ",".join(f"member{at}=http://127.0.0.1:{peer}" for at, peer in enumerate(peers))
+    return [
+        _member(folder / f"member{at}", "http", port, [
+            "--name", f"member{at}", "--initial-cluster", cluster,
+            "--listen-peer-urls", f"http://127.0.0.1:{peer}",
+            "--initial-advertise-peer-urls", f"http://127.0.0.1:{peer}",
+        ])
+        for at, (port, peer) in enumerate(zip(ports, peers))
+    ]
+
+
+def etcd_with_tls(folder: Path, ca: Path, certificate: Path, key: Path) -> Engine:
+    """A member that wants a certificate of its callers."""
+    peer = f"http://127.0.0.1:{free_port()}"
+    words = [
+        "--initial-cluster", f"default={peer}", "--listen-peer-urls", peer,
+        "--initial-advertise-peer-urls", peer, "--client-cert-auth",
+        "--trusted-ca-file", str(ca), "--cert-file", str(certificate), "--key-file", str(key),
+    ]
+    tls = ssl.create_default_context(cafile=str(ca))
+    tls.load_cert_chain(certificate, key)
+    return _member(folder, "https", free_port(), words, tls)
+
+
+def _member(
+    folder: Path, scheme: str, port: int, words: list[str], tls: ssl.SSLContext | None = None
+) -> Engine:
     folder.mkdir(parents=True)
-    port, peer = free_port(), free_port()
+    url = f"{scheme}://127.0.0.1:{port}"
     words = [
         "etcd", "--data-dir", str(folder / "data"),
-        "--listen-client-urls", f"http://127.0.0.1:{port}",
-        "--advertise-client-urls", f"http://127.0.0.1:{port}",
-        "--listen-peer-urls", f"http://127.0.0.1:{peer}",
-        "--initial-advertise-peer-urls", f"http://127.0.0.1:{peer}",
-        "--initial-cluster", f"default=http://127.0.0.1:{peer}",
+        "--listen-client-urls", url, "--advertise-client-urls", url, *words,
     ]
-    return Engine(words, None, folder, f"etcd://127.0.0.1:{port}", lambda: _takes_etcd(port))
+    store = url.replace("http", "etcd")
+    return Engine(words, None, folder, store, lambda: _takes_etcd(port, tls))
 
 
-def _takes_etcd(port: int) -> bool:
-    connection = http.client.HTTPConnection("127.0.0.1", port, timeout=2)
+def _takes_etcd(port: int, tls: ssl.SSLContext | None) -> bool:
+    if tls is None:
+        connection = http.client.HTTPConnection("127.0.0.1", port, timeout=2)
+    else:
+        connection = http.client.HTTPSConnection("127.0.0.1", port, timeout=2, context=tls)
     try:
         connection.request("GET", "/health")
         return b'"true"' in connection.getresponse().read()

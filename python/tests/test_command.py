@@ -118,26 +118,6 @@ async def test_a_drain(tmp_path: Path) -> None:
             assert await asyncio.to_thread(main, [*drain[:-1], "65"]) == 2
 
 
-@pytest.fixture
-def certificates(tmp_path: Path) -> Path:
-    """An authority, and a certificate of it for a plane and for a caller."""
-    if shutil.which("openssl") is None:
-        pytest.skip("there is no openssl")
-
-    def run(*words: str) -> None:
-        subprocess.run(["openssl", *words], cwd=tmp_path, check=True, capture_output=True)
-
-    run("req", "-x509", "-newkey", "rsa:2048", "-nodes", "-keyout", "ca.key", "-out", "ca.pem",
-        "-subj", "/CN=authority", "-days", "2")
-    (tmp_path / "names").write_text("subjectAltName=IP:127.0.0.1\n")
-    for name in ("plane", "caller"):
-        run("req", "-newkey", "rsa:2048", "-nodes", "-keyout", f"{name}.key", "-out", f"{name}.csr",
-            "-subj", f"/CN={name}")
-        run("x509", "-req", "-in", f"{name}.csr", "-CA", "ca.pem", "-CAkey", "ca.key",
-            "-CAcreateserial", "-out", f"{name}.pem", "-days", "2", "-extfile", "names")
-    return tmp_path
-
-
 def test_callers_with_certificates(certificates: Path) -> None:
     at = str(certificates)
     words = ["--store", f"sqlite:{at}/jobs", "--logs", f"{at}/logs",

@@ -8,7 +8,7 @@ import time
 from collections import Counter
 from collections.abc import Callable
 from concurrent.futures import Future, ThreadPoolExecutor
-from contextlib import closing
+from contextlib import ExitStack, closing, suppress
 from pathlib import Path
 
 import pytest
@@ -205,8 +205,69 @@ def test_an_engine_that_is_killed(kind: str) -> None:
         store.close()
 
 
+def test_a_member_of_etcd_that_is_killed() -> None:
+    why = engines.missing("etcd")
+    if why:
+        pytest.skip(why)
+    with folder_for_engines() as top, ExitStack() as stack:
+        members = engines.etcd_members(top / "etcd", 3)
+        for member in members:
+            stack.callback(member.kill)
+        with ThreadPoolExecutor(len(members)) as pool:
+            list(pool.map(engines.Engine.start, members))
+        hosts = ",".join(member.url.removeprefix("etcd://") for member in members)
+        store = stack.enter_context(closing(open_store(f"etcd://{hosts}")))
+        before = Stored(store.create("shop", POLICY, b"kept"), POLICY, b"kept", None)
+        for at, member in enumerate(members):
+            member.kill()
+            after = written_surely(store, before, b"%d" % at)
+            assert after.version > before.version and after.kept == b"%d" % at
+            before = after
+            member.start()
+
+
+def written_surely(store: Store, before: Stored, kept: bytes) -> Stored:
+    """Writes over what is stored, again while the members choose who leads them. A write that
+    failed may have been done."""
+    for _ in range(20):
+        with suppress(StoreFailed):
+            loaded = store.load("shop")
+            assert loaded is not None
+            if loaded.kept == kept:
+                return loaded
+            assert loaded == before
+            store.swap("shop", loaded.version, kept, None)
+        time.sleep(0.1)
+    raise AssertionError("no member answers")
+
+
+def test_etcd_that_wants_certificates(certificates: Path) -> None:
+    why = engines.missing("etcd")
+    if why:
+        pytest.skip(why)
+    ca, plane, caller = (certificates / name for name in ("ca.pem", "plane", "caller"))
+    keys = f"cert={caller}.pem&key={caller}.key"
+    with folder_for_engines() as top, engines.etcd_with_tls(
+        top / "etcd", ca, plane.with_suffix(".pem"), plane.with_suffix(".key")
+    ) as engine:
+        assert engine.url.startswith("etcds://")
+        with closing(open_store(f"{engine.url}?ca={ca}&{keys}")) as store:
+            version = store.create("shop", POLICY, b"kept")
+            assert store.load("shop") == Stored(version, POLICY, b"kept", None)
+        without_tls = engine.url.replace("etcds", "etcd")
+        for url in (f"{engine.url}?ca={ca}", f"{engine.url}?{keys}", without_tls):
+            with closing(open_store(url)) as store, pytest.raises(StoreFailed):
+                store.load("shop")
+    with pytest.raises(StoreFailed):
+        open_store(f"etcds://127.0.0.1:1?ca={ca}.missing")
+
+
 def test_urls_that_are_no_store() -> None:
-    for url in ("", "sqlite:", "mysql://host/db", "etcd://", "etcd://host:1/path", "jobs.sqlite"):
+    for url in (
+        "", "sqlite:", "jobs.sqlite", "mysql://host/db", "etcd://", "etcd://host:1/path",
+        "etcd://host:1?ca=ca.pem", "etcd://host:1,", "etcd://host:port", "etcd://user@host:1",
+        "etcds://host:1?name=value",
+    ):
         with pytest.raises(ValueError):
             open_store(url)
 
