@@ -14,6 +14,8 @@ use Rattle.lease_table.specs.declared.kept.KeptFault.{KeptFault}
 use Rattle.lease_table.specs.declared.kept.KeptFault.TheVariants as kept
 use Rattle.weighted_move.specs.declared.error.PlanError.{PlanError}
 use Rattle.weighted_move.specs.declared.error.PlanError.TheVariants as planning
+use Rattle.load_ledger.specs.declared.error.LoadError.{LoadError}
+use Rattle.load_ledger.specs.declared.error.LoadError.TheVariants as loads
 use Rattle.clocks.specs.declared.refusal.ClockRefusal.{ClockRefusal}
 use Rattle.clocks.specs.declared.refusal.ClockRefusal.TheVariants as clock
 use Rattle.wire.specs.declared.fault.Refusal.{Refusal}
@@ -84,6 +86,11 @@ kept_number kept.Generation = pos 42
 kept_number kept.TooManyGrants = pos 43
 kept_number kept.DeadlineRange = pos 44
 
+-- why records of work are not counted
+abbrev pub load_number : LoadError → ℤ
+load_number loads.WeightRange = pos 45
+load_number loads.TotalRange = pos 46
+
 -- why pairs make no set of keys
 abbrev pub ranges_number : RangesError → ℤ
 ranges_number pairs.PastEnd = negsuc 6
@@ -129,6 +136,7 @@ answer_number (answer.OldGeneration generation) = pos 28
 answer_number answer.Unknown = pos 29
 answer_number answer.NotAdopted = pos 30
 answer_number (answer.Plan why) = plan_number why
+answer_number (answer.Load why) = load_number why
 answer_number answer.NoMemory = negsuc 0
 answer_number answer.NoRoom = negsuc 1
 answer_number (answer.Unread why) = unread_number why

@@ -5,12 +5,14 @@ ghost use Rattle.c_numbers.specs.Numbers.{answer_number};
 ghost use Rattle.c_numbers.specs.Told.{answer_told, ground_told, lease_told, slicelet_told, table_told};
 
 use crate::refusals::{
-    clock_number, ground_number, kept_number, plan_number, slicelet_number, table_number,
+    clock_number, ground_number, kept_number, load_number, plan_number, slicelet_number,
+    table_number,
 };
 use crate::told::{LeaseTold, Told, kind_number};
 use crate::unread::unread_number;
 use clocks::ClockRefusal;
 use lease_table::{KeptFault, TableError};
+use load_ledger::LoadError;
 use policy_rules::Ground;
 use slicelet::SliceletError;
 use weighted_move::PlanError;
@@ -47,6 +49,8 @@ pub enum Answer {
     NotAdopted,
     /// The planner refused the call.
     Plan(PlanError),
+    /// Records of work are not counted.
+    Load(LoadError),
     /// Out of memory.
     NoMemory,
     /// The buffer is too short.
@@ -80,6 +84,7 @@ impl Answer {
             Answer::Unknown => 29,
             Answer::NotAdopted => 30,
             Answer::Plan(error) => plan_number(error),
+            Answer::Load(error) => load_number(error),
             Answer::NoMemory => -1,
             Answer::NoRoom => -2,
             Answer::Unread(refusal) => unread_number(refusal),

@@ -1,10 +1,11 @@
 //! Codes for refusals.
 
 ghost use Rattle.std.specs.Prelude.{◌≡◌};
-ghost use Rattle.c_numbers.specs.Numbers.{clock_number, ground_number, kept_number, plan_number, slicelet_number, table_number};
+ghost use Rattle.c_numbers.specs.Numbers.{clock_number, ground_number, kept_number, load_number, plan_number, slicelet_number, table_number};
 
 use clocks::ClockRefusal;
 use lease_table::{KeptFault, TableError};
+use load_ledger::LoadError;
 use policy_rules::Ground;
 use slicelet::SliceletError;
 use weighted_move::PlanError;
@@ -103,5 +104,15 @@ pub fn clock_number(refusal: ClockRefusal) -> i32
         ClockRefusal::TooOld => 36,
         ClockRefusal::TooLarge => 37,
         ClockRefusal::NotYet { until: _ } => 38,
+    }
+}
+
+/// Returns the code for why records of work are not counted.
+pub fn load_number(error: LoadError) -> i32
+    ensures { result ≡ load_number error }
+{
+    match error {
+        LoadError::WeightRange => 45,
+        LoadError::TotalRange => 46,
     }
 }
