@@ -8,6 +8,7 @@ use assigner::Assigner;
 use c_session::Conversation;
 use clerk::Clerk;
 use lease_table::LeaseTable;
+use load_ledger::LoadBook;
 use slicelet::Slicelet;
 use wire::JobName;
 
@@ -24,6 +25,8 @@ pub enum Held {
     Table(JobName, LeaseTable),
     /// An assigner.
     Assigner(Assigner),
+    /// A load book of a job.
+    LoadBook(JobName, LoadBook),
     /// A session.
     Session(Conversation),
 }

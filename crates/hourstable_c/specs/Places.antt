@@ -34,6 +34,11 @@ OnAssigner (Some (held.Assigner old)) (Some (held.Assigner new)) same number doe
 OnAssigner (Some (held.Assigner old)) now same number does = ⊥
 OnAssigner was now same number does = IsOtherPlace was now same number
 
+abbrev pub OnLoadBook : Option Held → Option Held → Type 0 → ℤ → (List ℕ → List ℕ → List ℕ → Type 0) → Type 0
+OnLoadBook (Some (held.LoadBook job old)) (Some (held.LoadBook still new)) same number does = (still ≡ job) × does job old new
+OnLoadBook (Some (held.LoadBook job old)) now same number does = ⊥
+OnLoadBook was now same number does = IsOtherPlace was now same number
+
 abbrev pub OnSession : Option Held → Option Held → Type 0 → ℤ → (Conversation → Conversation → Type 0) → Type 0
 OnSession (Some (held.Session old)) (Some (held.Session new)) same number does = does old new
 OnSession (Some (held.Session old)) now same number does = ⊥

@@ -10,6 +10,7 @@ mod clerk_exports;
 mod clock_exports;
 mod grant_exports;
 mod keeping_exports;
+mod load_exports;
 mod place_exports;
 mod process_exports;
 mod session_exports;
