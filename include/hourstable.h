@@ -4,6 +4,7 @@
  *   - a slicelet, which knows the leases of a server task and decides whether it may serve a key;
  *   - a clerk, which knows the newest assignment that a client was given;
  *   - a table, which gives out the leases of a job and commits its assignments;
+ *   - a load book, which counts the work that the tasks of a job did;
  *   - an assigner, which keeps a term of the job lease;
  *   - a session, which is a whole job, played step by step in the words of scripts.
  * Readings are those of the caller's own clock, in ticks. Grants, notes, assignments and kept values
@@ -150,6 +151,10 @@ enum hs_code {
                                 although none was, or is further after the last reading than a lease
                                 lasts */
 
+    /* Why a load book counts no records. */
+    HS_WEIGHT_RANGE = 45, /* the weight of a record is 0 or above 2^32 */
+    HS_TOTAL_RANGE = 46,  /* all weights that were gathered would add up to more than 2^40 */
+
     HS_NO_MEMORY = -1, /* out of memory */
     HS_NO_ROOM = -2,   /* the buffer is shorter than `needed`: call again with a longer one; after
                           hs_session_answer, call hs_session_last */
@@ -272,6 +277,10 @@ static inline const char *hs_code_name(int32_t code) {
         return "HS_TOO_MANY_GRANTS";
     case HS_DEADLINE_RANGE:
         return "HS_DEADLINE_RANGE";
+    case HS_WEIGHT_RANGE:
+        return "HS_WEIGHT_RANGE";
+    case HS_TOTAL_RANGE:
+        return "HS_TOTAL_RANGE";
     case HS_NO_MEMORY:
         return "HS_NO_MEMORY";
     case HS_NO_ROOM:
@@ -418,6 +427,12 @@ struct hs_row {
     uint64_t table_ends; /* the first reading at which it has ended */
 };
 
+/* A record that a task did some work for a key. */
+struct hs_load_record {
+    uint64_t slice_key; /* of the key: hs_slice_key */
+    uint64_t weight;    /* of the work, 1 to 2^32 */
+};
+
 /* The policy of a plan. */
 struct hs_plan_policy {
     uint64_t low;   /* the fewest owners of a slice, 1 or more */
@@ -482,6 +497,7 @@ void hs_place_free(struct hs_place *place);
 int32_t hs_slicelet_close(struct hs_place *place);
 int32_t hs_clerk_close(struct hs_place *place);
 int32_t hs_table_close(struct hs_place *place);
+int32_t hs_load_book_close(struct hs_place *place);
 int32_t hs_assigner_close(struct hs_place *place);
 int32_t hs_session_close(struct hs_place *place);
 
@@ -697,6 +713,29 @@ int32_t hs_assignment_read(const uint8_t *job, size_t job_len, const uint8_t *as
  * name of a job or no key has this slice key, then message codes. */
 int32_t hs_assignment_slice(const uint8_t *job, size_t job_len, const uint8_t *assignment, size_t assignment_len,
                             uint64_t slice_key, struct hs_slice *out);
+
+/* Load books. ----------------------------------------------------------------------------------------------------- */
+
+/* Creates a new load book of a job in `place`, destroying what was there; `job` is as in
+ * hs_slicelet_open. All totals are 0. HS_WRONG_FORM. */
+int32_t hs_load_book_open(struct hs_place *place, const uint8_t *job, size_t job_len);
+
+/* Adds the weights of records to the total of the task that did the work, and writes the load that
+ * they are of each slice of an assignment, given as its message: the sum of the weights of the records
+ * whose key is in the slice. Loads are in the order of the slices, and add up to the weights; *needed
+ * is how many slices there are. For hs_plan, add the loads of several tasks, gathered over the same
+ * assignment, slice by slice. Gather each record once. The totals of a book never add up to more than
+ * 2^40. Message codes, HS_WRONG_FORM if `task` is not 1 to 64 or no key has a slice key,
+ * HS_WEIGHT_RANGE, HS_TOTAL_RANGE, HS_NO_ROOM. Each code is looked for in all records before the next
+ * one. HS_NO_MEMORY may come in place of HS_TOTAL_RANGE and HS_NO_ROOM. Nothing is counted unless the
+ * call is done. */
+int32_t hs_load_book_gather(struct hs_place *place, const uint8_t *assignment, size_t assignment_len, uint64_t task,
+                            const struct hs_load_record *records, size_t records_len, uint64_t *loads,
+                            size_t loads_len, size_t *needed);
+
+/* Writes the sum of the weights of all records of a task that were gathered. HS_WRONG_FORM if `task` is
+ * not 1 to 64. */
+int32_t hs_load_book_total(const struct hs_place *place, uint64_t task, uint64_t *total);
 
 /* Assigners. ------------------------------------------------------------------------------------------------------ */
 

@@ -5,7 +5,7 @@
 #include <stdlib.h>
 
 #define LOWEST HS_OTHER_JOB
-#define HIGHEST HS_DEADLINE_RANGE
+#define HIGHEST HS_TOTAL_RANGE
 
 const struct hs_policy policy = {
     .low = 1, .high = 1, .skew = 10, .guard = 100, .bridge = 200, .job = 1000, .numbers = 1000};
@@ -71,6 +71,7 @@ int main(void) {
     check("tables", check_tables);
     check("assigners", check_assigners);
     check("assignments", check_assignments);
+    check("load books", check_loads);
     check("plans", check_plans);
     check("clocks", check_clocks);
     check("sessions", check_sessions);

@@ -103,13 +103,15 @@ int32_t free_rows(struct hs_place *place, const char *note, uint64_t at, uint64_
 uint64_t slicelet_state(struct hs_place *place);
 uint64_t clerk_state(struct hs_place *place);
 uint64_t table_state(struct hs_place *place);
+uint64_t load_book_state(struct hs_place *place);
 
 /* Places to start from: task 2 in life 1, with guard lease number 7 on all keys until 95; a clerk with
  * the halves of generation 1; a table with the halves of generation 1, a term of assigner 1 until 1000
- * and last reading 2. */
+ * and last reading 2; a load book in which task 2 has the total 3. */
 struct hs_place serving_task(void);
 struct hs_place knowing_clerk(void);
 struct hs_place steady_table(void);
+struct hs_place counting_book(void);
 extern const struct hs_policy policy;
 
 void check_version(void);
@@ -120,6 +122,7 @@ void check_clerks(void);
 void check_tables(void);
 void check_assigners(void);
 void check_assignments(void);
+void check_loads(void);
 void check_plans(void);
 void check_clocks(void);
 void check_sessions(void);

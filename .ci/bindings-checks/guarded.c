@@ -78,6 +78,10 @@ int32_t guarded_table_close(struct hs_place *place) {
     return returned(hs_table_close(PLACE));
 }
 
+int32_t guarded_load_book_close(struct hs_place *place) {
+    return returned(hs_load_book_close(PLACE));
+}
+
 int32_t guarded_assigner_close(struct hs_place *place) {
     return returned(hs_assigner_close(PLACE));
 }
@@ -258,6 +262,21 @@ int32_t guarded_assignment_read(const uint8_t *job, size_t job_len, const uint8_
 int32_t guarded_assignment_slice(const uint8_t *job, size_t job_len, const uint8_t *assignment, size_t assignment_len,
                                  uint64_t slice_key, struct hs_slice *out) {
     return returned(hs_assignment_slice(NAME, READ_ALL(assignment, assignment_len), slice_key, WRITTEN(out)));
+}
+
+int32_t guarded_load_book_open(struct hs_place *place, const uint8_t *job, size_t job_len) {
+    return returned(hs_load_book_open(PLACE, NAME));
+}
+
+int32_t guarded_load_book_gather(struct hs_place *place, const uint8_t *assignment, size_t assignment_len,
+                                 uint64_t task, const struct hs_load_record *records, size_t records_len,
+                                 uint64_t *loads, size_t loads_len, size_t *needed) {
+    return returned(hs_load_book_gather(PLACE, READ_ALL(assignment, assignment_len), task, READ_ALL(records, records_len),
+                                        WRITTEN_ALL(loads, loads_len), WRITTEN(needed)));
+}
+
+int32_t guarded_load_book_total(const struct hs_place *place, uint64_t task, uint64_t *total) {
+    return returned(hs_load_book_total(READ_PLACE, task, WRITTEN(total)));
 }
 
 int32_t guarded_assigner_open(struct hs_place *place, uint64_t id, uint64_t job) {

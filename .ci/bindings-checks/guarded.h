@@ -11,6 +11,7 @@ void guarded_place_free(struct hs_place *place);
 int32_t guarded_slicelet_close(struct hs_place *place);
 int32_t guarded_clerk_close(struct hs_place *place);
 int32_t guarded_table_close(struct hs_place *place);
+int32_t guarded_load_book_close(struct hs_place *place);
 int32_t guarded_assigner_close(struct hs_place *place);
 int32_t guarded_session_close(struct hs_place *place);
 int32_t guarded_slicelet_open(struct hs_place *place, const uint8_t *job, size_t job_len, uint64_t task);
@@ -72,6 +73,11 @@ int32_t guarded_assignment_read(const uint8_t *job, size_t job_len, const uint8_
                                 uint64_t *generation, struct hs_slice *out, size_t out_len, size_t *needed);
 int32_t guarded_assignment_slice(const uint8_t *job, size_t job_len, const uint8_t *assignment, size_t assignment_len,
                                  uint64_t slice_key, struct hs_slice *out);
+int32_t guarded_load_book_open(struct hs_place *place, const uint8_t *job, size_t job_len);
+int32_t guarded_load_book_gather(struct hs_place *place, const uint8_t *assignment, size_t assignment_len,
+                                 uint64_t task, const struct hs_load_record *records, size_t records_len,
+                                 uint64_t *loads, size_t loads_len, size_t *needed);
+int32_t guarded_load_book_total(const struct hs_place *place, uint64_t task, uint64_t *total);
 int32_t guarded_assigner_open(struct hs_place *place, uint64_t id, uint64_t job);
 int32_t guarded_assigner_adopt(struct hs_place *place, const struct hs_job_term *term);
 int32_t guarded_assigner_restart(struct hs_place *place);
@@ -102,6 +108,7 @@ int32_t guarded_session_last(const struct hs_place *place, uint8_t *out, size_t 
 #define hs_slicelet_close guarded_slicelet_close
 #define hs_clerk_close guarded_clerk_close
 #define hs_table_close guarded_table_close
+#define hs_load_book_close guarded_load_book_close
 #define hs_assigner_close guarded_assigner_close
 #define hs_session_close guarded_session_close
 #define hs_slicelet_open guarded_slicelet_open
@@ -142,6 +149,9 @@ int32_t guarded_session_last(const struct hs_place *place, uint8_t *out, size_t 
 #define hs_assignment_new guarded_assignment_new
 #define hs_assignment_read guarded_assignment_read
 #define hs_assignment_slice guarded_assignment_slice
+#define hs_load_book_open guarded_load_book_open
+#define hs_load_book_gather guarded_load_book_gather
+#define hs_load_book_total guarded_load_book_total
 #define hs_assigner_open guarded_assigner_open
 #define hs_assigner_adopt guarded_assigner_adopt
 #define hs_assigner_restart guarded_assigner_restart

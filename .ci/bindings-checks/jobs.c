@@ -16,6 +16,7 @@ static int32_t open_with(const char *name, size_t length) {
     IS(hs_clerk_open(&place, copy, length), code);
     IS(hs_slicelet_resume(&place, copy, length, 2, 1), code);
     IS(hs_table_open(&place, copy, length, &policy), code);
+    IS(hs_load_book_open(&place, copy, length), code);
     drop_block(copy);
     hs_place_free(&place);
     return code;

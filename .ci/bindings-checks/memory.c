@@ -246,6 +246,16 @@ static int32_t find_slice(struct hs_place *place) {
     return code;
 }
 
+static int32_t gather_more(struct hs_place *place) {
+    const char *text = ASSIGNMENT("1", HALVES);
+    const struct hs_load_record records[] = {{5, 1}, {(uint64_t)1 << 62, 2}, {6, 3}, {7, 4}, {8, 5}};
+    uint64_t loads[2] = {UNTOLD, UNTOLD};
+    size_t needed = UNTOLD;
+    int32_t code = hs_load_book_gather(place, (const uint8_t *)text, strlen(text), 1, records, 5, loads, 2, &needed);
+    HOLDS(code == HS_DONE ? loads[0] == 13 && loads[1] == 2 && needed == 2 : loads[0] == UNTOLD && needed == UNTOLD);
+    return code;
+}
+
 static uint64_t state_when_done(const struct trial *trial) {
     struct hs_place place = trial->begin();
     IS(trial->call(&place), HS_DONE);
@@ -421,6 +431,7 @@ void check_memory(void) {
         {"save over", granted_table, save_over, table_state},
         {"restore", steady_table, restore_table, table_state},
         {"session", knowing_clerk, open_session, clerk_state},
+        {"gather", counting_book, gather_more, load_book_state},
         {"plan", knowing_clerk, plan, clerk_state},
         {"evidence", knowing_clerk, weigh, clerk_state},
         {"read grant", knowing_clerk, read_grant, clerk_state},

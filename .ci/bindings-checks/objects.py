@@ -16,8 +16,8 @@ sys.path[:0] = ["python", "examples/python"]
 import handover
 from hourstable import library as hourstable
 from hourstable.library import (
-    Clerk, HeldLease, JobTerm, KeyHandle, Phase, PlanPolicy, Policy, Refused, Table, TableClock, TaskClock, Told,
-    Slicelet, boottime_ticks, clock_evidence, new_assignment, read_assignment, read_grant, slice_of,
+    Clerk, HeldLease, JobTerm, KeyHandle, LoadBook, LoadRecord, Phase, PlanPolicy, Policy, Refused, Slicelet, Table,
+    TableClock, TaskClock, Told, boottime_ticks, clock_evidence, new_assignment, read_assignment, read_grant, slice_of,
 )
 
 U32, U64 = 1 << 32, 1 << 64
@@ -57,7 +57,7 @@ def refused(code, **told):
 def check_numbers():
     for struct, limits in [
         (KeyHandle, [U64, U64, U64, U32]), (Policy, [U64] * 7), (JobTerm, [U64] * 3), (Phase, [U64] * 2),
-        (PlanPolicy, [U64] * 6), (HeldLease, [U64] * 3),
+        (PlanPolicy, [U64] * 6), (HeldLease, [U64] * 3), (LoadRecord, [U64] * 2),
     ]:
         most = struct(*[limit - 1 for limit in limits])
         for at, (limit, (name, _)) in enumerate(zip(limits, struct._fields_)):
@@ -88,7 +88,9 @@ def check_refusals():
         (-7, {}, "PAST_END", {}, "past-end"),
         (34, {}, "SENT_AHEAD", {}, "sent-ahead"),
         (38, {"until": 1000}, "NOT_YET", {"until": 1000}, "not-yet 1000"),
-        (45, {}, "CODE 45", {}, "code 45"),
+        (45, {}, "WEIGHT_RANGE", {}, "weight-range"),
+        (46, {}, "TOTAL_RANGE", {}, "total-range"),
+        (47, {}, "CODE 47", {}, "code 47"),
         (-21, {}, "CODE -21", {}, "code -21"),
     ]:
         refusal = refused(code, **told)
@@ -243,6 +245,26 @@ def check_grants():
     refuses("other-job", "a grant of another job", read_grant, "shop", GRANT)
 
 
+def check_loads():
+    """A hundred slices find no room at first, and the records are counted once all the same."""
+    message = new_assignment("shop", 1, [(at << 50, [1]) for at in range(100)])
+    with LoadBook("shop") as book:
+        records = [((99 << 50) + 5, 7), (0, 1), ((1 << 50) - 1, 2), (1 << 50, 1 << 32)]
+        loads = book.gather(message, 2, records)
+        holds(loads == [3, 1 << 32, *[0] * 97, 7], f"the loads of a hundred slices: {loads}")
+        holds(book.gather(FIRST, 2, iter([(5, 8)])) == [8], "the load of one slice")
+        totals = [book.total(task) for task in (1, 2, 64)]
+        holds(totals == [0, (1 << 32) + 18, 0], f"the total of each task: {totals}")
+        refuses("weight-range", "a weight of 0", book.gather, FIRST, 2, [(5, 0)])
+        refuses("total-range", "257 weights of 2^32", book.gather, FIRST, 2, [(5, 1 << 32)] * 257)
+        refuses("wrong-form", "a record of no slice key", book.gather, FIRST, 2, [(1 << 63, 1)])
+        refuses("wrong-form", "a record of task 65", book.gather, FIRST, 65, [])
+        refuses("wrong-form", "the total of task 0", book.total, 0)
+        raises(ValueError, "a weight of 2^64", book.gather, FIRST, 2, [(5, U64)])
+        holds(book.total(2) == (1 << 32) + 18, "a gather that is refused counts nothing")
+    refuses("wrong-form", "a name of more than 64 bytes", LoadBook, "j" * 65)
+
+
 def check_ticks():
     before = time.clock_gettime(time.CLOCK_BOOTTIME)
     ticks = boottime_ticks()
@@ -261,6 +283,7 @@ check_table_clocks()
 check_evidence()
 check_keeping()
 check_grants()
+check_loads()
 check_ticks()
 for fault in faults:
     print(f"not so: {fault}")

@@ -6,7 +6,7 @@
 static const char job[] = "{\"job\":{\"redundancy\":1,\"skew\":10,\"guard\":100,\"bridge\":100,\"job\":1000,"
                           "\"numbers\":1000,\"assigners\":1,\"tasks\":2,\"clerks\":1}}";
 
-enum standing { NOTHING, SLICELET, CLERK, TABLE, ASSIGNER, SESSION, KINDS };
+enum standing { NOTHING, SLICELET, CLERK, TABLE, LOAD_BOOK, ASSIGNER, SESSION, KINDS };
 
 static void open_as(struct hs_place *place, enum standing kind) {
     if (kind == SLICELET)
@@ -15,6 +15,8 @@ static void open_as(struct hs_place *place, enum standing kind) {
         IS(hs_clerk_open(place, JOB), HS_DONE);
     else if (kind == TABLE)
         IS(hs_table_open(place, JOB, &policy), HS_DONE);
+    else if (kind == LOAD_BOOK)
+        IS(hs_load_book_open(place, JOB), HS_DONE);
     else if (kind == ASSIGNER)
         IS(hs_assigner_open(place, 1, 1000), HS_DONE);
     else if (kind == SESSION)
@@ -88,6 +90,16 @@ static void refuse_table(struct hs_place *place) {
     HOLDS(are_dashes(out, sizeof out) && are_dashes((const uint8_t *)rows, sizeof rows));
 }
 
+static void refuse_load_book(struct hs_place *place) {
+    const struct hs_load_record record = {5, 1};
+    uint64_t loads[2] = {5, 5}, total = 5;
+    size_t needed = 5;
+    IS(hs_load_book_gather(place, (const uint8_t *)"", 0, 0, &record, 1, loads, 2, &needed), HS_OTHER_PLACE);
+    IS(hs_load_book_total(place, 0, &total), HS_OTHER_PLACE);
+    IS(hs_load_book_close(place), HS_OTHER_PLACE);
+    HOLDS(loads[0] == 5 && loads[1] == 5 && needed == 5 && total == 5);
+}
+
 static void refuse_assigner(struct hs_place *place) {
     const struct hs_job_term term = {1, 1, 1000};
     const struct hs_phase phase = {0, 0};
@@ -118,6 +130,8 @@ static void refuse_others(struct hs_place *place, enum standing kind) {
         refuse_clerk(place);
     if (kind != TABLE)
         refuse_table(place);
+    if (kind != LOAD_BOOK)
+        refuse_load_book(place);
     if (kind != ASSIGNER)
         refuse_assigner(place);
     if (kind != SESSION)
@@ -131,6 +145,8 @@ static int32_t close_as(struct hs_place *place, enum standing kind) {
         return hs_clerk_close(place);
     if (kind == TABLE)
         return hs_table_close(place);
+    if (kind == LOAD_BOOK)
+        return hs_load_book_close(place);
     return kind == ASSIGNER ? hs_assigner_close(place) : hs_session_close(place);
 }
 
@@ -142,6 +158,7 @@ static void refused_open(void) {
     STAYS(clerk_state(&clerk), hs_slicelet_open(&clerk, JOB, 0), HS_WRONG_FORM);
     STAYS(clerk_state(&clerk), hs_slicelet_open(&clerk, JOB, 65), HS_WRONG_FORM);
     STAYS(clerk_state(&clerk), hs_table_open(&clerk, JOB, &none), HS_WRONG_FORM);
+    STAYS(clerk_state(&clerk), hs_load_book_open(&clerk, (const uint8_t *)"\xff", 1), HS_WRONG_FORM);
     STAYS(clerk_state(&clerk), hs_assigner_open(&clerk, 0, 1000), HS_WRONG_FORM);
     STAYS(clerk_state(&clerk), hs_session_open(&clerk, (const uint8_t *)"{}", 2, 0), HS_NO_JOB);
     hs_place_free(&clerk);
@@ -154,6 +171,7 @@ static void nowhere(struct hs_place *place) {
     IS(hs_slicelet_open(place, JOB, 0), HS_OTHER_PLACE);
     IS(hs_clerk_open(place, JOB), HS_OTHER_PLACE);
     IS(hs_table_open(place, JOB, &policy), HS_OTHER_PLACE);
+    IS(hs_load_book_open(place, JOB), HS_OTHER_PLACE);
     IS(hs_assigner_open(place, 1, 1000), HS_OTHER_PLACE);
     IS(hs_session_open(place, (const uint8_t *)job, strlen(job), 0), HS_OTHER_PLACE);
     HOLDS(!place->at);

@@ -17,7 +17,7 @@ static const char job[] = "{\"job\":{\"redundancy\":1,\"skew\":10,\"guard\":100,
 
 /* One place of each kind. */
 struct places {
-    struct hs_place task, clerk, table, assigner, session;
+    struct hs_place task, clerk, table, book, assigner, session;
 };
 
 /* Puts the places and what they hold into memory of their own. */
@@ -26,7 +26,7 @@ static struct places *set_apart(void) {
     const struct hs_job_term term = {4, 1, 1000};
     uint8_t out[256];
     size_t needed = 0;
-    *all = (struct places){serving_task(), knowing_clerk(), steady_table(), new_place(), new_place()};
+    *all = (struct places){serving_task(), knowing_clerk(), steady_table(), counting_book(), new_place(), new_place()};
     IS(hs_assigner_open(&all->assigner, 1, 1000), HS_DONE);
     IS(hs_assigner_adopt(&all->assigner, &term), HS_DONE);
     IS(hs_session_open(&all->session, (const uint8_t *)job, strlen(job), 0), HS_DONE);
@@ -94,6 +94,7 @@ static void reads_others(const struct places *all) {
     HOLDS(hs_table_phase(&all->table, &phase) == HS_DONE && phase.committed == 1 && phase.proposed == 0);
     HOLDS(hs_table_rows(&all->table, rows, 2, &needed) == HS_DONE && needed == 1 && rows[0].task == 1);
     HOLDS(hs_table_committed(&all->table, out, sizeof out, &needed) == HS_DONE && needed < sizeof out);
+    HOLDS(hs_load_book_total(&all->book, 2, &number) == HS_DONE && number == 3);
     HOLDS(hs_assigner_next(&all->assigner, 10, &first, 1, &action, &number) == HS_DONE);
     HOLDS(action == HS_PROPOSE && number == 4);
     HOLDS(hs_session_last(&all->session, out, sizeof out, &needed) == HS_DONE && needed == 0);
@@ -119,6 +120,7 @@ static void reads_kept_values(const struct hs_place *table) {
 void check_readers(void) {
     struct places *all = set_apart();
     HOLDS(is_apart(all->task.at) && is_apart(all->clerk.at) && is_apart(all->table.at));
+    HOLDS(is_apart(all->book.at));
     HOLDS(is_apart(all->assigner.at) && is_apart(all->session.at));
     size_t before = allocations;
     protect_memory(PROT_READ);
@@ -131,6 +133,7 @@ void check_readers(void) {
     hs_place_free(&all->task);
     hs_place_free(&all->clerk);
     hs_place_free(&all->table);
+    hs_place_free(&all->book);
     hs_place_free(&all->assigner);
     hs_place_free(&all->session);
     drop_memory();

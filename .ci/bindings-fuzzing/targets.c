@@ -186,6 +186,45 @@ static int32_t weigh(struct hs_place *place, struct input input, struct hs_told 
     return code;
 }
 
+static void begin_book(struct hs_place *place) {
+    MUST(hs_load_book_open(place, NO_NAME) == HS_DONE);
+}
+
+/* Gathers records over an assignment. What is counted is the sum of the loads. */
+static int32_t gather(struct hs_place *place, struct input input, struct hs_told *told) {
+    static struct hs_load_record records[8];
+    size_t records_len = draw(COUNT(records) + 1), room = draw(4) ? 1024 : draw(3), needed = 99;
+    uint64_t *loads = numbers_of(0, room), task = draw(32) ? 1 + draw(3) : draw_number(66), before = 0, after = 0, sum = 0;
+    (void)told;
+    for (size_t at = 0; at < records_len; at++) {
+        records[at].slice_key = draw(64) ? draw((uint64_t)1 << 53) << 10 : UINT64_MAX >> draw(2);
+        records[at].weight = draw(64) ? 1 + draw(9) : draw_number((uint64_t)1 << 33);
+    }
+    int32_t counted = hs_load_book_total(place, task, &before);
+    int32_t code =
+        hs_load_book_gather(place, input.bytes, input.length, task, records, records_len, loads, room, &needed);
+    MUST(hs_load_book_total(place, task, &after) == counted);
+    if (code == HS_NO_ROOM)
+        MUST(room < needed && needed <= 1024);
+    else if (code != HS_DONE)
+        MUST(needed == 99);
+    for (size_t at = 0; code == HS_DONE && at < needed; at++)
+        sum += loads[at];
+    MUST(code != HS_DONE || needed <= room);
+    MUST(after - before == sum);
+    return code;
+}
+
+static uint64_t book_state(struct hs_place *place) {
+    uint64_t sum = 0;
+    for (uint64_t task = 1; task <= 64; task++) {
+        uint64_t total = 0;
+        MUST(hs_load_book_total(place, task, &total) == HS_DONE);
+        sum = sum_number(sum, total);
+    }
+    return sum;
+}
+
 static int32_t propose(struct hs_place *place, struct input input, struct hs_told *told) {
     return hs_table_propose(place, 1, input.bytes, input.length, 3 + draw(6), told);
 }
@@ -282,6 +321,7 @@ const struct target targets[] = {
     {"learn", assignments, COUNT(assignments), begin_clerk, learn, clerk_state},
     {"propose", assignments, COUNT(assignments), begin_table, propose, table_state},
     {"free", notes, COUNT(notes), begin_table, free_rows, table_state},
+    {"gather", assignments, COUNT(assignments), begin_book, gather, book_state},
     {"plan", assignments, COUNT(assignments), begin_clerk, plan, clerk_state},
     {"read", assignments, COUNT(assignments), begin_clerk, read_slices, clerk_state},
     {"evidence", grants, COUNT(grants), begin_clerk, weigh, clerk_state},

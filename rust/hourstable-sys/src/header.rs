@@ -105,6 +105,10 @@ pub const HS_TOO_MANY_GRANTS: i32 = 43;
 /// although none was, or is further after the last reading than a lease
 /// lasts
 pub const HS_DEADLINE_RANGE: i32 = 44;
+/// the weight of a record is 0 or above 2^32
+pub const HS_WEIGHT_RANGE: i32 = 45;
+/// all weights that were gathered would add up to more than 2^40
+pub const HS_TOTAL_RANGE: i32 = 46;
 /// out of memory
 pub const HS_NO_MEMORY: i32 = -1;
 /// the buffer is shorter than `needed`: call again with a longer one; after
@@ -301,6 +305,16 @@ pub struct hs_row {
     pub table_ends: u64,
 }
 
+/// A record that a task did some work for a key.
+#[repr(C)]
+#[derive(Clone, Copy, Debug, Default, PartialEq, Eq)]
+pub struct hs_load_record {
+    /// of the key: hs_slice_key
+    pub slice_key: u64,
+    /// of the work, 1 to 2^32
+    pub weight: u64,
+}
+
 /// The policy of a plan.
 #[repr(C)]
 #[derive(Clone, Copy, Debug, Default, PartialEq, Eq)]
@@ -392,6 +406,7 @@ extern "C" {
     pub fn hs_slicelet_close(place: *mut hs_place) -> i32;
     pub fn hs_clerk_close(place: *mut hs_place) -> i32;
     pub fn hs_table_close(place: *mut hs_place) -> i32;
+    pub fn hs_load_book_close(place: *mut hs_place) -> i32;
     pub fn hs_assigner_close(place: *mut hs_place) -> i32;
     pub fn hs_session_close(place: *mut hs_place) -> i32;
     /// Creates a new slicelet of a job in `place`, destroying what was there. `job` is the name of the
@@ -543,6 +558,22 @@ extern "C" {
     /// message is read: a clerk that has learnt it looks up keys faster. HS_WRONG_FORM if `job` is not the
     /// name of a job or no key has this slice key, then message codes.
     pub fn hs_assignment_slice(job: *const u8, job_len: usize, assignment: *const u8, assignment_len: usize, slice_key: u64, out: *mut hs_slice) -> i32;
+    /// Creates a new load book of a job in `place`, destroying what was there; `job` is as in
+    /// hs_slicelet_open. All totals are 0. HS_WRONG_FORM.
+    pub fn hs_load_book_open(place: *mut hs_place, job: *const u8, job_len: usize) -> i32;
+    /// Adds the weights of records to the total of the task that did the work, and writes the load that
+    /// they are of each slice of an assignment, given as its message: the sum of the weights of the records
+    /// whose key is in the slice. Loads are in the order of the slices, and add up to the weights; *needed
+    /// is how many slices there are. For hs_plan, add the loads of several tasks, gathered over the same
+    /// assignment, slice by slice. Gather each record once. The totals of a book never add up to more than
+    /// 2^40. Message codes, HS_WRONG_FORM if `task` is not 1 to 64 or no key has a slice key,
+    /// HS_WEIGHT_RANGE, HS_TOTAL_RANGE, HS_NO_ROOM. Each code is looked for in all records before the next
+    /// one. HS_NO_MEMORY may come in place of HS_TOTAL_RANGE and HS_NO_ROOM. Nothing is counted unless the
+    /// call is done.
+    pub fn hs_load_book_gather(place: *mut hs_place, assignment: *const u8, assignment_len: usize, task: u64, records: *const hs_load_record, records_len: usize, loads: *mut u64, loads_len: usize, needed: *mut usize) -> i32;
+    /// Writes the sum of the weights of all records of a task that were gathered. HS_WRONG_FORM if `task` is
+    /// not 1 to 64.
+    pub fn hs_load_book_total(place: *const hs_place, task: u64, total: *mut u64) -> i32;
     /// Creates a new assigner in `place`, destroying what was there. It keeps no term. A job lease lasts
     /// `job` ticks. HS_WRONG_FORM if `id` is 0.
     pub fn hs_assigner_open(place: *mut hs_place, id: u64, job: u64) -> i32;
