@@ -25,7 +25,7 @@ REFUSALS = (
     " STALE_BASE PENDING NOTHING_PENDING TOO_MANY_OWNERS_FOR_JOB GRACE HELD NO_ROW NO_ASSIGNMENT"
     " NUMBERS_SPENT OLD_GENERATION UNKNOWN NOT_ADOPTED NO_TASKS LOADS_LENGTH LOAD_RANGE SENT_AHEAD"
     " NO_SAMPLE TOO_OLD TOO_LARGE NOT_YET OTHER_POLICY NO_TERM TERM_RANGE KEPT_GENERATION"
-    " TOO_MANY_GRANTS DEADLINE_RANGE"
+    " TOO_MANY_GRANTS DEADLINE_RANGE WEIGHT_RANGE TOTAL_RANGE"
 ).split()
 UNREAD = (
     "DONE NO_MEMORY NO_ROOM NOT_JSON VERSION OTHER_TYPE WRONG_FORM PAST_END UNSORTED EMPTY"
@@ -208,6 +208,12 @@ class Row(Numbers):
     table_ends: int
 
 
+class LoadRecord(Numbers):
+    _fields_ = fields("slice_key weight")
+    slice_key: int
+    weight: int
+
+
 class PlanPolicy(Numbers):
     _fields_ = fields("low high churn cold hot most")
     low: int
@@ -340,7 +346,7 @@ P = ctypes.POINTER
 DECLARED: dict[str, list[CType]] = {
     "place_new": [P(Place)],
     "slicelet_close": [P(Place)], "clerk_close": [P(Place)], "table_close": [P(Place)],
-    "assigner_close": [P(Place)], "session_close": [P(Place)],
+    "load_book_close": [P(Place)], "assigner_close": [P(Place)], "session_close": [P(Place)],
     "slicelet_open": [P(Place), *BYTES, U64],
     "slicelet_resume": [P(Place), *BYTES, U64, U32],
     "ended_note": [*BYTES, U64, U32, U32, *OUT],
@@ -381,6 +387,11 @@ DECLARED: dict[str, list[CType]] = {
         *BYTES, *BYTES, P(ctypes.c_uint64), P(Slice), SIZE, P(ctypes.c_size_t),
     ],
     "assignment_slice": [*BYTES, *BYTES, U64, P(Slice)],
+    "load_book_open": [P(Place), *BYTES],
+    "load_book_gather": [
+        P(Place), *BYTES, U64, P(LoadRecord), SIZE, P(ctypes.c_uint64), SIZE, P(ctypes.c_size_t),
+    ],
+    "load_book_total": [P(Place), U64, P(ctypes.c_uint64)],
     "assigner_open": [P(Place), U64, U64],
     "assigner_adopt": [P(Place), P(JobTerm)],
     "assigner_restart": [P(Place)],
@@ -781,6 +792,31 @@ class Table(Standing):
 
     def committed(self) -> bytes:
         return self.text("committed")
+
+
+class LoadBook(Standing):
+    """A load book of a job: counts the work that the tasks of the job did."""
+
+    def __init__(self, job: str) -> None:
+        super().__init__("load_book", *named(job))
+
+    def gather(
+        self, assignment: bytes, task: int, records: Iterable[tuple[int, int]]
+    ) -> list[int]:
+        """Adds records of a task to its total, and returns the load that they are of each slice of
+        an assignment. A record is the slice key of a key and the weight of the work for it, 1 to
+        2^32. Gather each record once. For plan(), add the loads of several tasks slice by slice."""
+        listed = [LoadRecord(slice_key, weight) for slice_key, weight in records]
+        numbers = (LoadRecord * len(listed))(*listed)
+        place, message = ctypes.byref(self.standing()), (assignment, len(assignment))
+        gather = self.function("gather")
+        return list_of(ctypes.c_uint64, gather, place, *message, task, numbers, len(numbers))
+
+    def total(self, task: int) -> int:
+        """Returns the sum of the weights of all records of a task that were gathered."""
+        total = ctypes.c_uint64()
+        self.do("total", task, ctypes.byref(total))
+        return total.value
 
 
 class Assigner(Standing):
