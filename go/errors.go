@@ -89,6 +89,12 @@ const (
 	ErrDeadlineRange  = Code(C.HS_DEADLINE_RANGE)
 )
 
+// Why a load book counts no records.
+const (
+	ErrWeightRange = Code(C.HS_WEIGHT_RANGE)
+	ErrTotalRange  = Code(C.HS_TOTAL_RANGE)
+)
+
 // Why a call could not be made. ErrNoRoom is not returned: a call whose text
 // found no room is made again with more.
 const (

@@ -2,7 +2,7 @@
 // proved library of include/hourstable.h: each decision is a call of it.
 //
 // A server task has a [Slicelet], a client a [Clerk], and a control plane a
-// [Table] and an [Assigner]. The clocks [TaskClock] and [TableClock] give their
+// [Table], a [LoadBook] and an [Assigner]. The clocks [TaskClock] and [TableClock] give their
 // readings, with nothing synchronised. Readings are in ticks, of one length in
 // the whole job. Grants, notes, assignments and kept values are messages: bytes
 // of JSON, as they go over the network (docs/FORMATS.md).

@@ -399,6 +399,48 @@ func TestAssigner(t *testing.T) {
 	next(2, Phase{Committed: 1}, true, Take, 0)
 }
 
+// A hundred slices find no room at first, and the records are counted once all the
+// same.
+func TestLoads(t *testing.T) {
+	book, err := NewLoadBook("shop")
+	succeeds(t, "a load book", err)
+	defer book.Close()
+	slices := make([]string, 100)
+	for at := range slices {
+		slices[at] = fmt.Sprintf(`["%d",[1]]`, at<<50)
+	}
+	hundred := assignment(1, "["+strings.Join(slices, ",")+"]")
+	loads, err := book.Gather(hundred, 2, []LoadRecord{
+		{SliceKey: 99<<50 + 5, Weight: 7}, {SliceKey: 0, Weight: 1}, {SliceKey: 1<<50 - 1, Weight: 2},
+		{SliceKey: 1 << 50, Weight: 1 << 32},
+	})
+	succeeds(t, "gather", err)
+	is(t, "the loads", fmt.Sprint(loads), "[3 4294967296"+strings.Repeat(" 0", 97)+" 7]")
+	one := assignment(2, `[["0",[1]]]`)
+	loads, err = book.Gather(one, 2, nil)
+	succeeds(t, "gather nothing", err)
+	is(t, "the load of no record", fmt.Sprint(loads), "[0]")
+	for task, wanted := range map[uint64]uint64{1: 0, 2: 1<<32 + 10, 64: 0} {
+		total, err := book.Total(task)
+		succeeds(t, "total", err)
+		is(t, "the total", total, wanted)
+	}
+	_, err = book.Gather(one, 2, []LoadRecord{{SliceKey: 5}})
+	refuses(t, "a weight of 0", err, ErrWeightRange, "weight-range")
+	_, err = book.Gather(one, 2, make([]LoadRecord, 1))
+	refuses(t, "a zero record", err, ErrWeightRange, "weight-range")
+	heavy := make([]LoadRecord, 256)
+	for at := range heavy {
+		heavy[at].Weight = 1 << 32
+	}
+	_, err = book.Gather(one, 3, heavy)
+	refuses(t, "2^40 more", err, ErrTotalRange, "total-range")
+	_, err = book.Gather(one, 2, []LoadRecord{{SliceKey: 2 * half, Weight: 1}})
+	refuses(t, "a record of no slice key", err, ErrWrongForm, "wrong-form")
+	_, err = book.Total(65)
+	refuses(t, "the total of task 65", err, ErrWrongForm, "wrong-form")
+}
+
 // The plan of examples/scripts/load-moves-a-slice.json.
 func TestPlan(t *testing.T) {
 	before := assignment(1, `[["0",[1]],["2305843009213693952",[1]],["4611686018427387904",[2]]]`)

@@ -107,6 +107,16 @@ func TestLocksOfAControlPlane(t *testing.T) {
 		{"Restart", func() { table.Restart() }},
 		{"Close", func() { table.Close() }},
 	})
+	book, err := NewLoadBook("shop")
+	if err != nil {
+		t.Fatal(err)
+	}
+	checkLocks(t, &book.mutex, []call{
+		{"Total", func() { book.Total(1) }},
+	}, []call{
+		{"Gather", func() { book.Gather(nil, 1, nil) }},
+		{"Close", func() { book.Close() }},
+	})
 	assigner, err := NewAssigner(1, 9)
 	if err != nil {
 		t.Fatal(err)
