@@ -283,6 +283,30 @@ fn what_an_assigner_does_next() {
     assert_eq!(assigner.next(2, phase(1, 0), true), Ok((Action::Take, 0)));
 }
 
+/// A hundred slices find no room at first, and the records are counted once all the same.
+#[test]
+fn a_load_book_counts_each_record_once() {
+    let mut book = LoadBook::new("shop").unwrap();
+    let record = |slice_key, weight| LoadRecord { slice_key, weight };
+    let slices: Vec<String> = (0..100u64).map(|at| format!(r#"["{}",[1]]"#, at << 50)).collect();
+    let hundred = assignment(1, &format!("[{}]", slices.join(",")));
+    let records = [record((99 << 50) + 5, 7), record((1 << 50) - 1, 2), record(1 << 50, 1 << 32)];
+    let mut wanted = vec![0; 100];
+    wanted[0] = 2;
+    wanted[1] = 1 << 32;
+    wanted[99] = 7;
+    assert_eq!(book.gather(&hundred, 2, &records), Ok(wanted));
+    let one = assignment(2, r#"[["0",[1]]]"#);
+    assert_eq!(book.gather(&one, 2, &[]), Ok(vec![0]));
+    assert_eq!([1, 2, 64].map(|task| book.total(task)), [Ok(0), Ok((1 << 32) + 9), Ok(0)]);
+    refuses(book.gather(&one, 2, &[record(5, 0)]), Code::WEIGHT_RANGE, "weight-range");
+    refuses(book.gather(&one, 3, &[record(5, 1 << 32); 256]), Code::TOTAL_RANGE, "total-range");
+    refuses(book.gather(&one, 2, &[record(2 * HALF, 1)]), Code::WRONG_FORM, "wrong-form");
+    refuses(book.gather(b"{", 2, &[]), Code::NOT_JSON, "not-json");
+    refuses(book.total(65), Code::WRONG_FORM, "wrong-form");
+    assert_eq!(book.total(2), Ok((1 << 32) + 9));
+}
+
 /// The plan of `examples/scripts/load-moves-a-slice.json`.
 #[test]
 fn a_plan_moves_a_slice() {
