@@ -271,8 +271,9 @@ int32_t guarded_load_book_open(struct hs_place *place, const uint8_t *job, size_
 int32_t guarded_load_book_gather(struct hs_place *place, const uint8_t *assignment, size_t assignment_len,
                                  uint64_t task, const struct hs_load_record *records, size_t records_len,
                                  uint64_t *loads, size_t loads_len, size_t *needed) {
-    return returned(hs_load_book_gather(PLACE, READ_ALL(assignment, assignment_len), task, READ_ALL(records, records_len),
-                                        WRITTEN_ALL(loads, loads_len), WRITTEN(needed)));
+    return returned(hs_load_book_gather(PLACE, READ_ALL(assignment, assignment_len), task,
+                                        READ_ALL(records, records_len), WRITTEN_ALL(loads, loads_len),
+                                        WRITTEN(needed)));
 }
 
 int32_t guarded_load_book_total(const struct hs_place *place, uint64_t task, uint64_t *total) {

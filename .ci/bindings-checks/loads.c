@@ -15,13 +15,14 @@ static int32_t gather_over(struct hs_place *place, const char *assignment, uint6
                            const struct hs_load_record *records, size_t records_len, uint64_t loads[2]) {
     size_t needed = UNTOLD;
     loads[0] = loads[1] = UNTOLD;
-    int32_t code = hs_load_book_gather(place, (const uint8_t *)assignment, strlen(assignment), task, records, records_len,
-                                       loads, 2, &needed);
+    int32_t code = hs_load_book_gather(place, (const uint8_t *)assignment, strlen(assignment), task, records,
+                                       records_len, loads, 2, &needed);
     HOLDS(code == HS_DONE ? needed == 2 : needed == UNTOLD && loads[0] == UNTOLD && loads[1] == UNTOLD);
     return code;
 }
 
-static int32_t gather(struct hs_place *place, uint64_t task, const struct hs_load_record *records, size_t records_len) {
+static int32_t gather(struct hs_place *place, uint64_t task, const struct hs_load_record *records,
+                      size_t records_len) {
     uint64_t loads[2];
     return gather_over(place, halves, task, records, records_len, loads);
 }
@@ -74,8 +75,8 @@ static void short_buffers(void) {
     const uint8_t *text = (const uint8_t *)halves;
     for (size_t room = 0; room < 2; room++) {
         size_t needed = UNTOLD;
-        STAYS(load_book_state(&book), hs_load_book_gather(&book, text, strlen(halves), 2, &record, 1, loads, room, &needed),
-              HS_NO_ROOM);
+        STAYS(load_book_state(&book),
+              hs_load_book_gather(&book, text, strlen(halves), 2, &record, 1, loads, room, &needed), HS_NO_ROOM);
         HOLDS(needed == 2 && loads[0] == UNTOLD);
     }
     size_t needed = UNTOLD;
@@ -97,16 +98,15 @@ static void refused_records(struct hs_place *book) {
 }
 
 static void refused_assignments(struct hs_place *book) {
+    const char *note = NOTE("guard", "1", "7", "2");
+    const char *of_shop = WRITTEN_OF("shop", "assignment", "\"generation\":\"1\",\"slices\":" WRITTEN_HALVES);
     const struct hs_load_record no_key = {KEYS, 1};
     uint64_t loads[2];
     STAYS(load_book_state(book), gather_over(book, "", 2, &no_key, 1, loads), HS_NOT_JSON);
     STAYS(load_book_state(book), gather_over(book, "{\"version\":3}", 2, &no_key, 1, loads), HS_VERSION);
-    STAYS(load_book_state(book), gather_over(book, NOTE("guard", "1", "7", "2"), 2, &no_key, 1, loads), HS_OTHER_TYPE);
+    STAYS(load_book_state(book), gather_over(book, note, 2, &no_key, 1, loads), HS_OTHER_TYPE);
     STAYS(load_book_state(book), gather_over(book, ASSIGNMENT("1", "[]"), 2, &no_key, 1, loads), HS_NO_SLICES);
-    STAYS(load_book_state(book),
-          gather_over(book, WRITTEN_OF("shop", "assignment", "\"generation\":\"1\",\"slices\":" WRITTEN_HALVES), 2, &no_key, 1,
-                      loads),
-          HS_OTHER_JOB);
+    STAYS(load_book_state(book), gather_over(book, of_shop, 2, &no_key, 1, loads), HS_OTHER_JOB);
 }
 
 /* The totals of all tasks add up to at most 2^40, which is 256 weights of 2^32. */

@@ -391,7 +391,7 @@ static uint64_t session_state(struct hs_place *place) {
 
 /* The calls that take no memory, as the header says. */
 static void takes_none(void) {
-    struct hs_place task = serving_task(), clerk = knowing_clerk();
+    struct hs_place task = serving_task(), clerk = knowing_clerk(), book = counting_book();
     struct hs_key_handle handle;
     struct hs_owners owners;
     struct hs_task_clock clock;
@@ -405,6 +405,7 @@ static void takes_none(void) {
     IS(hs_slicelet_check(&task, &handle, 6), HS_DONE);
     IS(hs_clerk_look(&clerk, HELLO, &owners), HS_DONE);
     IS(hs_clerk_look_at(&clerk, handle.slice_key, &owners), HS_DONE);
+    IS(hs_load_book_total(&book, 2, &value), HS_DONE);
     HOLDS(hs_slice_key(HELLO) == handle.slice_key);
     IS(hs_task_clock_new(&clock, 1, 3, 1, 1000), HS_DONE);
     IS(hs_task_clock_sample(&clock, 10, 100, 12), HS_DONE);
@@ -414,6 +415,7 @@ static void takes_none(void) {
     HOLDS(allocations == before);
     hs_place_free(&task);
     hs_place_free(&clerk);
+    hs_place_free(&book);
 }
 
 void check_memory(void) {

@@ -17,7 +17,8 @@ import handover
 from hourstable import library as hourstable
 from hourstable.library import (
     Clerk, HeldLease, JobTerm, KeyHandle, LoadBook, LoadRecord, Phase, PlanPolicy, Policy, Refused, Slicelet, Table,
-    TableClock, TaskClock, Told, boottime_ticks, clock_evidence, new_assignment, read_assignment, read_grant, slice_of,
+    TableClock, TaskClock, Told, boottime_ticks, clock_evidence, new_assignment, read_assignment, read_grant,
+    slice_of,
 )
 
 U32, U64 = 1 << 32, 1 << 64

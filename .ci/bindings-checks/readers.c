@@ -26,7 +26,8 @@ static struct places *set_apart(void) {
     const struct hs_job_term term = {4, 1, 1000};
     uint8_t out[256];
     size_t needed = 0;
-    *all = (struct places){serving_task(), knowing_clerk(), steady_table(), counting_book(), new_place(), new_place()};
+    *all = (struct places){serving_task(),  knowing_clerk(), steady_table(),
+                           counting_book(), new_place(),     new_place()};
     IS(hs_assigner_open(&all->assigner, 1, 1000), HS_DONE);
     IS(hs_assigner_adopt(&all->assigner, &term), HS_DONE);
     IS(hs_session_open(&all->session, (const uint8_t *)job, strlen(job), 0), HS_DONE);

@@ -194,7 +194,8 @@ static void begin_book(struct hs_place *place) {
 static int32_t gather(struct hs_place *place, struct input input, struct hs_told *told) {
     static struct hs_load_record records[8];
     size_t records_len = draw(COUNT(records) + 1), room = draw(4) ? 1024 : draw(3), needed = 99;
-    uint64_t *loads = numbers_of(0, room), task = draw(32) ? 1 + draw(3) : draw_number(66), before = 0, after = 0, sum = 0;
+    uint64_t *loads = numbers_of(0, room), task = draw(32) ? 1 + draw(3) : draw_number(66);
+    uint64_t before = 0, after = 0, sum = 0;
     (void)told;
     for (size_t at = 0; at < records_len; at++) {
         records[at].slice_key = draw(64) ? draw((uint64_t)1 << 53) << 10 : UINT64_MAX >> draw(2);

@@ -1,9 +1,10 @@
 //! Decides which server task may answer for a key, by the proved library of `include/hourstable.h`: each decision is a
 //! call of it.
 //!
-//! A server task has a [`Slicelet`], a client a [`Clerk`], and a control plane a [`Table`], a [`LoadBook`] and an [`Assigner`].
-//! The clocks [`TaskClock`] and [`TableClock`] give their readings, with nothing synchronised. Readings are in ticks, of one
-//! length in the whole job. Grants, notes, assignments and kept values are messages: bytes of JSON, as they go over the network.
+//! A server task has a [`Slicelet`], a client a [`Clerk`], and a control plane a [`Table`], a [`LoadBook`] and an
+//! [`Assigner`]. The clocks [`TaskClock`] and [`TableClock`] give their readings, with nothing synchronised. Readings
+//! are in ticks, of one length in the whole job. Grants, notes, assignments and kept values are messages: bytes of
+//! JSON, as they go over the network.
 //!
 //! A call that is not done changes nothing and returns a [`Refused`]. `docs/BINDINGS.md` says what each code means.
 //!

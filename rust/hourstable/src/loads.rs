@@ -23,9 +23,9 @@ impl LoadBook {
         Place::open(open).map(LoadBook)
     }
 
-    /// Adds records of a task to its total, and returns the load that they are of each slice of an assignment, given as
-    /// its message. Gather each record once. For `plan`, add the loads of several tasks slice by slice. Codes of messages,
-    /// `WRONG_FORM`, `WEIGHT_RANGE`, `TOTAL_RANGE`, `NO_MEMORY`.
+    /// Adds records of a task to its total, and returns the load that they are of each slice of an assignment, given
+    /// as its message. Gather each record once. For `plan`, add the loads of several tasks slice by slice. Codes of
+    /// messages, `WRONG_FORM`, `WEIGHT_RANGE`, `TOTAL_RANGE`, `NO_MEMORY`.
     pub fn gather(
         &mut self,
         assignment: &[u8],
