@@ -10,6 +10,7 @@ import ssl
 import subprocess
 import time
 from collections.abc import Callable
+from contextlib import suppress
 from pathlib import Path
 
 POSTGRESQL = Path("/usr/lib/postgresql/15/bin")
@@ -59,6 +60,13 @@ def _children_of(process: int) -> list[int]:
     return children
 
 
+def _runs(process: int) -> bool:
+    try:
+        return Path(f"/proc/{process}/stat").read_text().rpartition(")")[2].split()[0] != "Z"
+    except OSError:
+        return False
+
+
 class Engine:
     """A process of an engine, which may be killed and started again over the same folder. It runs
     within a `with`."""
@@ -95,17 +103,20 @@ class Engine:
             time.sleep(0.05)
 
     def kill(self) -> None:
-        """Kills the process and its children: a backend of PostgreSQL outlives it for a while."""
+        """Kills the process and its children, which outlive it for a while in PostgreSQL, and waits
+        for their end."""
         if self.process is not None:
+            self.process.send_signal(signal.SIGSTOP)  # it starts no more children
             children = _children_of(self.process.pid)
             self.process.kill()
             self.process.wait()
             self.process = None
             for child in children:
-                try:
+                with suppress(ProcessLookupError):
                     os.kill(child, signal.SIGKILL)
-                except ProcessLookupError:
-                    pass
+            end = time.monotonic() + PATIENCE
+            while any(map(_runs, children)) and time.monotonic() < end:
+                time.sleep(0.01)
 
 
 def postgresql(folder: Path) -> Engine:
