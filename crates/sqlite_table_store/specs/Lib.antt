@@ -4,3 +4,5 @@ pub mod Texts
 pub mod Values
 pub mod Holding
 pub mod Refusing
+pub mod Files
+pub mod Jobs

@@ -78,9 +78,13 @@ IsNotFoundIn job in_transaction db e = (in_transaction ≡ false) × (db.schema 
 abbrev pub IsNotFound : List ℕ → State → StoreError SqliteFault → Type 0
 IsNotFound job s e = IsNotFoundIn job s.in_transaction s.now e
 
--- what a connection sees is as it was
+-- A crash finds only what it would have found before.
+abbrev pub LeavesAll : State → State → Type 0
+LeavesAll old new = (db : Trees) → new.may_leave db → old.may_leave db
+
+-- what a connection sees is as it was, and so is what a crash finds
 abbrev pub IsSame : State → State → Type 0
-IsSame old new = (new.now ≡ old.now) × (new.in_transaction ≡ old.in_transaction)
+IsSame old new = (new.now ≡ old.now) × (new.in_transaction ≡ old.in_transaction) × LeavesAll old new
 
 -- the table is there, with no row
 pub record IsMade (s : State) : Type 0 where
@@ -109,6 +113,12 @@ WereThere rows s = (rows ≡ map seen (s.now.trees 0)) ⊎ ((s.now.schema ≡ no
 -- A crash finds the rows that it would have found before, or no row in a table that is made.
 abbrev pub LeavesRows : State → State → Type 0
 LeavesRows old new = (db : Trees) → new.may_leave db → old.may_leave db ⊎ ((old.now.schema ≡ no_schema) × (db 0 ≡ []))
+
+-- What is refused is left as it is. Where a statement fails or memory runs out, its rows are, or there is an empty table in a database that had nothing.
+abbrev pub IsLeftBy : StoreError SqliteFault → State → State → Type 0
+IsLeftBy (Failed (fault.Statement why)) old new = LeavesRows old new
+IsLeftBy NoMemory old new = LeavesRows old new
+IsLeftBy _ old new = LeavesAll old new
 
 -- a store is open over the rows that were there, which have what it stored
 pub record IsOpened (job : List ℕ) (old new : State) : Type 0 where

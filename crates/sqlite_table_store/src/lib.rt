@@ -5,6 +5,7 @@ mod assignment_text;
 mod columns;
 mod fault;
 mod file;
+mod job;
 mod reading;
 mod schema;
 mod sql;
@@ -12,4 +13,6 @@ mod store;
 mod values;
 
 pub use fault::SqliteFault;
+pub use file::connect;
+pub use job::{NoJob, job_of};
 pub use store::SqliteStore;

@@ -9,7 +9,8 @@ ghost use Rattle.table_store.specs.declared.store.StoreError.TheVariants.{Replac
 ghost use Rattle.sqlite_table_store.specs.Cells.{IsReady, IsReadyIfOpen, row_of};
 ghost use Rattle.sqlite_table_store.specs.Rows.{HasRows, kept_schema, no_schema, seen};
 ghost use Rattle.sqlite_table_store.specs.Holding.{Finds, MayLeave, MayPut, Puts};
-ghost use Rattle.sqlite_table_store.specs.Refusing.{AreUnread, IsNotFound, IsNotMade, IsNotOpened, IsOfCall, IsOpened, IsSame, LeavesRows, Makes, MayFail};
+ghost use Rattle.sqlite_table_store.specs.Refusing.{AreUnread, IsLeftBy, IsNotFound, IsNotMade, IsNotOpened, IsOfCall, IsOpened, IsSame, LeavesAll, LeavesRows};
+ghost use Rattle.sqlite_table_store.specs.Refusing.{Makes, MayFail};
 ghost use Rattle.sqlite_table_store.specs.Values.{HaveStored};
 
 use crate::fault::SqliteFault;
@@ -106,7 +107,8 @@ fn write<S: Alter>(
     kept: &Kept,
 ) -> Result<(), StoreError<SqliteFault>>
     ensures clean { HasCleanDisk (state S.Store conn.new) → HasCleanDisk (state S.Store conn.old) }
-    ensures saved { HasCleanDisk (state S.Store conn.new) → MayPut job.now (state S.Store conn.old) → OnOk result (Puts job.now next kept.now (state S.Store conn.new)) }
+    ensures saved { HasCleanDisk (state S.Store conn.new) → MayPut job.now (state S.Store conn.old)
+        → OnOk result (Puts job.now next kept.now (state S.Store conn.new)) }
     ensures crash { HasCleanDisk (state S.Store conn.new) → MayPut job.now (state S.Store conn.old)
         → (db : Trees) → (state S.Store conn.new).may_leave db
         → (state S.Store conn.old).may_leave db ⊎ HaveStored job.now (map seen (db 0)) (record { version = next; kept = Some kept.now }) }
@@ -122,7 +124,8 @@ fn write<S: Alter>(
 // Makes the table, if the database has nothing and no transaction is open.
 fn make<S: Alter>(conn: &mut Connection<S>) -> Result<(), StoreError<SqliteFault>>
     ensures clean { HasCleanDisk (state S.Store conn.new) → HasCleanDisk (state S.Store conn.old) }
-    ensures made { HasCleanDisk (state S.Store conn.new) → OnOk result (IsSame (state S.Store conn.old) (state S.Store conn.new) ⊎ Makes (state S.Store conn.old) (state S.Store conn.new)) }
+    ensures made { HasCleanDisk (state S.Store conn.new)
+        → OnOk result (IsSame (state S.Store conn.old) (state S.Store conn.new) ⊎ Makes (state S.Store conn.old) (state S.Store conn.new)) }
     ensures crash { HasCleanDisk (state S.Store conn.new) → LeavesRows (state S.Store conn.old) (state S.Store conn.new) }
     ensures err { IfErr result (λ e. (conn.old.in_transaction ≡ false) × ((state S.Store conn.old).now.schema ≡ no_schema) × IsNotMade e) }
 {
@@ -141,17 +144,22 @@ impl<S: Alter + Drop> SqliteStore<S> {
     ///
     /// Errors, in this order: the table is not made, a transaction is open or the database has
     /// another table, its row is not read, has another format, is of another job, is damaged, memory
-    /// runs out. They leave the row as it is, and return the connection.
+    /// runs out. They return the connection. A database that is refused is left as it is; where a
+    /// statement fails or memory runs out, its row is.
     pub fn open(
         alloc: Global,
         mut conn: Connection<S>,
         job: String,
     ) -> Result<Self, (StoreError<SqliteFault>, Connection<S>)>
         ensures job { IfOk result (λ store. store.job ≡ job) }
-        ensures opened { IfOk result (λ store. HasCleanDisk (state S.Store store.conn) → IsOpened (string_bytes job) (state S.Store conn) (state S.Store store.conn)) }
+        ensures opened { IfOk result (λ store. HasCleanDisk (state S.Store store.conn)
+            → IsOpened (string_bytes job) (state S.Store conn) (state S.Store store.conn)) }
         ensures refused { IfErr result (λ e. HasCleanDisk (state S.Store e.1) → IsNotOpened (string_bytes job) (state S.Store conn) e.0) }
         ensures kept { IfOk result (λ store. HasCleanDisk (state S.Store store.conn) → LeavesRows (state S.Store conn) (state S.Store store.conn)) }
-        ensures unchanged { IfErr result (λ e. HasCleanDisk (state S.Store e.1) → LeavesRows (state S.Store conn) (state S.Store e.1)) }
+        ensures unchanged { IfErr result (λ e. HasCleanDisk (state S.Store e.1) → IsLeftBy e.0 (state S.Store conn) (state S.Store e.1)) }
+        ensures kind { IfErr result (λ e. IsOfCall e.0) }
+        ensures clean { IfOk result (λ store. HasCleanDisk (state S.Store store.conn) → HasCleanDisk (state S.Store conn)) }
+        ensures cleaned { IfErr result (λ e. HasCleanDisk (state S.Store e.1) → HasCleanDisk (state S.Store conn)) }
     {
         if let Err(error) = make(&mut conn) {
             return Err((error, conn));
@@ -160,6 +168,23 @@ impl<S: Alter + Drop> SqliteStore<S> {
             Ok(_) => Ok(SqliteStore { alloc, conn, job }),
             Err(error) => Err((error, conn)),
         }
+    }
+
+    /// Returns what the store has, as [`load`](Store::load) does.
+    ///
+    /// Errors, in this order: a transaction is open or the database has another table, its row is not
+    /// read, has another format, is of another job, is damaged, memory runs out. The database is left
+    /// as it is.
+    pub fn stored(&mut self) -> Result<Stored, StoreError<SqliteFault>>
+        ensures job { self.new.job ≡ self.old.job }
+        ensures found { HasCleanDisk (state S.Store self.new.conn)
+            → IfOk result (Finds (string_bytes self.old.job) (state S.Store self.old.conn) (state S.Store self.new.conn)) }
+        ensures refused { HasCleanDisk (state S.Store self.new.conn) → IfErr result (IsNotFound (string_bytes self.old.job) (state S.Store self.old.conn)) }
+        ensures unchanged { HasCleanDisk (state S.Store self.new.conn) → LeavesAll (state S.Store self.old.conn) (state S.Store self.new.conn) }
+        ensures clean { HasCleanDisk (state S.Store self.new.conn) → HasCleanDisk (state S.Store self.old.conn) }
+        ensures kind { IfErr result IsOfCall }
+    {
+        find(self.alloc, &mut self.conn, self.job.as_str())
     }
 
     /// Returns the connection. Its `close` copies the log into the file.
