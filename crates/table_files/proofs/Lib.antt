@@ -1,2 +1,4 @@
 pub mod Untold
 pub mod NoJob
+pub mod Looking
+pub mod Told

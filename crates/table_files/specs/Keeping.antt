@@ -7,6 +7,7 @@ use Rattle.table_store.specs.declared.store.Stored.{Stored}
 use Rattle.session.specs.declared.answer.ReplyForm.{ReplyForm}
 use Rattle.table_session.specs.declared.keeping.TableSession.{TableSession}
 use Rattle.table_session.specs.TableTalks.{Point}
+use Rattle.table_files.specs.declared.error.FileError.{FileError}
 use Rattle.table_files.specs.declared.error.KeepError.{KeepError}
 use Rattle.table_files.specs.declared.error.KeepError.TheVariants as keep_error
 use Rattle.table_files.specs.declared.error.ServeError.{ServeError}
@@ -36,21 +37,21 @@ module _ {S : Type 0} (is_honest : S → Type 0) (may_leave : S → Stored → T
   IsOverEnd form policy store before after held holds (Err (keep_error.Job why)) = ⊥
   IsOverEnd form policy store before after held holds (Err (keep_error.File why)) = ⊥
 
-module _ {S : Type 0} (is_of : S → List ℕ → List ℕ → Type 0) (is_honest : S → Type 0) (may_leave : S → Stored → Type 0) {F : Type 0} (may_fail : S → F → Type 0)
-    (form : ReplyForm) (file name : List ℕ) where
+module _ {S : Type 0} (opens : List ℕ → List ℕ → Result S FileError → Type 0) (is_honest : S → Type 0) (may_leave : S → Stored → Type 0) {F : Type 0}
+    (may_fail : S → F → Type 0) (form : ReplyForm) (file name : List ℕ) where
   -- the job line was read, the store of this file was opened for the job of this name, and then the session over it ended
   pub record IsKept (before after held holds : Option (List ℕ)) (end : Result ⊤ (KeepError F)) : Type 0 where
     pub job : Job
     pub between : Option (List ℕ)
     pub reads : IsJobRead before between job
     pub store : S
-    pub of : is_of store file name
+    pub of : opens file name (Ok store)
     pub over : IsOverEnd is_honest may_leave may_fail form job.policy store between after held holds end
 
   -- how a session over the table in a file ended: no job was read, or the file was not opened, and nothing was written; or over its store
   abbrev pub IsKeepEnd : (before after held holds : Option (List ℕ)) → Result ⊤ (KeepError F) → Type 0
   IsKeepEnd before after held holds (Err (keep_error.Job why)) = IsNoJobRead before after why × (holds ≡ held)
-  IsKeepEnd before after held holds (Err (keep_error.File why)) = ((job : Job) × IsJobRead before after job) × (holds ≡ held)
+  IsKeepEnd before after held holds (Err (keep_error.File why)) = ((job : Job) × IsJobRead before after job) × opens file name (Err why) × (holds ≡ held)
   IsKeepEnd before after held holds (Err (keep_error.Open why)) = IsKept before after held holds (Err (keep_error.Open why))
   IsKeepEnd before after held holds (Err (keep_error.Serve why)) = IsKept before after held holds (Err (keep_error.Serve why))
   IsKeepEnd before after held holds (Ok done) = IsKept before after held holds (Ok done)

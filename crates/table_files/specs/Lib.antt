@@ -3,3 +3,6 @@ pub mod JobLines
 pub mod Serving
 pub mod Keeping
 pub mod Seeing
+pub mod Looks
+pub mod Databases
+pub mod Sayings

@@ -12,6 +12,8 @@ use Rattle.wire.specs.Messages.{message_text}
 use Rattle.table_files.specs.declared.error.SeeError.{SeeError}
 use Rattle.table_files.specs.declared.error.SeeError.TheVariants as see_error
 use Rattle.table_files.specs.declared.files.Seen.{Seen}
+use Rattle.table_files.specs.declared.error.FileError.{FileError}
+use Rattle.table_files.specs.Looks.{HasLooked}
 
 -- the kept values as a message of the job, if any were saved
 abbrev pub kept_line : List ℕ → Option Kept → List ℕ
@@ -30,11 +32,11 @@ kept_fault (Some kept) = first_of (kept_checks kept.policy kept)
 abbrev pub fault_of : Stored → Option KeptFault
 fault_of stored = kept_fault stored.kept
 
-module _ (has : List ℕ → Seen → Type 0) (file : List ℕ) (held holds : Option (List ℕ)) where
+module _ {S : Type 0} (sees : List ℕ → Result (Seen × S) FileError → Type 0) (file : List ℕ) (held holds : Option (List ℕ)) where
   -- the file has something, of which this much of its text was written
   pub record IsShown (is_part : List ℕ → List ℕ → Type 0) : Type 0 where
     pub seen : Seen
-    pub of : has file seen
+    pub of : HasLooked (sees file) (Ok seen)
     pub text : List ℕ
     pub part : is_part (shown_text seen) text
     pub wrote : Appends held holds text
@@ -42,7 +44,7 @@ module _ (has : List ℕ → Seen → Type 0) (file : List ℕ) (held holds : Op
   -- the file has the values of a table, or none, and this much of `ok` was written
   pub record IsChecked (is_part : List ℕ → List ℕ → Type 0) : Type 0 where
     pub seen : Seen
-    pub of : has file seen
+    pub of : HasLooked (sees file) (Ok seen)
     pub sound : fault_of seen.stored ≡ None
     pub text : List ℕ
     pub part : is_part (codes "ok\n") text
@@ -59,7 +61,7 @@ module _ (has : List ℕ → Seen → Type 0) (file : List ℕ) (held holds : Op
   IsShowEnd (Ok done) = IsShown IsAll
   IsShowEnd (Err see_error.Write) = IsShown IsFirst
   IsShowEnd (Err see_error.NoMemory) = holds ≡ held
-  IsShowEnd (Err (see_error.File why)) = holds ≡ held
+  IsShowEnd (Err (see_error.File why)) = HasLooked (sees file) (Err why) × (holds ≡ held)
   IsShowEnd (Err (see_error.NoTable fault)) = ⊥
 
   -- whether a session would open the table of a file
@@ -67,5 +69,5 @@ module _ (has : List ℕ → Seen → Type 0) (file : List ℕ) (held holds : Op
   IsCheckEnd (Ok done) = IsChecked IsAll
   IsCheckEnd (Err see_error.Write) = IsChecked IsFirst
   IsCheckEnd (Err see_error.NoMemory) = ⊥
-  IsCheckEnd (Err (see_error.File why)) = holds ≡ held
-  IsCheckEnd (Err (see_error.NoTable fault)) = ((seen : Seen) × has file seen × (fault_of seen.stored ≡ Some fault)) × (holds ≡ held)
+  IsCheckEnd (Err (see_error.File why)) = HasLooked (sees file) (Err why) × (holds ≡ held)
+  IsCheckEnd (Err (see_error.NoTable fault)) = ((seen : Seen) × HasLooked (sees file) (Ok seen) × (fault_of seen.stored ≡ Some fault)) × (holds ≡ held)

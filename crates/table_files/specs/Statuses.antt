@@ -9,9 +9,10 @@ use Rattle.table_files.specs.declared.error.KeepError.TheVariants as keep_error
 use Rattle.table_files.specs.declared.error.SeeError.{SeeError}
 use Rattle.table_files.specs.declared.error.SeeError.TheVariants as see_error
 
--- 2 where a file is refused, and else 3
+-- 2 where a file is refused or missing, and else 3
 abbrev pub file_status : FileError → ℕ
 file_status (file_error.Refused words) = 2
+file_status (file_error.Missing words) = 2
 file_status file_error.NoMemory = 3
 
 -- 2 where the job line or the file is refused, also for another policy; and else 3

@@ -13,6 +13,8 @@ use table_store::{OpenError, SettleError};
 pub enum FileError {
     /// The file is refused; the text says why.
     Refused(String),
+    /// The system finds no file of this name; the text says why.
+    Missing(String),
     /// Memory ran out.
     NoMemory,
 }
@@ -50,7 +52,8 @@ impl<Fault> KeepError<Fault> {
     {
         match self {
             KeepError::Job(error) => error.status(),
-            KeepError::File(FileError::Refused(_)) | KeepError::Open(OpenError::NoTable(_)) => 2,
+            KeepError::File(FileError::Refused(_) | FileError::Missing(_)) => 2,
+            KeepError::Open(OpenError::NoTable(_)) => 2,
             KeepError::File(FileError::NoMemory) | KeepError::Open(_) | KeepError::Serve(_) => 3,
         }
     }
@@ -75,7 +78,8 @@ impl SeeError {
         ensures { result ≡ see_status self.now }
     {
         match self {
-            SeeError::File(FileError::Refused(_)) | SeeError::NoTable(_) => 2,
+            SeeError::File(FileError::Refused(_) | FileError::Missing(_)) => 2,
+            SeeError::NoTable(_) => 2,
             SeeError::File(FileError::NoMemory) | SeeError::Write | SeeError::NoMemory => 3,
         }
     }

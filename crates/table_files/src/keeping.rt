@@ -57,7 +57,7 @@ pub fn keep<T: TableFiles, R: BufRead, W: Write>(
     reader: &mut R,
     writer: &mut W,
 ) -> Result<(), KeepError<<T::Store as Store>::Fault>>
-    ensures { IsKeepEnd T.is_of T.Store.is_honest T.Store.may_leave T.Store.may_fail keeping.entry.form keeping.entry.file.now keeping.entry.job.now
+    ensures { IsKeepEnd T.opens T.Store.is_honest T.Store.may_leave T.Store.may_fail keeping.entry.form keeping.entry.file.now keeping.entry.job.now
         (R.remaining reader.old) (R.remaining reader.new) (W.contents writer.old) (W.contents writer.new) result }
 {
     let job = match read_job(alloc, reader) {

@@ -1,11 +1,16 @@
 //! How errors are reported.
 
+ghost use Rattle.std.specs.Prelude.{◌≡◌, OnOk};
+ghost use Rattle.std.specs.Io.KnownBytes.{Appends};
+ghost use Rattle.table_files.specs.Sayings.{IsJobSaid, IsKeepSaid, IsOpenSaid, IsServeSaid, IsStoreSaid, IsTalkSaid};
+ghost use Rattle.table_files.specs.Sayings.{file_line, kept_words, line_about, memory_line, see_line, write_line};
+
 use crate::error::{FileError, KeepError, SeeError, ServeError};
 use crate::files::TableFiles;
 use diagnosis::{AnswerError, Escaped};
 use lease_table::KeptFault;
 use std::alloc::Global;
-use std::io::Write;
+use std::io::{self, Write};
 use table_session::{SessionError, TalkError};
 use table_store::{OpenError, SettleError, Store, StoreError};
 
@@ -18,21 +23,29 @@ pub struct About<'a> {
     pub input: &'a str,
 }
 
-fn say_file<E: Write>(errors: &mut E, file: &str, words: &str) {
+fn say_file<E: Write>(errors: &mut E, file: &str, words: &str) -> io::Result<()>
+    ensures { OnOk result (Appends (E.contents errors.old) (E.contents errors.new) (line_about file.now words.now)) }
+{
     let file = Escaped(file);
-    let _ = writeln!(errors, "hourstable: {file}: {words}");
+    writeln!(errors, "hourstable: {file}: {words}")
 }
 
-fn say_memory<E: Write>(errors: &mut E) {
-    let _ = writeln!(errors, "hourstable: out of memory");
+fn say_memory<E: Write>(errors: &mut E) -> io::Result<()>
+    ensures { OnOk result (Appends (E.contents errors.old) (E.contents errors.new) memory_line) }
+{
+    writeln!(errors, "hourstable: out of memory")
 }
 
-fn say_write<E: Write>(errors: &mut E) {
-    let _ = writeln!(errors, "hourstable: write fault");
+fn say_write<E: Write>(errors: &mut E) -> io::Result<()>
+    ensures { OnOk result (Appends (E.contents errors.old) (E.contents errors.new) write_line) }
+{
+    writeln!(errors, "hourstable: write fault")
 }
 
 // Returns words for why values are those of no table.
-fn kept_words(fault: KeptFault) -> &'static str {
+fn kept_words(fault: KeptFault) -> &'static str
+    ensures { result.now ≡ kept_words fault }
+{
     match fault {
         KeptFault::OtherPolicy => "the file is of a job with another policy",
         KeptFault::ReadingRange => "the last reading is 2^62 or more",
@@ -46,9 +59,12 @@ fn kept_words(fault: KeptFault) -> &'static str {
     }
 }
 
-fn say_refusal<E: Write>(errors: &mut E, file: &str, error: &FileError) {
+fn say_refusal<E: Write>(errors: &mut E, file: &str, error: &FileError) -> io::Result<()>
+    ensures { OnOk result (Appends (E.contents errors.old) (E.contents errors.new) (file_line file.now error.now)) }
+{
     match error {
         FileError::Refused(words) => say_file(errors, file, words.as_str()),
+        FileError::Missing(words) => say_file(errors, file, words.as_str()),
         FileError::NoMemory => say_memory(errors),
     }
 }
@@ -60,7 +76,9 @@ fn say_store<T: TableFiles, E: Write>(
     errors: &mut E,
     file: &str,
     error: &StoreError<<T::Store as Store>::Fault>,
-) {
+) -> io::Result<()>
+    ensures { OnOk result (IsStoreSaid T.says file.now (E.contents errors.old) (E.contents errors.new) error.now) }
+{
     match error {
         StoreError::Replaced => say_file(errors, file, "another process has saved"),
         StoreError::NoMemory => say_memory(errors),
@@ -71,17 +89,21 @@ fn say_store<T: TableFiles, E: Write>(
     }
 }
 
-fn say_job<E: Write>(errors: &mut E, input: &str, error: &AnswerError) {
-    let input = Escaped(input);
+fn say_job<E: Write>(errors: &mut E, input: &str, error: &AnswerError) -> io::Result<()>
+    ensures { OnOk result (IsJobSaid input.now (E.contents errors.old) (E.contents errors.new) error.now) }
+{
     match error {
         AnswerError::Refused(faults) => {
+            let input = Escaped(input);
+            let mut said = Ok(());
             for fault in faults {
-                let _ = writeln!(errors, "hourstable: {input}: {fault}");
+                if let Err(error) = writeln!(errors, "hourstable: {input}: {fault}") {
+                    said = Err(error);
+                }
             }
+            said
         }
-        AnswerError::Read => {
-            let _ = writeln!(errors, "hourstable: {input}: read fault");
-        }
+        AnswerError::Read => say_file(errors, input, "read fault"),
         AnswerError::Write => say_write(errors),
         AnswerError::Memory => say_memory(errors),
     }
@@ -93,12 +115,13 @@ fn say_open<T: TableFiles, E: Write>(
     errors: &mut E,
     file: &str,
     error: &OpenError<<T::Store as Store>::Fault>,
-) {
+) -> io::Result<()>
+    ensures { OnOk result (IsOpenSaid T.says file.now (E.contents errors.old) (E.contents errors.new) error.now) }
+{
     match error {
         OpenError::NoTable(fault) => say_file(errors, file, kept_words(*fault)),
-        OpenError::NotLoaded(error) | OpenError::NotSaved(error) => {
-            say_store(alloc, files, errors, file, error);
-        }
+        OpenError::NotLoaded(error) => say_store(alloc, files, errors, file, error),
+        OpenError::NotSaved(error) => say_store(alloc, files, errors, file, error),
     }
 }
 
@@ -108,15 +131,17 @@ fn say_talk<T: TableFiles, E: Write>(
     errors: &mut E,
     about: About<'_>,
     error: &TalkError<<T::Store as Store>::Fault>,
-) {
+) -> io::Result<()>
+    ensures { OnOk result (IsTalkSaid T.says about.entry.file.now (E.contents errors.old) (E.contents errors.new) about.entry.input.now error.now) }
+{
     match error {
-        TalkError::Read => say_job(errors, about.input, &AnswerError::Read),
+        TalkError::Read => say_file(errors, about.input, "read fault"),
         TalkError::Write => say_write(errors),
         TalkError::Session(SessionError::NotSaved(error)) => {
-            say_store(alloc, files, errors, about.file, error);
+            say_store(alloc, files, errors, about.file, error)
         }
         TalkError::Session(SessionError::NotOpen) => {
-            say_file(errors, about.file, "the table is not open");
+            say_file(errors, about.file, "the table is not open")
         }
         TalkError::Session(SessionError::NoMemory) => say_memory(errors),
     }
@@ -128,28 +153,35 @@ fn say_serve<T: TableFiles, E: Write>(
     errors: &mut E,
     about: About<'_>,
     error: &ServeError<<T::Store as Store>::Fault>,
-) {
+) -> io::Result<()>
+    ensures { OnOk result (IsServeSaid T.says about.entry.file.now (E.contents errors.old) (E.contents errors.new) about.entry.input.now error.now) }
+{
     match error {
         ServeError::NoMemory => say_memory(errors),
         ServeError::Write => say_write(errors),
         ServeError::Talk(error) => say_talk(alloc, files, errors, about, error),
         ServeError::Settle(SettleError::NotOpen) => {
-            say_file(errors, about.file, "the table is not open");
+            say_file(errors, about.file, "the table is not open")
         }
         ServeError::Settle(SettleError::NotSaved(error)) => {
-            say_store(alloc, files, errors, about.file, error);
+            say_store(alloc, files, errors, about.file, error)
         }
     }
 }
 
 /// Reports why a session over a table in a file did not end well.
+///
+/// At `Ok` the line is written whole: that of the fault, in the words of the file's store for one of
+/// its own, or that memory ran out for them.
 pub fn say_keep_error<T: TableFiles, E: Write>(
     alloc: Global,
     files: &T,
     errors: &mut E,
     about: About<'_>,
     error: &KeepError<<T::Store as Store>::Fault>,
-) {
+) -> io::Result<()>
+    ensures { OnOk result (IsKeepSaid T.says about.entry.file.now (E.contents errors.old) (E.contents errors.new) about.entry.input.now error.now) }
+{
     match error {
         KeepError::Job(error) => say_job(errors, about.input, error),
         KeepError::File(error) => say_refusal(errors, about.file, error),
@@ -158,8 +190,10 @@ pub fn say_keep_error<T: TableFiles, E: Write>(
     }
 }
 
-/// Reports why what a file has is not written.
-pub fn say_see_error<E: Write>(errors: &mut E, file: &str, error: &SeeError) {
+/// Reports why what a file has is not written. At `Ok` the line is written whole.
+pub fn say_see_error<E: Write>(errors: &mut E, file: &str, error: &SeeError) -> io::Result<()>
+    ensures { OnOk result (Appends (E.contents errors.old) (E.contents errors.new) (see_line file.now error.now)) }
+{
     match error {
         SeeError::File(error) => say_refusal(errors, file, error),
         SeeError::NoTable(fault) => say_file(errors, file, kept_words(*fault)),

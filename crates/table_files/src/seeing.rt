@@ -47,7 +47,7 @@ pub fn show_file<T: TableFiles, W: Write>(
     name: &str,
     writer: &mut W,
 ) -> Result<(), SeeError>
-    ensures { IsShowEnd T.has name.now (W.contents writer.old) (W.contents writer.new) result }
+    ensures { IsShowEnd T.sees name.now (W.contents writer.old) (W.contents writer.new) result }
 {
     let seen = match files.see(alloc, name) {
         Ok(seen) => seen,
@@ -79,7 +79,7 @@ pub fn check_file<T: TableFiles, W: Write>(
     name: &str,
     writer: &mut W,
 ) -> Result<(), SeeError>
-    ensures { IsCheckEnd T.has name.now (W.contents writer.old) (W.contents writer.new) result }
+    ensures { IsCheckEnd T.sees name.now (W.contents writer.old) (W.contents writer.new) result }
 {
     let seen = match files.see(alloc, name) {
         Ok(seen) => seen,
