@@ -20,6 +20,7 @@ use Rattle.session.specs.Talks.{IsTalked, IsBroken}
 use Rattle.command.specs.Runs.{IsAnswered, IsFailed}
 use Rattle.command.specs.Endings.{IsPlayed, IsSession, IsOutcome, IsTold, EndsBy, Ends}
 use Rattle.table_store.specs.declared.store.Stored.{Stored}
+use Rattle.table_files.specs.declared.error.FileError.{FileError}
 use Rattle.table_files.specs.declared.files.Seen.{Seen}
 use Rattle.command.specs.Words.{word_faults}
 
@@ -53,10 +54,10 @@ fresh_remaining : {T A : Type 0} (remaining : T → Option (List ℕ)) (reader :
     → reader_inner reader ≡ inner → reader_buffer reader ≡ [] → reader_capacity reader ≡ 8192 → reader_remaining remaining reader ≡ remaining inner
 fresh_remaining remaining reader inner same empty room = rw (room, empty, same) (prepends_nothing (remaining inner))
 
-module _ {S : Type 0} (is_of : S → List ℕ → List ℕ → Type 0) (is_honest : S → Type 0) (may_leave : S → Stored → Type 0) {F : Type 0} (may_fail : S → F → Type 0)
-    (has : List ℕ → Seen → Type 0) where
+module _ {S : Type 0} (opens : List ℕ → List ℕ → Result S FileError → Type 0) (is_honest : S → Type 0) (may_leave : S → Stored → Type 0) {F : Type 0}
+    (may_fail : S → F → Type 0) (sees : List ℕ → Result (Seen × S) FileError → Type 0) where
   abbrev EndsSo : List Text → (before after held holds : Option (List ℕ)) → ℕ → Type 0
-  EndsSo = Ends is_of is_honest may_leave may_fail has
+  EndsSo = Ends opens is_honest may_leave may_fail sees
 
   pub ends_buffered : (words : List Text) {T A : Type 0} (remaining : T → Option (List ℕ)) (reader : BufReader T A) (inner : T) (after held holds : Option (List ℕ)) (code : ℕ)
       → reader_inner reader ≡ inner → reader_buffer reader ≡ [] → reader_capacity reader ≡ 8192 → EndsSo words (reader_remaining remaining reader) after held holds code

@@ -20,6 +20,7 @@ use Rattle.command.specs.Audits.{IsAuditEnd}
 use Rattle.command.specs.Sources.{IsReadFrom, IsUnopened}
 use Rattle.command.specs.Tables.{EndsKeep, IsSeeEnd}
 use Rattle.table_store.specs.declared.store.Stored.{Stored}
+use Rattle.table_files.specs.declared.error.FileError.{FileError}
 use Rattle.table_files.specs.declared.files.Seen.{Seen}
 use Rattle.command.specs.Words.{WordsAsk, word_faults}
 
@@ -74,15 +75,15 @@ EndsBy request before after held holds code =
 abbrev pub IsUnknown : (before after held holds : Option (List ℕ)) → ℕ → Type 0
 IsUnknown before after held holds code = (code ≡ 2) × Keeps before after × Keeps held holds
 
-module _ {S : Type 0} (is_of : S → List ℕ → List ℕ → Type 0) (is_honest : S → Type 0) (may_leave : S → Stored → Type 0) {F : Type 0} (may_fail : S → F → Type 0)
-    (has : List ℕ → Seen → Type 0) where
+module _ {S : Type 0} (opens : List ℕ → List ℕ → Result S FileError → Type 0) (is_honest : S → Type 0) (may_leave : S → Stored → Type 0) {F : Type 0}
+    (may_fail : S → F → Type 0) (sees : List ℕ → Result (Seen × S) FileError → Type 0) where
   -- how the command ends, for what was asked: a request, an audit of the logs of these names, all of them, a session over the table in a file,
   -- or a look at what a file has
   abbrev pub EndsFor : Asked → (before after held holds : Option (List ℕ)) → ℕ → Type 0
   EndsFor (asked.Answer request) before after held holds code = EndsBy request before after held holds code
   EndsFor (asked.Audit names progress) before after held holds code = IsAuditEnd (map (λ n. n.now) names.items) before after held holds code
-  EndsFor (asked.Keep keep) before after held holds code = EndsKeep is_of is_honest may_leave may_fail keep before after held holds code
-  EndsFor (asked.See action file) before after held holds code = IsSeeEnd has action file.now held holds code × Keeps before after
+  EndsFor (asked.Keep keep) before after held holds code = EndsKeep opens is_honest may_leave may_fail keep before after held holds code
+  EndsFor (asked.See action file) before after held holds code = IsSeeEnd sees action file.now held holds code × Keeps before after
   EndsFor (asked.Unknown action) before after held holds code = IsUnknown before after held holds code
 
   -- how the command ends, for these words: it does what they ask for, or reads nothing

@@ -3,6 +3,7 @@ use Rattle.std.specs.Prelude.{◌≡◌, ◌⊎◌, ◌<◌, ℕ, List, length, 
 use Rattle.std.specs.Io.KnownBytes.{Keeps}
 use Rattle.session.specs.declared.answer.ReplyForm.{ReplyForm}
 use Rattle.table_store.specs.declared.store.Stored.{Stored}
+use Rattle.table_files.specs.declared.error.FileError.{FileError}
 use Rattle.table_files.specs.declared.error.KeepError.{KeepError}
 use Rattle.table_files.specs.declared.error.SeeError.{SeeError}
 use Rattle.table_files.specs.declared.files.Seen.{Seen}
@@ -25,14 +26,15 @@ abbrev pub see_status_after : Result ⊤ SeeError → ℕ
 see_status_after (Ok done) = 0
 see_status_after (Err why) = see_status why
 
-module _ {S : Type 0} (is_of : S → List ℕ → List ℕ → Type 0) (is_honest : S → Type 0) (may_leave : S → Stored → Type 0) {F : Type 0} (may_fail : S → F → Type 0) where
+module _ {S : Type 0} (opens : List ℕ → List ℕ → Result S FileError → Type 0) (is_honest : S → Type 0) (may_leave : S → Stored → Type 0) {F : Type 0}
+    (may_fail : S → F → Type 0) where
   -- a session was held over the table of this job in this file, on the lines of the input or of a file, and this is how it ended
   pub record IsHeldEnd (form : ReplyForm) (file job : List ℕ) (source : Source) (before after held holds : Option (List ℕ)) (code : ℕ) : Type 0 where
     pub full : Option (List ℕ)
     pub rest : Option (List ℕ)
     pub read : IsReadFrom source before after full rest
     pub end : Result ⊤ (KeepError F)
-    pub ended : IsKeepEnd is_of is_honest may_leave may_fail form file job full rest held holds end
+    pub ended : IsKeepEnd opens is_honest may_leave may_fail form file job full rest held holds end
     pub status : code ≡ keep_status_after end
 
   -- so it was, or the file with the lines was not opened
@@ -46,10 +48,10 @@ module _ {S : Type 0} (is_of : S → List ℕ → List ℕ → Type 0) (is_hones
       IsNamedEnd keep.form keep.file.now keep.job.now keep.source before after held holds code
       ⊎ ((MOST_NAME_BYTES < length keep.job.now) × (code ≡ 2) × Keeps before after × Keeps held holds)
 
-module _ (has : List ℕ → Seen → Type 0) where
+module _ {S : Type 0} (sees : List ℕ → Result (Seen × S) FileError → Type 0) where
   abbrev pub IsActionEnd : StoreAction → List ℕ → (held holds : Option (List ℕ)) → Result ⊤ SeeError → Type 0
-  IsActionEnd act.Show file held holds end = IsShowEnd has file held holds end
-  IsActionEnd act.Check file held holds end = IsCheckEnd has file held holds end
+  IsActionEnd act.Show file held holds end = IsShowEnd sees file held holds end
+  IsActionEnd act.Check file held holds end = IsCheckEnd sees file held holds end
 
   -- how it ended what was done with the file of a table, and the status
   abbrev pub IsSeeEnd : StoreAction → List ℕ → (held holds : Option (List ℕ)) → ℕ → Type 0

@@ -162,7 +162,7 @@ fn do_asked<T: TableFiles, R: BufRead, W: Write, E: Write>(
     output: &mut W,
     errors: &mut E,
 ) -> u8
-    ensures { EndsFor T.is_of T.Store.is_honest T.Store.may_leave T.Store.may_fail T.has asked.entry (R.remaining input.old) (R.remaining input.new)
+    ensures { EndsFor T.opens T.Store.is_honest T.Store.may_leave T.Store.may_fail T.sees asked.entry (R.remaining input.old) (R.remaining input.new)
         (W.contents output.old) (W.contents output.new) result }
 {
     match asked {
@@ -229,7 +229,7 @@ pub fn do_words<T: TableFiles, R: BufRead, W: Write, E: Write>(
     output: &mut W,
     errors: &mut E,
 ) -> u8
-    ensures { Ends T.is_of T.Store.is_honest T.Store.may_leave T.Store.may_fail T.has (map string_bytes words.now) (R.remaining input.old) (R.remaining input.new)
+    ensures { Ends T.opens T.Store.is_honest T.Store.may_leave T.Store.may_fail T.sees (map string_bytes words.now) (R.remaining input.old) (R.remaining input.new)
         (W.contents output.old) (W.contents output.new) result }
 {
     let Ok(version) = version_text(rt.alloc()) else {
@@ -252,7 +252,7 @@ pub fn hourstable<T: TableFiles, R: Read + Drop, W: Write, E: Write>(
     errors: &mut E,
 ) -> ExitCode
     ensures { (words : List (List ℕ)) × (after : Option (List ℕ))
-        × Ends T.is_of T.Store.is_honest T.Store.may_leave T.Store.may_fail T.has words (R.remaining input) after
+        × Ends T.opens T.Store.is_honest T.Store.may_leave T.Store.may_fail T.sees words (R.remaining input) after
         (W.contents output.old) (W.contents output.new) (exit_status result) }
 {
     let words: Option<Vec<String>> = match env::args(rt) {

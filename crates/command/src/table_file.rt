@@ -38,7 +38,7 @@ fn kept<T: TableFiles, E: Write>(
     match end {
         Ok(()) => DONE,
         Err(error) => {
-            say_keep_error(alloc, tables, errors, about, error);
+            let _ = say_keep_error(alloc, tables, errors, about, error);
             error.status()
         }
     }
@@ -53,7 +53,7 @@ fn keep_file<T: TableFiles, F: Read + Drop, W: Write>(
     writer: &mut W,
 ) -> Ended<T>
     ensures { (full : Option (List ℕ)) × (rest : Option (List ℕ))
-        × IsKeepEnd T.is_of T.Store.is_honest T.Store.may_leave T.Store.may_fail keeping.entry.form keeping.entry.file.now keeping.entry.job.now
+        × IsKeepEnd T.opens T.Store.is_honest T.Store.may_leave T.Store.may_fail keeping.entry.form keeping.entry.file.now keeping.entry.job.now
         full rest (W.contents writer.old) (W.contents writer.new) result }
 {
     match BufReader::new(alloc, file) {
@@ -78,7 +78,7 @@ fn keep_named<T: TableFiles, R: BufRead, W: Write, E: Write>(
     output: &mut W,
     errors: &mut E,
 ) -> u8
-    ensures { IsNamedEnd T.is_of T.Store.is_honest T.Store.may_leave T.Store.may_fail
+    ensures { IsNamedEnd T.opens T.Store.is_honest T.Store.may_leave T.Store.may_fail
         named.entry.keeping.form named.entry.keeping.file.now named.entry.keeping.job.now named.entry.source
         (R.remaining input.old) (R.remaining input.new) (W.contents output.old) (W.contents output.new) result }
 {
@@ -120,7 +120,7 @@ pub(crate) fn keep_table<T: TableFiles, R: BufRead, W: Write, E: Write>(
     output: &mut W,
     errors: &mut E,
 ) -> u8
-    ensures { EndsKeep T.is_of T.Store.is_honest T.Store.may_leave T.Store.may_fail asked.entry
+    ensures { EndsKeep T.opens T.Store.is_honest T.Store.may_leave T.Store.may_fail asked.entry
         (R.remaining input.old) (R.remaining input.new) (W.contents output.old) (W.contents output.new) result }
 {
     let Some(job) = JobName::new(asked.job) else {
@@ -146,7 +146,7 @@ fn seen<E: Write>(errors: &mut E, file: &str, end: &Result<(), SeeError>) -> u8
     match end {
         Ok(()) => DONE,
         Err(error) => {
-            say_see_error(errors, file, error);
+            let _ = say_see_error(errors, file, error);
             error.status()
         }
     }
@@ -162,7 +162,7 @@ pub(crate) fn see_table<T: TableFiles, W: Write, E: Write>(
     output: &mut W,
     errors: &mut E,
 ) -> u8
-    ensures { IsSeeEnd T.has action file.now (W.contents output.old) (W.contents output.new) result }
+    ensures { IsSeeEnd T.sees action file.now (W.contents output.old) (W.contents output.new) result }
 {
     let end = match action {
         StoreAction::Show => show_file(alloc, tables, file, output),
