@@ -52,7 +52,7 @@ void check_assigners(void) {
     IS(adopt(&place, 5, 7, 1500), HS_DONE);
     next_is(&place, 1000, &steady, 0, HS_RENEW, 5);
     no_phases(&place);
-    IS(hs_assigner_restart(&place), HS_DONE);
+    IS(hs_assigner_drop_term(&place), HS_DONE);
     next_is(&place, 1000, &steady, 0, HS_TAKE, 0);
     IS(adopt(&place, 1, 7, 3000), HS_DONE);
     next_is(&place, 1000, &steady, 1, HS_PROPOSE, 1);

@@ -288,8 +288,8 @@ int32_t guarded_assigner_adopt(struct hs_place *place, const struct hs_job_term 
     return returned(hs_assigner_adopt(PLACE, READ(term)));
 }
 
-int32_t guarded_assigner_restart(struct hs_place *place) {
-    return returned(hs_assigner_restart(PLACE));
+int32_t guarded_assigner_drop_term(struct hs_place *place) {
+    return returned(hs_assigner_drop_term(PLACE));
 }
 
 int32_t guarded_assigner_next(const struct hs_place *place, uint64_t at, const struct hs_phase *phase, uint32_t wanted,

@@ -80,7 +80,7 @@ int32_t guarded_load_book_gather(struct hs_place *place, const uint8_t *assignme
 int32_t guarded_load_book_total(const struct hs_place *place, uint64_t task, uint64_t *total);
 int32_t guarded_assigner_open(struct hs_place *place, uint64_t id, uint64_t job);
 int32_t guarded_assigner_adopt(struct hs_place *place, const struct hs_job_term *term);
-int32_t guarded_assigner_restart(struct hs_place *place);
+int32_t guarded_assigner_drop_term(struct hs_place *place);
 int32_t guarded_assigner_next(const struct hs_place *place, uint64_t at, const struct hs_phase *phase, uint32_t wanted,
                               uint32_t *action, uint64_t *number);
 int32_t guarded_plan(const uint8_t *job, size_t job_len, const uint8_t *assignment, size_t assignment_len,
@@ -154,7 +154,7 @@ int32_t guarded_session_last(const struct hs_place *place, uint8_t *out, size_t 
 #define hs_load_book_total guarded_load_book_total
 #define hs_assigner_open guarded_assigner_open
 #define hs_assigner_adopt guarded_assigner_adopt
-#define hs_assigner_restart guarded_assigner_restart
+#define hs_assigner_drop_term guarded_assigner_drop_term
 #define hs_assigner_next guarded_assigner_next
 #define hs_plan guarded_plan
 #define hs_task_clock_new guarded_task_clock_new

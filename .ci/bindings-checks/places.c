@@ -106,7 +106,7 @@ static void refuse_assigner(struct hs_place *place) {
     uint32_t action = 9;
     uint64_t number = 5;
     IS(hs_assigner_adopt(place, &term), HS_OTHER_PLACE);
-    IS(hs_assigner_restart(place), HS_OTHER_PLACE);
+    IS(hs_assigner_drop_term(place), HS_OTHER_PLACE);
     IS(hs_assigner_next(place, 0, &phase, 1, &action, &number), HS_OTHER_PLACE);
     IS(hs_assigner_close(place), HS_OTHER_PLACE);
     HOLDS(action == 9 && number == 5);

@@ -5,7 +5,7 @@ use Rattle.std.proofs.lemmas.Bool.Decides.{nat_tests}
 use Rattle.machines.proofs.Every.{all_weaker}
 use Rattle.lease_table.specs.declared.values.JobTerm.{JobTerm}
 use Rattle.lease_table.proofs.Members.{here, there}
-use Rattle.assigner.specs.Terms.{is_above, is_above_kept, Call, kept_after, offered_since_restart, IsGreatest}
+use Rattle.assigner.specs.Terms.{is_above, is_above_kept, Call, kept_after, offered_since_drop, IsGreatest}
 
 -- no term is above itself
 not_above_itself : (n u : ℕ) → (nat_lt n n || (n == n && nat_lt u u)) ≡ false
@@ -30,7 +30,7 @@ module _ (id : ℕ) (terms : List JobTerm) (term : JobTerm) where
       by_test true e = (here term terms, (not_above_itself term.number term.until, all_weaker _ _ terms (λ o below. stays_below o term kept (sym e) below) g.1))
       by_test false e = (there term kept terms g.0, (sym e, g.1))
 
-pub keeps_greatest : (id : ℕ) (calls : List Call) → IsGreatest (offered_since_restart id calls) (kept_after id calls)
+pub keeps_greatest : (id : ℕ) (calls : List Call) → IsGreatest (offered_since_drop id calls) (kept_after id calls)
 keeps_greatest id [] = refl
-keeps_greatest id (Call.Offer term ∷ calls) = offered id (offered_since_restart id calls) term (kept_after id calls) (keeps_greatest id calls) (term.assigner == id)
-keeps_greatest id (Call.Restart ∷ calls) = refl
+keeps_greatest id (Call.Offer term ∷ calls) = offered id (offered_since_drop id calls) term (kept_after id calls) (keeps_greatest id calls) (term.assigner == id)
+keeps_greatest id (Call.DropTerm ∷ calls) = refl

@@ -29,28 +29,28 @@ is_adopted id term kept = term.assigner == id && is_above_kept term kept
 abbrev pub adopted_term : ℕ → JobTerm → Option JobTerm → Option JobTerm
 adopted_term id term kept = if is_adopted id term kept then Some term else kept
 
--- a call of an assigner: a term is offered to it, or it restarts
+-- a call of an assigner: a term is offered to it, or it drops the term that it keeps
 pub data Call : Type 0 where
   Offer : JobTerm → Call
-  Restart : Call
+  DropTerm : Call
 
 -- the term that it keeps after these calls, the last one first
 abbrev pub kept_with : ℕ → Call → Option JobTerm → Option JobTerm
 kept_with id (Offer term) kept = adopted_term id term kept
-kept_with id Restart kept = None
+kept_with id DropTerm kept = None
 
 abbrev pub kept_after : ℕ → List Call → Option JobTerm
 kept_after id [] = None
 kept_after id (call ∷ calls) = kept_with id call (kept_after id calls)
 
--- its own terms that were offered to it since its last `restart`, the last one first
+-- its own terms that were offered to it since it last dropped one, the last one first
 abbrev pub offered_with : ℕ → Call → List JobTerm → List JobTerm
 offered_with id (Offer term) before = if term.assigner == id then term ∷ before else before
-offered_with id Restart before = []
+offered_with id DropTerm before = []
 
-abbrev pub offered_since_restart : ℕ → List Call → List JobTerm
-offered_since_restart id [] = []
-offered_since_restart id (call ∷ calls) = offered_with id call (offered_since_restart id calls)
+abbrev pub offered_since_drop : ℕ → List Call → List JobTerm
+offered_since_drop id [] = []
+offered_since_drop id (call ∷ calls) = offered_with id call (offered_since_drop id calls)
 
 -- what is kept of some terms is the greatest: one of them that none of them is above; and nothing where there are none
 abbrev pub IsGreatest : List JobTerm → Option JobTerm → Type 0

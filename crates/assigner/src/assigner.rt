@@ -57,8 +57,8 @@ impl Assigner {
         is_adopted
     }
 
-    /// Forgets the term that the assigner keeps.
-    pub fn restart(&mut self)
+    /// Drops the term that the assigner keeps.
+    pub fn drop_term(&mut self)
         ensures { self.new ≡ record self.old { term = None } }
     {
         self.term = None;

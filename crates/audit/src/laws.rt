@@ -1,10 +1,10 @@
 //! Laws about each call of an audited run. The laws of `cluster` state what holds of every run.
 
 ghost use Rattle.std.specs.Prelude.{◌≡◌, ℕ, ◌++◌, ◌∷◌, List, Some, Ok, Err};
-ghost use Rattle.policy_rules.specs.declared.answer.Ground.{Ground};
-ghost use Rattle.policy_rules.specs.declared.answer.Verdict.{Verdict};
-ghost use Rattle.policy_rules.specs.declared.answer.Verdict.TheVariants.{Allow, Deny};
-ghost use Rattle.policy_rules.specs.declared.lease.Kind.{Kind};
+ghost use Rattle.lease_rule.specs.declared.answer.Ground.{Ground};
+ghost use Rattle.lease_rule.specs.declared.answer.Verdict.{Verdict};
+ghost use Rattle.lease_rule.specs.declared.answer.Verdict.TheVariants.{Allow, Deny};
+ghost use Rattle.lease_rule.specs.declared.lease.Kind.{Kind};
 ghost use Rattle.slicelet.specs.declared.handle.KeyHandle.{KeyHandle};
 ghost use Rattle.slicelet.specs.Continuity.{IsContinuous, handle_on, held_by};
 ghost use Rattle.cluster.specs.Jobs.{Job};

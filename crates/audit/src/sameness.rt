@@ -3,11 +3,11 @@
 ghost use Rattle.std.specs.Prelude.{◌≡◌, ◌≢◌, MatchBool};
 ghost use Rattle.cluster.specs.declared.reply.ClusterReply.TheVariants as answer;
 
-use assignment::Listed;
 use clerk::{ClerkReply, Found};
 use cluster::{ClusterError, ClusterReply};
+use lease_rule::Verdict;
 use lease_table::{Phase, Row, TableReply};
-use policy_rules::Verdict;
+use machines::Listed;
 use slicelet::{KeyHandle, SliceletReply};
 
 fn is_reply_of_table(reply: &TableReply, other: &TableReply) -> bool

@@ -8,3 +8,5 @@ pub mod Places
 pub mod Opening
 pub mod Restoring
 pub mod Hinting
+pub mod Naming
+pub mod Counting

@@ -3,22 +3,22 @@ use Rattle.std.proofs.Common.{◌≡◌, ◌∙◌, ℕ, ◌+◌, ◌-◌, ◌<�
 use Rattle.std.specs.Prelude.{Option, Some, None, IfSome, insert, if◌then◌else◌}
 use Rattle.std.proofs.lemmas.List.{take_all, take_more, length-take-le}
 use Rattle.std.proofs.lemmas.List.Edits.{length-insert, get_or-insert_below, get_or-insert_at, get_or-insert_above}
-use Rattle.call_log.specs.declared.entry.Entry.{Entry}
+use Rattle.call_log.specs.declared.entry.LogEntry.{LogEntry}
 use Rattle.call_log.specs.Hints.{begun_life, greatest_life, is_start, last_start, later_start, with_open}
 use Rattle.call_log.specs.internals.Opening.{IsEntryAt}
 
-module _ (entries : List Entry) (place : ℕ) (line : Entry) (within : place ≤ length entries) where
+module _ (entries : List LogEntry) (place : ℕ) (line : LogEntry) (within : place ≤ length entries) where
   many : length (insert entries place line) ≡ length entries + 1
   many = length-insert entries place line within
 
-  pub entry_below : (i : ℕ) (e : Entry) → i < place → e ≡ get_or entries i e → IsEntryAt (with_open place line entries) i e
+  pub entry_below : (i : ℕ) (e : LogEntry) → i < place → e ≡ get_or entries i e → IsEntryAt (with_open place line entries) i e
   entry_below i e low here = (let n = many in omega arith, here ∙ sym (get_or-insert_below entries place line e i low within))
 
   pub entry_here : (i : ℕ) → i ≡ place → IsEntryAt (with_open place line entries) i line
   entry_here i is =
       (let n = many in omega arith, sym (ap (λ (k : ℕ). get_or (insert entries place line) k line) is ∙ get_or-insert_at entries place line line within))
 
-  pub entry_above : (i : ℕ) (e : Entry) → place < i → i ≤ length entries → e ≡ get_or entries (i - 1) e → IsEntryAt (with_open place line entries) i e
+  pub entry_above : (i : ℕ) (e : LogEntry) → place < i → i ≤ length entries → e ≡ get_or entries (i - 1) e → IsEntryAt (with_open place line entries) i e
   entry_above i e up most here =
       let back : i - 1 + 1 ≡ i = omega arith in (
         let n = many in omega arith,
@@ -32,7 +32,7 @@ later_if : (b c : Bool) (n : ℕ) (before : Option ℕ) → later_start (if b th
 later_if true c n before = refl
 later_if false c n before = refl
 
-last_push : (task : ℕ) (entries : List Entry) (e : Entry)
+last_push : (task : ℕ) (entries : List LogEntry) (e : LogEntry)
     → last_start task (entries ++ e ∷ []) ≡ (if is_start task e then Some (length entries) else last_start task entries)
 last_push task [] e = refl
 last_push task (entry ∷ entries) e =
@@ -40,13 +40,13 @@ last_push task (entry ∷ entries) e =
     ∙ later_if (is_start task e) (is_start task entry) (length entries) (last_start task entries)
     ∙ ap (λ (n : ℕ). if is_start task e then Some n else last_start task (entry ∷ entries)) (let more : length entries + 1 ≡ length (entry ∷ entries) = omega arith in more)
 
-greatest_push : (task : ℕ) (entries : List Entry) (e : Entry) → greatest_life task (entries ++ e ∷ []) ≡ max (greatest_life task entries) (begun_life task e)
+greatest_push : (task : ℕ) (entries : List LogEntry) (e : LogEntry) → greatest_life task (entries ++ e ∷ []) ≡ max (greatest_life task entries) (begun_life task e)
 greatest_push task [] e = omega arith
 greatest_push task (entry ∷ entries) e = let more = greatest_push task entries e in omega (arith, more)
 
-module _ (task : ℕ) (entries : List Entry) (i : ℕ) (e d : Entry) (low : i < length entries) (here : e ≡ get_or entries i d) where
+module _ (task : ℕ) (entries : List LogEntry) (i : ℕ) (e d : LogEntry) (low : i < length entries) (here : e ≡ get_or entries i d) where
   one_more : take (i + 1) entries ≡ take i entries ++ e ∷ []
-  one_more = take_more entries i d low ∙ ap (λ (x : Entry). take i entries ++ x ∷ []) (sym here)
+  one_more = take_more entries i d low ∙ ap (λ (x : LogEntry). take i entries ++ x ∷ []) (sym here)
 
   last_more : last_start task (take (i + 1) entries) ≡ (if is_start task e then Some i else last_start task (take i entries))
   last_more =

@@ -12,8 +12,8 @@ use Rattle.cluster.specs.Pasts.{Past, reading, readings}
 use Rattle.cluster.specs.Timing.{IsNear, IsTimely}
 use Rattle.cluster.specs.Runs.{IsRun}
 use Rattle.cluster.specs.Clusters.{LeadsTo}
-use Rattle.call_log.specs.declared.told.Told.{Told}
-use Rattle.call_log.specs.declared.entry.Entry.{Entry}
+use Rattle.call_log.specs.declared.told.CallerReply.{CallerReply}
+use Rattle.call_log.specs.declared.entry.LogEntry.{LogEntry}
 use Rattle.call_log.specs.declared.late.Late.{Late}
 use Rattle.call_log.specs.declared.line.LoggedCall.{LoggedCall}
 use Rattle.call_log.specs.declared.line.LoggedCall.TheVariants.{Whole, HearBare, Restore}
@@ -29,15 +29,15 @@ use Rattle.call_log.specs.internals.Answers.{IsAnswered}
 use Rattle.call_log.proofs.Watching.{free_of_clock, free_of_table}
 
 -- what is known once some calls were played
-pub record IsPlayedTo (job : Job) (entries : List Entry) (cluster : Cluster) : Type 0 where
+pub record IsPlayedTo (job : Job) (entries : List LogEntry) (cluster : Cluster) : Type 0 where
   pub past : Past
   pub told : IsPastOf job (reverse entries) past
   pub leads : LeadsTo job past cluster
 
-module _ (entries : List Entry) (i : ℕ) (entry : Entry) (low : i < length entries) (here : entry ≡ get_or entries i entry) where
+module _ (entries : List LogEntry) (i : ℕ) (entry : LogEntry) (low : i < length entries) (here : entry ≡ get_or entries i entry) where
   one_more : reverse (take (i + 1) entries) ≡ entry ∷ reverse (take i entries)
   one_more =
-      ap reverse (take_more entries i entry low ∙ ap (λ (e : Entry). take i entries ++ e ∷ []) (sym here))
+      ap reverse (take_more entries i entry low ∙ ap (λ (e : LogEntry). take i entries ++ e ∷ []) (sym here))
       ∙ reverse-append (take i entries) (entry ∷ [])
 
   -- a line whose caller was told the machines' reply
@@ -45,26 +45,26 @@ module _ (entries : List Entry) (i : ℕ) (entry : Entry) (low : i < length entr
       → IsAnswered job known.past entry.line None next → IsPlayedTo job (take (i + 1) entries) next
   played_more job cluster next known answered = record {
     past = answered.played.after;
-    told = subst (λ (es : List Entry). IsPastOf job es answered.played.after) (sym one_more)
+    told = subst (λ (es : List LogEntry). IsPastOf job es answered.played.after) (sym one_more)
         (known.past, answered.told, answered.played.stands, answered.compared, known.told);
     leads = answered.played.leads;
   }
 
   -- a line whose caller was told otherwise
-  pub breaks_here : (job : Job) (past : Past) (next : Cluster) (wanted : Told) (held : Option HeldLeases) → IsPastOf job (reverse (take i entries)) past
+  pub breaks_here : (job : Job) (past : Past) (next : Cluster) (wanted : CallerReply) (held : Option HeldLeases) → IsPastOf job (reverse (take i entries)) past
       → (answered : IsAnswered job past entry.line (Some wanted) next) → IsRun job answered.played.after
       → held ≡ held_by_asked job answered.played.after entry.line.call → IsBreak job entries i wanted held
   breaks_here job past next wanted held told answered run leases =
       let is : answered.told ≡ wanted = sym answered.compared.0 in
       record {
         entry = entry;
-        here = slice_get-get_or entries i entry low ∙ ap (λ (e : Entry). Some e) (sym here);
+        here = slice_get-get_or entries i entry low ∙ ap (λ (e : LogEntry). Some e) (sym here);
         past = past;
         told = told;
         after = answered.played.after;
-        stands = subst (λ (t : Told). StandsFor job past entry.line.call t answered.played.after) is answered.played.stands;
+        stands = subst (λ (t : CallerReply). StandsFor job past entry.line.call t answered.played.after) is answered.played.stands;
         answered = run;
-        other = subst (λ (t : Told). is_worded entry.line.reply t ≡ false) is answered.compared.1;
+        other = subst (λ (t : CallerReply). is_worded entry.line.reply t ≡ false) is answered.compared.1;
         leases = leases;
       }
 
@@ -91,7 +91,7 @@ module _ (skew : ℕ) where
       subst (λ (p : Past). AreNear late (readings p)) (sym taken.events) (no_clock skew late, near_ahead late numbers.last taken.ahead before taken.nobody near all)
   near_taken late (Some fault) granted numbers before after taken near all = subst (λ (p : Past). AreNear late (readings p)) (sym taken) all
 
-  near_one : (job : Job) (late : Reading) (before after : Past) (c : LoggedCall) (told : Told) → StandsFor job before c told after → IsNear skew late (reading_in c)
+  near_one : (job : Job) (late : Reading) (before after : Past) (c : LoggedCall) (told : CallerReply) → StandsFor job before c told after → IsNear skew late (reading_in c)
       → AreNear late (readings before) → AreNear late (readings after)
   near_one job late before after (Whole c) told s near all = subst (λ (p : Past). AreNear late (readings p)) (sym s.made) (near, all)
   near_one job late before after (HearBare task grant at) told s near all = subst (λ (p : Past). AreNear late (readings p)) (sym s.made) (near, all)
@@ -111,33 +111,34 @@ module _ (skew : ℕ) where
       (free_of_clock skew (readings (taken.ahead ++ before)), timely_ahead numbers.last taken.ahead before taken.nobody timely)
   timely_taken (Some fault) granted numbers before after taken timely = subst (λ (p : Past). IsTimely skew (readings p)) (sym taken) timely
 
-  timely_one : (job : Job) (before after : Past) (c : LoggedCall) (told : Told) → StandsFor job before c told after → AreNear (reading_in c) (readings before)
+  timely_one : (job : Job) (before after : Past) (c : LoggedCall) (told : CallerReply) → StandsFor job before c told after → AreNear (reading_in c) (readings before)
       → IsTimely skew (readings before) → IsTimely skew (readings after)
   timely_one job before after (Whole c) told s near timely = subst (λ (p : Past). IsTimely skew (readings p)) (sym s.made) (near, timely)
   timely_one job before after (HearBare task grant at) told s near timely = subst (λ (p : Past). IsTimely skew (readings p)) (sym s.made) (near, timely)
   timely_one job before after (Restore numbers) told s near timely = timely_taken s.fault _ numbers before after s.taken timely
 
-  near_all : (job : Job) (late : Reading) (entries : List Entry) (past : Past) → IsPastOf job entries past
-      → AreNear late (map (λ (e : Entry). reading_in e.line.call) entries) → AreNear late (readings past)
+  near_all : (job : Job) (late : Reading) (entries : List LogEntry) (past : Past) → IsPastOf job entries past
+      → AreNear late (map (λ (e : LogEntry). reading_in e.line.call) entries) → AreNear late (readings past)
   near_all job late [] past told near = subst (λ (p : Past). AreNear late (readings p)) (sym told) tt
   near_all job late (entry ∷ entries) past told near =
       near_one job late told.0 past entry.line.call told.1 told.2 near.0 (near_all job late entries told.0 told.4 near.1)
 
-  timely_all : (job : Job) (entries : List Entry) (past : Past) → IsPastOf job entries past → IsTimely skew (map (λ (e : Entry). reading_in e.line.call) entries)
+  timely_all : (job : Job) (entries : List LogEntry) (past : Past) → IsPastOf job entries past → IsTimely skew (map (λ (e : LogEntry). reading_in e.line.call) entries)
       → IsTimely skew (readings past)
   timely_all job [] past told timely = subst (λ (p : Past). IsTimely skew (readings p)) (sym told) tt
   timely_all job (entry ∷ entries) past told timely =
       timely_one job told.0 past entry.line.call told.1 told.2 (near_all job (reading_in entry.line.call) entries told.0 told.4 timely.0)
       (timely_all job entries told.0 told.4 timely.1)
 
-tells : (job : Job) (entries : List Entry) (past : Past) (late : Option Late) → IsPastOf job (reverse entries) past → AreWatched job.policy.skew entries late
+tells : (job : Job) (entries : List LogEntry) (past : Past) (late : Option Late) → IsPastOf job (reverse entries) past → AreWatched job.policy.skew entries late
     → Tells job entries past late
 tells job entries past None told watched = timely_all job.policy.skew job (reverse entries) past told watched
 tells job entries past (Some late) told watched = watched
 
 -- all callers were told the machines' replies
-pub one_run : (job : Job) (entries : List Entry) (cluster : Cluster) (steps : ℕ) (late : Option Late) → (known : IsPlayedTo job entries cluster)
-    → IsRun job known.past → steps ≡ length entries → AreWatched job.policy.skew entries late → IsOneRun job entries steps late
+pub one_run : (job : Job) (entries : List LogEntry) (cluster : Cluster) (steps : ℕ) (late : Option Late) → (known : IsPlayedTo job entries cluster)
+    → IsRun job known.past → steps ≡ length entries → AreWatched job.policy.skew entries late
+    → IsOneRun job entries steps late
 one_run job entries cluster steps late known answered count watched = record {
   past = known.past;
   told = known.told;

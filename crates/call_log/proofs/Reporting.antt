@@ -2,15 +2,15 @@
 use Rattle.std.proofs.Common.{◌≡◌, ◌∙◌, ℕ, List, ap}
 use Rattle.std.specs.Prelude.{Option, Some, Result, Ok, Err, IfOk}
 use Rattle.cluster.specs.declared.timing.Reading.{Reading}
-use Rattle.call_log.specs.declared.told.Told.{Told}
-use Rattle.call_log.specs.declared.entry.Entry.{Entry}
+use Rattle.call_log.specs.declared.told.CallerReply.{CallerReply}
+use Rattle.call_log.specs.declared.entry.LogEntry.{LogEntry}
 use Rattle.call_log.specs.declared.finding.HeldLeases.{HeldLeases}
 use Rattle.call_log.specs.Calls.{reading_in}
 use Rattle.call_log.specs.Reports.{standing_at, told_text, IsOtherOf}
 
 -- the words that were told are those that are written
-pub other_told : {T E : Type 0} (bytes : T → List ℕ) (result : Result T E) (names : List (List ℕ)) (entries : List Entry) (index : ℕ) (wanted : Told) (held : Option HeldLeases)
-    (found : Option Entry) (entry : Entry) (told : List ℕ) (reading : Reading) → found ≡ Some entry → told ≡ entry.line.reply → reading ≡ reading_in entry.line.call
+pub other_told : {T E : Type 0} (bytes : T → List ℕ) (result : Result T E) (names : List (List ℕ)) (entries : List LogEntry) (index : ℕ) (wanted : CallerReply) (held : Option HeldLeases)
+    (found : Option LogEntry) (entry : LogEntry) (told : List ℕ) (reading : Reading) → found ≡ Some entry → told ≡ entry.line.reply → reading ≡ reading_in entry.line.call
     → IfOk result (λ text. bytes text ≡ told_text (standing_at names entries index) told wanted reading held) → IfOk result (λ text. IsOtherOf names entries index wanted held found (bytes text))
 other_told bytes (Ok text) names entries index wanted held found entry told reading is same read written =
     rw is (written ∙ ap (λ (t : List ℕ). told_text (standing_at names entries index) t wanted reading held) same

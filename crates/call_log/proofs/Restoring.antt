@@ -16,18 +16,18 @@ use Rattle.call_log.specs.declared.line.LoggedCall.{LoggedCall}
 use Rattle.call_log.specs.declared.line.LoggedCall.TheVariants.{Whole, HearBare, Restore}
 use Rattle.call_log.specs.declared.restored.KeptNumbers.{KeptNumbers}
 use Rattle.call_log.specs.declared.restored.RestoreFault.{RestoreFault}
-use Rattle.call_log.specs.declared.told.Told.{Told}
+use Rattle.call_log.specs.declared.told.CallerReply.{CallerReply}
 use Rattle.call_log.specs.Restores.{IsChecked, grant_to_nobody, kept_with, numbers_of, restore_told}
 use Rattle.call_log.specs.internals.Answers.{HasGranted, IsMade, IsPlayed}
 
 -- a line with a call stands for it
-pub whole_played : (job : Job) (past : Past) (line : LoggedCall) (w : ClusterCall) (told : Told) (cluster : Cluster) → line ≡ Whole w
+pub whole_played : (job : Job) (past : Past) (line : LoggedCall) (w : ClusterCall) (told : CallerReply) (cluster : Cluster) → line ≡ Whole w
     → IsMade job past line told cluster → IsPlayed job past line told cluster
 whole_played job past line w told cluster is made =
     let here : IsMade job past (Whole w) told cluster = subst (λ (l : LoggedCall). IsMade job past l told cluster) is made in
     subst (λ (l : LoggedCall). IsPlayed job past l told cluster) (sym is) (record { after = here.after; stands = here.called; leads = here.leads })
 
-pub heard_played : (job : Job) (past : Past) (line : LoggedCall) (task : ℕ) (grant : BareGrant) (at : ℕ) (told : Told) (cluster : Cluster) → line ≡ HearBare task grant at
+pub heard_played : (job : Job) (past : Past) (line : LoggedCall) (task : ℕ) (grant : BareGrant) (at : ℕ) (told : CallerReply) (cluster : Cluster) → line ≡ HearBare task grant at
     → IsMade job past line told cluster → IsPlayed job past line told cluster
 heard_played job past line task grant at told cluster is made =
     let here : IsMade job past (HearBare task grant at) told cluster = subst (λ (l : LoggedCall). IsMade job past l told cluster) is made in
@@ -47,7 +47,7 @@ granted_more job past count at old new so_far more =
 
 module _ (job : Job) (past : Past) (numbers : KeptNumbers) (kept : Kept) (same : kept ≡ kept_of (standing job.policy past)) where
   -- a restart that is refused
-  pub not_restored : (fault : RestoreFault) (told : Told) (cluster : Cluster) → IsChecked kept numbers (Some fault) → told ≡ restore_told kept numbers (Some fault)
+  pub not_restored : (fault : RestoreFault) (told : CallerReply) (cluster : Cluster) → IsChecked kept numbers (Some fault) → told ≡ restore_told kept numbers (Some fault)
       → LeadsTo job past cluster → IsPlayed job past (Restore numbers) told cluster
   not_restored fault told cluster checked tells leads = record {
     after = past;
@@ -61,7 +61,7 @@ module _ (job : Job) (past : Past) (numbers : KeptNumbers) (kept : Kept) (same :
   }
 
   -- a restart after so many grants to nobody
-  pub restored : (count : ℕ) (told : Told) (granted cluster : Cluster) → IsChecked kept numbers None → told ≡ restore_told kept numbers None
+  pub restored : (count : ℕ) (told : CallerReply) (granted cluster : Cluster) → IsChecked kept numbers None → told ≡ restore_told kept numbers None
       → kept.granted + count ≡ numbers.granted → (ahead : HasGranted job past count numbers.last granted)
       → (lost : ClusterReply) → LeadsTo job (event (call.Table table_call.Restart) lost ∷ (ahead.ahead ++ past)) cluster → IsPlayed job past (Restore numbers) told cluster
   restored count told granted cluster checked tells many ahead lost leads =

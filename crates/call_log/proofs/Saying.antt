@@ -2,10 +2,11 @@
 use Rattle.std.proofs.Common.{◌≡◌, ℕ, ◌+◌, ◌-◌, ◌<◌, ◌≤◌, true, false, not, inl, inr, List, [], ◌∷◌, ◌++◌, map, length, get_or, take, drop, refl, sym, ap, ◌∙◌, subst, append_assoc, arith}
 use Rattle.std.proofs.lemmas.List.{map_more, map-append, take-append-drop, take_all, append-nil}
 use Rattle.std.proofs.lemmas.List.Elements.{filter-append}
-use Rattle.wire.specs.declared.fault.Refusal.{Refusal}
-use Rattle.session.specs.Lines.{SaysJob, is_blank, is_long}
-use Rattle.call_log.specs.declared.entry.Entry.{Entry}
-use Rattle.call_log.specs.declared.entry.Place.{Place}
+use Rattle.wire.specs.declared.fault.DecodeRefusal.{DecodeRefusal}
+use Rattle.program_io.specs.Lines.{is_blank, is_long}
+use Rattle.diagnosis.specs.JobLines.{SaysJob}
+use Rattle.call_log.specs.declared.entry.LogEntry.{LogEntry}
+use Rattle.call_log.specs.declared.entry.LinePosition.{LinePosition}
 use Rattle.call_log.specs.declared.lines.LineBytes.{LineBytes}
 use Rattle.call_log.specs.declared.log.Log.{Log}
 use Rattle.call_log.specs.Lines.{SaysNoLine}
@@ -13,25 +14,25 @@ use Rattle.call_log.specs.Files.{PlacedLine, IsSaid, IsTorn, AreSaid, IsBadLine,
 use Rattle.call_log.specs.internals.Shown.{shown}
 
 -- one line more, which says a call
-said_after : (lines : List PlacedLine) (entries : List Entry) (torn : List Place) (line : PlacedLine) (entry : Entry) → AreSaid lines entries torn → IsSaid line entry
+said_after : (lines : List PlacedLine) (entries : List LogEntry) (torn : List LinePosition) (line : PlacedLine) (entry : LogEntry) → AreSaid lines entries torn → IsSaid line entry
     → AreSaid (lines ++ line ∷ []) (entries ++ entry ∷ []) torn
 said_after [] [] [] line entry are said = inl (entry, [], refl, said, tt)
 said_after [] [] (t ∷ torn) line entry are said = absurd are
 said_after [] (e ∷ entries) torn line entry are said = absurd are
 said_after (l ∷ lines) entries torn line entry (inl are) said =
-    inl (are.0, are.1 ++ entry ∷ [], ap (λ (es : List Entry). es ++ entry ∷ []) are.2, are.3, said_after lines are.1 torn line entry are.4 said)
+    inl (are.0, are.1 ++ entry ∷ [], ap (λ (es : List LogEntry). es ++ entry ∷ []) are.2, are.3, said_after lines are.1 torn line entry are.4 said)
 said_after (l ∷ lines) entries torn line entry (inr are) said =
     inr (are.0, are.1, are.2, said_after lines entries are.0 line entry are.3 said)
 
 -- one line more, which is torn
-torn_after : (lines : List PlacedLine) (entries : List Entry) (torn : List Place) (line : PlacedLine) → AreSaid lines entries torn → IsTorn line
+torn_after : (lines : List PlacedLine) (entries : List LogEntry) (torn : List LinePosition) (line : PlacedLine) → AreSaid lines entries torn → IsTorn line
     → AreSaid (lines ++ line ∷ []) entries (torn ++ line.place ∷ [])
 torn_after [] [] [] line are is = inr ([], refl, is, tt)
 torn_after [] [] (t ∷ torn) line are is = absurd are
 torn_after [] (e ∷ entries) torn line are is = absurd are
 torn_after (l ∷ lines) entries torn line (inl are) is = inl (are.0, are.1, are.2, are.3, torn_after lines are.1 torn line are.4 is)
 torn_after (l ∷ lines) entries torn line (inr are) is =
-    inr (are.0 ++ line.place ∷ [], ap (λ (ts : List Place). ts ++ line.place ∷ []) are.1, are.2, torn_after lines entries are.0 line are.3 is)
+    inr (are.0 ++ line.place ∷ [], ap (λ (ts : List LinePosition). ts ++ line.place ∷ []) are.1, are.2, torn_after lines entries are.0 line are.3 is)
 
 -- one line more, which is short
 short_after : (lines : List PlacedLine) (line : PlacedLine) → AreShort lines → is_long line.bytes ≡ false → AreShort (lines ++ line ∷ [])
@@ -42,12 +43,12 @@ module _ (lines : List LineBytes) (i : ℕ) (line d : LineBytes) (low : i < leng
   one_more : map shown (take (i + 1) lines) ≡ map shown (take i lines) ++ shown line ∷ []
   one_more = map_more shown lines i d low ∙ ap (λ (l : LineBytes). map shown (take i lines) ++ shown l ∷ []) (sym here)
 
-  pub said_more : (entries : List Entry) (torn : List Place) (entry : Entry) → AreSaid (map shown (take i lines)) entries torn → IsSaid (shown line) entry
+  pub said_more : (entries : List LogEntry) (torn : List LinePosition) (entry : LogEntry) → AreSaid (map shown (take i lines)) entries torn → IsSaid (shown line) entry
       → AreSaid (map shown (take (i + 1) lines)) (entries ++ entry ∷ []) torn
   said_more entries torn entry are said =
       subst (λ (ls : List PlacedLine). AreSaid ls (entries ++ entry ∷ []) torn) (sym one_more) (said_after (map shown (take i lines)) entries torn (shown line) entry are said)
 
-  pub torn_more : (entries : List Entry) (torn : List Place) (why : Refusal) → AreSaid (map shown (take i lines)) entries torn → line.ended ≡ false → SaysNoLine line.bytes.now why
+  pub torn_more : (entries : List LogEntry) (torn : List LinePosition) (why : DecodeRefusal) → AreSaid (map shown (take i lines)) entries torn → line.ended ≡ false → SaysNoLine line.bytes.now why
       → AreSaid (map shown (take (i + 1) lines)) entries (torn ++ line.place ∷ [])
   torn_more entries torn why are unended says =
       subst (λ (ls : List PlacedLine). AreSaid ls entries (torn ++ line.place ∷ [])) (sym one_more)
@@ -58,7 +59,7 @@ module _ (lines : List LineBytes) (i : ℕ) (line d : LineBytes) (low : i < leng
       ∙ ap (λ (ls : List PlacedLine). ls ++ map shown (drop (i + 1) lines)) one_more
       ∙ append_assoc (map shown (take i lines)) (shown line ∷ []) (map shown (drop (i + 1) lines))
 
-  pub bad_here : (entries : List Entry) (torn : List Place) (why : Refusal) → AreSaid (map shown (take i lines)) entries torn → line.ended ≡ true → SaysNoLine line.bytes.now why
+  pub bad_here : (entries : List LogEntry) (torn : List LinePosition) (why : DecodeRefusal) → AreSaid (map shown (take i lines)) entries torn → line.ended ≡ true → SaysNoLine line.bytes.now why
       → IsBadLine (map shown lines) line.place why
   bad_here entries torn why are ended says = record {
     before = map shown (take i lines);

@@ -9,7 +9,7 @@ use Rattle.std.proofs.lemmas.Bool.Decides.{nat_tests}
 use Rattle.cluster.specs.declared.timing.Reading.{Reading}
 use Rattle.cluster.specs.declared.timing.Reading.TheVariants.{TableClock, TaskClock, NoClock}
 use Rattle.cluster.specs.Timing.{IsNear, IsTimely}
-use Rattle.call_log.specs.declared.entry.Entry.{Entry}
+use Rattle.call_log.specs.declared.entry.LogEntry.{LogEntry}
 use Rattle.call_log.specs.declared.late.Greatest.{Greatest}
 use Rattle.call_log.specs.declared.late.Late.{Late}
 use Rattle.call_log.specs.Calls.{reading_in}
@@ -26,14 +26,14 @@ abbrev pub IsBound : ℕ → Option Greatest → List Reading → Type 0
 IsBound skew g before = (at : ℕ) → at_of g ≤ at + skew → AllByRecursion (IsNear skew (TaskClock at)) before
 
 -- the greatest reading is that of an entry
-pub record Stands (entries : List Entry) (i : ℕ) (g : Greatest) : Type 0 where
-  pub table : Entry
+pub record Stands (entries : List LogEntry) (i : ℕ) (g : Greatest) : Type 0 where
+  pub table : LogEntry
   pub there : slice_get entries g.index ≡ Some table
   pub read : reading_in table.line.call ≡ TableClock g.at
   pub before : g.index < i
 
 -- what is known once so many entries were watched
-pub record IsWatched (skew : ℕ) (entries : List Entry) (i : ℕ) (greatest : Option Greatest) : Type 0 where
+pub record IsWatched (skew : ℕ) (entries : List LogEntry) (i : ℕ) (greatest : Option Greatest) : Type 0 where
   pub timely : IsTimely skew (readings_of (take i entries))
   pub bound : IsBound skew greatest (readings_of (take i entries))
   pub stands : (g : Greatest) → greatest ≡ Some g → Stands entries i g
@@ -91,14 +91,14 @@ reading_more skew i (TableClock s) rs g timely bound none =
 reading_more skew i (TaskClock a) rs g timely bound none = ((bound a (not_late skew g a i none), timely), λ at le. (tt, bound at le))
 reading_more skew i NoClock rs g timely bound none = ((free_of_clock skew rs, timely), λ at le. (tt, bound at le))
 
-module _ (skew : ℕ) (entries : List Entry) (i : ℕ) (entry : Entry) (low : i < length entries) (here : entry ≡ get_or entries i entry) where
+module _ (skew : ℕ) (entries : List LogEntry) (i : ℕ) (entry : LogEntry) (low : i < length entries) (here : entry ≡ get_or entries i entry) where
   found : slice_get entries i ≡ Some entry
-  found = slice_get-get_or entries i entry low ∙ ap (λ (e : Entry). Some e) (sym here)
+  found = slice_get-get_or entries i entry low ∙ ap (λ (e : LogEntry). Some e) (sym here)
 
   one_more : readings_of (take (i + 1) entries) ≡ reading_in entry.line.call ∷ readings_of (take i entries)
   one_more =
-      ap readings_of (take_more entries i entry low ∙ ap (λ (e : Entry). take i entries ++ e ∷ []) (sym here))
-      ∙ ap (map (λ (e : Entry). reading_in e.line.call)) (reverse-append (take i entries) (entry ∷ []))
+      ap readings_of (take_more entries i entry low ∙ ap (λ (e : LogEntry). take i entries ++ e ∷ []) (sym here))
+      ∙ ap (map (λ (e : LogEntry). reading_in e.line.call)) (reverse-append (take i entries) (entry ∷ []))
 
   later : (g : Greatest) → Stands entries i g → Stands entries (i + 1) g
   later g s = record { table = s.table; there = s.there; read = s.read; before = let b = s.before in omega (arith, b) }
@@ -124,7 +124,7 @@ module _ (skew : ℕ) (entries : List Entry) (i : ℕ) (entry : Entry) (low : i 
     | inl lower ↦ (let m = most place e at lower is read in let n = not_less greatest (reading_in entry.line.call) i in omega (arith, m, n))
     | inr higher ↦ (let last : place ≡ i = omega (arith, before, higher) in
         let same : e ≡ entry = (let f : slice_get entries i ≡ Some e = subst (λ (n : ℕ). slice_get entries n ≡ Some e) last is in let h = found in cc) in
-        not_less_read greatest (reading_in entry.line.call) i at (ap (λ (x : Entry). reading_in x.line.call) (sym same) ∙ read))
+        not_less_read greatest (reading_in entry.line.call) i at (ap (λ (x : LogEntry). reading_in x.line.call) (sym same) ∙ read))
   ]
 
   -- a reading that is timely
@@ -175,7 +175,7 @@ none_of None e = refl
 none_of (Some late) e = absurd (cc)
 
 -- the next entry, whatever stands where there is none
-module _ (skew : ℕ) (entries : List Entry) (i : ℕ) (d : Entry) (low : i < length entries) (r : Reading) (is : r ≡ reading_in (get_or entries i d).line.call) where
+module _ (skew : ℕ) (entries : List LogEntry) (i : ℕ) (d : LogEntry) (low : i < length entries) (r : Reading) (is : r ≡ reading_in (get_or entries i d).line.call) where
   here : get_or entries i d ≡ get_or entries i (get_or entries i d)
   here = get_or_default entries i d (get_or entries i d) low
 

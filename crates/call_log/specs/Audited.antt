@@ -6,9 +6,9 @@ use Rattle.cluster.specs.declared.reply.ClusterReply.{ClusterReply}
 use Rattle.cluster.specs.Pasts.{event, Past, readings}
 use Rattle.cluster.specs.Timing.{IsTimely}
 use Rattle.cluster.specs.Runs.{IsRun}
-use Rattle.call_log.specs.declared.told.Told.{Told}
+use Rattle.call_log.specs.declared.told.CallerReply.{CallerReply}
 use Rattle.audit.specs.OneRun.{Rises}
-use Rattle.call_log.specs.declared.entry.Entry.{Entry}
+use Rattle.call_log.specs.declared.entry.LogEntry.{LogEntry}
 use Rattle.call_log.specs.declared.line.LoggedCall.{LoggedCall}
 use Rattle.call_log.specs.declared.line.LoggedCall.TheVariants.{Whole, HearBare, Restore}
 use Rattle.call_log.specs.declared.late.Late.{Late}
@@ -21,35 +21,35 @@ use Rattle.call_log.specs.Restores.{IsRestored}
 use Rattle.call_log.specs.Told.{is_worded, told_after}
 
 -- after these calls a line's call is answered, and its caller is told so
-pub record IsCalled (before : Past) (c : LoggedCall) (told : Told) (after : Past) : Type 0 where
+pub record IsCalled (before : Past) (c : LoggedCall) (told : CallerReply) (after : Past) : Type 0 where
   pub answer : ClusterReply
   pub tells : told ≡ told_after before c answer
   pub made : after ≡ event (call_after before c) answer ∷ before
 
 -- what the caller of a line's call is told after these calls, and the calls once those are made that the line stands for: its call, or
 -- those of a restored table
-abbrev pub StandsFor : Job → Past → LoggedCall → Told → Past → Type 0
+abbrev pub StandsFor : Job → Past → LoggedCall → CallerReply → Past → Type 0
 StandsFor job before (Whole c) told after = IsCalled before (Whole c) told after
 StandsFor job before (HearBare task grant at) told after = IsCalled before (HearBare task grant at) told after
 StandsFor job before (Restore numbers) told after = IsRestored job before numbers told after
 
 -- the calls of a past are those that these entries stand for, both newest first, and each caller was told so, in the words of its line
-abbrev pub IsPastOf : Job → List Entry → Past → Type 0
+abbrev pub IsPastOf : Job → List LogEntry → Past → Type 0
 IsPastOf job [] past = past ≡ []
 IsPastOf job (entry ∷ entries) past =
-    (before : Past) × (told : Told) × StandsFor job before entry.line.call told past × (is_worded entry.line.reply told ≡ true) × IsPastOf job entries before
+    (before : Past) × (told : CallerReply) × StandsFor job before entry.line.call told past × (is_worded entry.line.reply told ≡ true) × IsPastOf job entries before
 
 -- the tickets of entries rise, so that none stands twice
-abbrev pub TicketsRise : List Entry → Type 0
+abbrev pub TicketsRise : List LogEntry → Type 0
 TicketsRise entries = Rises (λ e. e.line.ticket) entries
 
 -- the clocks of a run of these entries were timely, or this reading is the first that is not
-abbrev pub Tells : Job → List Entry → Past → Option Late → Type 0
+abbrev pub Tells : Job → List LogEntry → Past → Option Late → Type 0
 Tells job entries past None = IsTimely job.policy.skew (readings past)
 Tells job entries past (Some late) = IsLate job.policy.skew entries late
 
 -- the entries are one run of the machines: there are replies with their words, one for each entry; so many, with timely clocks or not
-pub record IsOneRun (job : Job) (entries : List Entry) (steps : ℕ) (late : Option Late) : Type 0 where
+pub record IsOneRun (job : Job) (entries : List LogEntry) (steps : ℕ) (late : Option Late) : Type 0 where
   pub past : Past
   pub told : IsPastOf job (reverse entries) past
   pub answered : IsRun job past
@@ -58,8 +58,8 @@ pub record IsOneRun (job : Job) (entries : List Entry) (steps : ℕ) (late : Opt
 
 -- the entries before this place are a run, the caller of its call should have been told this and was told something else, and these are
 -- the leases of the task that it asked for a key
-pub record IsBreak (job : Job) (entries : List Entry) (index : ℕ) (wanted : Told) (held : Option HeldLeases) : Type 0 where
-  pub entry : Entry
+pub record IsBreak (job : Job) (entries : List LogEntry) (index : ℕ) (wanted : CallerReply) (held : Option HeldLeases) : Type 0 where
+  pub entry : LogEntry
   pub here : slice_get entries index ≡ Some entry
   pub past : Past
   pub told : IsPastOf job (reverse (take index entries)) past
@@ -70,26 +70,31 @@ pub record IsBreak (job : Job) (entries : List Entry) (index : ℕ) (wanted : To
   pub leases : held ≡ held_by_asked job after entry.line.call
 
 -- the entries at these places, one after the other, have one ticket, and the tickets before them rise
-pub record IsDouble (entries : List Entry) (first second : ℕ) : Type 0 where
+pub record IsDouble (entries : List LogEntry) (first second : ℕ) : Type 0 where
   pub next : second ≡ first + 1
-  pub entry : Entry
-  pub other : Entry
+  pub entry : LogEntry
+  pub other : LogEntry
   pub here : slice_get entries first ≡ Some entry
   pub there : slice_get entries second ≡ Some other
   pub same : other.line.ticket ≡ entry.line.ticket
   pub earliest : AllAdjacentBelow (λ x y. x.line.ticket < y.line.ticket) entries second
 
 -- what is found of entries in the order of their tickets
-abbrev pub IsReplayed : Job → List Entry → Finding → Type 0
+abbrev pub IsReplayed : Job → List LogEntry → Finding → Type 0
 IsReplayed job entries (One steps late) = IsOneRun job entries steps late
 IsReplayed job entries (Double first second) = IsDouble entries first second
 IsReplayed job entries (Other index wanted held) = IsBreak job entries index wanted held
 
 -- the tickets rise where no two are the same
-abbrev pub IsFound : Job → List Entry → Finding → Type 0
+abbrev pub IsFound : Job → List LogEntry → Finding → Type 0
 IsFound job entries (One steps late) = TicketsRise entries × IsOneRun job entries steps late
 IsFound job entries (Double first second) = IsDouble entries first second
 IsFound job entries (Other index wanted held) = TicketsRise entries × IsBreak job entries index wanted held
+
+-- whether the calls are one run with timely clocks
+abbrev pub is_timely : Finding → Bool
+is_timely (One steps None) = true
+is_timely _ = false
 
 -- whether the calls are one run
 abbrev pub is_one : Finding → Bool

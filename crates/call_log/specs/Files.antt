@@ -2,12 +2,13 @@
 use Rattle.std.specs.Prelude.{◌≡◌, ◌⊎◌, ℕ, ◌+◌, ◌==◌, ⊤, Bool, true, false, not, List, [], ◌∷◌, ◌++◌, filter, if◌then◌else◌}
 use Rattle.std.specs.List.{AllByRecursion}
 use Rattle.cluster.specs.Jobs.{Job}
-use Rattle.diagnosis.specs.declared.error.AnswerError.{AnswerError}
-use Rattle.diagnosis.specs.declared.error.AnswerError.TheVariants as answer
-use Rattle.session.specs.Lines.{SaysJob, IsNoJob, is_blank, is_long}
-use Rattle.wire.specs.declared.fault.Refusal.{Refusal}
-use Rattle.call_log.specs.declared.entry.Entry.{Entry}
-use Rattle.call_log.specs.declared.entry.Place.{Place}
+use Rattle.program_io.specs.declared.fault.Fault.TheVariants as fault
+use Rattle.program_io.specs.Lines.{is_blank, is_long}
+use Rattle.diagnosis.specs.Faults.{AnswerError}
+use Rattle.diagnosis.specs.JobLines.{SaysJob, IsNoJob}
+use Rattle.wire.specs.declared.fault.DecodeRefusal.{DecodeRefusal}
+use Rattle.call_log.specs.declared.entry.LogEntry.{LogEntry}
+use Rattle.call_log.specs.declared.entry.LinePosition.{LinePosition}
 use Rattle.call_log.specs.declared.log.Log.{Log}
 use Rattle.call_log.specs.declared.log.LogError.{LogError}
 use Rattle.call_log.specs.declared.log.LogError.TheVariants as unread
@@ -35,14 +36,14 @@ lines_in (byte ∷ bytes) = if byte == 10 then line_with [] true ∷ lines_in by
 
 -- a line at its place
 pub record PlacedLine : Type 0 where
-  pub place : Place
+  pub place : LinePosition
   pub bytes : List ℕ
   pub ended : Bool
 
-abbrev pub place_at : ℕ → ℕ → Place
+abbrev pub place_at : ℕ → ℕ → LinePosition
 place_at file line = record { file = file; line = line }
 
-abbrev pub placed : Place → FileLine → PlacedLine
+abbrev pub placed : LinePosition → FileLine → PlacedLine
 placed place line = record { place = place; bytes = line.bytes; ended = line.ended }
 
 -- lines of a file, the first of which has this number
@@ -66,32 +67,32 @@ counted lines = filter (λ line. not (is_blank line.bytes)) lines
 -- THE CALLS
 
 -- each entry is what the line at its place says
-pub record IsSaid (line : PlacedLine) (entry : Entry) : Type 0 where
+pub record IsSaid (line : PlacedLine) (entry : LogEntry) : Type 0 where
   pub same_place : entry.place ≡ line.place
   pub says : SaysLine line.bytes entry.line
 
 -- a last line without its end says no call: its writer may have stopped in the middle of it
 pub record IsTorn (line : PlacedLine) : Type 0 where
   pub unended : line.ended ≡ false
-  pub why : Refusal
+  pub why : DecodeRefusal
   pub says : SaysNoLine line.bytes why
 
 -- lines say calls, which are these entries, in order, but for those at these places, which are torn and left out
-abbrev pub AreSaid : List PlacedLine → List Entry → List Place → Type 0
+abbrev pub AreSaid : List PlacedLine → List LogEntry → List LinePosition → Type 0
 AreSaid [] [] [] = ⊤
 AreSaid [] _ _ = ⊥
 AreSaid (line ∷ lines) entries torn =
-    ((entry : Entry) × (later : List Entry) × (entries ≡ entry ∷ later) × IsSaid line entry × AreSaid lines later torn)
-    ⊎ ((later : List Place) × (torn ≡ line.place ∷ later) × IsTorn line × AreSaid lines entries later)
+    ((entry : LogEntry) × (later : List LogEntry) × (entries ≡ entry ∷ later) × IsSaid line entry × AreSaid lines later torn)
+    ⊎ ((later : List LinePosition) × (torn ≡ line.place ∷ later) × IsTorn line × AreSaid lines entries later)
 
 -- the lines before this place say calls, or are torn, and the one that stands there says none, for this reason
-pub record IsBadLine (lines : List PlacedLine) (place : Place) (why : Refusal) : Type 0 where
+pub record IsBadLine (lines : List PlacedLine) (place : LinePosition) (why : DecodeRefusal) : Type 0 where
   pub before : List PlacedLine
   pub line : PlacedLine
   pub later : List PlacedLine
   pub whole : lines ≡ before ++ line ∷ later
-  pub entries : List Entry
-  pub torn : List Place
+  pub entries : List LogEntry
+  pub torn : List LinePosition
   pub said : AreSaid before entries torn
   pub at : line.place ≡ place
   pub ended : line.ended ≡ true
@@ -107,7 +108,7 @@ pub record IsLog (lines : List PlacedLine) (log : Log) : Type 0 where
   pub calls : AreSaid others log.entries.items log.torn.items
 
 -- the lines before this place are short, and the one that stands there is too long
-pub record HasLongLine (lines : List PlacedLine) (place : Place) : Type 0 where
+pub record HasLongLine (lines : List PlacedLine) (place : LinePosition) : Type 0 where
   pub before : List PlacedLine
   pub line : PlacedLine
   pub later : List PlacedLine
@@ -117,7 +118,7 @@ pub record HasLongLine (lines : List PlacedLine) (place : Place) : Type 0 where
   pub long : is_long line.bytes ≡ true
 
 -- the first line says no job, as the first line of a session does, for this error
-pub record HasBadHead (lines : List PlacedLine) (place : Place) (error : AnswerError) : Type 0 where
+pub record HasBadHead (lines : List PlacedLine) (place : LinePosition) (error : AnswerError) : Type 0 where
   pub first : PlacedLine
   pub others : List PlacedLine
   pub whole : lines ≡ first ∷ others
@@ -125,7 +126,7 @@ pub record HasBadHead (lines : List PlacedLine) (place : Place) (error : AnswerE
   pub says : IsNoJob first.bytes error
 
 -- the first line says a job, and a further one no call
-pub record HasBadCall (lines : List PlacedLine) (place : Place) (why : Refusal) : Type 0 where
+pub record HasBadCall (lines : List PlacedLine) (place : LinePosition) (why : DecodeRefusal) : Type 0 where
   pub first : PlacedLine
   pub others : List PlacedLine
   pub whole : lines ≡ first ∷ others
@@ -137,6 +138,6 @@ pub record HasBadCall (lines : List PlacedLine) (place : Place) (why : Refusal) 
 abbrev pub IsUnread : List PlacedLine → LogError → Type 0
 IsUnread lines unread.Empty = AreShort lines × (counted lines ≡ [])
 IsUnread lines (unread.LongLine place) = HasLongLine lines place
-IsUnread lines (unread.NoJob place faults) = AreShort lines × HasBadHead (counted lines) place (answer.Refused faults)
+IsUnread lines (unread.NoJob place faults) = AreShort lines × HasBadHead (counted lines) place (fault.Input faults)
 IsUnread lines (unread.BadLine place why mend) = AreShort lines × HasBadCall (counted lines) place why
 IsUnread lines unread.Memory = ⊤

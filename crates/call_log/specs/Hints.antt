@@ -6,14 +6,14 @@ use Rattle.cluster.specs.Jobs.{Job}
 use Rattle.cluster.specs.declared.call.ClusterCall.TheVariants as call
 use Rattle.cluster.specs.Pasts.{Past}
 use Rattle.cluster.specs.Runs.{IsRun}
-use Rattle.call_log.specs.declared.entry.Entry.{Entry}
+use Rattle.call_log.specs.declared.entry.LogEntry.{LogEntry}
 use Rattle.call_log.specs.declared.finding.Finding.{Finding}
 use Rattle.call_log.specs.declared.finding.Finding.TheVariants.{One, Double, Other}
 use Rattle.call_log.specs.declared.finding.HeldLeases.{HeldLeases}
 use Rattle.call_log.specs.declared.hint.Hint.{Hint}
 use Rattle.call_log.specs.declared.line.LoggedCall.{LoggedCall}
 use Rattle.call_log.specs.declared.line.LoggedCall.TheVariants.{Whole, HearBare}
-use Rattle.call_log.specs.declared.told.Told.{Told}
+use Rattle.call_log.specs.declared.told.CallerReply.{CallerReply}
 use Rattle.call_log.specs.Audited.{IsPastOf, IsBreak}
 
 -- the task that makes a call, or whose note the call frees
@@ -31,7 +31,7 @@ abbrev pub starts : ℕ → LoggedCall → Bool
 starts task (Whole (call.Task by (task_call.Start life at))) = by == task
 starts task _ = false
 
-abbrev pub is_start : ℕ → Entry → Bool
+abbrev pub is_start : ℕ → LogEntry → Bool
 is_start task entry = starts task entry.line.call
 
 -- the place of a task's last start
@@ -39,7 +39,7 @@ abbrev pub later_start : Option ℕ → Bool → Option ℕ
 later_start (Some place) here = Some (place + 1)
 later_start None here = if here then Some 0 else None
 
-abbrev pub last_start : ℕ → List Entry → Option ℕ
+abbrev pub last_start : ℕ → List LogEntry → Option ℕ
 last_start task [] = None
 last_start task (entry ∷ entries) = later_start (last_start task entries) (is_start task entry)
 
@@ -49,60 +49,60 @@ life_begun task (Whole (call.Task by (task_call.Start life at))) = if by == task
 life_begun task (Whole (call.Task by (task_call.Resume life))) = if by == task then life else 0
 life_begun task _ = 0
 
-abbrev pub begun_life : ℕ → Entry → ℕ
+abbrev pub begun_life : ℕ → LogEntry → ℕ
 begun_life task entry = life_begun task entry.line.call
 
-abbrev pub greatest_life : ℕ → List Entry → ℕ
+abbrev pub greatest_life : ℕ → List LogEntry → ℕ
 greatest_life task [] = 0
 greatest_life task (entry ∷ entries) = max (begun_life task entry) (greatest_life task entries)
 
 -- a line that says that a process of a task begins, with this greatest life so far
-abbrev pub open_entry : ℕ → ℕ → Entry
+abbrev pub open_entry : ℕ → ℕ → LogEntry
 open_entry task life = record {
   place = record { file = 0; line = 0 };
   line = record { ticket = 0; call = Whole (call.Task task (task_call.Resume life)); reply = codes "opened " ++ decimal life };
 }
 
-abbrev pub with_open : ℕ → Entry → List Entry → List Entry
+abbrev pub with_open : ℕ → LogEntry → List LogEntry → List LogEntry
 with_open index line entries = insert entries index line
 
 -- entries with such a line before the one at this place
-abbrev pub mended : ℕ → ℕ → List Entry → List Entry
+abbrev pub mended : ℕ → ℕ → List LogEntry → List LogEntry
 mended task index entries = with_open index (open_entry task (greatest_life task (take index entries))) entries
 
 -- entries are a run, or one of them is the first whose caller should have been told something else
-pub record AreRun (job : Job) (entries : List Entry) : Type 0 where
+pub record AreRun (job : Job) (entries : List LogEntry) : Type 0 where
   pub past : Past
   pub told : IsPastOf job (reverse entries) past
   pub answered : IsRun job past
 
-abbrev pub HaveBreak : Job → List Entry → Type 0
-HaveBreak job entries = (index : ℕ) × (wanted : Told) × (held : Option HeldLeases) × IsBreak job entries index wanted held
+abbrev pub HaveBreak : Job → List LogEntry → Type 0
+HaveBreak job entries = (index : ℕ) × (wanted : CallerReply) × (held : Option HeldLeases) × IsBreak job entries index wanted held
 
-abbrev pub IsJudgedSo : Job → List Entry → Bool → Type 0
+abbrev pub IsJudgedSo : Job → List LogEntry → Bool → Type 0
 IsJudgedSo job entries true = AreRun job entries
 IsJudgedSo job entries false = HaveBreak job entries
 
 -- a line before this place is hinted at if entries are a run with it
-abbrev pub IsTried : Job → List Entry → ℕ → ℕ → Option Hint → Type 0
+abbrev pub IsTried : Job → List LogEntry → ℕ → ℕ → Option Hint → Type 0
 IsTried job entries task index None = HaveBreak job (mended task index entries)
 IsTried job entries task index (Some hint) =
     (hint ≡ record { index = index; task = task; life = greatest_life task (take index entries) }) × AreRun job (mended task index entries)
 
 -- a line before the last start of the task, or else before this place
-abbrev pub IsHintOf : Job → List Entry → ℕ → Option ℕ → ℕ → Option Hint → Type 0
+abbrev pub IsHintOf : Job → List LogEntry → ℕ → Option ℕ → ℕ → Option Hint → Type 0
 IsHintOf job entries task None index hint = IsTried job entries task index hint
 IsHintOf job entries task (Some start) index hint =
     ((there : Hint) × (hint ≡ Some there) × IsTried job entries task start (Some there))
     ⊎ (IsTried job entries task start None × IsTried job entries task index hint)
 
-abbrev pub IsHintFor : Job → List Entry → ℕ → Option ℕ → Option Hint → Type 0
+abbrev pub IsHintFor : Job → List LogEntry → ℕ → Option ℕ → Option Hint → Type 0
 IsHintFor job entries index None hint = hint ≡ None
 IsHintFor job entries index (Some task) hint = IsHintOf job entries task (last_start task entries) index hint
 
 -- the hint for what was found: where a caller was told something else in a call of a task, it is for the entries up to that call
-abbrev pub IsHinted : Job → List Entry → Finding → Option Hint → Type 0
+abbrev pub IsHinted : Job → List LogEntry → Finding → Option Hint → Type 0
 IsHinted job entries (Other index wanted held) hint =
-    IsHintFor job (take (index + 1) entries) index (option_and_then (λ (e : Entry). task_of e.line.call) (slice_get entries index)) hint
+    IsHintFor job (take (index + 1) entries) index (option_and_then (λ (e : LogEntry). task_of e.line.call) (slice_get entries index)) hint
 IsHinted job entries (One steps late) hint = hint ≡ None
 IsHinted job entries (Double first second) hint = hint ≡ None

@@ -1,8 +1,7 @@
 -- What the lines of a log say.
 pub mod Keys
-pub mod TableLines
-pub mod TaskLines
-pub mod ClerkLines
+pub mod OwnCalls
+pub mod MessageCalls
 pub mod Lines
 pub mod Files
 -- What is told of a call.
@@ -13,6 +12,7 @@ pub mod Calls
 pub mod Late
 pub mod Audited
 pub mod Hints
+pub mod Callers
 pub mod Reports
 pub mod Audits
 pub mod internals

@@ -4,26 +4,25 @@ use Rattle.serde_json.specs.Data.{Data}
 use Rattle.program_io.specs.Json.{HasRepeatedMember, IsNoJson, IsStrictJson}
 use Rattle.program_io.specs.Reading.{◌>>=◌}
 use Rattle.program_io.specs.Members.{number_at, text_at}
-use Rattle.wire.specs.declared.fault.Refusal.{Refusal}
-use Rattle.wire.specs.declared.fault.Refusal.TheVariants.{NotJson, RepeatedMember}
+use Rattle.wire.specs.declared.fault.DecodeRefusal.{DecodeRefusal}
+use Rattle.wire.specs.declared.fault.DecodeRefusal.TheVariants.{NotJson, RepeatedMember}
 use Rattle.wire.specs.Refusals.{or_wrong}
-use Rattle.wire.specs.TableCalls.{read_named}
+use Rattle.wire.specs.Named.{read_named}
 use Rattle.call_log.specs.declared.reading.NoLine.{NoLine}
 use Rattle.call_log.specs.declared.reading.NoLine.TheVariants as none
 use Rattle.call_log.specs.declared.line.LoggedCall.{LoggedCall}
 use Rattle.call_log.specs.declared.line.LoggedLine.{LoggedLine}
-use Rattle.call_log.specs.TableLines.{table_kinds}
-use Rattle.call_log.specs.TaskLines.{task_kinds}
-use Rattle.call_log.specs.ClerkLines.{clerk_kinds}
+use Rattle.call_log.specs.MessageCalls.{table_kinds, task_kinds, clerk_kinds}
+use Rattle.call_log.specs.OwnCalls.{own_kinds}
 
 -- a call, named by its member `do`
-unfoldable pub call_in : Data → Result LoggedCall Refusal
+unfoldable pub call_in : Data → Result LoggedCall DecodeRefusal
 call_in d = do
   name ← or_wrong (text_at (codes "do") d)
-  read_named (table_kinds ++ task_kinds ++ clerk_kinds) name d
+  read_named (own_kinds ++ table_kinds ++ task_kinds ++ clerk_kinds) name d
 
 -- a ticket, the words of a reply, and a call
-unfoldable pub line_of : Data → Result LoggedLine Refusal
+unfoldable pub line_of : Data → Result LoggedLine DecodeRefusal
 line_of d = do
   ticket ← or_wrong (number_at (codes "ticket") d)
   reply ← or_wrong (text_at (codes "reply") d)
@@ -37,13 +36,13 @@ pub record SaysLine (bytes : List ℕ) (line : LoggedLine) : Type 0 where
   pub says : line_of value ≡ Ok line
 
 -- the bytes are a text of a JSON value that is no line, for this reason
-pub record HasNoLine (bytes : List ℕ) (why : Refusal) : Type 0 where
+pub record HasNoLine (bytes : List ℕ) (why : DecodeRefusal) : Type 0 where
   pub value : Data
   pub json : IsStrictJson bytes value
   pub says : line_of value ≡ Err why
 
 -- the bytes are no line, for this reason
-abbrev pub SaysNoLine : List ℕ → Refusal → Type 0
+abbrev pub SaysNoLine : List ℕ → DecodeRefusal → Type 0
 SaysNoLine bytes why = ((why ≡ NotJson) × IsNoJson bytes) ⊎ ((why ≡ RepeatedMember) × HasRepeatedMember bytes) ⊎ HasNoLine bytes why
 
 -- the bytes are no line, or memory ran out

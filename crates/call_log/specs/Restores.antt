@@ -14,8 +14,8 @@ use Rattle.call_log.specs.declared.restored.KeptNumbers.{KeptNumbers}
 use Rattle.call_log.specs.declared.restored.RestoreFault.{RestoreFault}
 use Rattle.call_log.specs.declared.restored.RestoreFault.TheVariants.{LessThanLog, FarAhead, NotAhead}
 use Rattle.call_log.specs.declared.restored.TheConstants.{MOST_AHEAD}
-use Rattle.call_log.specs.declared.told.Told.{Told}
-use Rattle.call_log.specs.declared.told.Told.TheVariants.{Restored, NotRestored}
+use Rattle.call_log.specs.declared.told.CallerReply.{CallerReply}
+use Rattle.call_log.specs.declared.told.CallerReply.TheVariants.{Restored, NotRestored}
 
 -- the kept values that grants change
 abbrev pub numbers_of : Kept → KeptNumbers
@@ -41,7 +41,7 @@ IsChecked kept numbers (Some NotAhead) =
 IsChecked kept numbers None = (numbers.granted ≤ kept.granted + MOST_AHEAD) × Covers kept (kept_with kept numbers)
 
 -- a restored table is told with the committed generation and the end of its grace
-abbrev pub restore_told : Kept → KeptNumbers → Option RestoreFault → Told
+abbrev pub restore_told : Kept → KeptNumbers → Option RestoreFault → CallerReply
 restore_told kept numbers None = Restored (generation_of kept.committed) numbers.deadline
 restore_told kept numbers (Some fault) = NotRestored fault (numbers_of kept)
 
@@ -65,7 +65,7 @@ IsTaken None granted numbers before after = IsRestart granted numbers before aft
 IsTaken (Some fault) granted numbers before after = after ≡ before
 
 -- after these calls the table is restored from these values, or refused it, and this is told
-pub record IsRestored (job : Job) (before : Past) (numbers : KeptNumbers) (told : Told) (after : Past) : Type 0 where
+pub record IsRestored (job : Job) (before : Past) (numbers : KeptNumbers) (told : CallerReply) (after : Past) : Type 0 where
   pub fault : Option RestoreFault
   pub checked : IsChecked (kept_of (standing job.policy before)) numbers fault
   pub tells : told ≡ restore_told (kept_of (standing job.policy before)) numbers fault

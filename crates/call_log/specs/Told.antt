@@ -1,29 +1,24 @@
 -- The words that the caller of a logged call is told.
-use Rattle.std.specs.Prelude.{ℕ, ◌+◌, Bool, ◌||◌, List, ◌++◌, codes, decimal, length}
+use Rattle.std.specs.Prelude.{ℕ, Bool, true, false, ◌||◌, List, ◌++◌, codes, decimal}
 use Rattle.std.specs.Str.{bytes_eq}
+use Rattle.lease_rule.specs.declared.answer.Verdict.TheVariants.{Allow, Deny}
 use Rattle.lease_table.specs.declared.call.TableCall.TheVariants as table_call
-use Rattle.lease_table.specs.declared.call.TableReply.{TableReply}
-use Rattle.lease_table.specs.declared.call.TableReply.TheVariants as table
-use Rattle.lease_table.specs.declared.values.JobTerm.{JobTerm}
 use Rattle.slicelet.specs.declared.call.SliceletCall.TheVariants as task_call
-use Rattle.slicelet.specs.declared.call.SliceletReply.{SliceletReply}
 use Rattle.slicelet.specs.declared.call.SliceletReply.TheVariants as slicelet
 use Rattle.clerk.specs.declared.call.ClerkCall.TheVariants as clerk_call
-use Rattle.clerk.specs.declared.call.ClerkReply.{ClerkReply}
-use Rattle.clerk.specs.declared.call.ClerkReply.TheVariants as clerk
 use Rattle.cluster.specs.declared.call.ClusterCall.TheVariants as call
 use Rattle.cluster.specs.declared.reply.ClusterReply.{ClusterReply}
 use Rattle.cluster.specs.declared.reply.ClusterReply.TheVariants as machine
 use Rattle.cluster.specs.Pasts.{Past}
-use Rattle.cluster.specs.Deliveries.{notes_made, handles_made}
-use Rattle.world.specs.declared.reply.Reply.{Reply}
 use Rattle.world.specs.declared.reply.Reply.TheVariants as reply
-use Rattle.world.specs.Replies.{grant_reply, refusal_by}
+use Rattle.world.specs.declared.told.Named.{Named}
+use Rattle.world.specs.declared.told.NextNumbers.{NextNumbers}
+use Rattle.world.specs.Replies.{next_numbers, told_as as reply_as}
 use Rattle.service.specs.Lines.{reply_text}
 use Rattle.call_log.specs.declared.line.LoggedCall.{LoggedCall}
 use Rattle.call_log.specs.declared.line.LoggedCall.TheVariants.{Whole, HearBare}
-use Rattle.call_log.specs.declared.told.Told.{Told}
-use Rattle.call_log.specs.declared.told.Told.TheVariants.{Scripted, Opened, Restored, NotRestored}
+use Rattle.call_log.specs.declared.told.CallerReply.{CallerReply}
+use Rattle.call_log.specs.declared.told.CallerReply.TheVariants.{Scripted, Opened, Restored, NotRestored}
 use Rattle.call_log.specs.declared.restored.RestoreFault.{RestoreFault}
 use Rattle.call_log.specs.declared.restored.RestoreFault.TheVariants.{LessThanLog, FarAhead, NotAhead}
 
@@ -41,47 +36,22 @@ number_in (Whole (call.Clerk clerk (clerk_call.Learn slicing))) = slicing.genera
 number_in (HearBare task grant at) = grant.number
 number_in _ = 0
 
--- a job term is told as renewed or as taken
-abbrev pub term_reply : LoggedCall → JobTerm → Reply
-term_reply (Whole (call.Table (table_call.JobRenew number at))) term = reply.Renewed term
-term_reply _ term = reply.Term term
+-- a call renews a job term
+abbrev pub renews : LoggedCall → Bool
+renews (Whole (call.Table (table_call.JobRenew number at))) = true
+renews _ = false
 
-abbrev pub table_reply : LoggedCall → TableReply → Reply
-table_reply c (table.Term term) = term_reply c term
-table_reply c table.Proposed = reply.Proposed (number_in c)
-table_reply c (table.Committed generation) = reply.Committed generation
-table_reply c (table.Granted grant) = grant_reply grant
-table_reply c (table.Freed rows) = reply.Freed rows
-table_reply c (table.Lost rows) = reply.Lost rows
+abbrev pub named : LoggedCall → Named
+named c = record { life = life_in c; number = number_in c; renews = renews c }
 
--- a note is told with its number, and a new process with the life that its call names
-abbrev pub task_reply : LoggedCall → ℕ → SliceletReply → Told
-task_reply c number slicelet.Started = Scripted (reply.Started (life_in c))
-task_reply c number slicelet.Heard = Scripted (reply.Heard (number_in c))
-task_reply c number (slicelet.Released note) = Scripted (reply.Released number note)
-task_reply c number (slicelet.Resumed ended) = Opened (life_in c)
-
-abbrev pub clerk_reply : LoggedCall → ClerkReply → Reply
-clerk_reply c clerk.Learnt = reply.Learnt (number_in c)
-clerk_reply c clerk.Forgotten = reply.Forgotten
-
--- a reply of the machines to a logged call as its caller is told it, where the next note and the next handle have these numbers
-abbrev pub told_as : LoggedCall → ℕ → ℕ → ClusterReply → Told
-told_as c note handle (machine.Table r) = Scripted (table_reply c r)
-told_as c note handle (machine.Task r) = task_reply c note r
-told_as c note handle (machine.Clerk r) = Scripted (clerk_reply c r)
-told_as c note handle (machine.Phase phase) = Scripted (reply.Phase phase)
-told_as c note handle (machine.Rows rows) = Scripted (reply.Rows rows)
-told_as c note handle (machine.Verdict verdict) = Scripted (reply.Verdict verdict)
-told_as c note handle (machine.Holding made) = Scripted (reply.Holding handle made)
-told_as c note handle machine.Continuous = Scripted reply.Continuous
-told_as c note handle machine.Broken = Scripted reply.Broken
-told_as c note handle (machine.Found found) = Scripted (reply.Found found)
-told_as c note handle (machine.Refused why) = Scripted (reply.Refused (refusal_by why))
+-- a reply of the machines to a logged call as its caller is told it: a new process with the life that its call names, and else as scripts are
+abbrev pub told_as : LoggedCall → NextNumbers → ClusterReply → CallerReply
+told_as c next (machine.Task (slicelet.Resumed ended)) = Opened (life_in c)
+told_as c next answer = Scripted (reply_as (named c) next answer)
 
 -- the same after these calls
-abbrev pub told_after : Past → LoggedCall → ClusterReply → Told
-told_after past c answer = told_as c (length (notes_made past) + 1) (length (handles_made past) + 1) answer
+abbrev pub told_after : Past → LoggedCall → ClusterReply → CallerReply
+told_after past c answer = told_as c (next_numbers past) answer
 
 -- the name of a fault
 abbrev pub fault_word : RestoreFault → List ℕ
@@ -90,7 +60,7 @@ fault_word FarAhead = codes "far-ahead"
 fault_word NotAhead = codes "not-ahead"
 
 -- the words of a reply
-abbrev pub words_of : Told → List ℕ
+abbrev pub words_of : CallerReply → List ℕ
 words_of (Scripted scripted) = reply_text scripted
 words_of (Opened life) = codes "opened " ++ decimal life
 words_of (Restored generation grace) = codes "restored generation " ++ (decimal generation ++ (codes " grace " ++ decimal grace))
@@ -99,11 +69,20 @@ words_of (NotRestored fault table) =
     ++ (codes " granted " ++ (decimal table.granted ++ (codes " deadline " ++ decimal table.deadline))))))
 
 -- the words of a reply for callers that number no notes and handles: these are told by what they say
-abbrev pub plain_text : Told → List ℕ
+abbrev pub plain_text : CallerReply → List ℕ
 plain_text (Scripted (reply.Released number note)) = codes "released life " ++ decimal note.life ++ codes " number " ++ decimal note.number
 plain_text (Scripted (reply.Holding number handle)) = codes "handle life " ++ decimal handle.life ++ codes " position " ++ decimal handle.position
 plain_text told = words_of told
 
--- the words are those of the reply, with the numbers of notes and handles or without
-abbrev pub is_worded : List ℕ → Told → Bool
-is_worded words told = bytes_eq words (words_of told) || bytes_eq words (plain_text told)
+-- one word of a reply for callers that keep no more of it: whether a key may be served, that a call is refused, or that rows are lost
+abbrev pub coarse_text : CallerReply → List ℕ
+coarse_text (Scripted (reply.Verdict (Allow kind generation))) = codes "served"
+coarse_text (Scripted (reply.Verdict (Deny why))) = codes "denied"
+coarse_text (Scripted (reply.Refused why)) = codes "refused"
+coarse_text (Scripted (reply.Lost rows)) = codes "lost"
+coarse_text (NotRestored fault table) = codes "refused"
+coarse_text told = plain_text told
+
+-- the words are those of the reply, with the numbers of notes and handles or without, or its one word
+abbrev pub is_worded : List ℕ → CallerReply → Bool
+is_worded words told = bytes_eq words (words_of told) || (bytes_eq words (plain_text told) || bytes_eq words (coarse_text told))

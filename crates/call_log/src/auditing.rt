@@ -1,11 +1,11 @@
 //! Audits of logs: the bytes of files in, the lines of a report out.
 
 ghost use Rattle.std.specs.Prelude.{◌≡◌, IfErr, IfOk, map, string_bytes};
-ghost use Rattle.call_log.specs.Audited.{is_one};
+ghost use Rattle.call_log.specs.Audited.{is_one, is_timely};
 ghost use Rattle.call_log.specs.Audits.{IsAudited};
 ghost use Rattle.call_log.specs.Files.{IsUnread, lines_from};
 
-use crate::entry::Place;
+use crate::entry::LinePosition;
 use crate::finding::Finding;
 use crate::hint::hint_for;
 use crate::judging::audit_calls;
@@ -20,16 +20,24 @@ use std::alloc::Global;
 pub struct LogReport {
     /// Whether the calls are one run.
     pub is_one: bool,
+    /// Whether the calls are one run with timely clocks.
+    pub is_timely: bool,
     /// The lines of the report.
     pub text: String,
     /// The positions of last lines that were left out: they lack their end, and are not calls.
-    pub torn: Vec<Place>,
+    pub torn: Vec<LinePosition>,
 }
 
 fn is_one(finding: &Finding) -> bool
     ensures { result ≡ is_one finding.now }
 {
     matches!(finding, Finding::One { .. })
+}
+
+fn is_timely(finding: &Finding) -> bool
+    ensures { result ≡ is_timely finding.now }
+{
+    matches!(finding, Finding::One { late: None, .. })
 }
 
 /// Reads the log in the files, and judges its calls in the order of their tickets.
@@ -42,7 +50,7 @@ pub fn audit_logs<P: Progress>(
     progress: &mut P,
 ) -> Result<LogReport, LogError>
     ensures ok { IfOk result (λ report.
-        IsAudited (map (λ n. n.now) names.now) (map (λ f. f.now) files.now) report.is_one (string_bytes report.text) report.torn.items) }
+        IsAudited (map (λ n. n.now) names.now) (map (λ f. f.now) files.now) report.is_one report.is_timely (string_bytes report.text) report.torn.items) }
     ensures err { IfErr result (IsUnread (lines_from 0 (map (λ f. f.now) files.now))) }
 {
     let mut log = read_log(alloc, files, progress)?;
@@ -50,9 +58,10 @@ pub fn audit_logs<P: Progress>(
     let entries = log.entries.as_slice();
     let named = NamedEntries { names, entries };
     let hint = hint_for(alloc, log.job, entries, &finding)?;
-    let text = report_of(alloc, log.job.policy().skew(), named, &finding, hint)?;
+    let text = report_of(alloc, log.job, named, &finding, hint)?;
     Ok(LogReport {
         is_one: is_one(&finding),
+        is_timely: is_timely(&finding),
         text,
         torn: log.torn,
     })

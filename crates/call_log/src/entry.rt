@@ -4,7 +4,7 @@ use crate::line::LoggedLine;
 
 /// The position of a line: the file, counted from 0, and the line in it, counted from 1.
 #[derive(Clone, Copy, Debug, PartialEq, Eq, PartialOrd, Ord)]
-pub struct Place {
+pub struct LinePosition {
     /// The index of the file, from 0.
     pub file: usize,
     /// The number of the line in the file, from 1.
@@ -13,9 +13,9 @@ pub struct Place {
 
 /// A line of a log with its position.
 #[derive(Debug, Drop)]
-pub struct Entry {
+pub struct LogEntry {
     /// The position of the line.
-    pub place: Place,
+    pub place: LinePosition,
     /// The line.
     pub line: LoggedLine,
 }

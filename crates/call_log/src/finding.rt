@@ -1,7 +1,7 @@
 //! What an audit finds.
 
 use crate::late::Late;
-use crate::told::Told;
+use crate::told::CallerReply;
 use slicelet::HeldLease;
 
 /// The leases that a task holds, each of which may have ended.
@@ -33,7 +33,7 @@ pub enum Finding {
     Other {
         index: usize,
         /// The reply that the caller should have got.
-        wanted: Told,
+        wanted: CallerReply,
         /// The leases of the task that the call asks for a key; `None` for other calls, or if the
         /// job has no such task.
         held: Option<HeldLeases>,

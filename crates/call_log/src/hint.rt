@@ -4,7 +4,7 @@ ghost use Rattle.std.specs.Prelude.{◌≡◌, ◌<◌, ◌≤◌, if◌then◌e
 ghost use Rattle.call_log.specs.Hints.{IsHintOf, IsHinted, IsJudgedSo, IsTried, begun_life, greatest_life, is_start, last_start, open_entry, task_of, with_open};
 ghost use Rattle.call_log.specs.internals.Opening.{IsEntryAt};
 
-use crate::entry::{Entry, Place};
+use crate::entry::{LinePosition, LogEntry};
 use crate::finding::Finding;
 use crate::line::{LoggedCall, LoggedLine, Words};
 use crate::playing::answer;
@@ -44,7 +44,7 @@ fn task_of(call: &LoggedCall) -> Option<u64>
 }
 
 // Whether an entry is a start of this task.
-fn is_start(task: u64, entry: &Entry) -> bool
+fn is_start(task: u64, entry: &LogEntry) -> bool
     ensures { result ≡ is_start task entry.now }
 {
     match &entry.line.call {
@@ -66,7 +66,7 @@ fn later(last: Option<usize>, index: usize, here: bool) -> Option<usize>
 }
 
 // Returns the index of the last start of this task.
-fn last_start(task: u64, entries: &[Entry]) -> Option<usize>
+fn last_start(task: u64, entries: &[LogEntry]) -> Option<usize>
     ensures value { result ≡ last_start task entries.now }
     ensures within { IfSome result (λ index. index < length entries.now) }
 {
@@ -80,7 +80,7 @@ fn last_start(task: u64, entries: &[Entry]) -> Option<usize>
 }
 
 // Returns the life of this task that an entry starts or opens with, or 0.
-fn begun_life(task: u64, entry: &Entry) -> u32
+fn begun_life(task: u64, entry: &LogEntry) -> u32
     ensures { result ≡ begun_life task entry.now }
 {
     match &entry.line.call {
@@ -101,7 +101,7 @@ fn greater_of(life: u32, other: u32) -> u32
 }
 
 // Returns the greatest life of this task that entries start or open with, or 0.
-fn greatest_life(task: u64, entries: &[Entry]) -> u32
+fn greatest_life(task: u64, entries: &[LogEntry]) -> u32
     ensures { result ≡ greatest_life task entries.now }
 {
     let mut greatest = 0;
@@ -114,14 +114,14 @@ fn greatest_life(task: u64, entries: &[Entry]) -> u32
 }
 
 // Creates the entry of an `open`.
-fn open_entry(alloc: Global, task: u64, life: u32) -> Result<Entry, AllocError>
+fn open_entry(alloc: Global, task: u64, life: u32) -> Result<LogEntry, AllocError>
     ensures { IfOk result (λ entry. entry ≡ open_entry task life) }
 {
     let words = format!(in alloc; "opened {life}")?;
     let reply = Words::new(alloc, words.as_str())?;
     let call = SliceletCall::Resume { life };
-    Ok(Entry {
-        place: Place { file: 0, line: 0 },
+    Ok(LogEntry {
+        place: LinePosition { file: 0, line: 0 },
         line: LoggedLine {
             ticket: 0,
             call: LoggedCall::Whole(ClusterCall::Task { task, call }),
@@ -131,7 +131,12 @@ fn open_entry(alloc: Global, task: u64, life: u32) -> Result<Entry, AllocError>
 }
 
 // Returns an entry of those with `line` before the one at `place`.
-fn entry_with<'a>(entries: &'a [Entry], line: &'a Entry, place: usize, index: usize) -> &'a Entry
+fn entry_with<'a>(
+    entries: &'a [LogEntry],
+    line: &'a LogEntry,
+    place: usize,
+    index: usize,
+) -> &'a LogEntry
     requires place { place ≤ length entries.now }
     requires index { index ≤ length entries.now }
     ensures { IsEntryAt (with_open place line.now entries.now) index result.now }
@@ -149,8 +154,8 @@ fn entry_with<'a>(entries: &'a [Entry], line: &'a Entry, place: usize, index: us
 fn is_run_with(
     alloc: Global,
     job: Job,
-    entries: &[Entry],
-    line: &Entry,
+    entries: &[LogEntry],
+    line: &LogEntry,
     place: usize,
 ) -> Result<bool, AllocError>
     requires { place ≤ length entries.now }
@@ -180,7 +185,7 @@ struct Opening {
 fn is_run_opened(
     alloc: Global,
     job: Job,
-    entries: &[Entry],
+    entries: &[LogEntry],
     opening: Opening,
     index: usize,
 ) -> Result<bool, AllocError>
@@ -196,7 +201,7 @@ fn is_run_opened(
 fn hint_at(
     alloc: Global,
     job: Job,
-    entries: &[Entry],
+    entries: &[LogEntry],
     task: u64,
     index: usize,
 ) -> Result<Option<Hint>, AllocError>
@@ -216,7 +221,7 @@ fn hint_at(
 fn hint_of(
     alloc: Global,
     job: Job,
-    entries: &[Entry],
+    entries: &[LogEntry],
     task: u64,
     index: usize,
 ) -> Result<Option<Hint>, AllocError>
@@ -240,7 +245,7 @@ fn hint_of(
 pub fn hint_for(
     alloc: Global,
     job: Job,
-    entries: &[Entry],
+    entries: &[LogEntry],
     finding: &Finding,
 ) -> Result<Option<Hint>, AllocError>
     ensures { IfOk result (IsHinted job entries.now finding.now) }

@@ -6,7 +6,7 @@ ghost use Rattle.std.specs.List.Sorted.{IsPermutation, IsNonDecreasingBy, IsStab
 ghost use Rattle.cluster.specs.Jobs.{Job};
 ghost use Rattle.call_log.specs.Audited.{IsDouble, IsFound, IsReplayed, TicketsRise};
 
-use crate::entry::Entry;
+use crate::entry::LogEntry;
 use crate::finding::Finding;
 use crate::late::late_reading;
 use crate::playing::{answer, held_by_asked};
@@ -15,7 +15,7 @@ use cluster::{Cluster, Job};
 use std::alloc::{AllocError, Global};
 
 // Sorts entries by ticket. Entries with the same ticket keep their order.
-fn sort(entries: &mut Vec<Entry>) -> Result<(), AllocError>
+fn sort(entries: &mut Vec<LogEntry>) -> Result<(), AllocError>
     ensures same { IsPermutation entries.old.items entries.new.items }
     ensures order { OnOk result (IsNonDecreasingBy (λ e. e.line.ticket) entries.new.items) }
     ensures stable { IsStableByKey (λ e. e.line.ticket) nat_cmp entries.old.items entries.new.items }
@@ -24,7 +24,7 @@ fn sort(entries: &mut Vec<Entry>) -> Result<(), AllocError>
 }
 
 // Returns the index of the first entry whose ticket the next one has too. Entries are sorted.
-fn double(entries: &[Entry]) -> Option<usize>
+fn double(entries: &[LogEntry]) -> Option<usize>
     requires { IsNonDecreasingBy (λ e. e.line.ticket) entries.now }
     ensures { MatchOption result (TicketsRise entries.now)
         (λ i. IsDouble entries.now i (i + 1) × (i + 1 < length entries.now)) }
@@ -43,7 +43,7 @@ fn double(entries: &[Entry]) -> Option<usize>
 fn replay<P: Progress>(
     alloc: Global,
     job: Job,
-    entries: &[Entry],
+    entries: &[LogEntry],
     progress: &mut P,
 ) -> Result<Finding, AllocError>
     ensures { IfOk result (IsReplayed job entries.now) }
@@ -83,7 +83,7 @@ fn replay<P: Progress>(
 pub fn audit_calls<P: Progress>(
     alloc: Global,
     job: Job,
-    entries: &mut Vec<Entry>,
+    entries: &mut Vec<LogEntry>,
     progress: &mut P,
 ) -> Result<Finding, AllocError>
     ensures same { IsPermutation entries.old.items entries.new.items }

@@ -4,7 +4,7 @@ ghost use Rattle.std.specs.Prelude.{◌≡◌, Some};
 ghost use Rattle.call_log.specs.Late.{AreWatched};
 ghost use Rattle.call_log.specs.internals.Watching.{greater, greatest_after, late_after};
 
-use crate::entry::Entry;
+use crate::entry::LogEntry;
 use cluster::Reading;
 
 /// A reading of a task's clock that is not timely.
@@ -80,7 +80,7 @@ fn late_after(skew: u64, greatest: Option<Greatest>, reading: Reading, index: us
 ///
 /// It comes with the greatest reading of the table's clock before it. Readings and `skew` are in
 /// ticks.
-pub fn late_reading(skew: u64, entries: &[Entry]) -> Option<Late>
+pub fn late_reading(skew: u64, entries: &[LogEntry]) -> Option<Late>
     ensures { AreWatched skew entries.now result }
 {
     let mut greatest = None;

@@ -2,7 +2,7 @@
 #![tactic(auto)]
 
 mod auditing;
-mod clerk_lines;
+mod callers;
 mod entry;
 mod finding;
 mod hint;
@@ -14,17 +14,17 @@ mod lines;
 mod log;
 mod log_reading;
 mod mend;
+mod message_calls;
+mod own_calls;
 mod playing;
 mod progress;
 mod reading;
 mod report;
 mod restored;
-mod table_lines;
-mod task_lines;
 mod told;
 
 pub use auditing::{LogReport, audit_logs};
-pub use entry::{Entry, Place};
+pub use entry::{LinePosition, LogEntry};
 pub use finding::{Finding, HeldLeases};
 pub use hint::{Hint, hint_for};
 pub use judging::audit_calls;
@@ -36,4 +36,4 @@ pub use progress::Progress;
 pub use reading::{NoLine, line_of, line_said};
 pub use report::{NamedEntries, report_of};
 pub use restored::{KeptNumbers, MOST_AHEAD, RestoreFault, restore_fault};
-pub use told::{PlainLine, Told, ToldLine, table_reply};
+pub use told::{CallerReply, PlainLine, ToldLine, named};

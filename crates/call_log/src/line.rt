@@ -5,7 +5,7 @@ ghost use Rattle.std.specs.Prelude.{◌≡◌, IfOk};
 use crate::restored::KeptNumbers;
 use assignment::TaskId;
 use cluster::ClusterCall;
-use policy_rules::Kind;
+use lease_rule::Kind;
 use std::alloc::{AllocError, Global};
 use std::marker::Model;
 

@@ -4,7 +4,7 @@ ghost use Rattle.std.specs.Prelude.{◌≡◌, ◌++◌, map, IfOk};
 ghost use Rattle.call_log.specs.Files.{lines_from, lines_in, numbered};
 ghost use Rattle.call_log.specs.internals.Shown.{IsNextLine, shown};
 
-use crate::entry::Place;
+use crate::entry::LinePosition;
 use memchr::memchr;
 use std::alloc::{AllocError, Global};
 
@@ -12,7 +12,7 @@ use std::alloc::{AllocError, Global};
 #[derive(Clone, Copy)]
 pub struct LineBytes<'a> {
     /// The position of the line.
-    pub place: Place,
+    pub place: LinePosition,
     /// Its bytes.
     pub bytes: &'a [u8],
     /// Whether its end stands after it, which the last line of a file may lack.
@@ -61,7 +61,7 @@ fn add_lines<'a>(
     let mut number = 1;
     'splits: while let Some(split) = next_line(rest) {
         lines.push(LineBytes {
-            place: Place { file, line: number },
+            place: LinePosition { file, line: number },
             bytes: split.line,
             ended: split.ended,
         })?;

@@ -3,11 +3,11 @@
 ghost use Rattle.std.specs.Prelude.{◌≡◌};
 ghost use Rattle.call_log.specs.declared.log.LogError.TheVariants as unread;
 
-use crate::entry::{Entry, Place};
+use crate::entry::{LinePosition, LogEntry};
 use cluster::Job;
 use diagnosis::ScriptFault;
 use std::alloc::{AllocError, AllocFailed};
-use wire::Refusal;
+use wire::DecodeRefusal;
 
 /// A log: its job, and its calls in the order of the lines.
 #[derive(Debug, Drop)]
@@ -15,9 +15,9 @@ pub struct Log {
     /// The job.
     pub job: Job,
     /// The calls.
-    pub entries: Vec<Entry>,
+    pub entries: Vec<LogEntry>,
     /// The positions of last lines that were left out: they lack their end, and are not calls.
-    pub torn: Vec<Place>,
+    pub torn: Vec<LinePosition>,
 }
 
 /// Why a log cannot be read: its first line that is too long, or else its first line that is not
@@ -26,17 +26,17 @@ pub struct Log {
 pub enum LogError {
     /// There are no lines that count.
     Empty,
-    /// A line is longer than [`session::MOST_LINE_BYTES`].
-    LongLine(Place),
+    /// A line is longer than [`program_io::MOST_LINE_BYTES`].
+    LongLine(LinePosition),
     /// The first line is not a job.
     NoJob {
-        place: Place,
+        place: LinePosition,
         faults: Vec<ScriptFault>,
     },
     /// A later line is not a call.
     BadLine {
-        place: Place,
-        why: Refusal,
+        place: LinePosition,
+        why: DecodeRefusal,
         /// How to fix the line, in words.
         mend: String,
     },

@@ -1,19 +1,19 @@
 //! Reading a log from the bytes of its files.
 
 ghost use Rattle.std.specs.Prelude.{◌≡◌, map, IfErr, IfOk};
-ghost use Rattle.session.specs.Lines.{SaysJob};
+ghost use Rattle.diagnosis.specs.JobLines.{SaysJob};
 ghost use Rattle.call_log.specs.Files.{AreSaid, AreShort, IsLog, IsUnread, counted, lines_from};
 ghost use Rattle.call_log.specs.internals.Reading.{IsNoJobFor, IsNotCounted, IsNotRead};
 ghost use Rattle.call_log.specs.internals.Shown.{shown};
 
-use crate::entry::{Entry, Place};
+use crate::entry::{LinePosition, LogEntry};
 use crate::lines::{LineBytes, lines_of};
 use crate::log::{Log, LogError};
 use crate::progress::Progress;
 use crate::reading::{NoLine, line_said};
 use cluster::Job;
-use diagnosis::AnswerError;
-use session::{is_blank, is_long, job_said};
+use diagnosis::job_said;
+use program_io::{Fault, is_blank, is_long};
 use std::alloc::Global;
 
 // Parses the first line, which is the job.
@@ -23,7 +23,7 @@ fn head_of(alloc: Global, line: &LineBytes) -> Result<Job, LogError>
 {
     match job_said(alloc, line.bytes) {
         Ok(job) => Ok(job),
-        Err(AnswerError::Refused(faults)) => {
+        Err(Fault::Input(faults)) => {
             let place = line.place;
             Err(LogError::NoJob { place, faults })
         }
@@ -34,8 +34,8 @@ fn head_of(alloc: Global, line: &LineBytes) -> Result<Job, LogError>
 // The calls on lines, and the positions of the lines that were left out.
 #[derive(Debug, Drop)]
 struct Calls {
-    entries: Vec<Entry>,
-    torn: Vec<Place>,
+    entries: Vec<LogEntry>,
+    torn: Vec<LinePosition>,
 }
 
 // Parses each line, up to the first that is not a call. A last line of a file that is not one, and
@@ -54,7 +54,7 @@ fn calls_of<P: Progress>(
         let place = line.place;
         match line_said(alloc, line.bytes) {
             Ok(line) => {
-                entries.push(Entry { place, line })?;
+                entries.push(LogEntry { place, line })?;
                 progress.lines_read(entries.len() as u64);
             }
             Err(NoLine::Refused { why, mend }) => {
@@ -92,7 +92,7 @@ fn counted<'a>(alloc: Global, lines: &[LineBytes<'a>]) -> Result<Vec<LineBytes<'
 /// Blank lines do not count. A last line of a file without its end counts if it is a call, and is
 /// left out if it is not.
 ///
-/// An error names the first line that is longer than [`session::MOST_LINE_BYTES`], or else the
+/// An error names the first line that is longer than [`program_io::MOST_LINE_BYTES`], or else the
 /// first one that is not valid, or says that memory ran out.
 pub fn read_log<P: Progress>(
     alloc: Global,

@@ -1,9 +1,10 @@
 //! How to fix a line that is not a call.
 
-use crate::task_lines::bare_grant_of;
+use crate::own_calls::bare_grant_of;
 use diagnosis::{Found, Members, Quoted, Wanted, WrongMember, missing_member, unknown_member};
 use program_io::{Unread, list_of};
 use serde_json::Value;
+use slice_ranges::SliceKey;
 use std::alloc::{AllocError, Global};
 use std::fmt;
 use wire::{DecodeError, EitherSlice, Numerals, grant_of, handle_of, note_of, numeral_of};
@@ -27,6 +28,7 @@ const CALLS: &[(&str, &[&str])] = &[
         &["ticket", "reply", "last", "granted", "deadline"],
     ),
     ("open", &["ticket", "reply", "task", "life"]),
+    ("resume", &["ticket", "reply", "task", "life"]),
     ("start", &["ticket", "reply", "task", "life", "at"]),
     ("hear", &["ticket", "reply", "task", "grant", "at"]),
     ("release", &["ticket", "reply", "task", "kind", "at"]),
@@ -39,6 +41,13 @@ const CALLS: &[(&str, &[&str])] = &[
     ),
     ("look", &["ticket", "reply", "clerk", "key"]),
     ("forget", &["ticket", "reply", "clerk"]),
+];
+
+/// The same for calls that name a slice key in place of a key.
+const SLICE_KEY_CALLS: &[(&str, &[&str])] = &[
+    ("serve", &["ticket", "reply", "task", "slice_key", "at"]),
+    ("hold", &["ticket", "reply", "task", "slice_key", "at"]),
+    ("look", &["ticket", "reply", "clerk", "slice_key"]),
 ];
 
 /// What a member must be, for members that steps of scripts do not have.
@@ -97,13 +106,16 @@ fn is_grant(alloc: Global, value: &Value) -> Result<bool, AllocError> {
     }
 }
 
-// Whether a value is the member of an assignment or of kept values with this name as messages have
-// it, whose numbers are texts.
+// Whether a value is the member with this name as messages have it, whose numbers are texts.
 fn is_of_message(alloc: Global, name: &str, value: &Value) -> Result<bool, AllocError> {
     match name {
-        "generation" | "last" | "granted" | "deadline" => {
+        "assigner" | "term" | "generation" | "at" | "last" | "granted" | "deadline" => {
             Ok(numeral_of(Numerals::Quoted, value).is_ok())
         }
+        "slice_key" => match numeral_of(Numerals::Quoted, value) {
+            Ok(key) => Ok(SliceKey::new(key).is_some()),
+            Err(_) => Ok(false),
+        },
         "slices" => match list_of::<EitherSlice>(alloc, value) {
             Ok(_slices) => Ok(true),
             Err(Unread::WrongForm) => Ok(false),
@@ -120,6 +132,7 @@ fn wanted_of(call: &str, name: &str) -> Wanted {
         "task" if call == "grant" => Wanted::Between(1, 64),
         "life" => Wanted::Between(0, (1 << 32) - 1),
         "key" => Wanted::Key,
+        "slice_key" => Wanted::Between(0, (1 << 63) - 1),
         "kind" => Wanted::Kind,
         "slices" => Wanted::Slices,
         _ => Wanted::Between(0, u64::MAX),
@@ -188,6 +201,13 @@ pub fn call_mend(alloc: Global, line: &Value) -> Result<String, AllocError> {
     let Some(name) = word.as_str() else {
         return format!(in alloc; "\"do\" is {}; it must be the name of a call", Found(word));
     };
+    if line.get("slice_key").is_some() {
+        for (kind, names) in SLICE_KEY_CALLS {
+            if *kind == name {
+                return members_mend(alloc, Members { kind, names }, line);
+            }
+        }
+    }
     for (kind, names) in CALLS {
         if *kind == name {
             return members_mend(alloc, Members { kind, names }, line);

@@ -13,14 +13,15 @@ ghost use Rattle.call_log.specs.internals.Answers.{HasGranted, IsAnswered, IsMad
 use crate::finding::HeldLeases;
 use crate::line::{BareGrant, LoggedCall, LoggedLine};
 use crate::restored::{KeptNumbers, numbers_of, restore_fault};
-use crate::told::{Told, is_worded, told_as};
+use crate::told::{CallerReply, is_worded, told_as};
 use assignment::{Assignment, TaskId};
 use cluster::{Cluster, ClusterCall, ClusterReply, Reading};
+use lease_rule::{Kind, Lease};
 use lease_table::{Grant, TableCall};
-use policy_rules::{Kind, Lease};
 use slice_ranges::Ranges;
 use slicelet::SliceletCall;
 use std::alloc::{AllocError, Global};
+use world::NextNumbers;
 
 impl LoggedCall {
     /// Returns whose clock the call reads, and the reading.
@@ -74,14 +75,13 @@ fn play(alloc: Global, cluster: &mut Cluster, call: &LoggedCall) -> Result<Clust
 }
 
 // Plays a logged call, and returns what its caller is told.
-fn call(alloc: Global, cluster: &mut Cluster, call: &LoggedCall) -> Result<Told, AllocError>
+fn call(alloc: Global, cluster: &mut Cluster, call: &LoggedCall) -> Result<CallerReply, AllocError>
     ensures { (job : Job) (past : Past) → LeadsTo job past cluster.old
         → IfOk result (λ told. IsMade job past call.now told cluster.new) }
 {
-    let note = cluster.next_note();
-    let handle = cluster.next_handle();
+    let next = NextNumbers::of(cluster);
     let reply = play(alloc, cluster, call)?;
-    Ok(told_as(call, note, handle, reply))
+    Ok(told_as(call, next, reply))
 }
 
 // Grants task 1 a lease in life 0: no task hears it.
@@ -115,7 +115,7 @@ fn generation_of(assignment: &Option<Assignment>) -> u64
 }
 
 // Plays a restart of the table with these values, and returns what is told of it.
-fn restore(cluster: &mut Cluster, numbers: KeptNumbers) -> Result<Told, AllocError>
+fn restore(cluster: &mut Cluster, numbers: KeptNumbers) -> Result<CallerReply, AllocError>
     ensures { (job : Job) (past : Past) → LeadsTo job past cluster.old
         → IfOk result (λ told. IsPlayed job past (Restore numbers) told cluster.new) }
 {
@@ -123,18 +123,18 @@ fn restore(cluster: &mut Cluster, numbers: KeptNumbers) -> Result<Told, AllocErr
     let table = numbers_of(&kept);
     let generation = generation_of(&kept.committed);
     if let Some(fault) = restore_fault(kept, numbers) {
-        return Ok(Told::NotRestored(fault, table));
+        return Ok(CallerReply::NotRestored(fault, table));
     }
     grants_to_nobody(cluster, numbers.granted - table.granted, numbers.last)?;
     cluster.call_table(&TableCall::Restart)?;
-    Ok(Told::Restored {
+    Ok(CallerReply::Restored {
         generation,
         grace: numbers.deadline,
     })
 }
 
 // Plays what a line stands for, and returns what its caller is told.
-fn tell(alloc: Global, cluster: &mut Cluster, line: &LoggedCall) -> Result<Told, AllocError>
+fn tell(alloc: Global, cluster: &mut Cluster, line: &LoggedCall) -> Result<CallerReply, AllocError>
     ensures { (job : Job) (past : Past) → LeadsTo job past cluster.old
         → IfOk result (λ told. IsPlayed job past line.now told cluster.new) }
 {
@@ -175,7 +175,7 @@ pub fn answer(
     alloc: Global,
     cluster: &mut Cluster,
     line: &LoggedLine,
-) -> Result<Option<Told>, AllocError>
+) -> Result<Option<CallerReply>, AllocError>
     ensures { (job : Job) (past : Past) → LeadsTo job past cluster.old
         → IfOk result (λ other. IsAnswered job past line.now other cluster.new) }
 {

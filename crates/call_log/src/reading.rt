@@ -8,19 +8,20 @@ ghost use Rattle.call_log.specs.Lines.{IsNoLine, SaysLine, call_in, line_of};
 
 use crate::line::{LoggedCall, LoggedLine, Words};
 use crate::mend::call_mend;
-use crate::table_lines::table_call_named;
+use crate::message_calls::{clerk_line_named, table_line_named, task_line_named};
+use crate::own_calls::own_call_named;
 use diagnosis::{line_mend, repeated_mend};
 use program_io::{JsonError, number_at, strict_value_of, text_at};
 use serde_json::Value;
 use std::alloc::{AllocError, Global};
-use wire::{DecodeError, Refusal};
+use wire::{DecodeError, DecodeRefusal};
 
 /// Why a line is not read.
 #[derive(Debug, Drop)]
 pub enum NoLine {
     /// The line is not a call.
     Refused {
-        why: Refusal,
+        why: DecodeRefusal,
         /// How to fix the line, in words.
         mend: String,
     },
@@ -41,7 +42,20 @@ impl From<AllocError> for NoLine {
 fn call_in(alloc: Global, line: &Value) -> Result<LoggedCall, DecodeError>
     ensures { Gives result (call_in (view line.now)) }
 {
-    table_call_named(alloc, text_at("do", line)?, line)
+    let name = text_at("do", line)?;
+    if let Some(call) = own_call_named(alloc, name, line) {
+        return call;
+    }
+    if let Some(call) = table_line_named(alloc, name, line) {
+        return call;
+    }
+    if let Some(call) = task_line_named(alloc, name, line) {
+        return call;
+    }
+    if let Some(call) = clerk_line_named(alloc, name, line) {
+        return call;
+    }
+    Err(DecodeError::Refused(DecodeRefusal::WrongForm))
 }
 
 /// Parses a JSON value as a line of a log.
@@ -70,12 +84,12 @@ pub fn line_said(alloc: Global, bytes: &[u8]) -> Result<LoggedLine, NoLine>
         Err(JsonError::NotJson(error)) => {
             let words = line_mend(alloc, &error)?;
             let mend = format!(in alloc; "not JSON: {words}")?;
-            let why = Refusal::NotJson;
+            let why = DecodeRefusal::NotJson;
             return Err(NoLine::Refused { why, mend });
         }
         Err(JsonError::Repeated(name)) => {
             let mend = repeated_mend(alloc, name.as_str())?;
-            let why = Refusal::RepeatedMember;
+            let why = DecodeRefusal::RepeatedMember;
             return Err(NoLine::Refused { why, mend });
         }
     };

@@ -1,16 +1,17 @@
 //! The report of an audit.
 
 ghost use Rattle.std.specs.Prelude.{◌≡◌, IfOk, Some, map, slice_get, string_bytes};
-ghost use Rattle.call_log.specs.Reports.{IsHintedReport, IsOtherOf, IsReport, clocks_text, double_text, ended_text, hint_text, name_text, reason_text, standing_at, ticket_of, told_text};
+ghost use Rattle.call_log.specs.Reports.{IsHintedReport, IsOtherOf, IsReport, clocks_text, double_text, ended_text, hint_text, name_text, one_text, reason_text, standing_at, ticket_of, told_text};
 
-use crate::entry::Entry;
+use crate::callers::{calls_line, silent_line};
+use crate::entry::LogEntry;
 use crate::finding::{Finding, HeldLeases};
 use crate::hint::Hint;
 use crate::late::Late;
-use crate::told::{PlainLine, Told};
-use cluster::Reading;
+use crate::told::{CallerReply, PlainLine};
+use cluster::{Job, Reading};
 use diagnosis::Escaped;
-use policy_rules::{Ground, Verdict};
+use lease_rule::{Ground, Verdict};
 use slicelet::HeldLease;
 use std::alloc::{AllocError, Global};
 use std::fmt;
@@ -22,7 +23,7 @@ pub struct NamedEntries<'a> {
     /// The names of the files.
     pub names: &'a [&'a str],
     /// The entries.
-    pub entries: &'a [Entry],
+    pub entries: &'a [LogEntry],
 }
 
 // Returns the name of a file, or nothing if it has none.
@@ -83,7 +84,7 @@ impl fmt::Display for EndedText {
 /// Displays why a key should have been denied, if its leases have ended.
 #[derive(Clone, Copy)]
 struct Reason<'a> {
-    wanted: &'a Told,
+    wanted: &'a CallerReply,
     reading: Reading,
     held: Option<HeldLeases>,
 }
@@ -92,7 +93,7 @@ impl fmt::Display for Reason<'_> {
     ghost output = { λ r. Some (reason_text r.wanted.now r.reading r.held) };
 
     fn fmt<W: fmt::Write>(&self, f: &mut fmt::Formatter<W>) -> fmt::Result {
-        let Told::Scripted(Reply::Verdict(Verdict::Deny(Ground::Ended))) = self.wanted else {
+        let CallerReply::Scripted(Reply::Verdict(Verdict::Deny(Ground::Ended))) = self.wanted else {
             return Ok(());
         };
         let Reading::TaskClock(at) = self.reading else {
@@ -144,7 +145,7 @@ fn clocks_text(
 }
 
 // Returns the ticket of an entry, 0 if there is none.
-fn ticket_at(entries: &[Entry], index: usize) -> u64
+fn ticket_at(entries: &[LogEntry], index: usize) -> u64
     ensures { result ≡ ticket_of (slice_get entries.now index) }
 {
     match entries.get(index) {
@@ -191,7 +192,7 @@ fn other_text(
     alloc: Global,
     log: NamedEntries,
     index: usize,
-    wanted: &Told,
+    wanted: &CallerReply,
     held: Option<HeldLeases>,
 ) -> Result<String, AllocError>
     ensures { IfOk result (λ text.
@@ -229,20 +230,42 @@ fn hint_text(alloc: Global, log: NamedEntries, hint: Option<Hint>) -> Result<Str
     )
 }
 
+// The numbers of a report on calls that are one run.
+#[derive(Clone, Copy)]
+struct Run {
+    steps: u64,
+    late: Option<Late>,
+}
+
+// Returns the lines for calls that are one run.
+fn one_text(alloc: Global, job: Job, log: NamedEntries, run: Run) -> Result<String, AllocError>
+    ensures { IfOk result (λ text. string_bytes text
+        ≡ one_text job (map (λ n. n.now) log.entry.names.now) log.entry.entries.now run.steps run.late) }
+{
+    let steps = run.steps;
+    let calls = calls_line(alloc, job, log.entries)?;
+    let silent = silent_line(alloc, job, log.entries)?;
+    let clocks = clocks_text(alloc, job.policy().skew(), log, run.late)?;
+    format!(in alloc; "audit one\nsteps {steps}\n{calls}{silent}{clocks}")
+}
+
 // Returns the lines for what an audit found.
 fn finding_text(
     alloc: Global,
-    skew: u64,
+    job: Job,
     log: NamedEntries,
     finding: &Finding,
 ) -> Result<String, AllocError>
     ensures { IfOk result (λ text.
-        IsReport skew (map (λ n. n.now) log.entry.names.now) log.entry.entries.now finding.now (string_bytes text)) }
+        IsReport job (map (λ n. n.now) log.entry.names.now) log.entry.entries.now finding.now (string_bytes text)) }
 {
     match finding {
         Finding::One { steps, late } => {
-            let clocks = clocks_text(alloc, skew, log, *late)?;
-            format!(in alloc; "audit one\nsteps {steps}\n{clocks}")
+            let run = Run {
+                steps: *steps,
+                late: *late,
+            };
+            one_text(alloc, job, log, run)
         }
         Finding::Double { first, second } => double_text(alloc, log, *first, *second),
         Finding::Other {
@@ -253,19 +276,19 @@ fn finding_text(
     }
 }
 
-/// Returns the report on what an audit found, with the `open` line that the log may lack. `skew` is
-/// in ticks.
+/// Returns the report on what an audit found of calls of the job, with the `open` line that the log
+/// may lack.
 pub fn report_of(
     alloc: Global,
-    skew: u64,
+    job: Job,
     log: NamedEntries,
     finding: &Finding,
     hint: Option<Hint>,
 ) -> Result<String, AllocError>
     ensures { IfOk result (λ text.
-        IsHintedReport skew (map (λ n. n.now) log.entry.names.now) log.entry.entries.now finding.now hint (string_bytes text)) }
+        IsHintedReport job (map (λ n. n.now) log.entry.names.now) log.entry.entries.now finding.now hint (string_bytes text)) }
 {
-    let lines = finding_text(alloc, skew, log, finding)?;
+    let lines = finding_text(alloc, job, log, finding)?;
     let line = hint_text(alloc, log, hint)?;
     format!(in alloc; "{lines}{line}")
 }

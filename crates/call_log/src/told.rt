@@ -1,22 +1,24 @@
 //! The replies that callers of logged calls get.
 
 ghost use Rattle.std.specs.Prelude.{◌≡◌, IfOk, Some};
-ghost use Rattle.call_log.specs.Told.{clerk_reply, fault_word, is_worded, life_in, number_in, plain_text, table_reply, task_reply, term_reply, told_as, words_of};
+ghost use Rattle.std.specs.Str.{bytes_eq};
+ghost use Rattle.call_log.specs.Told.{coarse_text, fault_word, is_worded, life_in, named, number_in, plain_text, renews, told_as, words_of};
 
 use crate::line::LoggedCall;
 use crate::restored::{KeptNumbers, RestoreFault};
-use clerk::{ClerkCall, ClerkReply};
+use clerk::ClerkCall;
 use cluster::{ClusterCall, ClusterReply};
-use lease_table::{JobTerm, TableCall, TableReply};
+use lease_rule::Verdict;
+use lease_table::TableCall;
 use service::Line;
 use slicelet::{SliceletCall, SliceletReply};
 use std::alloc::{AllocError, Global};
 use std::fmt;
-use world::{Reply, grant_reply, refusal_by};
+use world::{Named, NextNumbers, Reply};
 
 /// The reply that the caller of a logged call gets.
 #[derive(Debug, Drop)]
-pub enum Told {
+pub enum CallerReply {
     /// A reply that scripts get too.
     Scripted(Reply),
     /// A new process of the task began; the value is the life that the call names.
@@ -72,70 +74,34 @@ fn number_in(call: &LoggedCall) -> u64
     }
 }
 
-fn term_reply(call: &LoggedCall, term: JobTerm) -> Reply
-    ensures { result ≡ term_reply call.now term }
+// Whether a call renews the job lease.
+fn renews(call: &LoggedCall) -> bool
+    ensures { result ≡ renews call.now }
 {
-    match call {
-        LoggedCall::Whole(ClusterCall::Table(TableCall::JobRenew { .. })) => Reply::Renewed(term),
-        _ => Reply::Term(term),
-    }
+    matches!(
+        call,
+        LoggedCall::Whole(ClusterCall::Table(TableCall::JobRenew { .. }))
+    )
 }
 
-/// Converts the table's reply to a logged call to the reply that its caller gets.
-pub fn table_reply(call: &LoggedCall, reply: &TableReply) -> Reply
-    ensures { result ≡ table_reply call.now reply.now }
+/// Returns what a logged call names.
+pub fn named(call: &LoggedCall) -> Named
+    ensures { result ≡ named call.now }
 {
-    match reply {
-        TableReply::Term(term) => term_reply(call, *term),
-        TableReply::Proposed => Reply::Proposed(number_in(call)),
-        TableReply::Committed(generation) => Reply::Committed(*generation),
-        TableReply::Granted(grant) => grant_reply(grant),
-        TableReply::Freed(rows) => Reply::Freed(*rows),
-        TableReply::Lost(rows) => Reply::Lost(*rows),
-    }
-}
-
-fn task_reply(call: &LoggedCall, number: u64, reply: SliceletReply) -> Told
-    ensures { result ≡ task_reply call.now number reply }
-{
-    match reply {
-        SliceletReply::Started => Told::Scripted(Reply::Started(life_in(call))),
-        SliceletReply::Heard => Told::Scripted(Reply::Heard(number_in(call))),
-        SliceletReply::Released(note) => Told::Scripted(Reply::Released { number, note }),
-        SliceletReply::Resumed(_) => Told::Opened(life_in(call)),
-    }
-}
-
-fn clerk_reply(call: &LoggedCall, reply: ClerkReply) -> Reply
-    ensures { result ≡ clerk_reply call.now reply }
-{
-    match reply {
-        ClerkReply::Learnt => Reply::Learnt(number_in(call)),
-        ClerkReply::Forgotten => Reply::Forgotten,
+    Named {
+        life: life_in(call),
+        number: number_in(call),
+        renews: renews(call),
     }
 }
 
 /// Converts the machines' reply to a logged call to the reply that its caller gets.
-///
-/// `note` and `handle` are the numbers of the next note and the next handle.
-pub fn told_as(call: &LoggedCall, note: u64, handle: u64, reply: ClusterReply) -> Told
-    ensures { result ≡ told_as call.now note handle reply }
+pub fn told_as(call: &LoggedCall, next: NextNumbers, reply: ClusterReply) -> CallerReply
+    ensures { result ≡ told_as call.now next reply }
 {
     match reply {
-        ClusterReply::Table(reply) => Told::Scripted(table_reply(call, &reply)),
-        ClusterReply::Task(reply) => task_reply(call, note, reply),
-        ClusterReply::Clerk(reply) => Told::Scripted(clerk_reply(call, reply)),
-        ClusterReply::Phase(phase) => Told::Scripted(Reply::Phase(phase)),
-        ClusterReply::Rows(rows) => Told::Scripted(Reply::Rows(rows)),
-        ClusterReply::Verdict(verdict) => Told::Scripted(Reply::Verdict(verdict)),
-        ClusterReply::Holding(made) => Told::Scripted(Reply::Holding {
-            number: handle,
-            handle: made,
-        }),
-        ClusterReply::Continuous => Told::Scripted(Reply::Continuous),
-        ClusterReply::Broken => Told::Scripted(Reply::Broken),
-        ClusterReply::Found(found) => Told::Scripted(Reply::Found(found)),
-        ClusterReply::Refused(why) => Told::Scripted(Reply::Refused(refusal_by(why))),
+        ClusterReply::Task(SliceletReply::Resumed(_)) => CallerReply::Opened(life_in(call)),
+        reply => CallerReply::Scripted(world::told_as(named(call), next, reply)),
     }
 }
 
@@ -152,19 +118,19 @@ fn fault_word(fault: RestoreFault) -> &'static str
 
 /// Displays the line of a reply.
 #[derive(Clone, Copy)]
-pub struct ToldLine<'a>(pub &'a Told);
+pub struct ToldLine<'a>(pub &'a CallerReply);
 
 impl fmt::Display for ToldLine<'_> {
     ghost output = { λ l. Some (words_of l.0.now) };
 
     fn fmt<W: fmt::Write>(&self, f: &mut fmt::Formatter<W>) -> fmt::Result {
         match self.0 {
-            Told::Scripted(reply) => write!(f, "{}", Line(reply)),
-            Told::Opened(life) => write!(f, "opened {life}"),
-            Told::Restored { generation, grace } => {
+            CallerReply::Scripted(reply) => write!(f, "{}", Line(reply)),
+            CallerReply::Opened(life) => write!(f, "opened {life}"),
+            CallerReply::Restored { generation, grace } => {
                 write!(f, "restored generation {generation} grace {grace}")
             }
-            Told::NotRestored(fault, table) => {
+            CallerReply::NotRestored(fault, table) => {
                 write!(
                     f,
                     "refused {} last {} granted {} deadline {}",
@@ -180,17 +146,17 @@ impl fmt::Display for ToldLine<'_> {
 
 /// Displays the line of a reply, without the numbers of notes and handles.
 #[derive(Clone, Copy)]
-pub struct PlainLine<'a>(pub &'a Told);
+pub struct PlainLine<'a>(pub &'a CallerReply);
 
 impl fmt::Display for PlainLine<'_> {
     ghost output = { λ l. Some (plain_text l.0.now) };
 
     fn fmt<W: fmt::Write>(&self, f: &mut fmt::Formatter<W>) -> fmt::Result {
         match self.0 {
-            Told::Scripted(Reply::Released { note, .. }) => {
+            CallerReply::Scripted(Reply::Released { note, .. }) => {
                 write!(f, "released life {} number {}", note.life, note.number)
             }
-            Told::Scripted(Reply::Holding { handle, .. }) => {
+            CallerReply::Scripted(Reply::Holding { handle, .. }) => {
                 write!(
                     f,
                     "handle life {} position {}",
@@ -202,8 +168,36 @@ impl fmt::Display for PlainLine<'_> {
     }
 }
 
-/// Whether words are the line of a reply, with or without the numbers of notes and handles.
-pub fn is_worded(alloc: Global, words: &str, told: &Told) -> Result<bool, AllocError>
+/// Displays one word of a reply, for callers that keep no more of it, or else its plain line.
+#[derive(Clone, Copy)]
+struct CoarseWord<'a>(&'a CallerReply);
+
+impl fmt::Display for CoarseWord<'_> {
+    ghost output = { λ l. Some (coarse_text l.0.now) };
+
+    fn fmt<W: fmt::Write>(&self, f: &mut fmt::Formatter<W>) -> fmt::Result {
+        match self.0 {
+            CallerReply::Scripted(Reply::Verdict(Verdict::Allow { .. })) => f.write_str("served"),
+            CallerReply::Scripted(Reply::Verdict(Verdict::Deny(_))) => f.write_str("denied"),
+            CallerReply::Scripted(Reply::Refused(_)) => f.write_str("refused"),
+            CallerReply::Scripted(Reply::Lost(_)) => f.write_str("lost"),
+            CallerReply::NotRestored(_, _) => f.write_str("refused"),
+            told => write!(f, "{}", PlainLine(told)),
+        }
+    }
+}
+
+// Whether words are the one word of a reply.
+fn is_in_one_word(alloc: Global, words: &str, told: &CallerReply) -> Result<bool, AllocError>
+    ensures { IfOk result (λ same. same ≡ bytes_eq words.now (coarse_text told.now)) }
+{
+    let word = format!(in alloc; "{}", CoarseWord(told))?;
+    Ok(words == word.as_str())
+}
+
+/// Whether words are the line of a reply, with or without the numbers of notes and handles, or its
+/// one word.
+pub fn is_worded(alloc: Global, words: &str, told: &CallerReply) -> Result<bool, AllocError>
     ensures { IfOk result (λ same. same ≡ is_worded words.now told.now) }
 {
     let line = format!(in alloc; "{}", ToldLine(told))?;
@@ -211,5 +205,8 @@ pub fn is_worded(alloc: Global, words: &str, told: &Told) -> Result<bool, AllocE
         return Ok(true);
     }
     let plain = format!(in alloc; "{}", PlainLine(told))?;
-    Ok(words == plain.as_str())
+    if words == plain.as_str() {
+        return Ok(true);
+    }
+    is_in_one_word(alloc, words, told)
 }

@@ -39,7 +39,7 @@ numbered_sent grants number grant e = list_any-from_Contains grant_equivalence g
 module _ (grants : List Grant) (place : (i : ℕ) → grant_numbered (i + 1) grants ≡ slice_get grants i)
     (found : (number : ℕ) (grant : Grant) → grant_numbered number grants ≡ Some grant → Contains grants grant × (grant.number ≡ number)) where
   -- a grant of the list has its place by its number
-  numbered_own : (grant : Grant) → Contains grants grant → with_number grant.number grants ≡ Some grant
+  pub numbered_own : (grant : Grant) → Contains grants grant → with_number grant.number grants ≡ Some grant
   numbered_own grant among =
       let i = among.0 in
       let here : slice_get grants i ≡ Some grant = slice_get-get_or grants i grant among.1 ∙ ap (λ (g : Grant). Some g) among.2 in

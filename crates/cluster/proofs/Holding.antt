@@ -2,8 +2,8 @@
 use Rattle.std.proofs.Common.{◌≡◌, ℕ, Bool, true, false, not, ◌&&◌, ◌||◌, List, ◌∷◌, ◌++◌, refl, sym, ◌∙◌, ap, subst, eqb-true}
 use Rattle.std.specs.Prelude.{IsTrue, ◌==◌, nat_lt, nat_le, if◌then◌else◌}
 use Rattle.std.specs.List.{AllByRecursion}
-use Rattle.policy_rules.specs.declared.answer.Verdict.{Verdict}
-use Rattle.policy_rules.specs.declared.answer.Verdict.TheVariants.{Allow, Deny}
+use Rattle.lease_rule.specs.declared.answer.Verdict.{Verdict}
+use Rattle.lease_rule.specs.declared.answer.Verdict.TheVariants.{Allow, Deny}
 use Rattle.slicelet.specs.declared.handle.KeyHandle.{KeyHandle}
 use Rattle.lease_table.specs.declared.values.Grant.{Grant}
 use Rattle.machines.specs.Numbers.{is_within}

@@ -3,9 +3,9 @@ use Rattle.std.proofs.Common.{◌≡◌, ℕ, Bool, List, [], ◌∷◌, refl, �
 use Rattle.std.specs.Prelude.{◌&&◌, nat_eq}
 use Rattle.std.specs.List.{AllZip}
 use Rattle.std.specs.Cmp.{nat_eq_equiv}
-use Rattle.policy_rules.specs.declared.lease.Kind.{Kind}
-use Rattle.policy_rules.specs.declared.lease.Kind.TheVariants.{Guard, Bridge}
-use Rattle.policy_rules.specs.Leases.{same_kind}
+use Rattle.lease_rule.specs.declared.lease.Kind.{Kind}
+use Rattle.lease_rule.specs.declared.lease.Kind.TheVariants.{Guard, Bridge}
+use Rattle.lease_rule.specs.Leases.{same_kind}
 use Rattle.lease_table.specs.declared.values.ReleaseNote.{ReleaseNote}
 use Rattle.slicelet.specs.declared.handle.KeyHandle.{KeyHandle}
 use Rattle.cluster.specs.Deliveries.{same_note, same_handle}

@@ -5,11 +5,11 @@ use Rattle.std.proofs.lemmas.Bool.Decides.{nat_tests}
 use Rattle.std.proofs.lemmas.List.Elements.{Contains-append_right}
 use Rattle.std.proofs.lemmas.Bool.{and_parts}
 use Rattle.machines.specs.Calls.{answered_call}
-use Rattle.policy_rules.specs.declared.lease.Kind.{Kind}
-use Rattle.policy_rules.specs.declared.lease.Kind.TheVariants.{Guard, Bridge}
-use Rattle.policy_rules.specs.declared.answer.Verdict.{Verdict}
-use Rattle.policy_rules.specs.declared.answer.Verdict.TheVariants.{Allow, Deny}
-use Rattle.policy_rules.specs.Leases.{same_kind}
+use Rattle.lease_rule.specs.declared.lease.Kind.{Kind}
+use Rattle.lease_rule.specs.declared.lease.Kind.TheVariants.{Guard, Bridge}
+use Rattle.lease_rule.specs.declared.answer.Verdict.{Verdict}
+use Rattle.lease_rule.specs.declared.answer.Verdict.TheVariants.{Allow, Deny}
+use Rattle.lease_rule.specs.Leases.{same_kind}
 use Rattle.assignment.specs.Slices.{Slicing}
 use Rattle.assignment.specs.Owners.{owns}
 use Rattle.lease_table.specs.declared.call.TableCall.TheVariants as call

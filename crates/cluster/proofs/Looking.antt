@@ -4,8 +4,8 @@ use Rattle.std.specs.Prelude.{Option, Result, Ok, Err, get_or, reverse, ◌||◌
 use Rattle.std.specs.List.{list_any}
 use Rattle.indexmap.specs.IndexSet.{contains}
 use Rattle.machines.specs.Numbers.{is_within}
-use Rattle.policy_rules.specs.declared.answer.Ground.{Ground}
-use Rattle.policy_rules.specs.declared.answer.Verdict.{Verdict}
+use Rattle.lease_rule.specs.declared.answer.Ground.{Ground}
+use Rattle.lease_rule.specs.declared.answer.Verdict.{Verdict}
 use Rattle.assignment.specs.Slices.{Slicing}
 use Rattle.slicelet.specs.declared.handle.KeyHandle.{KeyHandle}
 use Rattle.slicelet.specs.declared.error.Stranger.{Stranger}

@@ -17,7 +17,7 @@ use Rattle.lease_table.proofs.Members.{here, there, nowhere, first_or_rest}
 use Rattle.slicelet.specs.declared.call.SliceletCall.{SliceletCall}
 use Rattle.slicelet.specs.declared.call.SliceletCall.TheVariants.{Start, Hear, Release, Resume}
 use Rattle.slicelet.specs.declared.call.SliceletReply.{SliceletReply}
-use Rattle.policy_rules.specs.declared.lease.Kind.TheVariants.{Guard, Bridge}
+use Rattle.lease_rule.specs.declared.lease.Kind.TheVariants.{Guard, Bridge}
 use Rattle.slicelet.specs.Steps.{ended_note}
 use Rattle.slicelet.specs.Accepted.{notes_of, notes_after, notes_sent}
 use Rattle.slicelet.proofs.Standing.{SendsNotes, sends_notes}

@@ -4,8 +4,8 @@ use Rattle.std.specs.Prelude.{Contains}
 use Rattle.std.specs.List.{list_any}
 use Rattle.std.specs.Cmp.Lexicographic.{bytes_decides}
 use Rattle.std.proofs.lemmas.Bool.{and_parts}
-use Rattle.policy_rules.specs.declared.lease.Lease.{Lease}
-use Rattle.policy_rules.specs.Equality.{lease_eq}
+use Rattle.lease_rule.specs.declared.lease.Lease.{Lease}
+use Rattle.lease_rule.specs.Equality.{lease_eq}
 use Rattle.lease_table.specs.declared.values.Grant.{Grant}
 use Rattle.lease_table.specs.declared.values.ReleaseNote.{ReleaseNote}
 use Rattle.lease_table.specs.Equality.{grant_eq}

@@ -3,7 +3,7 @@ use Rattle.std.specs.Prelude.{Bool, false, not, ◌&&◌, nat_eq, List, [], ◌�
 use Rattle.std.specs.List.{list_any}
 use Rattle.machines.specs.Refusals.{when}
 use Rattle.machines.specs.Numbers.{is_within}
-use Rattle.policy_rules.specs.Leases.{same_kind}
+use Rattle.lease_rule.specs.Leases.{same_kind}
 use Rattle.assignment.specs.Slices.{Slicing}
 use Rattle.assignment.specs.Equality.{slicing_eq}
 use Rattle.lease_table.specs.declared.call.TableCall.{TableCall}

@@ -1,9 +1,9 @@
 -- What each call is answered, by the calls before it.
 use Rattle.std.specs.Prelude.{ℕ, Bool, true, false, Option, Some, None, Result, Ok, Err, if◌then◌else◌}
 use Rattle.machines.specs.Numbers.{is_within}
-use Rattle.policy_rules.specs.declared.answer.Ground.{Ground}
-use Rattle.policy_rules.specs.declared.answer.Verdict.{Verdict}
-use Rattle.policy_rules.specs.declared.answer.Verdict.TheVariants.{Deny}
+use Rattle.lease_rule.specs.declared.answer.Ground.{Ground}
+use Rattle.lease_rule.specs.declared.answer.Verdict.{Verdict}
+use Rattle.lease_rule.specs.declared.answer.Verdict.TheVariants.{Deny}
 use Rattle.lease_table.specs.declared.values.Grant.{Grant}
 use Rattle.lease_table.specs.Tables.{phase_of}
 use Rattle.lease_table.specs.Calls.{table_step}

@@ -4,7 +4,7 @@ ghost use Rattle.std.specs.Prelude.{◌≡◌, ℕ, ◌<◌, ◌≤◌, ◌++◌
 ghost use Rattle.machines.specs.Calls.{answered_call};
 ghost use Rattle.machines.specs.Numbers.{is_within};
 ghost use Rattle.slice_ranges.specs.declared.key.TheConstants.{KEYS};
-ghost use Rattle.policy_rules.specs.declared.lease.Kind.{Kind};
+ghost use Rattle.lease_rule.specs.declared.lease.Kind.{Kind};
 ghost use Rattle.slicelet.specs.declared.handle.KeyHandle.{KeyHandle};
 ghost use Rattle.lease_table.specs.declared.call.TableCall.TheVariants.{Free};
 ghost use Rattle.lease_table.specs.declared.call.TableReply.{TableReply};

@@ -3,11 +3,10 @@
 ghost use Rattle.std.specs.Prelude.{◌≡◌, IfOk};
 
 use crate::error::ClusterError;
-use assignment::Listed;
 use clerk::{ClerkReply, Found};
+use lease_rule::Verdict;
 use lease_table::{Phase, Row, TableReply};
-use machines::Duplicate;
-use policy_rules::Verdict;
+use machines::{Duplicate, Listed};
 use slicelet::{KeyHandle, SliceletReply};
 use std::alloc::AllocError;
 

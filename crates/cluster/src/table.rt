@@ -17,9 +17,9 @@ use crate::actors::{is_within, unless};
 use crate::cluster::Cluster;
 use crate::error::ClusterError;
 use crate::reply::ClusterReply;
-use assignment::{Assignment, Listed, TaskId};
+use assignment::{Assignment, TaskId};
 use lease_table::{Grant, TableCall, TableError, TableReply};
-use machines::Trouble;
+use machines::{Listed, Trouble};
 use std::alloc::AllocError;
 
 // Turns the table's answer into the cluster's reply.

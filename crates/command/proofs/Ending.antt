@@ -13,8 +13,8 @@ use Rattle.command.specs.declared.arguments.Request.{Request}
 use Rattle.command.specs.declared.arguments.ScriptText.{ScriptText}
 use Rattle.command.specs.declared.arguments.Source.{Source}
 use Rattle.command.specs.declared.arguments.Source.TheVariants as source
-use Rattle.diagnosis.specs.declared.error.AnswerError.{AnswerError}
-use Rattle.diagnosis.specs.Errors.{status_after}
+use Rattle.program_io.specs.Status.{status_after}
+use Rattle.diagnosis.specs.Faults.{AnswerError}
 use Rattle.session.specs.declared.answer.ReplyForm.{ReplyForm}
 use Rattle.session.specs.Talks.{IsTalked, IsBroken}
 use Rattle.command.specs.Runs.{IsAnswered, IsFailed}

@@ -3,11 +3,12 @@ use Rattle.std.proofs.Common.{Bool, ℕ, ◌+◌, ◌<◌, List, [], ◌∷◌, 
 use Rattle.std.proofs.lemmas.List.{map-append, take_more}
 use Rattle.std.specs.Prelude.{◌≡◌}
 use Rattle.std.specs.Io.KnownBytes.{Appends}
+use Rattle.program_io.specs.Endings.{IsCut}
 use Rattle.program_io.specs.Streams.{ReadsAll}
 use Rattle.call_log.specs.Audits.{IsAudited}
-use Rattle.call_log.specs.declared.entry.Place.{Place}
+use Rattle.call_log.specs.declared.entry.LinePosition.{LinePosition}
 use Rattle.call_log.specs.Files.{PlacedLine, AreShort, numbered, lines_in, lines_from}
-use Rattle.command.specs.Audits.{AreLogsRead, IsCutReport, IsJudged, IsLogBytes, IsLogRead}
+use Rattle.command.specs.Audits.{AreLogsRead, IsJudged, IsLogBytes, IsLogRead, IsReport, IsSomeReport, passes}
 use Rattle.command.proofs.Runs.{never_cut}
 
 -- a further log is read after these
@@ -55,23 +56,22 @@ to_their_ends (name ∷ names) file before after (bytes ∷ files) short read =
     (read.0, to_its_end name file before read.0 bytes (short_front lines rest short) read.1, to_their_ends names (file + 1) read.0 after files (short_back lines rest short) read.2)
 
 -- logs that are judged were read to their ends, and their report is written, or a first part of it
-module _ (names : List (List ℕ)) (before after held holds : Option (List ℕ)) (files contents : List (List ℕ)) (one : Bool) (text told : List ℕ) (torn : List Place)
-    (same : files ≡ contents) (is : told ≡ text) (audited : IsAudited names files one text torn)
+module _ (names : List (List ℕ)) (strict : Bool) (before after held holds : Option (List ℕ)) (files contents : List (List ℕ)) (one timely : Bool) (text told : List ℕ)
+    (torn : List LinePosition) (same : files ≡ contents) (is : told ≡ text) (audited : IsAudited names files one timely text torn)
     (read : AreLogsRead IsLogBytes names before after contents) where
   whole : AreLogsRead ReadsAll names before after files
   whole = to_their_ends names 0 before after files audited.reads.short (rw same read)
 
-  pub judged : Appends held holds told → IsJudged names before after held holds one
-  judged written = record { files = files; read = whole; text = text; torn = torn; audited = audited; written = subst (Appends held holds) is written }
+  report : (passed : Bool) → passed ≡ passes strict one timely → IsReport names strict before after passed text
+  report passed verdict = record { files = files; read = whole; one = one; timely = timely; torn = torn; audited = audited; verdict = verdict }
 
-  pub cut_report : (len : ℕ) → Appends held holds (take len told) → IsCutReport names before after held holds
+  pub judged : (passed : Bool) → passed ≡ passes strict one timely → Appends held holds told → IsJudged names strict before after held holds passed
+  judged passed verdict written = record { text = text; is = report passed verdict; wrote = subst (Appends held holds) is written }
+
+  pub cut_report : (len : ℕ) → Appends held holds (take len told) → IsCut (IsSomeReport names strict before after) held holds
   cut_report len written = record {
-    files = files;
-    read = whole;
-    one = one;
     text = text;
-    torn = torn;
-    audited = audited;
+    is = (passes strict one timely, report (passes strict one timely) refl);
     len = len;
-    written = subst (λ (t : List ℕ). Appends held holds (take len t)) is written;
+    wrote = subst (λ (t : List ℕ). Appends held holds (take len t)) is written;
   }

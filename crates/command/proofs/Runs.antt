@@ -7,9 +7,9 @@ use Rattle.std.proofs.lemmas.List.Elements.{All-append}
 use Rattle.std.specs.List.{AllByRecursion}
 use Rattle.std.proofs.lemmas.Bool.Decides.{nat_tests}
 use Rattle.memchr.specs.Find.{NoneAfter, Nowhere, Passes, is_byte}
-use Rattle.session.specs.declared.line_reading.TheConstants.{MOST_LINE_BYTES}
-use Rattle.session.specs.Lines.{is_long}
-use Rattle.session.proofs.PartReading.{long_by_many}
+use Rattle.program_io.specs.declared.line.TheConstants.{MOST_LINE_BYTES}
+use Rattle.program_io.specs.Lines.{is_long}
+use Rattle.program_io.proofs.PartReading.{long_by_many}
 use Rattle.call_log.specs.Files.{FileLine, line_with, in_front, lines_in, numbered, AreShort}
 use Rattle.command.specs.Audits.{EndsInLine}
 

@@ -1,11 +1,12 @@
 -- What `hourstable audit` writes, and the status that it exits with.
-use Rattle.std.specs.Prelude.{◌≡◌, ◌≢◌, ◌⊎◌, ◌+◌, ◌<◌, ◌++◌, ℕ, Bool, List, [], ◌∷◌, All, length, take, codes, Option, Result, Ok, Err, ⊤, if◌then◌else◌}
+use Rattle.std.specs.Prelude.{◌≡◌, ◌≢◌, ◌⊎◌, ◌+◌, ◌<◌, ◌++◌, ℕ, Bool, List, [], ◌∷◌, All, length, codes, Option, Result, Ok, Err, ⊤, if◌then◌else◌}
 use Rattle.std.specs.Io.{IsEmptyOrEndsWith}
-use Rattle.std.specs.Io.KnownBytes.{Appends, Consumes, Keeps}
+use Rattle.std.specs.Io.KnownBytes.{Consumes, Keeps}
 use Rattle.program_io.specs.Streams.{ReadsAll}
-use Rattle.session.specs.declared.line_reading.TheConstants.{MOST_LINE_BYTES}
+use Rattle.program_io.specs.declared.line.TheConstants.{MOST_LINE_BYTES}
+use Rattle.program_io.specs.Endings.{IsCut, IsWritten}
 use Rattle.call_log.specs.Audits.{IsAudited}
-use Rattle.call_log.specs.declared.entry.Place.{Place}
+use Rattle.call_log.specs.declared.entry.LinePosition.{LinePosition}
 use Rattle.call_log.specs.Files.{IsUnread, lines_from}
 use Rattle.call_log.specs.declared.log.LogError.{LogError}
 use Rattle.command.specs.declared.log_audit.AuditError.{AuditError}
@@ -70,28 +71,30 @@ IsNotAudited files (audit.Refused why) = IsUnread (lines_from 0 files) why
 IsNotAudited files audit.Memory = ⊤
 IsNotAudited files _ = ⊥
 
-module _ (names : List (List ℕ)) (before after held holds : Option (List ℕ)) where
-  -- the logs of these names were read to their ends, and the report on them all was written
-  pub record IsJudged (one : Bool) : Type 0 where
-    pub files : List (List ℕ)
-    pub read : AreLogsRead ReadsAll names before after files
-    pub text : List ℕ
-    pub torn : List Place
-    pub audited : IsAudited names files one text torn
-    pub written : Appends held holds text
+-- logs pass where their calls are one run, and in a strict audit only with timely clocks
+abbrev pub passes : Bool → Bool → Bool → Bool
+passes strict one timely = if strict then timely else one
 
-  -- they were read, and a first part of the report was written
-  pub record IsCutReport : Type 0 where
+module _ (names : List (List ℕ)) (strict : Bool) (before after : Option (List ℕ)) where
+  -- the logs of these names were read to their ends, this is the report on them all, and they pass or not
+  pub record IsReport (passed : Bool) (text : List ℕ) : Type 0 where
     pub files : List (List ℕ)
     pub read : AreLogsRead ReadsAll names before after files
     pub one : Bool
-    pub text : List ℕ
-    pub torn : List Place
-    pub audited : IsAudited names files one text torn
-    pub len : ℕ
-    pub written : Appends held holds (take len text)
+    pub timely : Bool
+    pub torn : List LinePosition
+    pub audited : IsAudited names files one timely text torn
+    pub verdict : passed ≡ passes strict one timely
 
-  -- they were read, up to a line that is too long where there is one, and say no calls, for this reason, and nothing was written
+  abbrev pub IsSomeReport : List ℕ → Type 0
+  IsSomeReport text = (passed : Bool) × IsReport passed text
+
+module _ (names : List (List ℕ)) (strict : Bool) (before after held holds : Option (List ℕ)) where
+  -- it was written
+  abbrev pub IsJudged : Bool → Type 0
+  IsJudged passed = IsWritten (IsReport names strict before after passed) held holds
+
+  -- the logs were read, up to a line that is too long where there is one, and say no calls, for this reason, and nothing was written
   pub record IsRefused (why : LogError) : Type 0 where
     pub files : List (List ℕ)
     pub read : AreLogsRead IsLogBytes names before after files
@@ -101,12 +104,12 @@ module _ (names : List (List ℕ)) (before after held holds : Option (List ℕ))
   -- what was read and written where they are not judged
   abbrev pub IsUnjudged : AuditError → Type 0
   IsUnjudged (audit.Refused why) = IsRefused why
-  IsUnjudged audit.Write = IsCutReport
+  IsUnjudged audit.Write = IsCut (IsSomeReport names strict before after) held holds
   IsUnjudged _ = Keeps held holds
 
   -- what was read and written by an audit, and the status that it exits with
   abbrev pub HasAnswer : Result Bool AuditError → ℕ → Type 0
-  HasAnswer (Ok one) code = IsJudged one × (code ≡ status_for one)
+  HasAnswer (Ok passed) code = IsJudged passed × (code ≡ status_for passed)
   HasAnswer (Err why) code = IsUnjudged why × (code ≡ status_of why)
 
   abbrev pub IsAuditEnd : ℕ → Type 0

@@ -11,8 +11,8 @@ use Rattle.command.specs.declared.arguments.Request.{Request}
 use Rattle.command.specs.declared.arguments.Subcommand.{Subcommand}
 use Rattle.command.specs.declared.arguments.Subcommand.TheVariants as command
 use Rattle.command.specs.declared.arguments.ScriptText.{ScriptText}
-use Rattle.diagnosis.specs.declared.error.AnswerError.{AnswerError}
-use Rattle.diagnosis.specs.Errors.{status_after}
+use Rattle.program_io.specs.Status.{status_after}
+use Rattle.diagnosis.specs.Faults.{AnswerError}
 use Rattle.session.specs.declared.answer.ReplyForm.{ReplyForm}
 use Rattle.session.specs.Talks.{IsTalked, IsBroken}
 use Rattle.command.specs.Runs.{IsAnswered, IsFailed}
@@ -81,7 +81,7 @@ module _ {S : Type 0} (opens : List ℕ → List ℕ → Result S FileError → 
   -- or a look at what a file has
   abbrev pub EndsFor : Asked → (before after held holds : Option (List ℕ)) → ℕ → Type 0
   EndsFor (asked.Answer request) before after held holds code = EndsBy request before after held holds code
-  EndsFor (asked.Audit names progress) before after held holds code = IsAuditEnd (map (λ n. n.now) names.items) before after held holds code
+  EndsFor (asked.Audit names progress strict) before after held holds code = IsAuditEnd (map (λ n. n.now) names.items) strict before after held holds code
   EndsFor (asked.Keep keep) before after held holds code = EndsKeep opens is_honest may_leave may_fail keep before after held holds code
   EndsFor (asked.See action file) before after held holds code = IsSeeEnd sees action file.now held holds code × Keeps before after
   EndsFor (asked.Unknown action) before after held holds code = IsUnknown before after held holds code

@@ -1,21 +1,20 @@
 -- What `hourstable run` writes for what it reads.
-use Rattle.std.specs.Prelude.{◌≡◌, ◌⊎◌, ℕ, suc, List, [], ◌∷◌, ◌++◌, map, take, Bool, codes, decimal, Option, ⊤}
-use Rattle.std.specs.Io.KnownBytes.{Appends, Keeps}
+use Rattle.std.specs.Prelude.{◌≡◌, ◌⊎◌, ℕ, suc, List, [], ◌∷◌, ◌++◌, Bool, codes, decimal, Option, ⊤}
+use Rattle.std.specs.Global.{Vec}
 use Rattle.serde_json.specs.Data.{Data}
 use Rattle.world.specs.declared.step.Step.{Step}
 use Rattle.world.specs.declared.step.Step.TheVariants as step
 use Rattle.world.specs.declared.reply.Reply.{Reply}
 use Rattle.program_io.specs.Json.{IsJson, IsNoJson}
-use Rattle.program_io.specs.Streams.{ReadsAll}
+use Rattle.program_io.specs.Endings.{IsAnswered as IsAnsweredBy, IsUnanswered}
 use Rattle.service.specs.declared.fault.ScriptError.{ScriptError}
 use Rattle.service.specs.declared.fault.ScriptError.TheVariants.{NotJson}
 use Rattle.service.specs.declared.script.Script.{Script}
 use Rattle.service.specs.Lines.{line_of, timely_line}
 use Rattle.service.specs.Output.{IsOutput}
-use Rattle.service.specs.Service.{SaysScript, IsRefusedFor}
-use Rattle.diagnosis.specs.declared.error.AnswerError.{AnswerError}
-use Rattle.diagnosis.specs.declared.error.AnswerError.TheVariants as answer
-use Rattle.diagnosis.specs.Faults.{refusals_of}
+use Rattle.service.specs.Service.{SaysShown, IsRefusedFor}
+use Rattle.diagnosis.specs.declared.faults.ScriptFault.{ScriptFault}
+use Rattle.diagnosis.specs.Faults.{AnswerError, refusals, refusals_of}
 use Rattle.explain.specs.Texts.{IsExplainedText}
 use Rattle.command.specs.declared.arguments.ScriptText.{ScriptText}
 use Rattle.command.specs.declared.arguments.ScriptText.TheVariants as show
@@ -48,7 +47,7 @@ step_word (step.Load task key weight) = codes "load"
 step_word step.Gather = codes "gather"
 step_word (step.Plan loads tasks bounds) = codes "plan"
 step_word (step.Next assigner at wanted) = codes "next"
-step_word (step.Restart assigner) = codes "restart"
+step_word (step.DropTerm assigner) = codes "restart"
 
 -- the line of a reply, after the number of its element and the name of its step
 abbrev pub numbered_line : ℕ → Step → Reply → List ℕ
@@ -90,43 +89,14 @@ pub record AreFaults (bytes : List ℕ) (refusals : List ScriptError) : Type 0 w
   pub refused : IsRefusedFor bytes first
   pub all : ((refusals ≡ NotJson ∷ []) × IsNoJson bytes) ⊎ HasFaults bytes refusals
 
--- no script was read, for its faults or out of memory
-abbrev pub IsUnread : List ℕ → AnswerError → Type 0
-IsUnread bytes (answer.Refused faults) = AreFaults bytes (map (λ f. f.refusal) faults.items)
-IsUnread bytes answer.Read = ⊥
-IsUnread bytes answer.Write = ⊥
-IsUnread bytes answer.Memory = ⊤
+-- the bytes are refused for these
+abbrev pub AreFaultsOf : List ℕ → Vec ScriptFault → Type 0
+AreFaultsOf bytes faults = AreFaults bytes (refusals faults)
 
 -- all was read, it is a script, and its text was written
-pub record IsAnswered (show : ScriptText) (before after held holds : Option (List ℕ)) : Type 0 where
-  pub bytes : List ℕ
-  pub reads : ReadsAll before after bytes
-  pub script : Script
-  pub says : SaysScript bytes script
-  pub text : List ℕ
-  pub is : IsShown show script text
-  pub wrote : Appends held holds text
+abbrev pub IsAnswered : ScriptText → (before after held holds : Option (List ℕ)) → Type 0
+IsAnswered show before after held holds = IsAnsweredBy (SaysShown (IsShown show)) before after held holds
 
--- all was read, it is a script, and its text was written up to a place
-pub record IsCut (show : ScriptText) (before after held holds : Option (List ℕ)) : Type 0 where
-  pub bytes : List ℕ
-  pub reads : ReadsAll before after bytes
-  pub script : Script
-  pub says : SaysScript bytes script
-  pub text : List ℕ
-  pub is : IsShown show script text
-  pub len : ℕ
-  pub wrote : Appends held holds (take len text)
-
--- all was read, and it is refused for these faults
-pub record IsRefused (before after : Option (List ℕ)) (refusals : List ScriptError) : Type 0 where
-  pub bytes : List ℕ
-  pub reads : ReadsAll before after bytes
-  pub faults : AreFaults bytes refusals
-
--- what was written where the script was not answered
-abbrev pub IsFailed : ScriptText → Option (List ℕ) → Option (List ℕ) → Option (List ℕ) → Option (List ℕ) → AnswerError → Type 0
-IsFailed show before after held holds (answer.Refused faults) = IsRefused before after (map (λ f. f.refusal) faults.items) × Keeps held holds
-IsFailed show before after held holds answer.Read = Keeps held holds
-IsFailed show before after held holds answer.Write = IsCut show before after held holds
-IsFailed show before after held holds answer.Memory = Keeps held holds
+-- no whole text was written
+abbrev pub IsFailed : ScriptText → (before after held holds : Option (List ℕ)) → AnswerError → Type 0
+IsFailed show before after held holds why = IsUnanswered (SaysShown (IsShown show)) AreFaultsOf before after held holds why

@@ -65,7 +65,7 @@ abbrev pub session_words : Shape
 session_words = subcommand (codes "session") (flag (codes "json") ∷ option (codes "store") ∷ option (codes "job") ∷ file ∷ [])
 
 abbrev pub audit_words : Shape
-audit_words = subcommand (codes "audit") (flag (codes "progress") ∷ logs ∷ [])
+audit_words = subcommand (codes "audit") (flag (codes "progress") ∷ flag (codes "strict") ∷ logs ∷ [])
 
 abbrev pub explain_words : Shape
 explain_words = subcommand (codes "explain") (file ∷ [])
@@ -152,10 +152,10 @@ IsPicture rows _ = ⊥
 abbrev pub AsksTimeline : List Row → Asked → Type 0
 AsksTimeline rows asked = (picture : Subcommand) × IsPicture rows picture × IsRequest picture rows asked
 
--- `audit [--progress] LOG..`: all the logs, in their order
+-- `audit [--progress] [--strict] LOG..`: all the logs, in their order
 abbrev pub AsksAudit : List Row → Asked → Type 0
-AsksAudit rows (asked.Audit names progress) =
-    (map (λ n. n.now) names.items ≡ unwrap_or (all_of (codes "LOG") rows) []) × IsFlag (codes "progress") rows progress
+AsksAudit rows (asked.Audit names progress strict) =
+    (map (λ n. n.now) names.items ≡ unwrap_or (all_of (codes "LOG") rows) []) × IsFlag (codes "progress") rows progress × IsFlag (codes "strict") rows strict
 AsksAudit rows _ = ⊥
 
 -- what is asked for by the subcommand of this name and what was given to it

@@ -42,7 +42,7 @@ const STORE_STATUSES: &str = "Exit statuses:
 
 const AUDIT_STATUSES: &str = "Exit statuses:
   0  the calls are one run
-  1  the calls are not one run; the report says where
+  1  the calls are not one run, or with --strict the clocks were not timely; the report says where
   2  the arguments or a log are refused, or a log cannot be opened
   3  reading or writing failed, or memory ran out";
 
@@ -119,13 +119,23 @@ pub enum Asked<'a> {
     Answer(Request<'a>),
     /// Audit the logs with these names, where `-` is standard input, and report progress if asked
     /// to.
-    Audit { names: Vec<&'a str>, progress: bool },
+    Audit {
+        names: Vec<&'a str>,
+        progress: bool,
+        /// Whether clocks that are not timely are a fault.
+        strict: bool,
+    },
     /// Hold a session over the table in a file.
     Keep(Keep<'a>),
     /// Do this with the file of this name, which has a table.
-    See { action: StoreAction, file: &'a str },
+    See {
+        action: StoreAction,
+        file: &'a str,
+    },
     /// Do with the file of a table what this word says, which names no action.
-    Unknown { action: &'a str },
+    Unknown {
+        action: &'a str,
+    },
 }
 
 fn flag<'a>(alloc: Global, name: &'a str, help: &'a str) -> Arg<'a>
@@ -238,10 +248,12 @@ fn audit_command<'a>(alloc: Global) -> Result<Command<'a>, AllocError>
     ensures { IfOk result (IsReadAs (leaf audit_words)) }
 {
     let progress = "Report every 100,000 lines read and calls judged on standard error";
+    let strict = "Exit with status 1 if the clocks were not timely, too";
     Command::new(alloc, "audit")
         .about("Read logs of a service's calls, and report whether they are one run of the job")
         .after_help(AUDIT_STATUSES)
         .arg(flag(alloc, "progress", progress))?
+        .arg(flag(alloc, "strict", strict))?
         .arg(logs_argument(alloc))
 }
 
@@ -436,7 +448,12 @@ fn audited<'a>(alloc: Global, matches: &ArgMatches<'a>) -> Result<Asked<'a>, All
     let given = matches.get_strs("LOG").unwrap_or(&[]);
     let names = Vec::from_slice(alloc, given)?;
     let progress = matches.get_flag("progress");
-    Ok(Asked::Audit { names, progress })
+    let strict = matches.get_flag("strict");
+    Ok(Asked::Audit {
+        names,
+        progress,
+        strict,
+    })
 }
 
 // Returns what the subcommand of this name asks for by what was given to it.

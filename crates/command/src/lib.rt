@@ -11,6 +11,6 @@ mod table_file;
 pub use arguments::{
     Asked, Keep, Request, ScriptText, Source, StoreAction, Subcommand, parse_words,
 };
-pub use log_audit::{Audit, AuditError, audit_named};
+pub use log_audit::{AuditError, LogAudit, audit_named};
 pub use program::{do_words, hourstable};
 pub use script_run::run_lines;

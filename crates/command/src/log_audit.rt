@@ -3,13 +3,12 @@
 ghost use Rattle.std.specs.Prelude.{◌≡◌, ◌+◌, ◌++◌, ◌<◌, ◌^◌, ℕ, List, length, IfErr, IfOk, map, string_bytes};
 ghost use Rattle.call_log.specs.Audits.{IsAudited};
 ghost use Rattle.command.specs.declared.log_audit.AuditError.TheVariants as fault;
-ghost use Rattle.command.specs.Audits.{AreLogsRead, IsJudged, IsLogBytes, IsLogRead, IsNotAudited, IsNotRead, IsUnjudged, EndsInLine, status_of};
+ghost use Rattle.command.specs.Audits.{AreLogsRead, IsJudged, IsLogBytes, IsLogRead, IsNotAudited, IsNotRead, IsUnjudged, EndsInLine, passes, status_of};
 
-use call_log::{LogError, LogReport, Place, Progress, audit_logs};
-use diagnosis::Escaped;
+use call_log::{LinePosition, LogError, LogReport, Progress, audit_logs};
+use diagnosis::{Escaped, LONG_WORDS, say_about, say_memory, say_write};
 use memchr::memrchr;
-use program_io::{ReadError, WriteError, write_all};
-use session::{LONG_WORDS, MOST_LINE_BYTES};
+use program_io::{MOST_LINE_BYTES, ReadError, WriteError, write_all};
 use std::alloc::{AllocError, AllocFailed, Global};
 use std::fs::File;
 use std::io::{Error, Read, Write};
@@ -105,11 +104,13 @@ const TORN_WORDS: &str = "a last line without its end was left out";
 
 /// An audit to do.
 #[derive(Clone, Copy, Debug)]
-pub struct Audit<'n, 'a> {
+pub struct LogAudit<'n, 'a> {
     /// The names of the logs, where `-` is standard input.
     pub names: &'n [&'a str],
     /// Whether to report progress on standard error.
     pub progress: bool,
+    /// Whether clocks that are not timely are a fault.
+    pub strict: bool,
 }
 
 // Returns how many bytes there are since the last end of a line, where there were so many before
@@ -216,12 +217,12 @@ fn slices_of(alloc: Global, contents: &[Vec<u8>]) -> Result<Vec<&[u8]>, AllocErr
 // Returns the report on logs with these bytes.
 fn report_on<'a, E: Write>(
     alloc: Global,
-    audit: Audit<'_, 'a>,
+    audit: LogAudit<'_, 'a>,
     files: &[&[u8]],
     errors: &mut E,
 ) -> Result<LogReport, AuditError<'a>>
     ensures ok { IfOk result (λ report. IsAudited (map (λ n. n.now) audit.entry.names.now)
-        (map (λ f. f.now) files.now) report.is_one (string_bytes report.text) report.torn.items) }
+        (map (λ f. f.now) files.now) report.is_one report.is_timely (string_bytes report.text) report.torn.items) }
     ensures err { IfErr result (IsNotAudited (map (λ f. f.now) files.now)) }
 {
     let mut progress = Counting {
@@ -235,7 +236,19 @@ fn report_on<'a, E: Write>(
     }
 }
 
-/// Audits the logs with these names, writes a report, and returns whether their calls are one run.
+// Whether logs pass an audit.
+fn passes(strict: bool, report: &LogReport) -> bool
+    ensures { result ≡ passes strict report.now.is_one report.now.is_timely }
+{
+    if strict {
+        report.is_timely
+    } else {
+        report.is_one
+    }
+}
+
+/// Audits the logs with these names, writes a report, and returns whether they pass: their calls
+/// are one run, and if the audit is strict, the clocks were timely.
 ///
 /// The logs are read in their order, and judged as one log. A log is read to its end, or up to a
 /// line of more than [`MOST_LINE_BYTES`], for which it is refused. Each `-` is what is left of the
@@ -243,14 +256,14 @@ fn report_on<'a, E: Write>(
 /// left out are reported first.
 pub fn audit_named<'a, R: Read, W: Write, E: Write>(
     rt: &(impl Files + AllocGlobal),
-    audit: Audit<'_, 'a>,
+    audit: LogAudit<'_, 'a>,
     input: &mut R,
     output: &mut W,
     errors: &mut E,
 ) -> Result<bool, AuditError<'a>>
-    ensures ok { IfOk result (IsJudged (map (λ n. n.now) audit.entry.names.now)
+    ensures ok { IfOk result (IsJudged (map (λ n. n.now) audit.entry.names.now) audit.entry.strict
         (R.remaining input.old) (R.remaining input.new) (W.contents output.old) (W.contents output.new)) }
-    ensures err { IfErr result (IsUnjudged (map (λ n. n.now) audit.entry.names.now)
+    ensures err { IfErr result (IsUnjudged (map (λ n. n.now) audit.entry.names.now) audit.entry.strict
         (R.remaining input.old) (R.remaining input.new) (W.contents output.old) (W.contents output.new)) }
 {
     let contents = contents_of(rt, audit.names, input)?;
@@ -258,7 +271,7 @@ pub fn audit_named<'a, R: Read, W: Write, E: Write>(
     let report = report_on(rt.alloc(), audit, files.as_slice(), errors)?;
     say_torn(errors, audit.names, report.torn.as_slice());
     write_all(output, report.text.as_str().as_bytes())?;
-    Ok(report.is_one)
+    Ok(passes(audit.strict, &report))
 }
 
 // Returns the name of the log at this index, as it is told.
@@ -267,13 +280,13 @@ fn told_name<'a>(names: &[&'a str], file: usize) -> Escaped<'a> {
 }
 
 // Reports what is wrong with the line at a position.
-fn say_line<E: Write>(errors: &mut E, names: &[&str], place: Place, words: &str) {
+fn say_line<E: Write>(errors: &mut E, names: &[&str], place: LinePosition, words: &str) {
     let name = told_name(names, place.file);
     let _ = writeln!(errors, "hourstable: {name}:{}: {words}", place.line);
 }
 
 // Reports the last lines that are left out.
-fn say_torn<E: Write>(errors: &mut E, names: &[&str], torn: &[Place]) {
+fn say_torn<E: Write>(errors: &mut E, names: &[&str], torn: &[LinePosition]) {
     for place in torn {
         say_line(errors, names, *place, TORN_WORDS);
     }
@@ -287,8 +300,7 @@ pub fn say_error<E: Write>(errors: &mut E, names: &[&str], error: &AuditError) {
             let _ = writeln!(errors, "hourstable: {name}: {error}");
         }
         AuditError::Read { name } => {
-            let name = Escaped(name);
-            let _ = writeln!(errors, "hourstable: {name}: read fault");
+            let _ = say_about(errors, name, "read fault");
         }
         AuditError::Refused(LogError::NoJob { place, faults }) => {
             for fault in faults {
@@ -309,10 +321,10 @@ pub fn say_error<E: Write>(errors: &mut E, names: &[&str], error: &AuditError) {
             );
         }
         AuditError::Write => {
-            let _ = writeln!(errors, "hourstable: write fault");
+            let _ = say_write(errors);
         }
         AuditError::Memory => {
-            let _ = writeln!(errors, "hourstable: out of memory");
+            let _ = say_memory(errors);
         }
     }
 }

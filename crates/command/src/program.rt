@@ -2,19 +2,19 @@
 
 ghost use Rattle.std.specs.Prelude.{◌≡◌, ℕ, List, Option, map, string_bytes};
 ghost use Rattle.std.specs.Process.{exit_status};
-ghost use Rattle.diagnosis.specs.Errors.{status_after};
+ghost use Rattle.program_io.specs.Status.{status_after};
 ghost use Rattle.command.specs.Audits.{IsAuditEnd};
 ghost use Rattle.clap.specs.Values.{kind_of};
 ghost use Rattle.command.specs.Endings.{Ends, EndsBy, EndsFor, IsHelped, IsOutcome, IsTold};
 
 use crate::arguments::{Asked, Request, Source, Subcommand, parse_words, version_text};
-use crate::log_audit::{Audit, audit_named, say_error};
+use crate::log_audit::{LogAudit, audit_named, say_error};
 use crate::script_run::run_lines;
 use crate::table_file::{keep_table, say_unknown, see_table};
 use clap::Error;
 use clap::error::ErrorKind;
-use diagnosis::{AnswerError, Escaped};
-use program_io::write_all;
+use diagnosis::{AnswerError, Escaped, say_fault, say_memory, say_write};
+use program_io::{Fault, write_all};
 use session::run_session;
 use std::alloc::Global;
 use std::env::{self, Env};
@@ -36,27 +36,6 @@ const REFUSED: u8 = 2;
 /// The exit status when a stream fails or memory runs out.
 const FAILED: u8 = 3;
 
-// Reports why the input with this name cannot be answered.
-fn say<E: Write>(errors: &mut E, name: &str, error: &AnswerError) {
-    let name = Escaped(name);
-    match error {
-        AnswerError::Refused(faults) => {
-            for fault in faults {
-                let _ = writeln!(errors, "hourstable: {name}: {fault}");
-            }
-        }
-        AnswerError::Read => {
-            let _ = writeln!(errors, "hourstable: {name}: read fault");
-        }
-        AnswerError::Write => {
-            let _ = writeln!(errors, "hourstable: write fault");
-        }
-        AnswerError::Memory => {
-            let _ = writeln!(errors, "hourstable: out of memory");
-        }
-    }
-}
-
 // Reports a failure and returns the exit status.
 fn ended<E: Write>(errors: &mut E, name: &str, answer: &Result<(), AnswerError>) -> u8
     ensures { result ≡ status_after answer.now }
@@ -64,7 +43,7 @@ fn ended<E: Write>(errors: &mut E, name: &str, answer: &Result<(), AnswerError>)
     match answer {
         Ok(()) => DONE,
         Err(error) => {
-            say(errors, name, error);
+            let _ = say_fault(errors, name, error);
             error.status()
         }
     }
@@ -98,7 +77,7 @@ fn answer_file<F: Read + Drop, W: Write>(
 {
     match BufReader::new(alloc, file) {
         Ok(mut reader) => answer_reader(alloc, subcommand, &mut reader, writer),
-        Err(_) => Err(AnswerError::Memory),
+        Err(_) => Err(Fault::Memory),
     }
 }
 
@@ -135,12 +114,12 @@ fn run<R: BufRead, W: Write, E: Write>(
 // Audits logs, reports why they cannot be audited, and returns the exit status.
 fn judge_logs<R: Read, W: Write, E: Write>(
     rt: &(impl Files + AllocGlobal),
-    audit: Audit<'_, '_>,
+    audit: LogAudit<'_, '_>,
     input: &mut R,
     output: &mut W,
     errors: &mut E,
 ) -> u8
-    ensures { IsAuditEnd (map (λ n. n.now) audit.entry.names.now) (R.remaining input.old) (R.remaining input.new)
+    ensures { IsAuditEnd (map (λ n. n.now) audit.entry.names.now) audit.entry.strict (R.remaining input.old) (R.remaining input.new)
         (W.contents output.old) (W.contents output.new) result }
 {
     match audit_named(rt, audit, input, output, errors) {
@@ -167,9 +146,17 @@ fn do_asked<T: TableFiles, R: BufRead, W: Write, E: Write>(
 {
     match asked {
         Asked::Answer(request) => run(rt, request, input, output, errors),
-        Asked::Audit { names, progress } => {
+        Asked::Audit {
+            names,
+            progress,
+            strict,
+        } => {
             let names = names.as_slice();
-            let audit = Audit { names, progress };
+            let audit = LogAudit {
+                names,
+                progress,
+                strict,
+            };
             judge_logs(rt, audit, input, output, errors)
         }
         Asked::Keep(keep) => keep_table(rt, tables, keep, input, output, errors),
@@ -185,13 +172,13 @@ fn write_help<W: Write, E: Write>(alloc: Global, help: &Error, output: &mut W, e
     ensures { IsHelped (W.contents output.old) (W.contents output.new) result }
 {
     let Ok(text) = format!(in alloc; "{help}") else {
-        let _ = writeln!(errors, "hourstable: out of memory");
+        let _ = say_memory(errors);
         return FAILED;
     };
     match write_all(output, text.as_str().as_bytes()) {
         Ok(()) => DONE,
         Err(_) => {
-            let _ = writeln!(errors, "hourstable: write fault");
+            let _ = say_write(errors);
             FAILED
         }
     }
@@ -233,7 +220,7 @@ pub fn do_words<T: TableFiles, R: BufRead, W: Write, E: Write>(
         (W.contents output.old) (W.contents output.new) result }
 {
     let Ok(version) = version_text(rt.alloc()) else {
-        let _ = writeln!(errors, "hourstable: out of memory");
+        let _ = say_memory(errors);
         return FAILED;
     };
     match parse_words(rt.alloc(), version.as_str(), words) {
@@ -269,7 +256,7 @@ pub fn hourstable<T: TableFiles, R: Read + Drop, W: Write, E: Write>(
             ExitCode::from(status)
         }
         Err(_) => {
-            let _ = writeln!(errors, "hourstable: out of memory");
+            let _ = say_memory(errors);
             ExitCode::from(FAILED)
         }
     }

@@ -4,7 +4,8 @@ ghost use Rattle.std.specs.Prelude.{◌≡◌, IfErr, IfOk, OnOk, string_bytes, 
 ghost use Rattle.std.specs.List.{list_all};
 ghost use Rattle.service.specs.Output.{is_answer};
 ghost use Rattle.service.specs.Service.{SaysScript};
-ghost use Rattle.command.specs.Runs.{IsUnread, IsShown, IsShownNumbered, IsAnswered, IsFailed, numbered_lines, numbered_text};
+ghost use Rattle.program_io.specs.Status.{IsUnread};
+ghost use Rattle.command.specs.Runs.{AreFaultsOf, IsShown, IsShownNumbered, IsAnswered, IsFailed, numbered_lines, numbered_text};
 
 use crate::arguments::ScriptText;
 use crate::step_word::step_word;
@@ -22,20 +23,20 @@ use world::{Reply, Step};
 // Parses the script in the bytes.
 fn script_in(alloc: Global, bytes: &[u8]) -> Result<Script, AnswerError>
     ensures ok { IfOk result (SaysScript bytes.now) }
-    ensures err { IfErr result (IsUnread bytes.now) }
+    ensures err { IfErr result (IsUnread (AreFaultsOf bytes.now)) }
 {
     let value = match Value::from_slice(alloc, bytes) {
         Ok(value) => value,
-        Err(error) if error.classify() == Category::Memory => return Err(AnswerError::Memory),
-        Err(error) => return Err(AnswerError::Refused(json_faults(alloc, &error)?)),
+        Err(error) if error.classify() == Category::Memory => return Err(Fault::Memory),
+        Err(error) => return Err(Fault::Input(json_faults(alloc, &error)?)),
     };
     match script_of(alloc, &value) {
         Ok(script) => Ok(script),
         Err(Fault::Input(_)) => {
             first_fault_law();
-            Err(AnswerError::Refused(faults_of(alloc, &value)?))
+            Err(Fault::Input(faults_of(alloc, &value)?))
         }
-        Err(_) => Err(AnswerError::Memory),
+        Err(_) => Err(Fault::Memory),
     }
 }
 

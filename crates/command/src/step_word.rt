@@ -36,6 +36,6 @@ pub fn step_word(step: &Step) -> &'static str
         Step::Gather => "gather",
         Step::Plan { .. } => "plan",
         Step::Next { .. } => "next",
-        Step::Restart { .. } => "restart",
+        Step::DropTerm { .. } => "restart",
     }
 }

@@ -5,7 +5,8 @@ ghost use Rattle.table_files.specs.Keeping.{IsKeepEnd};
 ghost use Rattle.command.specs.Tables.{EndsKeep, IsNamedEnd, IsSeeEnd, keep_status_after, see_status_after};
 
 use crate::arguments::{Keep, Source, StoreAction};
-use diagnosis::{AnswerError, Escaped};
+use diagnosis::Escaped;
+use program_io::Fault;
 use std::alloc::Global;
 use std::fs::File;
 use std::io::{BufRead, BufReader, Read, Write};
@@ -58,7 +59,7 @@ fn keep_file<T: TableFiles, F: Read + Drop, W: Write>(
 {
     match BufReader::new(alloc, file) {
         Ok(mut reader) => keep(alloc, tables, keeping, &mut reader, writer),
-        Err(_) => Err(KeepError::Job(AnswerError::Memory)),
+        Err(_) => Err(KeepError::Job(Fault::Memory)),
     }
 }
 

@@ -1,5 +1,5 @@
 -- The first fault that is told is the one that a script is refused for.
-use Rattle.std.proofs.Common.{◌≡◌, ℕ, suc, ◌-◌, List, [], ◌∷◌, take, Result, Ok, Err, refl, sym, ap, ◌∙◌}
+use Rattle.std.proofs.Common.{◌≡◌, ℕ, suc, List, [], ◌∷◌, take, Result, Ok, Err, refl, sym, ap, ◌∙◌}
 use Rattle.serde_json.specs.Data.{Data}
 use Rattle.world.specs.Jobs.{Job}
 use Rattle.world.specs.declared.step.Step.{Step}

@@ -1,3 +1,5 @@
 pub mod Telling
+pub mod NoJob
+pub mod Lines
 pub mod FirstFault
 pub mod ByteDigits

@@ -1,3 +1,4 @@
 pub mod Faults
-pub mod Errors
+pub mod JobLines
 pub mod Quoted
+pub mod Sayings

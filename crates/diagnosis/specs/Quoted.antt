@@ -26,3 +26,7 @@ abbrev pub quoted : List ℕ → List ℕ
 quoted bytes =
     if nat_lt MOST_TOLD (length bytes) then codes "\"" ++ (escaped (take MOST_TOLD bytes) ++ codes "\"...")
     else codes "\"" ++ (escaped (take MOST_TOLD bytes) ++ codes "\"")
+
+-- the words for an object that has a member of this name twice
+abbrev pub repeated_words : List ℕ → List ℕ
+repeated_words name = codes "member " ++ (quoted name ++ codes " is written twice")

@@ -1,15 +1,15 @@
 //! The faults of a script.
 
-ghost use Rattle.std.specs.Prelude.{◌≡◌, Err, IfOk, IsOk, MatchOption, map};
+ghost use Rattle.std.specs.Prelude.{◌≡◌, Err, IfOk, IsOk, MatchOption, Some, map};
 ghost use Rattle.serde_json.specs.View.{view};
 ghost use Rattle.program_io.specs.Members.{wrong};
 ghost use Rattle.service.specs.Steps.{step_of};
-ghost use Rattle.diagnosis.specs.Faults.{bad_steps_in, refusals_of};
+ghost use Rattle.diagnosis.specs.Faults.{bad_steps_in, fault_words, refusals, refusals_of};
 
 use crate::found::Found;
 use crate::job_faults::{job_line_mend, job_mend};
 use crate::step_faults::step_mend;
-use program_io::Unread;
+use program_io::{Fault, Unread};
 use serde_json::Value;
 use service::{ScriptError, head_of, job_member};
 use std::alloc::{AllocError, Global};
@@ -28,7 +28,12 @@ pub struct ScriptFault {
     pub mend: String,
 }
 
+/// Why a command cannot answer its input, which is refused for these faults, lowest element first.
+pub type AnswerError = Fault<Vec<ScriptFault>>;
+
 impl fmt::Display for ScriptFault {
+    ghost output = { λ fault. Some (fault_words fault) };
+
     fn fmt<W: fmt::Write>(&self, f: &mut fmt::Formatter<W>) -> fmt::Result {
         match self.refusal {
             ScriptError::NotJson => f.write_str("not JSON")?,
@@ -56,7 +61,7 @@ fn mend_of(alloc: Global, job: Job, element: &Value) -> Result<Option<String>, A
 
 // Returns the first elements after the job line that are not steps, each with its fix.
 fn bad_steps_of(alloc: Global, job: Job, elements: &[Value]) -> Result<Vec<ScriptFault>, AllocError>
-    ensures { IfOk result (λ faults. map (λ f. f.refusal) faults.items ≡ bad_steps_in job (map view elements.now)) }
+    ensures { IfOk result (λ faults. refusals faults ≡ bad_steps_in job (map view elements.now)) }
 {
     let mut faults = Vec::new(alloc);
     for (i, element) in elements.iter().enumerate() {
@@ -103,7 +108,7 @@ fn head_mend(alloc: Global, value: &Value) -> Result<String, AllocError> {
 /// are the first [`MOST_FAULTS`] elements that are not steps.
 #[tactic(auto, unfolding(crate::specs::Faults::refusals_of))]
 pub fn faults_of(alloc: Global, value: &Value) -> Result<Vec<ScriptFault>, AllocError>
-    ensures { IfOk result (λ faults. map (λ f. f.refusal) faults.items ≡ refusals_of (view value.now)) }
+    ensures { IfOk result (λ faults. refusals faults ≡ refusals_of (view value.now)) }
 {
     match head_of(value) {
         Ok((job, elements)) => bad_steps_of(alloc, job, elements),

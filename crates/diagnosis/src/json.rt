@@ -1,7 +1,8 @@
 //! Where bytes stop being JSON, and which member is written twice.
 
-ghost use Rattle.std.specs.Prelude.{◌≡◌, ◌++◌, [], ◌∷◌, IfOk, codes, map, string_bytes};
-ghost use Rattle.diagnosis.specs.Quoted.{quoted};
+ghost use Rattle.std.specs.Prelude.{◌≡◌, [], ◌∷◌, IfOk, string_bytes};
+ghost use Rattle.diagnosis.specs.Faults.{refusals};
+ghost use Rattle.diagnosis.specs.Quoted.{repeated_words};
 
 use crate::faults::ScriptFault;
 use crate::quoted::Quoted;
@@ -39,15 +40,14 @@ pub fn line_mend(alloc: Global, error: &Error) -> Result<String, AllocError> {
 
 /// Returns how to fix a line in which an object has a member of this name twice.
 pub fn repeated_mend(alloc: Global, name: &str) -> Result<String, AllocError>
-    ensures { IfOk result (λ text. string_bytes text
-        ≡ codes "member " ++ (quoted name.now ++ codes " is written twice")) }
+    ensures { IfOk result (λ text. string_bytes text ≡ repeated_words name.now) }
 {
     format!(in alloc; "member {} is written twice", Quoted(name))
 }
 
 /// Returns the one fault of bytes that are not JSON: where the reader stopped, and why.
 pub fn json_faults(alloc: Global, error: &Error) -> Result<Vec<ScriptFault>, AllocError>
-    ensures { IfOk result (λ faults. map (λ f. f.refusal) faults.items ≡ ScriptError.NotJson ∷ []) }
+    ensures { IfOk result (λ faults. refusals faults ≡ ScriptError.NotJson ∷ []) }
 {
     let mend = json_mend(alloc, error)?;
     let mut faults = Vec::new(alloc);

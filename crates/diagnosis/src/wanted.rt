@@ -3,14 +3,11 @@
 use crate::found::Found;
 use program_io::{Number, Unread, list_of};
 use serde_json::Value;
-use service::LeaseForm;
+use service::{LeaseForm, MOST_KEY_BYTES};
 use std::alloc::{AllocError, Global};
 use std::fmt;
 use wire::SliceForm;
 use world::Job;
-
-/// The greatest number of bytes in a key.
-const MOST_KEY_BYTES: usize = 4096;
 
 /// What a member must be. The same name means the same in every step.
 #[derive(Clone, Copy, Debug, PartialEq, Eq)]

@@ -3,8 +3,8 @@ use Rattle.std.proofs.Common.{◌≡◌, ◌∙◌, ℕ, List, refl, sym, ap, su
 use Rattle.std.specs.Prelude.{Option, Some, None, length, reverse}
 use Rattle.assignment.specs.Slices.{Slicing}
 use Rattle.assignment.specs.Owners.{owners_of}
-use Rattle.policy_rules.specs.declared.answer.Verdict.{Verdict}
-use Rattle.policy_rules.specs.declared.answer.Verdict.TheVariants.{Deny}
+use Rattle.lease_rule.specs.declared.answer.Verdict.{Verdict}
+use Rattle.lease_rule.specs.declared.answer.Verdict.TheVariants.{Deny}
 use Rattle.lease_table.specs.declared.values.Grant.{Grant}
 use Rattle.lease_table.specs.declared.values.ReleaseNote.{ReleaseNote}
 use Rattle.lease_table.specs.Policies.{Terms}
@@ -26,7 +26,7 @@ use Rattle.explain.specs.declared.reason.Break.TheVariants as break
 use Rattle.explain.specs.declared.reason.Reason.{Reason}
 use Rattle.explain.specs.declared.reason.Reason.TheVariants as why
 use Rattle.explain.specs.declared.reason.VerdictReason.{VerdictReason}
-use Rattle.explain.specs.declared.verdicts.Asked.{Asked}
+use Rattle.explain.specs.declared.verdicts.KeyQuestion.{KeyQuestion}
 use Rattle.explain.specs.Breaking.{IsBreakingCall}
 use Rattle.explain.specs.Leases.{IsDeciding}
 use Rattle.explain.specs.Verdicts.{IsVerdictReason}
@@ -46,7 +46,7 @@ module _ (job : Job) (calls others : Calls) (same : AreAlike calls others) where
   same_grants : grants calls ≡ grants others
   same_grants = ap grants_sent same.table
 
-  verdict_carried : (asked : Asked) (v : Verdict) (w : VerdictReason) → IsVerdictReason calls asked v w → IsVerdictReason others asked v w
+  verdict_carried : (asked : KeyQuestion) (v : Verdict) (w : VerdictReason) → IsVerdictReason calls asked v w → IsVerdictReason others asked v w
   verdict_carried asked v w is = record {
     decides = subst (λ (s : SliceletState). IsDeciding s (covers_key asked.key) asked.at v w.lease) (same_history asked.task) is.decides;
     last = is.last ∙ ap (λ (s : SliceletState). s.last) (same_history asked.task);
@@ -54,7 +54,7 @@ module _ (job : Job) (calls others : Calls) (same : AreAlike calls others) where
     owners = is.owners ∙ ap (λ (o : Option Slicing). owners_of (slices_of o) asked.key) same_committed;
   }
 
-  break_carried : (past : Past) (handle : KeyHandle) (asked : Asked) (b : Break) → IsBreak calls past handle asked b → IsBreak others past handle asked b
+  break_carried : (past : Past) (handle : KeyHandle) (asked : KeyQuestion) (b : Break) → IsBreak calls past handle asked b → IsBreak others past handle asked b
   break_carried past handle asked (break.OtherLife life) is = (is.0 ∙ ap (λ (s : SliceletState). s.life) (same_history asked.task), is.1)
   break_carried past handle asked (break.Denied denial w) is = (
     subst (λ (s : SliceletState). rule_in_state (covers_key asked.key) s asked.at ≡ Deny denial) (same_history asked.task) is.0,

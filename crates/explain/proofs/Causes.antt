@@ -14,13 +14,13 @@ use Rattle.cluster.specs.Replies.{covers}
 use Rattle.world.specs.Pasts.{Past}
 use Rattle.explain.specs.declared.reason.Break.{Break}
 use Rattle.explain.specs.declared.reason.Break.TheVariants as break
-use Rattle.explain.specs.declared.verdicts.Asked.{Asked}
+use Rattle.explain.specs.declared.verdicts.KeyQuestion.{KeyQuestion}
 use Rattle.explain.specs.Breaking.{call_place, HasNoBreakingCall, HasNoCause, IsBreakingCall}
 use Rattle.explain.specs.Reasons.{IsBreak}
 use Rattle.explain.specs.internals.Told.{IsFoundBroken}
 
 -- a handle of the task's life, whose key the rule allows, is broken by a call or has no cause
-pub by_call : (calls : Calls) (past : Past) (handle : KeyHandle) (asked : Asked) (s : SliceletState) (o : Option Break) → s ≡ history asked.task calls
+pub by_call : (calls : Calls) (past : Past) (handle : KeyHandle) (asked : KeyQuestion) (s : SliceletState) (o : Option Break) → s ≡ history asked.task calls
     → asked.key ≡ handle.key → handle.life ≡ s.life → permits s asked.key asked.at ≡ true
     → MatchOption o (HasNoBreakingCall s handle asked.at)
     (λ broken. (call : ℕ) × IsBreakingCall s handle asked.at call × (broken ≡ break.Between call (call_place asked.task call past)))

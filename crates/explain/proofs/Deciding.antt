@@ -1,12 +1,12 @@
 -- The lease that decides a verdict.
 use Rattle.std.proofs.Common.{◌≡◌, ℕ, Bool, true, false, refl, sym, ◌∙◌, ap, subst, ◌≤◌, arith, inl, inr}
 use Rattle.std.specs.Prelude.{Option, Some, None, option_map}
-use Rattle.policy_rules.specs.declared.lease.Kind.{Kind}
-use Rattle.policy_rules.specs.declared.lease.Kind.TheVariants.{Guard, Bridge}
-use Rattle.policy_rules.specs.declared.answer.Ground.TheVariants.{Down, ClockBack, Ended, NotOwned}
-use Rattle.policy_rules.specs.declared.answer.Verdict.TheVariants.{Allow, Deny}
-use Rattle.policy_rules.specs.Leases.{SeenLease}
-use Rattle.policy_rules.specs.Rule.{serving_generation, is_covered, live_generation}
+use Rattle.lease_rule.specs.declared.lease.Kind.{Kind}
+use Rattle.lease_rule.specs.declared.lease.Kind.TheVariants.{Guard, Bridge}
+use Rattle.lease_rule.specs.declared.answer.Ground.TheVariants.{Down, ClockBack, Ended, NotOwned}
+use Rattle.lease_rule.specs.declared.answer.Verdict.TheVariants.{Allow, Deny}
+use Rattle.lease_rule.specs.Leases.{SeenLease}
+use Rattle.lease_rule.specs.Rule.{serving_generation, is_covered, live_generation}
 use Rattle.lease_table.specs.declared.values.Grant.{Grant}
 use Rattle.slicelet.specs.Rules.{seen_by}
 use Rattle.slicelet.specs.States.{SliceletState, held_in, holding_in, rule_in_state}

@@ -3,13 +3,13 @@ use Rattle.std.proofs.Common.{◌≡◌, ℕ, Bool, true, false, [], ◌∷◌, 
 use Rattle.std.proofs.lemmas.Bool.Decides.{nat_tests}
 use Rattle.std.specs.Prelude.{Option, Some, None, ◌&&◌, ◌||◌, not, nat_lt, max, option_map, unwrap_or, ⊤}
 use Rattle.machines.specs.Refusals.{when, first_of}
-use Rattle.policy_rules.specs.declared.lease.Kind.{Kind}
-use Rattle.policy_rules.specs.declared.lease.Kind.TheVariants.{Guard, Bridge}
-use Rattle.policy_rules.specs.declared.answer.Ground.TheVariants.{Down, ClockBack, Ended, NotOwned, NoLease}
-use Rattle.policy_rules.specs.declared.answer.Verdict.{Verdict}
-use Rattle.policy_rules.specs.declared.answer.Verdict.TheVariants.{Allow, Deny}
-use Rattle.policy_rules.specs.Leases.{SeenLease}
-use Rattle.policy_rules.specs.Rule.{SeenHolding, serving_generation, is_covered, live_generation, greatest, rule}
+use Rattle.lease_rule.specs.declared.lease.Kind.{Kind}
+use Rattle.lease_rule.specs.declared.lease.Kind.TheVariants.{Guard, Bridge}
+use Rattle.lease_rule.specs.declared.answer.Ground.TheVariants.{Down, ClockBack, Ended, NotOwned, NoLease}
+use Rattle.lease_rule.specs.declared.answer.Verdict.{Verdict}
+use Rattle.lease_rule.specs.declared.answer.Verdict.TheVariants.{Allow, Deny}
+use Rattle.lease_rule.specs.Leases.{SeenLease}
+use Rattle.lease_rule.specs.Rule.{SeenHolding, serving_generation, is_covered, live_generation, greatest, rule}
 
 -- what the verdict of the rule says of a holding
 abbrev pub Says : SeenHolding → ℕ → Verdict → Type 0

@@ -2,7 +2,7 @@
 use Rattle.std.proofs.Common.{◌≡◌, ◌∙◌, ℕ, ◌+◌, ◌-◌, ◌<◌, false, List, [], ◌∷◌, ◌++◌, length, take, drop, get_or, suc, refl, sym, ap, subst, arith, drop-cons}
 use Rattle.std.specs.Prelude.{Option, Some, None, slice_get}
 use Rattle.std.proofs.lemmas.Option.{slice_get_read}
-use Rattle.policy_rules.specs.declared.answer.Verdict.{Verdict}
+use Rattle.lease_rule.specs.declared.answer.Verdict.{Verdict}
 use Rattle.cluster.specs.Pasts.{Past as Calls}
 use Rattle.world.specs.Jobs.{Job}
 use Rattle.world.specs.declared.step.Step.{Step}
@@ -34,8 +34,7 @@ module _ (job : Job) (past : Past) where
       → (may_have_reason s (reply.Verdict v) ≡ false → o ≡ None)
       → IsAfter s (reply.Verdict v) o → IsReason job past s (reply.Verdict v) o
   verdict_before (step.Serve task key at) v o answered none is = by_alike (step.Serve task key at) (reply.Verdict v) o (serve_alike job past task key at v) is
-  verdict_before (step.Hold task key at) v o answered none is = by_alike (step.Hold task key at) (reply.Verdict v) o (hold_alike job past task key at v
-      answered) is
+  verdict_before (step.Hold task key at) v o answered none is = by_alike (step.Hold task key at) (reply.Verdict v) o (hold_alike job past task key at v) is
   verdict_before s v o answered none is = plain (calls_in job (event s (reply.Verdict v) ∷ past)) s (reply.Verdict v) o (none refl) is
 
   broken_before : (s : Step) (o : Option Reason) → (may_have_reason s reply.Broken ≡ false → o ≡ None) → IsAfter s reply.Broken o

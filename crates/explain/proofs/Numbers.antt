@@ -1,10 +1,8 @@
 -- The grant of a held lease is found by its number, and what was made is counted.
-use Rattle.std.proofs.Common.{◌≡◌, ℕ, ◌+◌, ◌-◌, false, List, ◌∙◌, ap, arith}
-use Rattle.std.specs.Prelude.{◌==◌, Option, Some, slice_get, Contains, option_map}
-use Rattle.std.proofs.lemmas.Bool.Decides.{nat_tests}
-use Rattle.std.proofs.lemmas.Option.{slice_get-get_or}
-use Rattle.policy_rules.specs.declared.lease.Kind.{Kind}
-use Rattle.policy_rules.specs.declared.lease.Kind.TheVariants.{Guard, Bridge}
+use Rattle.std.proofs.Common.{◌≡◌, ℕ, ◌+◌, List, ◌∙◌, ap}
+use Rattle.std.specs.Prelude.{Option, Some, slice_get, Contains, option_map}
+use Rattle.lease_rule.specs.declared.lease.Kind.{Kind}
+use Rattle.lease_rule.specs.declared.lease.Kind.TheVariants.{Guard, Bridge}
 use Rattle.lease_table.specs.declared.values.Grant.{Grant}
 use Rattle.lease_table.specs.OpenRows.{grant_numbered}
 use Rattle.slicelet.specs.Calls.{held_grant}
@@ -12,6 +10,7 @@ use Rattle.slicelet.specs.Rules.{covers_key}
 use Rattle.slicelet.specs.States.{held_in}
 use Rattle.cluster.specs.Numbers.{with_number}
 use Rattle.cluster.specs.Pasts.{Past as Calls, task_calls, history}
+use Rattle.cluster.proofs.Finding.{numbered_own}
 
 -- what a slicelet holds, by its calls
 pub held_by_calls : (task : ℕ) (calls : Calls) (kind : Kind) (grant : Grant) → held_in (history task calls) kind ≡ Some grant
@@ -21,18 +20,8 @@ held_by_calls task calls Bridge grant e = e
 
 module _ (grants : List Grant) (place : (i : ℕ) → grant_numbered (i + 1) grants ≡ slice_get grants i)
     (found : (number : ℕ) (grant : Grant) → grant_numbered number grants ≡ Some grant → Contains grants grant × (grant.number ≡ number)) where
-  -- a grant of the list has its place by its number
-  numbered : (grant : Grant) → Contains grants grant → with_number grant.number grants ≡ Some grant
-  numbered grant among =
-      let i = among.0 in
-      let here : slice_get grants i ≡ Some grant = slice_get-get_or grants i grant among.1 ∙ ap (λ (g : Grant). Some g) among.2 in
-      let number : grant.number ≡ i + 1 = (found (i + 1) grant (place i ∙ here)).1 in
-      let some : (grant.number == 0) ≡ false = grind (arith, nat_tests, number) in
-      let same : grant.number - 1 ≡ i = omega (arith, number) in
-      rw (some, same) here
-
   -- what is found by the number of a grant of the list covers what the grant does
   pub covers_found : (grant : Grant) (number key : ℕ) (o : Option Grant) → Contains grants grant → number ≡ grant.number → o ≡ with_number number grants
       → option_map (covers_key key) o ≡ Some (covers_key key grant)
   covers_found grant number key o among same is =
-      ap (option_map (covers_key key)) (is ∙ (ap (λ (n : ℕ). with_number n grants) same ∙ numbered grant among))
+      ap (option_map (covers_key key)) (is ∙ (ap (λ (n : ℕ). with_number n grants) same ∙ numbered_own grants place found grant among))

@@ -3,8 +3,8 @@ use Rattle.std.proofs.Common.{◌≡◌, ◌∙◌, ℕ, Bool, true, false, List
 use Rattle.std.specs.Prelude.{Option, Some, None, Result, Ok, Err, ◌==◌, if◌then◌else◌, reverse}
 use Rattle.machines.specs.Numbers.{is_within}
 use Rattle.slice_ranges.specs.Hash.{slice_key}
-use Rattle.policy_rules.specs.declared.answer.Verdict.{Verdict}
-use Rattle.policy_rules.specs.declared.answer.Verdict.TheVariants.{Allow, Deny}
+use Rattle.lease_rule.specs.declared.answer.Verdict.{Verdict}
+use Rattle.lease_rule.specs.declared.answer.Verdict.TheVariants.{Allow, Deny}
 use Rattle.slicelet.specs.declared.handle.KeyHandle.{KeyHandle}
 use Rattle.slicelet.specs.Continuity.{handle_on, held_by}
 use Rattle.cluster.specs.declared.error.ClusterError.{ClusterError}
@@ -26,9 +26,10 @@ use Rattle.world.specs.declared.reply.Reply.TheVariants as reply
 use Rattle.world.specs.declared.told.NextNumbers.{NextNumbers}
 use Rattle.world.specs.Pasts.{event, Past, is_accepted}
 use Rattle.world.specs.Calls.{call_of, with_call, calls_in, if_sent}
-use Rattle.world.specs.Replies.{next_numbers, told_as, is_continuous_in}
+use Rattle.world.specs.Replies.{named, next_numbers, told_as, is_continuous_in}
 use Rattle.world.specs.Runs.{IsReply}
-use Rattle.world.proofs.Asking.{faithful, calls_after, replied_by_call}
+use Rattle.world.proofs.Telling.{faithful, calls_after}
+use Rattle.world.proofs.Asking.{replied_by_call}
 
 -- two lists of calls say the same of the machines
 pub record AreAlike (calls others : Calls) : Type 0 where
@@ -62,15 +63,15 @@ module _ (job : Job) (past : Past) where
       → AreAlike (calls_in job (event s (reply.Refused why) ∷ past)) before
   refused_alike s why answered = by_call (call_of job past before s) refl
     where
-      by_call : (o : Result ClusterCall Refusal) → call_of job past before s ≡ o → AreAlike (with_call job (reply.Refused why) o before) before
+      by_call : (o : Result ClusterCall Refusal) → call_of job past before s ≡ o → AreAlike (with_call (reply.Refused why) o before) before
       by_call (Err none) is = alike before
       by_call (Ok made) is = elim answered [
         | inl given ↦ (
             let kept = is_continuous_in given.0 in
             let r = cluster_reply job before made kept in
-            let told : reply.Refused why ≡ told_as s (next_numbers before) r = given.2 ∙ replied_by_call job past before made s given.0 is refl in
-            let after = calls_after job before s made kept r (reply.Refused why) refl told in
-            let unaccepted : is_accepted_call r ≡ false = sym (faithful s (next_numbers before) r).accepts ∙ ap is_accepted (sym told) in
+            let told : reply.Refused why ≡ told_as (named s) (next_numbers before) r = given.2 ∙ replied_by_call job past before made s given.0 is refl in
+            let after = calls_after job before past s made kept r (reply.Refused why) is refl told in
+            let unaccepted : is_accepted_call r ≡ false = sym (faithful (named s) (next_numbers before) r).accepts ∙ ap is_accepted (sym told) in
             subst (λ (c : Calls). AreAlike c before) (sym after) (by_refusal before made r unaccepted))
         | inr none ↦ absurd (let f : reply.Refused why ≡ reply.NoMemory = none.0 in cc)
       ]
@@ -79,8 +80,11 @@ module _ (job : Job) (past : Past) where
   pub serve_alike : (task : ℕ) (key : List ℕ) (at : ℕ) (v : Verdict) → AreAlike (calls_in job (event (step.Serve task key at) (reply.Verdict v) ∷ past)) before
   serve_alike task key at v = record { table = refl; tasks = λ t. refl; notes = refl; handles = refl }
 
+  pub hold_alike : (task : ℕ) (key : List ℕ) (at : ℕ) (v : Verdict) → AreAlike (calls_in job (event (step.Hold task key at) (reply.Verdict v) ∷ past)) before
+  hold_alike task key at v = record { table = refl; tasks = λ t. refl; notes = refl; handles = refl }
+
   told_serve : (s : Step) (next : NextNumbers) (b : Bool) (v verdict : Verdict)
-      → reply.Verdict verdict ≡ told_as s next (if b then machine.Verdict v else machine.Refused error.NoActor) → (b ≡ true) × (v ≡ verdict)
+      → reply.Verdict verdict ≡ told_as (named s) next (if b then machine.Verdict v else machine.Refused error.NoActor) → (b ≡ true) × (v ≡ verdict)
   told_serve s next true v verdict e = (refl, cc)
   told_serve s next false v verdict e = absurd (cc)
 
@@ -92,7 +96,7 @@ module _ (job : Job) (past : Past) where
   ]
 
   told_hold : (s : Step) (next : NextNumbers) (b : Bool) (v verdict : Verdict) (made : KeyHandle)
-      → reply.Verdict verdict ≡ told_as s next (if b then hold_reply (held_by v made) else machine.Refused error.NoActor) → (b ≡ true) × (v ≡ verdict)
+      → reply.Verdict verdict ≡ told_as (named s) next (if b then hold_reply (held_by v made) else machine.Refused error.NoActor) → (b ≡ true) × (v ≡ verdict)
   told_hold s next true (Allow kind generation) verdict made e = absurd (cc)
   told_hold s next true (Deny why) verdict made e = (refl, cc)
   told_hold s next false v verdict made e = absurd (cc)
@@ -105,26 +109,9 @@ module _ (job : Job) (past : Past) where
     | inr none ↦ absurd (let f : reply.Verdict v ≡ reply.NoMemory = none.0 in cc)
   ]
 
-  -- a `hold` that is told a verdict is told a denial
-  denied : (s : Step) (next : NextNumbers) (b : Bool) (v verdict : Verdict) (made : KeyHandle)
-      → reply.Verdict verdict ≡ told_as s next (if b then hold_reply (held_by v made) else machine.Refused error.NoActor)
-      → (task key at : ℕ) → AreAlike (cluster_event (call.Hold task key at) (if b then hold_reply (held_by v made) else machine.Refused error.NoActor) ∷
-      before) before
-  denied s next true (Allow kind generation) verdict made e task key at = absurd (cc)
-  denied s next true (Deny why) verdict made e task key at = record { table = refl; tasks = λ t. refl; notes = refl; handles = refl }
-  denied s next false v verdict made e task key at = absurd (cc)
-
-  pub hold_alike : (task : ℕ) (key : List ℕ) (at : ℕ) (v : Verdict) → IsReply job past (event (step.Hold task key at) (reply.Verdict v))
-      → AreAlike (calls_in job (event (step.Hold task key at) (reply.Verdict v) ∷ past)) before
-  hold_alike task key at v answered = elim answered [
-    | inl given ↦ denied (step.Hold task key at) (next_numbers before) (is_within task job.tasks) (rule_in before task (slice_key key) at) v (handle_on
-        (slice_key key) (history task before)) given.2 task (slice_key key) at
-    | inr none ↦ absurd (let f : reply.Verdict v ≡ reply.NoMemory = none.0 in cc)
-  ]
-
   -- a `check` only looks
   by_sent : (task at : ℕ) (b : Bool) (o : Option KeyHandle)
-      → AreAlike (with_call job reply.Broken (if b then if_sent o (λ handle. call.Check task handle at) else Err refusal.NoActor) before) before
+      → AreAlike (with_call reply.Broken (if b then if_sent o (λ handle. call.Check task handle at) else Err refusal.NoActor) before) before
   by_sent task at true (Some handle) = record { table = refl; tasks = λ t. refl; notes = refl; handles = refl }
   by_sent task at true None = alike before
   by_sent task at false o = alike before

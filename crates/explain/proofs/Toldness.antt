@@ -5,7 +5,7 @@ use Rattle.machines.specs.Numbers.{is_within}
 use Rattle.machines.specs.Refusals.{when, first_of, unless_refused}
 use Rattle.machines.specs.Answers.{with_named_reply}
 use Rattle.slice_ranges.specs.Hash.{slice_key}
-use Rattle.policy_rules.specs.declared.answer.Verdict.{Verdict}
+use Rattle.lease_rule.specs.declared.answer.Verdict.{Verdict}
 use Rattle.lease_table.specs.declared.values.Grant.{Grant}
 use Rattle.lease_table.specs.declared.call.TableCall.TheVariants.{Commit as TableCommit}
 use Rattle.lease_table.specs.declared.call.TableReply.TheVariants.{Committed}
@@ -18,7 +18,7 @@ use Rattle.lease_table.specs.Tables.{Standing, generation_of, last_number}
 use Rattle.lease_table.specs.Steps.{commit_checks, held_up, is_holder, standing_at}
 use Rattle.lease_table.specs.Calls.{AnsweredTableCall, standing_after, grants_sent}
 use Rattle.lease_table.specs.Generations.{covers_by_owners}
-use Rattle.policy_rules.specs.declared.lease.Kind.{Kind}
+use Rattle.lease_rule.specs.declared.lease.Kind.{Kind}
 use Rattle.slicelet.specs.declared.call.SliceletCall.{SliceletCall}
 use Rattle.slicelet.specs.declared.call.SliceletCall.TheVariants.{Hear}
 use Rattle.slicelet.specs.declared.call.SliceletReply.TheVariants.{Heard}
@@ -49,9 +49,9 @@ use Rattle.world.specs.declared.told.NextNumbers.{NextNumbers}
 use Rattle.world.specs.Pasts.{event, Past}
 use Rattle.world.specs.Front.{kept_number}
 use Rattle.world.specs.Calls.{if_sent, calls_in}
-use Rattle.world.specs.Replies.{Outcome, next_numbers, told_as, reply_by_call, is_continuous_in, reply_to}
+use Rattle.world.specs.Replies.{Outcome, named, next_numbers, told_as, reply_by_call, is_continuous_in, reply_to}
 use Rattle.world.specs.Runs.{IsReply}
-use Rattle.explain.specs.declared.verdicts.Asked.{Asked}
+use Rattle.explain.specs.declared.verdicts.KeyQuestion.{KeyQuestion}
 use Rattle.explain.specs.Verdicts.{asked_by}
 use Rattle.explain.specs.internals.Told.{IsRuled, IsOwn, IsOldNumber, IsOldNumberOf, IsTaskRefusal, IsHeldUp, IsTableRefusal, IsRefusal, IsBrokenOf, IsToldOf}
 use Rattle.world.proofs.Handles.{checked_by_history}
@@ -95,7 +95,7 @@ old_by_checks s grant at heard e =
 
 module _ (s : Step) (next : NextNumbers) (heard : ℕ) where
   told_old : {M : Type 0} (own sent : Bool) (checks : Option SliceletError) (p : M × Unit {0})
-      → reply.Refused (refusal.Slicelet (Old heard)) ≡ told_as s next (if own then unless (when sent error.NotSent) (from_machine error.Slicelet machine.Task
+      → reply.Refused (refusal.Slicelet (Old heard)) ≡ told_as (named s) next (if own then unless (when sent error.NotSent) (from_machine error.Slicelet machine.Task
       (with_named_reply (λ _. Heard) (unless_refused checks p))) else machine.Refused error.NoActor)
       → checks ≡ Some (Old heard)
   told_old false sent checks p e = absurd (cc)
@@ -132,7 +132,7 @@ held_by_checks t by at task number kind e =
     (past_table task number kind (nat_le READINGS at) ReadingRange e1 (λ x. cc) e)))))
 
 told_held : {M : Type 0} (s : Step) (next : NextNumbers) (task number : ℕ) (kind : Kind) (checks : Option TableError) (p : M × ℕ)
-    → reply.Refused (refusal.Table (HeldBy task kind number)) ≡ told_as s next (from_machine error.Table machine.Table (with_named_reply Committed
+    → reply.Refused (refusal.Table (HeldBy task kind number)) ≡ told_as (named s) next (from_machine error.Table machine.Table (with_named_reply Committed
     (unless_refused checks p))) → checks ≡ Some (HeldBy task kind number)
 told_held s next task number kind None p e = absurd (cc)
 told_held s next task number kind (Some why) p e = (let same : why ≡ HeldBy task kind number = cc in ap (λ (w : TableError). Some w) same)
@@ -176,7 +176,7 @@ module _ (job : Job) (past : Past) where
   -- THE TASK OF A REFUSED STEP
 
   by_reply : (s : Step) (why : SliceletError) (own : Bool) (r : ClusterReply)
-      → reply.Refused (refusal.Slicelet why) ≡ told_as s (next_numbers before) (if own then r else machine.Refused error.NoActor) → own ≡ true
+      → reply.Refused (refusal.Slicelet why) ≡ told_as (named s) (next_numbers before) (if own then r else machine.Refused error.NoActor) → own ≡ true
   by_reply s why true r e = refl
   by_reply s why false r e = absurd (cc)
 
@@ -265,18 +265,18 @@ module _ (job : Job) (past : Past) where
 
   -- VERDICTS
 
-  verdict_told : (s : Step) (v : Verdict) (asked : Asked) → IsReply job past (event s (reply.Verdict v)) → asked_by s ≡ Some asked
+  verdict_told : (s : Step) (v : Verdict) (asked : KeyQuestion) → IsReply job past (event s (reply.Verdict v)) → asked_by s ≡ Some asked
       → IsRuled job (calls_in job (event s (reply.Verdict v) ∷ past)) asked v
   verdict_told (step.Serve task key at) v asked answered asks =
       let p = served job past task key at v answered in
-      let this : Asked = record { task = task; key = slice_key key; at = at } in
+      let this : KeyQuestion = record { task = task; key = slice_key key; at = at } in
       let same : this ≡ asked = cc in
-      subst (λ (a : Asked). IsRuled job (calls_in job (event (step.Serve task key at) (reply.Verdict v) ∷ past)) a v) same (record { own = p.0; rules = p.1 })
+      subst (λ (a : KeyQuestion). IsRuled job (calls_in job (event (step.Serve task key at) (reply.Verdict v) ∷ past)) a v) same (record { own = p.0; rules = p.1 })
   verdict_told (step.Hold task key at) v asked answered asks =
       let p = held job past task key at v answered in
-      let this : Asked = record { task = task; key = slice_key key; at = at } in
+      let this : KeyQuestion = record { task = task; key = slice_key key; at = at } in
       let same : this ≡ asked = cc in
-      subst (λ (a : Asked). IsRuled job (calls_in job (event (step.Hold task key at) (reply.Verdict v) ∷ past)) a v) same (record { own = p.0; rules = p.1 })
+      subst (λ (a : KeyQuestion). IsRuled job (calls_in job (event (step.Hold task key at) (reply.Verdict v) ∷ past)) a v) same (record { own = p.0; rules = p.1 })
   verdict_told _ v asked answered asks = absurd (cc)
 
   -- HANDLES
@@ -288,7 +288,7 @@ module _ (job : Job) (past : Past) where
       (subst (λ (h : List SliceletCall). IsContinuous (covers calls handle.key) h handle at) (same.tasks task) k)
 
   given_if : (s : Step) (next : NextNumbers) (b given strange kept : Bool)
-      → reply.Broken ≡ told_as s next (if b then check_reply given strange kept else machine.Refused error.NoActor) → strange ≡ false
+      → reply.Broken ≡ told_as (named s) next (if b then check_reply given strange kept else machine.Refused error.NoActor) → strange ≡ false
   given_if s next true true false kept e = refl
   given_if s next true true true kept e = absurd (cc)
   given_if s next true false strange kept e = absurd (cc)

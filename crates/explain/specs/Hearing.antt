@@ -26,7 +26,7 @@ lease_heard_in task past (Some lease) = heard_in task lease.number past
 
 -- the number of the last grant, 0 before the first
 abbrev pub granted_by : Reply → ℕ → ℕ
-granted_by (reply.Granted number kind generation table_ends ends) before = number
+granted_by (reply.Granted grant) before = grant.number
 granted_by _ before = before
 
 abbrev pub last_granted : Past → ℕ

@@ -1,8 +1,8 @@
 -- Why a reply is what it is, by what happened before its step.
 use Rattle.std.specs.Prelude.{◌≡◌, ◌≢◌, ℕ, Bool, true, false, length, reverse, is_some, Option, Some, None}
-use Rattle.policy_rules.specs.declared.lease.Kind.{Kind}
-use Rattle.policy_rules.specs.declared.answer.Verdict.{Verdict}
-use Rattle.policy_rules.specs.declared.answer.Verdict.TheVariants.{Deny}
+use Rattle.lease_rule.specs.declared.lease.Kind.{Kind}
+use Rattle.lease_rule.specs.declared.answer.Verdict.{Verdict}
+use Rattle.lease_rule.specs.declared.answer.Verdict.TheVariants.{Deny}
 use Rattle.lease_table.specs.declared.values.Grant.{Grant}
 use Rattle.lease_table.specs.declared.values.Row.{Row}
 use Rattle.lease_table.specs.declared.error.TableError.{TableError}
@@ -33,7 +33,7 @@ use Rattle.explain.specs.declared.reason.Reason.TheVariants as why
 use Rattle.explain.specs.declared.reason.Break.{Break}
 use Rattle.explain.specs.declared.reason.Break.TheVariants as break
 use Rattle.explain.specs.declared.reason.VerdictReason.{VerdictReason}
-use Rattle.explain.specs.declared.verdicts.Asked.{Asked}
+use Rattle.explain.specs.declared.verdicts.KeyQuestion.{KeyQuestion}
 use Rattle.explain.specs.Breaking.{call_place, IsBreakingCall}
 use Rattle.explain.specs.Hearing.{lease_heard_in, last_granted}
 use Rattle.explain.specs.Verdicts.{asked_by, IsVerdictReason}
@@ -42,7 +42,7 @@ use Rattle.explain.specs.Verdicts.{asked_by, IsVerdictReason}
 
 -- a task was asked, and this is why it answered so; and where it heard the lease that decides
 pub record IsOfVerdict (calls : Calls) (past : Past) (s : Step) (r : Reply) (why : VerdictReason) : Type 0 where
-  pub asked : Asked
+  pub asked : KeyQuestion
   pub asks : asked_by s ≡ Some asked
   pub verdict : Verdict
   pub told : r ≡ reply.Verdict verdict
@@ -100,7 +100,7 @@ made_in calls past _ = None
 -- OF HANDLES
 
 -- why a task finds a handle broken at a reading: the task is in another life; the rule denies the key; or a call since took the key away
-abbrev pub IsBreak : Calls → Past → KeyHandle → Asked → Break → Type 0
+abbrev pub IsBreak : Calls → Past → KeyHandle → KeyQuestion → Break → Type 0
 IsBreak calls past handle asked (break.OtherLife life) = (life ≡ (history asked.task calls).life) × (handle.life ≢ life)
 IsBreak calls past handle asked (break.Denied denial w) =
     (rule_in_state (covers_key asked.key) (history asked.task calls) asked.at ≡ Deny denial)

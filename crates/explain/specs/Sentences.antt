@@ -1,10 +1,10 @@
 -- The sentences that tell reasons.
 use Rattle.std.specs.Prelude.{ℕ, List, [], ◌∷◌, ◌++◌, codes, decimal, Option, Some, None, unwrap_or, if◌then◌else◌, ◌==◌}
 use Rattle.std.specs.List.{flat_map}
-use Rattle.policy_rules.specs.declared.lease.Kind.{Kind}
-use Rattle.policy_rules.specs.declared.answer.Ground.TheVariants.{Down, ClockBack, Ended, NoLease}
-use Rattle.policy_rules.specs.declared.answer.Verdict.{Verdict}
-use Rattle.policy_rules.specs.declared.answer.Verdict.TheVariants.{Allow, Deny}
+use Rattle.lease_rule.specs.declared.lease.Kind.{Kind}
+use Rattle.lease_rule.specs.declared.answer.Ground.TheVariants.{Down, ClockBack, Ended, NoLease}
+use Rattle.lease_rule.specs.declared.answer.Verdict.{Verdict}
+use Rattle.lease_rule.specs.declared.answer.Verdict.TheVariants.{Allow, Deny}
 use Rattle.lease_table.specs.declared.values.Row.{Row}
 use Rattle.wire.specs.LeaseMembers.{kind_word}
 use Rattle.cluster.specs.declared.timing.Reading.{Reading}

@@ -12,12 +12,12 @@ ghost use Rattle.explain.specs.Reasons.{is_check, IsBreak, IsReasonOrNone};
 ghost use Rattle.explain.specs.internals.Told.{IsBrokenOf};
 
 use crate::calls::call_place;
-use crate::heard::Told;
+use crate::heard::ToldSteps;
 use crate::laws::unbroken_law;
 use crate::reason::{Break, Reason};
-use crate::verdicts::{Asked, verdict_reason};
+use crate::verdicts::{KeyQuestion, verdict_reason};
 use cluster::Cluster;
-use policy_rules::Verdict;
+use lease_rule::Verdict;
 use slicelet::{KeyHandle, Slicelet};
 use world::Step;
 
@@ -47,10 +47,10 @@ fn breaking_call(slicelet: &Slicelet, handle: &KeyHandle, at: u64) -> Option<u64
 
 // Returns the break by a call; `None` if no call broke the handle.
 fn break_by_call(
-    before: Told<'_>,
+    before: ToldSteps<'_>,
     slicelet: &Slicelet,
     handle: &KeyHandle,
-    asked: &Asked,
+    asked: &KeyQuestion,
 ) -> Option<Break>
     requires { length before.told.now ≡ length before.steps.now }
     ensures { MatchOption result (HasNoBreakingCall slicelet.now handle.now asked.now.at)
@@ -65,10 +65,10 @@ fn break_by_call(
 // Returns why a task finds a handle broken at a reading; `None` if there is no cause.
 fn break_of(
     cluster: &Cluster,
-    before: Told<'_>,
+    before: ToldSteps<'_>,
     slicelet: &Slicelet,
     handle: &KeyHandle,
-    asked: &Asked,
+    asked: &KeyQuestion,
 ) -> Option<Break>
     requires told { length before.told.now ≡ length before.steps.now }
     requires asks { asked.now.key ≡ handle.now.key }
@@ -89,7 +89,7 @@ fn break_of(
 }
 
 /// Returns why the reply to a `check` is that its handle is broken.
-pub fn broken_reason(cluster: &Cluster, before: Told<'_>, step: &Step) -> Option<Reason>
+pub fn broken_reason(cluster: &Cluster, before: ToldSteps<'_>, step: &Step) -> Option<Reason>
     requires { length before.told.now ≡ length before.steps.now }
     ensures none { is_check step.now ≡ false → result ≡ None }
     ensures is { (job : Job) (calls : Calls) → LeadsTo job calls cluster.now → IsBrokenOf job calls step.now
@@ -105,7 +105,7 @@ pub fn broken_reason(cluster: &Cluster, before: Told<'_>, step: &Step) -> Option
     };
     let handle = cluster.handle(*number)?;
     let slicelet = cluster.slicelet(*task)?;
-    let asked = Asked {
+    let asked = KeyQuestion {
         task: *task,
         key: handle.key,
         at: *at,

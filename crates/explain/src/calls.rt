@@ -5,7 +5,7 @@ ghost use Rattle.world.specs.Pasts.{is_accepted};
 ghost use Rattle.explain.specs.Breaking.{is_call, call_place};
 ghost use Rattle.explain.specs.Hearing.{past_of};
 
-use crate::heard::{Told, is_accepted};
+use crate::heard::{ToldSteps, is_accepted};
 use world::{Reply, Step};
 
 // Whether a step counts as a call of the task, if it is accepted.
@@ -55,7 +55,7 @@ fn place_after(
 }
 
 /// Returns the place of the step that is a task's accepted call with this number, from 1.
-pub fn call_place(before: Told<'_>, task: u64, call: u64) -> Option<usize>
+pub fn call_place(before: ToldSteps<'_>, task: u64, call: u64) -> Option<usize>
     requires { length before.told.now ≡ length before.steps.now }
     ensures { result ≡ call_place task call (past_of before.entry.steps.now before.entry.told.now) }
 {

@@ -13,12 +13,12 @@ ghost use Rattle.explain.specs.Explanations.{AreExplained, IsNext};
 ghost use Rattle.explain.specs.internals.Told.{may_have_reason, IsAskedOf, IsToldOf};
 
 use crate::broken::broken_reason;
-use crate::heard::Told;
+use crate::heard::ToldSteps;
 use crate::reason::Reason;
 use crate::refusals::refusal_reason;
-use crate::verdicts::{Asked, verdict_reason};
+use crate::verdicts::{KeyQuestion, verdict_reason};
 use cluster::Cluster;
-use policy_rules::Verdict;
+use lease_rule::Verdict;
 use std::alloc::{AllocError, Global};
 use world::{Job, Reply, Step, World};
 
@@ -34,7 +34,7 @@ pub struct Explanation {
 // Returns the reason for a verdict, if the step asks a task.
 fn asked_reason(
     cluster: &Cluster,
-    before: Told<'_>,
+    before: ToldSteps<'_>,
     step: &Step,
     verdict: Verdict,
 ) -> Option<Reason>
@@ -45,7 +45,7 @@ fn asked_reason(
         → IsReasonOrNone job calls (past_of before.entry.steps.now before.entry.told.now) step.now
         (reply.Verdict verdict) result }
 {
-    let asked = Asked::by(step)?;
+    let asked = KeyQuestion::by(step)?;
     let _number = asked.key.value();
     cluster.run_law();
     cluster::covers_law();
@@ -58,7 +58,7 @@ fn asked_reason(
 // Returns the reason for a reply, if there is one. The cluster is the one after the step.
 fn reason_of(
     cluster: &Cluster,
-    before: Told<'_>,
+    before: ToldSteps<'_>,
     step: &Step,
     reply: &Reply,
 ) -> Result<Option<Reason>, AllocError>
@@ -92,7 +92,7 @@ fn explain_next(
     let Some(reply) = replies.pop() else {
         return Err(AllocError);
     };
-    let before = Told {
+    let before = ToldSteps {
         steps: &steps[..place],
         told,
     };

@@ -9,7 +9,7 @@ use world::{Reply, Step};
 
 /// Steps in order, with what was told of each.
 #[derive(Clone, Copy)]
-pub struct Told<'a> {
+pub struct ToldSteps<'a> {
     /// The steps.
     pub steps: &'a [Step],
     /// The replies to the steps, each with its reason.
@@ -45,7 +45,7 @@ fn hears(step: &Step, reply: &Reply, task: u64, number: u64) -> bool
 }
 
 /// Returns the place of the last step in which a task heard the grant with this number, from 1.
-pub fn heard_in(before: Told<'_>, task: u64, number: u64) -> Option<usize>
+pub fn heard_in(before: ToldSteps<'_>, task: u64, number: u64) -> Option<usize>
     requires { length before.told.now ≡ length before.steps.now }
     ensures { result ≡ heard_in task number (past_of before.entry.steps.now before.entry.told.now) }
 {

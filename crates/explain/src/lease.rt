@@ -1,7 +1,7 @@
 //! Leases that a task holds.
 
 ghost use Rattle.std.specs.Prelude.{◌≡◌, ℕ, Some, option_map};
-ghost use Rattle.policy_rules.specs.declared.lease.Kind.{Kind as LeaseKind};
+ghost use Rattle.lease_rule.specs.declared.lease.Kind.{Kind as LeaseKind};
 ghost use Rattle.lease_table.specs.declared.values.Grant.{Grant};
 ghost use Rattle.slicelet.specs.Rules.{covers_key};
 ghost use Rattle.slicelet.specs.States.{held_in};
@@ -12,7 +12,7 @@ ghost use Rattle.explain.specs.Leases.{lease_of};
 
 use crate::reason::TaskLease;
 use cluster::Cluster;
-use policy_rules::Kind;
+use lease_rule::Kind;
 use slice_ranges::SliceKey;
 use slicelet::Slicelet;
 

@@ -1,7 +1,7 @@
 //! Reasons for replies.
 
+use lease_rule::{Ground, Kind};
 use lease_table::Row;
-use policy_rules::{Ground, Kind};
 use world::OwnerList;
 
 /// A lease that a task holds.

@@ -15,7 +15,7 @@ ghost use Rattle.explain.specs.Reasons.{made_in, task_of, IsReasonOrNone};
 ghost use Rattle.explain.specs.internals.Told.{IsTaskRefusal, IsTableRefusal, IsRefusal};
 
 use crate::explanation::Explanation;
-use crate::heard::Told;
+use crate::heard::ToldSteps;
 use crate::reason::Reason;
 use crate::verdicts::committed_generation;
 use clerk::ClerkError;
@@ -49,7 +49,7 @@ fn granted_by(reply: &Reply, before: u64) -> u64
     ensures { result ≡ granted_by reply.now before }
 {
     match reply {
-        Reply::Granted { number, .. } => *number,
+        Reply::Granted(grant) => grant.number,
         _ => before,
     }
 }
@@ -66,7 +66,7 @@ fn last_granted(told: &[Explanation]) -> u64
 }
 
 // Returns the greatest number made so far of what a step delivers.
-fn made_so_far(cluster: &Cluster, before: Told<'_>, step: &Step) -> Option<u64>
+fn made_so_far(cluster: &Cluster, before: ToldSteps<'_>, step: &Step) -> Option<u64>
     requires { length before.told.now ≡ length before.steps.now }
     ensures { (job : Job) (calls : Calls) → LeadsTo job calls cluster.now
         → result ≡ made_in calls (past_of before.entry.steps.now before.entry.told.now) step.now }
@@ -142,7 +142,7 @@ fn task_reason(cluster: &Cluster, step: &Step, error: SliceletError) -> Option<R
 /// Returns why a step is refused, if its line does not say everything.
 pub fn refusal_reason(
     cluster: &Cluster,
-    before: Told<'_>,
+    before: ToldSteps<'_>,
     step: &Step,
     refusal: Refusal,
 ) -> Result<Option<Reason>, AllocError>

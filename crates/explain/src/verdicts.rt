@@ -1,7 +1,7 @@
 //! Why a key is served or is not.
 
 ghost use Rattle.std.specs.Prelude.{◌≡◌, ℕ, length};
-ghost use Rattle.policy_rules.specs.declared.answer.Verdict.TheVariants.{Deny};
+ghost use Rattle.lease_rule.specs.declared.answer.Verdict.TheVariants.{Deny};
 ghost use Rattle.assignment.specs.Owners.{owners_of};
 ghost use Rattle.lease_table.specs.Tables.{generation_of, slices_of};
 ghost use Rattle.lease_table.specs.Calls.{committed_in};
@@ -15,19 +15,19 @@ ghost use Rattle.explain.specs.Leases.{IsDeciding};
 ghost use Rattle.explain.specs.Verdicts.{asked_by, IsVerdictReason};
 ghost use Rattle.explain.specs.internals.Kinds.{IsCovering, IsCoveringAny, IsLive, IsLiveAny};
 
-use crate::heard::{Told, heard_in};
+use crate::heard::{ToldSteps, heard_in};
 use crate::lease::{covers, task_lease};
 use crate::reason::{TaskLease, VerdictReason};
 use arrayvec::ArrayVec;
 use cluster::Cluster;
-use policy_rules::{Ground, Kind, Verdict};
+use lease_rule::{Ground, Kind, Verdict};
 use slice_ranges::{SliceKey, slice_key};
 use slicelet::Slicelet;
 use world::{OwnerList, Step};
 
 /// A question to a task: may it serve a key at a reading of its clock?
 #[derive(Clone, Copy, Debug)]
-pub struct Asked {
+pub struct KeyQuestion {
     /// The number of the task.
     pub task: u64,
     /// The slice key.
@@ -36,13 +36,13 @@ pub struct Asked {
     pub at: u64,
 }
 
-impl Asked {
+impl KeyQuestion {
     /// Returns what a `serve` or a `hold` asks; `None` for any other step.
-    pub fn by(step: &Step) -> Option<Asked>
+    pub fn by(step: &Step) -> Option<KeyQuestion>
         ensures { result ≡ asked_by step.now }
     {
         match step {
-            Step::Serve { task, key, at } | Step::Hold { task, key, at } => Some(Asked {
+            Step::Serve { task, key, at } | Step::Hold { task, key, at } => Some(KeyQuestion {
                 task: *task,
                 key: slice_key(key.as_slice()),
                 at: *at,
@@ -103,7 +103,7 @@ fn live_lease(slicelet: &Slicelet, generation: u64, at: u64) -> Option<TaskLease
 fn denied_lease(
     cluster: &Cluster,
     slicelet: &Slicelet,
-    asked: &Asked,
+    asked: &KeyQuestion,
     denial: Ground,
 ) -> Option<TaskLease>
     ensures { (job : Job) (calls : Calls) → LeadsTo job calls cluster.now → slicelet.now ≡ history asked.now.task calls
@@ -121,7 +121,7 @@ fn denied_lease(
 fn deciding_lease(
     cluster: &Cluster,
     slicelet: &Slicelet,
-    asked: &Asked,
+    asked: &KeyQuestion,
     verdict: Verdict,
 ) -> Option<TaskLease>
     ensures { (job : Job) (calls : Calls) → LeadsTo job calls cluster.now → slicelet.now ≡ history asked.now.task calls
@@ -157,7 +157,7 @@ pub fn committed_generation(cluster: &Cluster) -> u64
 }
 
 // Returns the step in which a task heard the grant of a lease.
-fn lease_heard_in(before: Told<'_>, task: u64, lease: Option<TaskLease>) -> Option<usize>
+fn lease_heard_in(before: ToldSteps<'_>, task: u64, lease: Option<TaskLease>) -> Option<usize>
     requires { length before.told.now ≡ length before.steps.now }
     ensures { result ≡ lease_heard_in task (past_of before.entry.steps.now before.entry.told.now) lease }
 {
@@ -173,9 +173,9 @@ fn lease_heard_in(before: Told<'_>, task: u64, lease: Option<TaskLease>) -> Opti
 /// Returns why a task of the job gives this verdict.
 pub fn verdict_reason(
     cluster: &Cluster,
-    before: Told<'_>,
+    before: ToldSteps<'_>,
     slicelet: &Slicelet,
-    asked: &Asked,
+    asked: &KeyQuestion,
     verdict: Verdict,
 ) -> VerdictReason
     requires { length before.told.now ≡ length before.steps.now }

@@ -59,12 +59,12 @@ module _ {M E R F : Type 0} (step : M → E → Result (M × R) F) (opened : Ope
       record { begins = begins; legal = legal; only = refl }
 
   module _ (log : List (Entry E)) (b : Book M E) (logged : b.history.items ≡ log) (legal : replay step opened.machine log ≡ Some b.machine) (limit : ℕ) (most : opened.limit ≡ limit) (made : E → Type 0) (unmade : Type 0) (b' : Book M E) where
-    pub stays : (error : WriteError F) → IsTurn step lane limit made unmade b (Err error) b' → Stays b b'
+    pub stays : (error : WriteError E F) → IsTurn step lane limit made unmade b (Err error) b' → Stays b b'
     stays HistoryFull t = t.2
-    stays (Refused fault) t = t.4
+    stays (Refused event fault) t = t.3
     stays NoMemory t = t.2
 
-    pub kept : (l : ℕ) (error : WriteError F) → IsTurn step lane limit made unmade b (Err error) b' → IsBook step opened log l b'
+    pub kept : (l : ℕ) (error : WriteError E F) → IsTurn step lane limit made unmade b (Err error) b' → IsBook step opened log l b'
     kept l error t = let h = stays error t in record { legal = legal ∙ ap Some (sym h.0); logged = λ _. h.1 ∙ logged }
 
     module _ (reply : R) (t : IsTurn step lane limit made unmade b (Ok reply) b') where
@@ -80,10 +80,10 @@ module _ {M E R F : Type 0} (step : M → E → Result (M × R) F) (opened : Ope
           ∙ (of_lane_snoc lane log t.0 ∙ ap (λ (l : List E). l ++ t.0 ∷ []) (sym (ap (λ (x : Role). mine_of x v.mine log) role) ∙ mine)))
 
     module _ (home z z' : TableId) (w : View M E) (a t s : ℕ) (same : z' ≡ z) (begins : StartsWith log v.seen) where
-      pub is_not_written : (error : WriteError F) → length log ≤ opened.limit → IsTurn step lane limit made unmade b (Err error) b' → w ≡ record v { start = a; end = t; word = s; seen = log }
+      pub is_not_written : (error : WriteError E F) → length log ≤ opened.limit → IsTurn step lane limit made unmade b (Err error) b' → w ≡ record v { start = a; end = t; word = s; seen = log }
           → Wrote step (lock_at home opened) made unmade (pass_view z lane v) (Err error) (pass_view z' lane w)
       is_not_written HistoryFull few q is = let least = q.1 in let e = ap (λ x. length x.seen) is in let f = ap length logged in (q.0, (b.machine, shown log b.machine home z z' w a t s same begins legal is), omega arith)
-      is_not_written (Refused fault) few q is = record { event = q.0; machine = b.machine; calls = q.1; shows = shown log b.machine home z z' w a t s same begins legal is; room = (let room = q.2 in let e = ap (λ x. length x.seen) is in let f = ap length logged in omega arith); refuses = q.3 }
+      is_not_written (Refused event fault) few q is = record { machine = b.machine; calls = q.0; shows = shown log b.machine home z z' w a t s same begins legal is; room = (let room = q.1 in let e = ap (λ x. length x.seen) is in let f = ap length logged in omega arith); refuses = q.2 }
       is_not_written NoMemory few q is =
           let room = q.1 in let e = ap (λ x. length x.seen) is in let f = ap length logged in record {
             machine = b.machine;

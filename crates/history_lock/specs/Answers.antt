@@ -7,15 +7,8 @@ use Rattle.history_lock.specs.declared.error.WriteError.{WriteError}
 use Rattle.history_lock.specs.declared.error.WriteError.TheVariants.{HistoryFull, Refused, NoMemory}
 use Rattle.history_lock.specs.declared.error.LockError.{LockError}
 use Rattle.history_lock.specs.declared.error.LockError.TheVariants.{Busy as BusyLane, Write}
-use Rattle.machines.specs.declared.machine.Trouble.{Trouble}
-use Rattle.machines.specs.declared.machine.Trouble.TheVariants as trouble
 use Rattle.history_lock.specs.Histories.{replay, entry, StartsWith}
 use Rattle.history_lock.specs.Passes.{Lock, PassView}
-
--- why a machine's trouble keeps an event out of the history
-abbrev pub write_error_of : {F : Type 0} → Trouble F → WriteError F
-write_error_of (trouble.Refused fault) = Refused fault
-write_error_of trouble.NoMemory = NoMemory
 
 -- the pass of a lane found a lane of the lock held: a writer that held it is the pass of another lane of the lock;
 -- where a reader held it, it is not the pass's own lane
@@ -72,8 +65,7 @@ module _ {M E R F : Type 0} (step : M → E → Result (M × R) F) (lock : Lock 
       pub legal : replay step lock.opened.machine new.seen ≡ Some after
 
     -- there was room for the event, and the machine refuses it
-    pub record IsRefused (old : PassView M E) (fault : F) (new : PassView M E) : Type 0 where
-      pub event : E
+    pub record IsRefused (old : PassView M E) (event : E) (fault : F) (new : PassView M E) : Type 0 where
       pub machine : M
       pub calls : made event
       pub shows : IsShown old machine new
@@ -88,14 +80,14 @@ module _ {M E R F : Type 0} (step : M → E → Result (M × R) F) (lock : Lock 
       pub calls : unmade ⊎ ((event : E) × made event × (is_ok (step machine event) ≡ true))
 
     -- a write, once the lock was free
-    abbrev pub Wrote : PassView M E → Result R (WriteError F) → PassView M E → Type 0
+    abbrev pub Wrote : PassView M E → Result R (WriteError E F) → PassView M E → Type 0
     Wrote old (Ok reply) new = IsWritten old reply new
     Wrote old (Err HistoryFull) new = unmade × ((machine : M) × IsShown old machine new) × (length new.seen ≡ lock.opened.limit)
-    Wrote old (Err (Refused fault)) new = IsRefused old fault new
+    Wrote old (Err (Refused event fault)) new = IsRefused old event fault new
     Wrote old (Err NoMemory) new = WantsMemory old new
 
     -- a write that does not wait
-    abbrev pub TriedToWrite : PassView M E → Result R (LockError F) → PassView M E → Type 0
+    abbrev pub TriedToWrite : PassView M E → Result R (LockError E F) → PassView M E → Type 0
     TriedToWrite old (Ok reply) new = Wrote old (Ok reply) new
     TriedToWrite old (Err (BusyLane busy)) new = unmade × IsTurnedAway lock old busy new
     TriedToWrite old (Err (Write error)) new = Wrote old (Err error) new

@@ -19,7 +19,7 @@ impl<M: Machine> LaneLock<M> {
         &self,
         pass: &mut Pass<M>,
         make: &mut F,
-    ) -> Result<Result<M::Reply, WriteError<M::Fault>>, Busy>
+    ) -> Result<Result<M::Reply, WriteError<M::Event, M::Fault>>, Busy>
         requires own { IsPassOf self.now pass.old }
         requires may { F.pre make.old }
         ensures own { IsPassOf self.now pass.new }
@@ -45,14 +45,14 @@ impl<M: Machine> LaneLock<M> {
     /// called.
     ///
     /// Errors, in this order: the lock is held ([`LockError::Busy`]), the history is full, the
-    /// machine refuses the event. Out of memory may be returned instead of the last error or of a
-    /// reply if `make` was not called, and afterwards only if the machine would accept the event. A
-    /// write that fails adds nothing to the history.
+    /// machine refuses the event, which is handed back. Out of memory may be returned instead of
+    /// the last error or of a reply if `make` was not called, and afterwards only if the machine
+    /// would accept the event. A write that fails adds nothing to the history.
     pub fn try_write<F: FnMut() -> M::Event>(
         &self,
         pass: &mut Pass<M>,
         make: &mut F,
-    ) -> Result<M::Reply, LockError<M::Fault>>
+    ) -> Result<M::Reply, LockError<M::Event, M::Fault>>
         requires own { IsPassOf self.now pass.old }
         requires may { F.pre make.old }
         ensures own { IsPassOf self.now pass.new }
@@ -74,7 +74,7 @@ impl<M: Machine> LaneLock<M> {
         rt: &R,
         pass: &mut Pass<M>,
         make: &mut F,
-    ) -> Result<M::Reply, WriteError<M::Fault>>
+    ) -> Result<M::Reply, WriteError<M::Event, M::Fault>>
         requires own { IsPassOf self.now pass.old }
         requires may { F.pre make.old }
         ensures own { IsPassOf self.now pass.new }

@@ -16,7 +16,7 @@ use crate::rule::{Common, Meet, Place, Tell};
 use crate::shared_machine::SharedMachine;
 use crate::steps::{claim, claim_all, give_all_back, give_back, hand_back, publish, take_book};
 use crate::view::Book;
-use machines::Machine;
+use machines::{Machine, Trouble};
 use std::alloc::{AllocError, Global};
 
 // Adds the event that `make` returns to the book, if the machine takes it, and shares the machine
@@ -28,7 +28,7 @@ fn take_event<M: Machine, F: FnMut() -> M::Event>(
     limit: usize,
     others: u64,
     make: &mut F,
-) -> Result<(M::Reply, Vec<SharedMachine<M>>), WriteError<M::Fault>>
+) -> Result<(M::Reply, Vec<SharedMachine<M>>), WriteError<M::Event, M::Fault>>
     requires { F.pre make.old }
     ensures turn { IsTurn M.step lane limit (λ event. F.step make.old event make.new) (make.new ≡ make.old) book.old (only_reply result) book.new }
     ensures others { IfOk result (λ r. AreCopies book.new.machine others r.1.items) }
@@ -39,7 +39,11 @@ fn take_event<M: Machine, F: FnMut() -> M::Event>(
     book.history.reserve(1)?;
     let mut machine = book.machine.get().copy()?;
     let event = make();
-    let reply = machine.apply(&event)?;
+    let reply = match machine.apply(&event) {
+        Ok(reply) => reply,
+        Err(Trouble::Refused(fault)) => return Err(WriteError::Refused { event, fault }),
+        Err(Trouble::NoMemory) => return Err(WriteError::NoMemory),
+    };
     let machine = SharedMachine::new(alloc, machine)?;
     let machines = owners(&machine, alloc, others)?;
     book.machine = machine;
@@ -97,7 +101,7 @@ pub(crate) fn write_at<M: Machine, F: FnMut() -> M::Event>(
     limit: usize,
     alloc: Global,
     make: &mut F,
-) -> Result<Result<M::Reply, WriteError<M::Fault>>, Busy>
+) -> Result<Result<M::Reply, WriteError<M::Event, M::Fault>>, Busy>
     requires table { (place.old.table_id ≡ common.now.table_id) × IsTable common.now.table_id common.now.key.value }
     requires rests { IsResting place.old.me lane }
     requires legal { SeesLegal M.step place.old.me.0 }

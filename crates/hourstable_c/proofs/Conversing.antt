@@ -1,12 +1,12 @@
 -- A session that is put into a place.
 use Rattle.std.proofs.Common.{◌≡◌, ℕ, ℤ, List, inl}
 use Rattle.session.specs.declared.answer.ReplyForm.{ReplyForm}
-use Rattle.c_numbers.specs.declared.answer.Answer.TheVariants.{Done}
-use Rattle.c_numbers.specs.Numbers.{answer_number}
-use Rattle.c_session.specs.declared.conversation.Conversation.{Conversation}
-use Rattle.c_session.specs.Conversations.{IsBegun}
-use Rattle.c_place.specs.declared.held.Held.{Held}
-use Rattle.c_place.specs.declared.held.Held.TheVariants.{Session}
+use Rattle.c_calls.specs.declared.answer.Answer.TheVariants.{Done}
+use Rattle.c_calls.specs.AnswerNumbers.{answer_number}
+use Rattle.c_calls.specs.declared.conversation.Conversation.{Conversation}
+use Rattle.c_calls.specs.Conversations.{IsBegun}
+use Rattle.hourstable_c.specs.declared.held.Held.{Held}
+use Rattle.hourstable_c.specs.declared.held.Held.TheVariants.{Session}
 use Rattle.hourstable_c.specs.Sessions.{IsSessionOpened}
 
 pub puts : (form : ReplyForm) (line : List ℕ) (was : Held) (conversation : Conversation) (number : ℤ) → IsBegun form line conversation

@@ -1,3 +1,4 @@
+pub mod PlaceBox
 pub mod Conversing
 pub mod Returning
 pub mod Restoring

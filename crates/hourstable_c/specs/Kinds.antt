@@ -1,7 +1,7 @@
 -- Of what kind it is that stands in a place.
 use Rattle.std.specs.Prelude.{Bool, true, false}
-use Rattle.c_place.specs.declared.held.Held.{Held}
-use Rattle.c_place.specs.declared.held.Held.TheVariants as held
+use Rattle.hourstable_c.specs.declared.held.Held.{Held}
+use Rattle.hourstable_c.specs.declared.held.Held.TheVariants as held
 
 abbrev pub is_slicelet : Held → Bool
 is_slicelet (held.Slicelet job slicelet) = true

@@ -1,3 +1,5 @@
+pub mod Addresses
+pub mod Lending
 pub mod Returned
 pub mod Places
 pub mod Opened

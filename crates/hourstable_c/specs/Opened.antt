@@ -1,15 +1,15 @@
 -- How a place is made, what is put into it, and what is taken out of it.
 use Rattle.std.specs.Prelude.{◌≡◌, ◌⊎◌, ℕ, ℤ, Bool, true, false, List, Option, Some, None, Result, Ok, Err}
 use Rattle.lease_table.specs.Tables.{Standing}
-use Rattle.c_numbers.specs.declared.answer.Answer.{Answer}
-use Rattle.c_numbers.specs.declared.answer.Answer.TheVariants.{Done, NoMemory, OtherPlace, WrongForm}
-use Rattle.c_numbers.specs.declared.told.Told.{Told}
-use Rattle.c_numbers.specs.Numbers.{answer_number}
-use Rattle.c_numbers.specs.Told.{answer_told}
-use Rattle.c_place.specs.declared.held.Held.{Held}
-use Rattle.c_place.specs.declared.held.Held.TheVariants.{Nothing, Table}
-use Rattle.c_table.specs.declared.policy_numbers.PolicyNumbers.{PolicyNumbers}
-use Rattle.c_table.specs.Keeping.{IsRestored}
+use Rattle.c_calls.specs.declared.answer.Answer.{Answer}
+use Rattle.c_calls.specs.declared.answer.Answer.TheVariants.{Done, NoMemory, OtherPlace, WrongForm}
+use Rattle.c_calls.specs.declared.details.AnswerDetails.{AnswerDetails}
+use Rattle.c_calls.specs.AnswerNumbers.{answer_number}
+use Rattle.c_calls.specs.Details.{answer_details}
+use Rattle.hourstable_c.specs.declared.held.Held.{Held}
+use Rattle.hourstable_c.specs.declared.held.Held.TheVariants.{Nothing, Table}
+use Rattle.c_calls.specs.declared.policy_numbers.PolicyNumbers.{PolicyNumbers}
+use Rattle.c_calls.specs.tables.Keeping.{IsRestored}
 
 -- an empty place is there; or there was none and memory ran out, and there is none
 abbrev pub IsMade : Option Held → Option Held → ℤ → Type 0
@@ -48,15 +48,15 @@ restored_held job was (Ok table) = Table job table
 restored_held job was (Err why) = was
 
 -- what was restored of the bytes, and what is returned and told of it
-pub record IsRestoration (job : List ℕ) (policy : PolicyNumbers) (bytes : List ℕ) (was now : Held) (was_told now_told : Told) (number : ℤ) : Type 0 where
+pub record IsRestoration (job : List ℕ) (policy : PolicyNumbers) (bytes : List ℕ) (was now : Held) (was_told now_told : AnswerDetails) (number : ℤ) : Type 0 where
   pub given : Result Standing Answer
   pub is : IsRestored job policy bytes given
   pub left : now ≡ restored_held job was given
   pub number_is : number ≡ answer_number (restoring_answer given)
-  pub told_is : now_told ≡ answer_told (restoring_answer given) was_told
+  pub told_is : now_told ≡ answer_details (restoring_answer given) was_told
 
 -- the same at a place; where there is none, or of no job, nothing is changed
-abbrev pub IsRestoredAt : Option (List ℕ) → PolicyNumbers → List ℕ → Option Held → Option Held → Told → Told → ℤ → Type 0
+abbrev pub IsRestoredAt : Option (List ℕ) → PolicyNumbers → List ℕ → Option Held → Option Held → AnswerDetails → AnswerDetails → ℤ → Type 0
 IsRestoredAt job policy bytes None now was_told now_told number = (number ≡ answer_number OtherPlace) × (now ≡ None) × (now_told ≡ was_told)
 IsRestoredAt None policy bytes (Some was) now was_told now_told number = (number ≡ answer_number WrongForm) × (now ≡ Some was) × (now_told ≡ was_told)
 IsRestoredAt (Some job) policy bytes (Some was) (Some now) was_told now_told number = IsRestoration job policy bytes was now was_told now_told number

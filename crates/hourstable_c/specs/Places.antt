@@ -4,11 +4,11 @@ use Rattle.assignment.specs.Slices.{Slicing}
 use Rattle.slicelet.specs.States.{SliceletState}
 use Rattle.lease_table.specs.Tables.{Standing}
 use Rattle.assigner.specs.Terms.{Keeping}
-use Rattle.c_session.specs.declared.conversation.Conversation.{Conversation}
-use Rattle.c_numbers.specs.declared.answer.Answer.TheVariants.{OtherPlace}
-use Rattle.c_numbers.specs.Numbers.{answer_number}
-use Rattle.c_place.specs.declared.held.Held.{Held}
-use Rattle.c_place.specs.declared.held.Held.TheVariants as held
+use Rattle.c_calls.specs.declared.conversation.Conversation.{Conversation}
+use Rattle.c_calls.specs.declared.answer.Answer.TheVariants.{OtherPlace}
+use Rattle.c_calls.specs.AnswerNumbers.{answer_number}
+use Rattle.hourstable_c.specs.declared.held.Held.{Held}
+use Rattle.hourstable_c.specs.declared.held.Held.TheVariants as held
 
 -- nothing of the kind stands there, or there is no place
 abbrev pub IsOtherPlace : Option Held → Option Held → Type 0 → ℤ → Type 0

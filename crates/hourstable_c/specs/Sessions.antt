@@ -2,11 +2,11 @@
 use Rattle.std.specs.Prelude.{◌≡◌, ◌⊎◌, ◌==◌, ℕ, ℤ, List, if◌then◌else◌}
 use Rattle.session.specs.declared.answer.ReplyForm.{ReplyForm}
 use Rattle.session.specs.declared.answer.ReplyForm.TheVariants.{Text, Json}
-use Rattle.c_numbers.specs.declared.answer.Answer.TheVariants.{Done}
-use Rattle.c_numbers.specs.Numbers.{answer_number}
-use Rattle.c_session.specs.Conversations.{IsBegun, IsNotBegun}
-use Rattle.c_place.specs.declared.held.Held.{Held}
-use Rattle.c_place.specs.declared.held.Held.TheVariants.{Session}
+use Rattle.c_calls.specs.declared.answer.Answer.TheVariants.{Done}
+use Rattle.c_calls.specs.AnswerNumbers.{answer_number}
+use Rattle.c_calls.specs.Conversations.{IsBegun, IsNotBegun}
+use Rattle.hourstable_c.specs.declared.held.Held.{Held}
+use Rattle.hourstable_c.specs.declared.held.Held.TheVariants.{Session}
 use Rattle.hourstable_c.specs.Returned.{Returns}
 
 -- how answers are written: as text for 0

@@ -2,30 +2,32 @@
 
 ghost use Rattle.std.specs.Prelude.{◌≡◌, None, ⊤};
 ghost use Rattle.assigner.specs.Terms.{adopted_term};
-ghost use Rattle.c_numbers.specs.declared.answer.Answer.TheVariants.{Done};
-ghost use Rattle.c_numbers.specs.Jobs.{job_of};
-ghost use Rattle.c_numbers.specs.Numbers.{answer_number};
-ghost use Rattle.c_numbers.specs.Outputs.{output};
-ghost use Rattle.c_place.specs.declared.held.Held.TheVariants as held;
-ghost use Rattle.c_table.specs.Assigners.{IsNext, adopt_answer, next_numbers, opened};
-ghost use Rattle.c_table.specs.Plans.{IsPlannedFor, wanted};
-ghost use Rattle.c_table.specs.PolicyNumbers.{limits_of};
-ghost use Rattle.c_table.specs.Terms.{phase_of, term_of};
+ghost use Rattle.c_calls.specs.declared.answer.Answer.TheVariants.{Done};
+ghost use Rattle.c_calls.specs.Jobs.{job_of};
+ghost use Rattle.c_calls.specs.AnswerNumbers.{answer_number};
+ghost use Rattle.c_calls.specs.Outputs.{output};
+ghost use Rattle.hourstable_c.specs.declared.held.Held.TheVariants as held;
+ghost use Rattle.c_calls.specs.Assigners.{IsNext, adopt_answer, next_numbers, opened_assigner};
+ghost use Rattle.c_calls.specs.Plans.{IsPlannedFor, wanted};
+ghost use Rattle.c_calls.specs.PolicyNumbers.{plan_terms_of};
+ghost use Rattle.c_calls.specs.tables.Terms.{phase_of, term_of};
 ghost use Rattle.hourstable_c.specs.Kinds.{is_assigner};
 ghost use Rattle.hourstable_c.specs.Opened.{AtPlace, IsClosed, IsOpened};
 ghost use Rattle.hourstable_c.specs.Places.{OnAssigner};
 ghost use Rattle.hourstable_c.specs.Returned.{Returns};
 
+use crate::held::Held;
+use crate::place::Place;
 use crate::place_exports::close_where;
-use c_numbers::Answer;
-use c_place::{Held, Place};
-use c_table::{PhaseNumbers, PlanPolicyNumbers, TermNumbers, adopt, next, open_assigner, plan};
+use c_calls::assigners::{adopt, next, open_assigner};
+use c_calls::tables::{PhaseNumbers, TermNumbers};
+use c_calls::{Answer, PlanPolicyNumbers, plan};
 use std::alloc::Global;
 
 /// Creates a new assigner in `place`, destroying what was there. It keeps no term.
 #[unsafe(no_mangle)]
 pub extern "C" fn hs_assigner_open(place: &mut Place, id: u64, job: u64) -> i32
-    ensures { AtPlace (IsOpened held.Assigner (opened id job)) place.old.value place.new.value result }
+    ensures { AtPlace (IsOpened held.Assigner (opened_assigner id job)) place.old.value place.new.value result }
 {
     let Some(held) = place.held() else {
         return Answer::OtherPlace.number();
@@ -55,9 +57,9 @@ pub extern "C" fn hs_assigner_adopt(place: &mut Place, term: &TermNumbers) -> i3
     }
 }
 
-/// Forgets the kept term.
+/// Drops the kept term.
 #[unsafe(no_mangle)]
-pub extern "C" fn hs_assigner_restart(place: &mut Place) -> i32
+pub extern "C" fn hs_assigner_drop_term(place: &mut Place) -> i32
     ensures { OnAssigner place.old.value place.new.value ⊤ result
         (λ old new. (result ≡ answer_number Done) × (new ≡ record old { term = None })) }
 {
@@ -66,7 +68,7 @@ pub extern "C" fn hs_assigner_restart(place: &mut Place) -> i32
     };
     match held {
         Held::Assigner(assigner) => {
-            assigner.restart();
+            assigner.drop_term();
             Answer::Done.number()
         }
         _ => Answer::OtherPlace.number(),
@@ -122,7 +124,7 @@ pub extern "C" fn hs_plan(
     out: &mut [u8],
     needed: &mut usize,
 ) -> i32
-    ensures { Returns (IsPlannedFor (job_of job.now) assignment.now (wanted loads.now tasks.now (limits_of policy.now))
+    ensures { Returns (IsPlannedFor (job_of job.now) assignment.now (wanted loads.now tasks.now (plan_terms_of policy.now))
         (output out.old needed.old) (output out.new needed.new)) result }
 {
     plan(alloc, job, assignment, loads, tasks, policy, out, needed).number()

@@ -1,11 +1,12 @@
 //! Exports for assignments as numbers.
 
-ghost use Rattle.c_numbers.specs.Jobs.{job_of};
-ghost use Rattle.c_numbers.specs.Outputs.{output};
-ghost use Rattle.c_table.specs.AssignmentNumbers.{IsAssignmentRead, IsBuiltFor, IsSliceRead, key_of, slices_of};
+ghost use Rattle.c_calls.specs.Arguments.{slice_key_of};
+ghost use Rattle.c_calls.specs.Jobs.{job_of};
+ghost use Rattle.c_calls.specs.Outputs.{output};
+ghost use Rattle.c_calls.specs.Assignments.{IsAssignmentRead, IsBuiltFor, IsSliceRead, slices_of};
 ghost use Rattle.hourstable_c.specs.Returned.{Returns};
 
-use c_table::{SliceNumbers, new_assignment, read_assignment, read_slice};
+use c_calls::{SliceNumbers, new_assignment, read_assignment, read_slice};
 use std::alloc::Global;
 
 /// Writes the message of the assignment of a job that is built of slices.
@@ -52,7 +53,7 @@ pub extern "C" fn hs_assignment_slice(
     slice_key: u64,
     out: &mut SliceNumbers,
 ) -> i32
-    ensures { Returns (IsSliceRead (job_of job.now) (key_of slice_key) assignment.now out.old out.new) result }
+    ensures { Returns (IsSliceRead (job_of job.now) (slice_key_of slice_key) assignment.now out.old out.new) result }
 {
     read_slice(alloc, job, assignment, slice_key, out).number()
 }

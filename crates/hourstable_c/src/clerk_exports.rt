@@ -3,22 +3,22 @@
 ghost use Rattle.std.specs.Prelude.{◌≡◌, None, ⊤};
 ghost use Rattle.slice_ranges.specs.Hash.{slice_key};
 ghost use Rattle.clerk.specs.Steps.{look_at};
-ghost use Rattle.c_numbers.specs.declared.answer.Answer.TheVariants.{Done};
-ghost use Rattle.c_numbers.specs.Jobs.{job_of};
-ghost use Rattle.c_numbers.specs.Numbers.{answer_number};
-ghost use Rattle.c_place.specs.declared.held.Held.TheVariants as held;
-ghost use Rattle.c_task.specs.ClerkCalls.{IsAssignmentLearnt, IsLookedUp};
-ghost use Rattle.c_task.specs.Keys.{slice_key_of};
-ghost use Rattle.c_task.specs.SliceKeys.{IsLookedUpAt};
+ghost use Rattle.c_calls.specs.declared.answer.Answer.TheVariants.{Done};
+ghost use Rattle.c_calls.specs.Jobs.{job_of};
+ghost use Rattle.c_calls.specs.AnswerNumbers.{answer_number};
+ghost use Rattle.hourstable_c.specs.declared.held.Held.TheVariants as held;
+ghost use Rattle.c_calls.specs.Clerks.{IsAssignmentLearnt, IsLookedUp, IsLookedUpAt};
+ghost use Rattle.c_calls.specs.Arguments.{slice_key_of};
 ghost use Rattle.hourstable_c.specs.Kinds.{is_clerk};
 ghost use Rattle.hourstable_c.specs.Opened.{AtPlace, IsClosed, IsOpened};
 ghost use Rattle.hourstable_c.specs.Places.{OnClerk};
 ghost use Rattle.hourstable_c.specs.Returned.{Returns, Tells};
 
+use crate::held::Held;
+use crate::place::Place;
 use crate::place_exports::close_where;
-use c_numbers::{Answer, Told, job_of};
-use c_place::{Held, Place};
-use c_task::{OwnersNumbers, learn, look, look_at};
+use c_calls::clerks::{OwnersNumbers, learn, look, look_at};
+use c_calls::{Answer, AnswerDetails, job_of};
 use clerk::Clerk;
 use std::alloc::Global;
 
@@ -44,7 +44,7 @@ pub extern "C" fn hs_clerk_learn(
     alloc: Global,
     place: &mut Place,
     assignment: &[u8],
-    told: &mut Told,
+    told: &mut AnswerDetails,
 ) -> i32
     ensures { OnClerk place.old.value place.new.value (told.new ≡ told.old) result
         (λ job old new. Tells (IsAssignmentLearnt job assignment.now old new) told.old told.new result) }

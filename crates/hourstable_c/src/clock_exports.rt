@@ -3,19 +3,18 @@
 ghost use Rattle.std.specs.Prelude.{◌≡◌, ⊤};
 ghost use Rattle.clocks.specs.TableClocks.{opened, table_answer, after_table_read};
 ghost use Rattle.clocks.specs.TaskClocks.{sample_answer, read_answer};
-ghost use Rattle.c_numbers.specs.declared.answer.Answer.TheVariants.{Done};
-ghost use Rattle.c_numbers.specs.Jobs.{job_of};
-ghost use Rattle.c_numbers.specs.Numbers.{answer_number};
-ghost use Rattle.c_clocks.specs.Evidence.{IsWeighedFor};
-ghost use Rattle.c_clocks.specs.TableClocks.{read_code, read_out};
-ghost use Rattle.c_clocks.specs.TaskClocks.{IsNew, OnTaskClock, IsSampled, IsRead};
+ghost use Rattle.c_calls.specs.declared.answer.Answer.TheVariants.{Done};
+ghost use Rattle.c_calls.specs.Jobs.{job_of};
+ghost use Rattle.c_calls.specs.AnswerNumbers.{answer_number};
+ghost use Rattle.c_calls.specs.ClockEvidence.{IsWeighedFor};
+ghost use Rattle.c_calls.specs.TableClocks.{read_code, read_out};
+ghost use Rattle.c_calls.specs.TaskClocks.{IsNew, OnTaskClock, IsSampled, IsRead};
 ghost use Rattle.hourstable_c.specs.Returned.{Returns};
 
-use c_clocks::{
-    evidence, new_task_clock, open_table_clock, read_table_clock, read_task_clock,
+use c_calls::{
+    PolicyNumbers, evidence, new_task_clock, open_table_clock, read_table_clock, read_task_clock,
     sample_task_clock,
 };
-use c_table::PolicyNumbers;
 use clocks::{TableClock, TaskClockNumbers};
 use std::alloc::Global;
 

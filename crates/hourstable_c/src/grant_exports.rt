@@ -1,11 +1,11 @@
 //! Exports for what grants say.
 
-ghost use Rattle.c_numbers.specs.Jobs.{job_of};
-ghost use Rattle.c_numbers.specs.Outputs.{output};
-ghost use Rattle.c_task.specs.GrantNumbers.{IsGrantRead};
+ghost use Rattle.c_calls.specs.Jobs.{job_of};
+ghost use Rattle.c_calls.specs.Outputs.{output};
+ghost use Rattle.c_calls.specs.Grants.{IsGrantRead};
 ghost use Rattle.hourstable_c.specs.Returned.{Returns};
 
-use c_task::{GrantNumbers, read_grant};
+use c_calls::{GrantNumbers, read_grant};
 use std::alloc::Global;
 
 /// Decodes a grant of a job, and writes its numbers to `out` and the boundaries of its ranges to

@@ -2,17 +2,18 @@
 
 ghost use Rattle.std.specs.Prelude.{◌≡◌};
 ghost use Rattle.lease_table.specs.KeptValues.{kept_of};
-ghost use Rattle.c_numbers.specs.Jobs.{job_of};
-ghost use Rattle.c_numbers.specs.Outputs.{output};
-ghost use Rattle.c_table.specs.Saving.{IsSaved, ahead};
-ghost use Rattle.c_table.specs.Texts.{IsKeptGiven};
+ghost use Rattle.c_calls.specs.Jobs.{job_of};
+ghost use Rattle.c_calls.specs.Outputs.{output};
+ghost use Rattle.c_calls.specs.tables.Saving.{IsSaved, ahead};
+ghost use Rattle.c_calls.specs.tables.Texts.{IsKeptGiven};
 ghost use Rattle.hourstable_c.specs.Opened.{IsRestoration, IsRestoredAt};
 ghost use Rattle.hourstable_c.specs.Places.{OnTable};
 ghost use Rattle.hourstable_c.specs.Returned.{Returns};
 
-use c_numbers::{Answer, Told, job_of};
-use c_place::{Held, Place};
-use c_table::{Ahead, PolicyNumbers, kept, restore, save};
+use crate::held::Held;
+use crate::place::Place;
+use c_calls::tables::{Ahead, kept, restore, save};
+use c_calls::{Answer, AnswerDetails, PolicyNumbers, job_of};
 use std::alloc::Global;
 use wire::JobName;
 
@@ -82,7 +83,7 @@ fn restore_held(
     job: JobName,
     policy: &PolicyNumbers,
     bytes: &[u8],
-    told: &mut Told,
+    told: &mut AnswerDetails,
 ) -> i32
     ensures { IsRestoration job policy.now bytes.now held.old held.new told.old told.new result }
 {
@@ -104,7 +105,7 @@ pub extern "C" fn hs_table_restore(
     job: &[u8],
     policy: &PolicyNumbers,
     kept: &[u8],
-    told: &mut Told,
+    told: &mut AnswerDetails,
 ) -> i32
     ensures { IsRestoredAt (job_of job.now) policy.now kept.now place.old.value place.new.value told.old told.new result }
 {

@@ -1,6 +1,7 @@
 //! Hourstable for callers in C: `include/hourstable.h` documents each function.
 //!
-//! Each function borrows what a place holds, makes a call of a crate below on it, and returns the
+//! A [`Place`](place::Place) is the address of a value that a caller keeps, with the right to use
+//! it. Each function borrows what a place holds, makes a call of `c_calls` on it, and returns the
 //! code of the answer. A place that holds something else is unchanged.
 #![tactic(auto)]
 
@@ -9,8 +10,11 @@ mod assignment_exports;
 mod clerk_exports;
 mod clock_exports;
 mod grant_exports;
+mod held;
 mod keeping_exports;
 mod load_exports;
+mod parts;
+mod place;
 mod place_exports;
 mod process_exports;
 mod session_exports;

@@ -2,20 +2,21 @@
 
 ghost use Rattle.std.specs.Prelude.{◌≡◌, []};
 ghost use Rattle.load_ledger.specs.Books.{book_of};
-ghost use Rattle.c_numbers.specs.Jobs.{job_of};
-ghost use Rattle.c_numbers.specs.Outputs.{output};
-ghost use Rattle.c_loads.specs.Gathers.{AreRecordsGathered, IsTotalTold};
-ghost use Rattle.c_loads.specs.Records.{task_of};
-ghost use Rattle.c_place.specs.declared.held.Held.TheVariants as held;
+ghost use Rattle.c_calls.specs.Arguments.{task_of};
+ghost use Rattle.c_calls.specs.Jobs.{job_of};
+ghost use Rattle.c_calls.specs.Outputs.{output};
+ghost use Rattle.c_calls.specs.Gathers.{AreRecordsGathered, IsTotalTold};
+ghost use Rattle.hourstable_c.specs.declared.held.Held.TheVariants as held;
 ghost use Rattle.hourstable_c.specs.Kinds.{is_load_book};
 ghost use Rattle.hourstable_c.specs.Opened.{AtPlace, IsClosed, IsOpened};
 ghost use Rattle.hourstable_c.specs.Places.{OnLoadBook};
 ghost use Rattle.hourstable_c.specs.Returned.{Returns};
 
+use crate::held::Held;
+use crate::place::Place;
 use crate::place_exports::close_where;
-use c_loads::{RecordNumbers, gather, total};
-use c_numbers::{Answer, job_of};
-use c_place::{Held, Place};
+use c_calls::loads::{RecordNumbers, gather, total};
+use c_calls::{Answer, job_of};
 use load_ledger::LoadBook;
 use std::alloc::Global;
 

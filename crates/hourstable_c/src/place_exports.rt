@@ -4,8 +4,9 @@ ghost use Rattle.std.specs.Prelude.{◌≡◌, IfOk, None};
 ghost use Rattle.slice_ranges.specs.Hash.{slice_key};
 ghost use Rattle.hourstable_c.specs.Opened.{IsClosed, IsMade};
 
-use c_numbers::Answer;
-use c_place::{Held, Place};
+use crate::held::Held;
+use crate::place::Place;
+use c_calls::Answer;
 use slice_ranges::slice_key;
 use std::alloc::{AllocError, Global};
 use std::mem::replace;

@@ -1,22 +1,25 @@
 //! Exports for a task's processes, what it holds and what it does next.
 
 ghost use Rattle.std.specs.Prelude.{◌≡◌, ◌-◌};
-ghost use Rattle.c_numbers.specs.Jobs.{job_of};
-ghost use Rattle.c_numbers.specs.Outputs.{output};
-ghost use Rattle.c_place.specs.declared.held.Held.TheVariants as held;
-ghost use Rattle.c_table.specs.Terms.{phase_of};
-ghost use Rattle.c_task.specs.PermittedKeys.{ArePermittedGiven};
-ghost use Rattle.c_task.specs.Processes.{IsHeldTold, IsNextTold, IsNoteFor, note_for, opened_anew};
-ghost use Rattle.c_task.specs.Releases.{kind_of};
+ghost use Rattle.c_calls.specs.Arguments.{kind_of};
+ghost use Rattle.c_calls.specs.Jobs.{job_of};
+ghost use Rattle.c_calls.specs.Outputs.{output};
+ghost use Rattle.hourstable_c.specs.declared.held.Held.TheVariants as held;
+ghost use Rattle.c_calls.specs.tables.Terms.{phase_of};
+ghost use Rattle.c_calls.specs.slicelets.PermittedKeys.{ArePermittedGiven};
+ghost use Rattle.c_calls.specs.slicelets.Processes.{IsHeldTold, IsNextTold, IsNoteFor, note_for, resumed_slicelet};
 ghost use Rattle.hourstable_c.specs.Opened.{AtPlace, IsOpened, with_job};
 ghost use Rattle.hourstable_c.specs.Places.{OnSlicelet};
 ghost use Rattle.hourstable_c.specs.Returned.{Returns};
 ghost use Rattle.slicelet.specs.declared.slicelet.TheConstants.{CALLS};
 
-use c_numbers::{Answer, job_of};
-use c_place::{Held, Place};
-use c_table::PhaseNumbers;
-use c_task::{HeldNumbers, calls_left, ended_note, held, next, permitted, resume_slicelet};
+use crate::held::Held;
+use crate::place::Place;
+use c_calls::slicelets::{
+    HeldNumbers, calls_left, ended_note, held, next, permitted, resume_slicelet,
+};
+use c_calls::tables::PhaseNumbers;
+use c_calls::{Answer, job_of};
 use std::alloc::Global;
 
 /// Creates the slicelet of a task's new process in `place`, destroying what was there.
@@ -28,7 +31,7 @@ pub extern "C" fn hs_slicelet_resume(
     task: u64,
     life: u32,
 ) -> i32
-    ensures { AtPlace (IsOpened (λ p. held.Slicelet p.0 p.1) (with_job (job_of job.now) (opened_anew task life)))
+    ensures { AtPlace (IsOpened (λ p. held.Slicelet p.0 p.1) (with_job (job_of job.now) (resumed_slicelet task life)))
         place.old.value place.new.value result }
 {
     let Some(held) = place.held() else {

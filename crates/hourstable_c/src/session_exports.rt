@@ -1,18 +1,18 @@
 //! Exports for sessions.
 
 ghost use Rattle.std.specs.Prelude.{◌≡◌};
-ghost use Rattle.c_numbers.specs.Outputs.{IsGivenUnlessMemory, output};
-ghost use Rattle.c_session.specs.Conversations.{IsContinued, last_text};
+ghost use Rattle.c_calls.specs.Outputs.{IsGivenUnlessMemory, output};
+ghost use Rattle.c_calls.specs.Conversations.{IsContinued, last_text};
 ghost use Rattle.hourstable_c.specs.Kinds.{is_session};
 ghost use Rattle.hourstable_c.specs.Opened.{AtPlace, IsClosed};
 ghost use Rattle.hourstable_c.specs.Places.{OnSession};
 ghost use Rattle.hourstable_c.specs.Returned.{Returns};
 ghost use Rattle.hourstable_c.specs.Sessions.{IsSessionOpened, form_of};
 
+use crate::held::Held;
+use crate::place::Place;
 use crate::place_exports::close_where;
-use c_numbers::Answer;
-use c_place::{Held, Place};
-use c_session::Conversation;
+use c_calls::{Answer, Conversation};
 use session::ReplyForm;
 use std::alloc::Global;
 

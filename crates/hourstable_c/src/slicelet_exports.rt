@@ -1,32 +1,34 @@
 //! Exports for slicelets.
 
 ghost use Rattle.std.specs.Prelude.{◌≡◌, ⊤};
-ghost use Rattle.c_numbers.specs.Jobs.{job_of};
-ghost use Rattle.c_numbers.specs.Outputs.{output};
-ghost use Rattle.c_place.specs.declared.held.Held.TheVariants as held;
-ghost use Rattle.c_task.specs.Keys.{rule_for, slice_key_of, taken_by};
-ghost use Rattle.c_task.specs.KeyHandles.{check_answer, handle_of, held_answer, held_numbers};
-ghost use Rattle.c_task.specs.Leases.{IsServed};
-ghost use Rattle.c_task.specs.Releases.{IsReleased, kind_of};
-ghost use Rattle.c_task.specs.SliceKeys.{IsServedAt, held_at, numbers_at};
-ghost use Rattle.c_task.specs.SliceletCalls.{IsGrantHeard, IsStarted, opened};
+ghost use Rattle.c_calls.specs.Arguments.{kind_of, slice_key_of};
+ghost use Rattle.c_calls.specs.Jobs.{job_of};
+ghost use Rattle.c_calls.specs.Outputs.{output};
+ghost use Rattle.hourstable_c.specs.declared.held.Held.TheVariants as held;
+ghost use Rattle.c_calls.specs.slicelets.Keys.{rule_for, taken_by};
+ghost use Rattle.c_calls.specs.slicelets.KeyHandles.{check_answer, handle_of, hold_answer, hold_numbers};
+ghost use Rattle.c_calls.specs.slicelets.Leases.{IsServed};
+ghost use Rattle.c_calls.specs.slicelets.Releases.{IsReleased};
+ghost use Rattle.c_calls.specs.slicelets.SliceKeys.{IsServedAt, hold_answer_at, hold_numbers_at};
+ghost use Rattle.c_calls.specs.slicelets.Calls.{IsGrantHeard, IsStarted, opened_slicelet};
 ghost use Rattle.hourstable_c.specs.Kinds.{is_slicelet};
 ghost use Rattle.hourstable_c.specs.Opened.{AtPlace, IsClosed, IsOpened, with_job};
 ghost use Rattle.hourstable_c.specs.Places.{OnSlicelet};
 ghost use Rattle.hourstable_c.specs.Returned.{Returns, Tells};
 
+use crate::held::Held;
+use crate::place::Place;
 use crate::place_exports::close_where;
-use c_numbers::{Answer, Told, job_of};
-use c_place::{Held, Place};
-use c_task::{
+use c_calls::slicelets::{
     HandleNumbers, check, hear, hold, hold_at, open_slicelet, release, serve, serve_at, start,
 };
+use c_calls::{Answer, AnswerDetails, job_of};
 use std::alloc::Global;
 
 /// Creates a new slicelet of a job in `place`, destroying what was there.
 #[unsafe(no_mangle)]
 pub extern "C" fn hs_slicelet_open(alloc: Global, place: &mut Place, job: &[u8], task: u64) -> i32
-    ensures { AtPlace (IsOpened (λ p. held.Slicelet p.0 p.1) (with_job (job_of job.now) (opened task))) place.old.value place.new.value result }
+    ensures { AtPlace (IsOpened (λ p. held.Slicelet p.0 p.1) (with_job (job_of job.now) (opened_slicelet task))) place.old.value place.new.value result }
 {
     let Some(held) = place.held() else {
         return Answer::OtherPlace.number();
@@ -67,7 +69,7 @@ pub extern "C" fn hs_slicelet_hear(
     place: &mut Place,
     grant: &[u8],
     at: u64,
-    told: &mut Told,
+    told: &mut AnswerDetails,
 ) -> i32
     ensures { OnSlicelet place.old.value place.new.value (told.new ≡ told.old) result
         (λ job old new. Tells (IsGrantHeard job grant.now at old new) told.old told.new result) }
@@ -109,7 +111,12 @@ pub extern "C" fn hs_slicelet_release(
 /// Returns whether the task may serve a key; `told` has the lease under which it may.
 #[unsafe(no_mangle)]
 #[tactic(auto, using(crate::proofs::Returning::tells))]
-pub extern "C" fn hs_slicelet_serve(place: &mut Place, key: &[u8], at: u64, told: &mut Told) -> i32
+pub extern "C" fn hs_slicelet_serve(
+    place: &mut Place,
+    key: &[u8],
+    at: u64,
+    told: &mut AnswerDetails,
+) -> i32
     ensures { OnSlicelet place.old.value place.new.value (told.new ≡ told.old) result
         (λ job old new. (new ≡ old) × Tells (IsServed (rule_for key.now old at) old) told.old told.new result) }
 {
@@ -129,7 +136,7 @@ pub extern "C" fn hs_slicelet_serve_at(
     place: &mut Place,
     slice_key: u64,
     at: u64,
-    told: &mut Told,
+    told: &mut AnswerDetails,
 ) -> i32
     ensures { OnSlicelet place.old.value place.new.value (told.new ≡ told.old) result
         (λ job old new. (new ≡ old) × Tells (IsServedAt (slice_key_of slice_key) old at) told.old told.new result) }
@@ -151,12 +158,12 @@ pub extern "C" fn hs_slicelet_hold(
     key: &[u8],
     at: u64,
     out: &mut HandleNumbers,
-    told: &mut Told,
+    told: &mut AnswerDetails,
 ) -> i32
     ensures { OnSlicelet place.old.value place.new.value ((told.new ≡ told.old) × (out.new ≡ out.old)) result
         (λ job old new. (new ≡ old)
-        × (out.new ≡ held_numbers (taken_by (rule_for key.now old at) key.now old) out.old)
-        × Tells (λ answer. answer ≡ held_answer (taken_by (rule_for key.now old at) key.now old)) told.old told.new result) }
+        × (out.new ≡ hold_numbers (taken_by (rule_for key.now old at) key.now old) out.old)
+        × Tells (λ answer. answer ≡ hold_answer (taken_by (rule_for key.now old at) key.now old)) told.old told.new result) }
 {
     let Some(held) = place.read() else {
         return Answer::OtherPlace.number();
@@ -175,12 +182,12 @@ pub extern "C" fn hs_slicelet_hold_at(
     slice_key: u64,
     at: u64,
     out: &mut HandleNumbers,
-    told: &mut Told,
+    told: &mut AnswerDetails,
 ) -> i32
     ensures { OnSlicelet place.old.value place.new.value ((told.new ≡ told.old) × (out.new ≡ out.old)) result
         (λ job old new. (new ≡ old)
-        × (out.new ≡ numbers_at (slice_key_of slice_key) old at out.old)
-        × Tells (λ answer. answer ≡ held_at (slice_key_of slice_key) old at) told.old told.new result) }
+        × (out.new ≡ hold_numbers_at (slice_key_of slice_key) old at out.old)
+        × Tells (λ answer. answer ≡ hold_answer_at (slice_key_of slice_key) old at) told.old told.new result) }
 {
     let Some(held) = place.read() else {
         return Answer::OtherPlace.number();

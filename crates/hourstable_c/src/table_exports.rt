@@ -6,29 +6,31 @@ ghost use Rattle.wire.specs.Notes.{note_of};
 ghost use Rattle.wire.specs.Refusals.{or_wrong};
 ghost use Rattle.lease_table.specs.Steps.{renew_step, commit_step, standing_after_restart};
 ghost use Rattle.lease_table.specs.Tables.{phase_of};
-ghost use Rattle.c_numbers.specs.declared.answer.Answer.TheVariants.{Done};
-ghost use Rattle.c_numbers.specs.Jobs.{job_of};
-ghost use Rattle.c_numbers.specs.Numbers.{answer_number};
-ghost use Rattle.c_numbers.specs.Outputs.{IsGivenUnlessMemory, output};
-ghost use Rattle.c_numbers.specs.Reading.{IsReadFrom};
-ghost use Rattle.c_place.specs.declared.held.Held.TheVariants as held;
-ghost use Rattle.c_table.specs.Calls.{IsCommitStep, IsFreed, IsProposed, IsTableStep, IsTermTaken, assigner_of};
-ghost use Rattle.c_table.specs.PolicyNumbers.{table_of};
-ghost use Rattle.c_table.specs.Rows.{row_numbers};
-ghost use Rattle.c_table.specs.Terms.{phase_numbers, term_given};
-ghost use Rattle.c_table.specs.Texts.{IsCommittedGiven, IsGranted, life_of, task_of};
+ghost use Rattle.c_calls.specs.declared.answer.Answer.TheVariants.{Done};
+ghost use Rattle.c_calls.specs.Arguments.{nonzero, task_of};
+ghost use Rattle.c_calls.specs.Jobs.{job_of};
+ghost use Rattle.c_calls.specs.AnswerNumbers.{answer_number};
+ghost use Rattle.c_calls.specs.Outputs.{IsGivenUnlessMemory, output};
+ghost use Rattle.c_calls.specs.Reading.{IsReadFrom};
+ghost use Rattle.hourstable_c.specs.declared.held.Held.TheVariants as held;
+ghost use Rattle.c_calls.specs.tables.Calls.{IsCommitStep, IsFreed, IsProposed, IsTableStep, IsTermTaken};
+ghost use Rattle.c_calls.specs.PolicyNumbers.{table_of};
+ghost use Rattle.c_calls.specs.tables.Rows.{row_numbers};
+ghost use Rattle.c_calls.specs.tables.Terms.{phase_numbers, term_given};
+ghost use Rattle.c_calls.specs.tables.Texts.{IsCommittedGiven, IsGranted};
 ghost use Rattle.hourstable_c.specs.Kinds.{is_table};
 ghost use Rattle.hourstable_c.specs.Opened.{AtPlace, IsClosed, IsOpened, with_job};
 ghost use Rattle.hourstable_c.specs.Places.{OnTable};
 ghost use Rattle.hourstable_c.specs.Returned.{Returns, Tells};
 
+use crate::held::Held;
+use crate::place::Place;
 use crate::place_exports::close_where;
-use c_numbers::{Answer, Told, job_of};
-use c_place::{Held, Place};
-use c_table::{
-    PhaseNumbers, PolicyNumbers, RowNumbers, TermNumbers, commit, committed, free, grant,
-    open_table, phase, propose, renew, restart, rows, take,
+use c_calls::tables::{
+    PhaseNumbers, RowNumbers, TermNumbers, commit, committed, free, grant, open_table, phase,
+    propose, renew, restart, rows, take,
 };
+use c_calls::{Answer, AnswerDetails, PolicyNumbers, job_of};
 use std::alloc::Global;
 
 /// Creates a new table of a job in `place`, destroying what was there.
@@ -65,10 +67,10 @@ pub extern "C" fn hs_table_take(
     assigner: u64,
     at: u64,
     out: &mut TermNumbers,
-    told: &mut Told,
+    told: &mut AnswerDetails,
 ) -> i32
     ensures { OnTable place.old.value place.new.value ((told.new ≡ told.old) × (out.new ≡ out.old)) result
-        (λ job old new. Tells (IsTermTaken (assigner_of assigner) at old new out.old out.new) told.old told.new result) }
+        (λ job old new. Tells (IsTermTaken (nonzero assigner) at old new out.old out.new) told.old told.new result) }
 {
     let Some(held) = place.held() else {
         return Answer::OtherPlace.number();
@@ -87,7 +89,7 @@ pub extern "C" fn hs_table_renew(
     number: u64,
     at: u64,
     out: &mut TermNumbers,
-    told: &mut Told,
+    told: &mut AnswerDetails,
 ) -> i32
     ensures { OnTable place.old.value place.new.value ((told.new ≡ told.old) × (out.new ≡ out.old)) result
         (λ job old new. (out.new ≡ term_given (renew_step old number at) out.old)
@@ -111,7 +113,7 @@ pub extern "C" fn hs_table_propose(
     number: u64,
     assignment: &[u8],
     at: u64,
-    told: &mut Told,
+    told: &mut AnswerDetails,
 ) -> i32
     ensures { OnTable place.old.value place.new.value (told.new ≡ told.old) result
         (λ job old new. Tells (λ answer. IsReadFrom job (codes "assignment") assignment_of assignment.now (IsProposed number at old new answer))
@@ -129,7 +131,12 @@ pub extern "C" fn hs_table_propose(
 /// Commits the proposed assignment under the term with this number.
 #[unsafe(no_mangle)]
 #[tactic(auto, using(crate::proofs::Returning::tells))]
-pub extern "C" fn hs_table_commit(place: &mut Place, number: u64, at: u64, told: &mut Told) -> i32
+pub extern "C" fn hs_table_commit(
+    place: &mut Place,
+    number: u64,
+    at: u64,
+    told: &mut AnswerDetails,
+) -> i32
     ensures { OnTable place.old.value place.new.value (told.new ≡ told.old) result
         (λ job old new. Tells (IsCommitStep (commit_step old number at) old new) told.old told.new result) }
 {
@@ -155,7 +162,7 @@ pub extern "C" fn hs_table_grant(
     needed: &mut usize,
 ) -> i32
     ensures { OnTable place.old.value place.new.value (output out.new needed.new ≡ output out.old needed.old) result
-        (λ job old new. Returns (IsGranted job (task_of task) (life_of life) at old new (output out.old needed.old) (output out.new needed.new)) result) }
+        (λ job old new. Returns (IsGranted job (task_of task) (nonzero life) at old new (output out.old needed.old) (output out.new needed.new)) result) }
 {
     let Some(held) = place.held() else {
         return Answer::OtherPlace.number();
@@ -177,7 +184,7 @@ pub extern "C" fn hs_table_free(
     note: &[u8],
     at: u64,
     freed: &mut u64,
-    told: &mut Told,
+    told: &mut AnswerDetails,
 ) -> i32
     ensures { OnTable place.old.value place.new.value ((told.new ≡ told.old) × (freed.new ≡ freed.old)) result
         (λ job old new. Tells (λ answer. IsReadFrom job (codes "note") (λ numerals d. or_wrong (note_of numerals d)) note.now (IsFreed at old new freed.old freed.new answer))

@@ -1,11 +1,11 @@
 //! A task from open to close, through the functions that C calls.
 
+use crate::place::Place;
 use crate::place_exports::{hs_place_free, hs_place_new};
 use crate::slicelet_exports::{
     hs_slicelet_close, hs_slicelet_hear, hs_slicelet_open, hs_slicelet_serve, hs_slicelet_start,
 };
-use c_numbers::Told;
-use c_place::Place;
+use c_calls::AnswerDetails;
 use std::alloc::Global;
 use std::test::Fail;
 
@@ -15,7 +15,7 @@ const GRANT: &[u8] =
     "ranges":[[0,9223372036854775808]],"task":2,"until":10},"version":1}"#;
 
 // Returns the codes of the calls, in order.
-fn codes_of(alloc: Global, place: &mut Place, told: &mut Told) -> [i32; 6] {
+fn codes_of(alloc: Global, place: &mut Place, told: &mut AnswerDetails) -> [i32; 6] {
     let opened = hs_slicelet_open(alloc, place, b"", 2);
     let started = hs_slicelet_start(place, 1, 3);
     let heard = hs_slicelet_hear(alloc, place, GRANT, 5, told);
@@ -27,7 +27,7 @@ fn codes_of(alloc: Global, place: &mut Place, told: &mut Told) -> [i32; 6] {
 
 #[test]
 fn serves_a_key_until_the_lease_ends(rt: HostRuntime) -> Result<(), Fail> {
-    let mut told = Told {
+    let mut told = AnswerDetails {
         number: 0,
         generation: 0,
         kind: 0,

@@ -3,8 +3,8 @@
 ghost use Rattle.std.specs.Prelude.{◌≡◌, IsTrue, ◌↔◌};
 ghost use Rattle.job_clocks.specs.Evidence.{term_of, sent_at, IsAhead};
 
+use lease_rule::Kind;
 use lease_table::{Grant, Policy};
-use policy_rules::Kind;
 
 // The term of the leases of a kind, in ticks.
 fn term_of(policy: Policy, kind: Kind) -> u64

@@ -1,7 +1,7 @@
 //! Why the lease table refuses a call.
 
 use assignment::TaskId;
-use policy_rules::Kind;
+use lease_rule::Kind;
 
 /// Why the lease table refuses a call, in the order of the checks.
 #[derive(Clone, Copy, Debug, PartialEq, Eq)]

@@ -9,7 +9,7 @@ ghost use Rattle.lease_table.specs.internals.Holders.{holder_of, holder_in, same
 use crate::values::{ReleaseNote, Row};
 use assignment::TaskId;
 use indexmap::IndexMap;
-use policy_rules::Kind;
+use lease_rule::Kind;
 use std::alloc::{AllocError, Global};
 
 /// Who holds the leases that one note may close: a task, in one of its lives, with one kind.

@@ -2,7 +2,7 @@
 
 ghost use Rattle.std.specs.Prelude.{◌≡◌, ℕ, ◌+◌, ◌≤◌, ◌<◌, ◌&&◌, ◌⊎◌, ◌↔◌, List, [], ◌∷◌, ◌++◌, Some, None, Ok, Err, true, is_ok, is_some, slice_get, Contains, AllPairs};
 ghost use Rattle.slice_ranges.specs.Sets.{has};
-ghost use Rattle.policy_rules.specs.declared.lease.Kind.TheVariants.{Guard, Bridge};
+ghost use Rattle.lease_rule.specs.declared.lease.Kind.TheVariants.{Guard, Bridge};
 ghost use Rattle.assignment.specs.Slices.{Slicing};
 ghost use Rattle.assignment.specs.Owners.{owns};
 ghost use Rattle.lease_table.specs.declared.call.TableCall.{TableCall};

@@ -19,8 +19,8 @@ use crate::publication::Publication;
 use crate::rows::Rows;
 use crate::values::{Grant, JobTerm, Phase, ReleaseNote, Row};
 use assignment::{Assignment, Slice, TaskId};
+use lease_rule::{Kind, Lease};
 use machines::Trouble;
-use policy_rules::{Kind, Lease};
 use std::alloc::{AllocError, Global};
 use std::marker::Model;
 

@@ -3,10 +3,10 @@ use Rattle.std.proofs.Common.{◌≡◌, ◌∙◌, ℕ, ◌≤◌, Bool, true, 
 use Rattle.std.specs.Prelude.{Some, Ok, ◌&&◌, ◌||◌}
 use Rattle.machines.specs.Refusals.{first_of}
 use Rattle.slice_ranges.specs.Sets.{has}
-use Rattle.policy_rules.specs.declared.lease.Kind.{Kind}
-use Rattle.policy_rules.specs.declared.lease.Kind.TheVariants.{Guard, Bridge}
-use Rattle.policy_rules.specs.Leases.{is_live}
-use Rattle.policy_rules.proofs.Permitting.{permitted_live}
+use Rattle.lease_rule.specs.declared.lease.Kind.{Kind}
+use Rattle.lease_rule.specs.declared.lease.Kind.TheVariants.{Guard, Bridge}
+use Rattle.lease_rule.specs.Leases.{is_live}
+use Rattle.lease_rule.proofs.Permitting.{permitted_live}
 use Rattle.lease_table.specs.declared.values.Grant.{Grant}
 use Rattle.slicelet.specs.declared.call.SliceletCall.TheVariants.{Start, Hear}
 use Rattle.slicelet.specs.Rules.{covers_key}

@@ -9,10 +9,11 @@ ghost use Rattle.std.specs.Prelude.{◌≡◌, ◌/◌, ℕ, IfOk, nat_lt, nat_l
 ghost use Rattle.slice_ranges.specs.declared.key.TheConstants.{KEYS};
 ghost use Rattle.assignment.specs.Owners.{owns};
 
-use assignment::{Assignment, Listed, Slice, TaskId};
+use assignment::{Assignment, Slice, TaskId};
 use error::{ExampleError, exit_code};
+use lease_rule::{Lease, Verdict};
 use lease_table::{Grant, LeaseTable, Policy};
-use policy_rules::{Lease, Verdict};
+use machines::Listed;
 use slice_ranges::{KEYS, slice_key};
 use slicelet::Slicelet;
 use std::alloc::Global;

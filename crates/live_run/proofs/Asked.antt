@@ -11,7 +11,7 @@ use Rattle.cluster.specs.declared.call.ClusterCall.TheVariants.{Check, Clerk, Ho
 use Rattle.cluster.specs.declared.reply.ClusterReply.{ClusterReply}
 use Rattle.cluster.specs.declared.reply.ClusterReply.TheVariants as told
 use Rattle.machines.specs.declared.event.Event.{Event}
-use Rattle.policy_rules.specs.declared.answer.Verdict.{Verdict}
+use Rattle.lease_rule.specs.declared.answer.Verdict.{Verdict}
 use Rattle.slicelet.specs.Rules.{covers_key}
 use Rattle.slicelet.specs.States.{rule_in_state}
 use Rattle.slicelet.specs.Steps.{event_step}
@@ -21,6 +21,7 @@ use Rattle.shared_objects.specs.declared.error.Recorded.{Recorded}
 use Rattle.live_run.specs.internals.Crews.{TellsVerdict}
 use Rattle.shared_objects.specs.Draws.{CanDraw}
 use Rattle.shared_objects.specs.Calls.{AsksFor, WasSpent}
+use Rattle.shared_objects.specs.Objects.{SharedObject}
 use Rattle.live_run.specs.Reports.{asked_key, asked_keys, is_serve, job_keys, serves, task_keys, worker_keys, AreServesFrom}
 
 module _ {M E R F : Type 0} (step : M → E → Result (M × R) F) (lock : Lock M) (old_draws new_draws : TicketPassView) {T : Type 0} (answers : M → ℕ → T → Type 0) (recorded : ℕ → ClusterCall) (told : T → ClusterReply) where
@@ -32,8 +33,8 @@ module _ {M E R F : Type 0} (step : M → E → Result (M × R) F) (lock : Lock 
       → asked.call.step ≡ recorded asked.call.ticket
   asked_step old asked new w = w.1.called
 
-pub asked_verdict : (slicelet : Lock SliceletState) (old_draws new_draws : TicketPassView) (key : ℕ) (recorded : ℕ → ClusterCall) (old : PassView SliceletState (Event SliceletCall)) (asked : Recorded Verdict) (new : PassView SliceletState (Event SliceletCall))
-    → AsksFor event_step slicelet old_draws new_draws (λ machine number answer. answer ≡ rule_in_state (covers_key key) machine number) recorded told.Verdict old asked new
+pub asked_verdict : (slicelet : SharedObject SliceletState) (old_draws new_draws : TicketPassView) (key : ℕ) (recorded : ℕ → ClusterCall) (old : PassView SliceletState (Event SliceletCall)) (asked : Recorded Verdict) (new : PassView SliceletState (Event SliceletCall))
+    → AsksFor event_step slicelet.lock old_draws new_draws (λ machine number answer. answer ≡ rule_in_state (covers_key key) machine number) recorded told.Verdict old asked new
     → TellsVerdict slicelet old_draws new_draws key old asked.call new
 asked_verdict slicelet old_draws new_draws key recorded old asked new w = (asked.answer, w.1.told, w.0)
 

@@ -10,6 +10,7 @@ use Rattle.history_lock.specs.Closing.{has_lane}
 use Rattle.history_lock.specs.Histories.{IsLegal}
 use Rattle.slicelet.specs.Steps.{event_step}
 use Rattle.slicelet.specs.States.{SliceletState, opening}
+use Rattle.shared_objects.specs.Objects.{SharedObject}
 use Rattle.tickets.specs.Tickets.{TicketView, TicketPassView, DrawsFrom, new_ticket_pass}
 use Rattle.live_run.specs.declared.crew.CrewLeft.{CrewLeft}
 use Rattle.live_run.specs.declared.crew.Gathered.{Gathered}
@@ -62,12 +63,12 @@ pub none_missing : {M E : Type 0} (count lanes : ℕ) (passes : List (PassView M
 none_missing count lanes passes are counted many missing =
     absurd (let f : false ≡ true = never_missing lanes passes are (sym counted ∙ many) missing in cc)
 
-module _ (slicelet : Lock SliceletState) (ticket : TicketView) where
+module _ (slicelet : SharedObject SliceletState) (ticket : TicketView) where
   -- each of the threads of a task has passes of its lock and new ones of the ticket
-  pub members_all : (lane : ℕ) (members : List Member) → AreMembersFrom slicelet ticket lane members → All (λ (m : Member). IsPassOf slicelet m.pass × (m.draws ≡ new_ticket_pass ticket)) members
+  pub members_all : (lane : ℕ) (members : List Member) → AreMembersFrom slicelet ticket lane members → All (λ (m : Member). IsPassOf slicelet.lock m.pass × (m.draws ≡ new_ticket_pass ticket)) members
   members_all lane [] are = λ k d below. let b : k < 0 = below in absurd (omega (arith, b))
   members_all lane (member ∷ members) are =
-      let Is : Member → Type 0 = λ m. IsPassOf slicelet m.pass × (m.draws ≡ new_ticket_pass ticket) in
+      let Is : Member → Type 0 = λ m. IsPassOf slicelet.lock m.pass × (m.draws ≡ new_ticket_pass ticket) in
       let one : Is member = (are.0.own, are.0.draws) in All-cons Is member members one (members_all (lane + 1) members are.1)
 
   pub members_push : (lane : ℕ) (members : List Member) (member : Member) → AreMembersFrom slicelet ticket lane members → IsMember slicelet ticket (lane + length members) member
@@ -89,7 +90,7 @@ module _ (slicelet : Lock SliceletState) (ticket : TicketView) where
   )
 
   -- a thread with new passes
-  pub new_member : (lane n : ℕ) (member : Member) → lane ≡ n → member.pass ≡ new_pass slicelet lane → member.draws ≡ new_ticket_pass ticket → IsMember slicelet ticket n member
+  pub new_member : (lane n : ℕ) (member : Member) → lane ≡ n → member.pass ≡ new_pass slicelet.lock lane → member.draws ≡ new_ticket_pass ticket → IsMember slicelet ticket n member
   new_member lane n member same pass draws = record {
     own = rw pass (refl, refl);
     of_lane = ap (λ p. p.lane) pass ∙ same;
@@ -97,12 +98,12 @@ module _ (slicelet : Lock SliceletState) (ticket : TicketView) where
   }
 
   -- the task's own thread, which asks for no key
-  pub gathered_first : (asks : ℕ) (gathered : Gathered) (pass : PassView SliceletState (Event SliceletCall)) (draw : TicketPassView) → IsPassOf slicelet pass → pass.lane ≡ 0 → DrawsFrom ticket draw
+  pub gathered_first : (asks : ℕ) (gathered : Gathered) (pass : PassView SliceletState (Event SliceletCall)) (draw : TicketPassView) → IsPassOf slicelet.lock pass → pass.lane ≡ 0 → DrawsFrom ticket draw
       → serves gathered.records.items ≡ 0 → gathered.passes.items ≡ pass ∷ [] → gathered.draws.items ≡ draw ∷ [] → IsGathered slicelet ticket asks gathered
   gathered_first asks gathered pass draw own lane drawn quiet passes draws =
       let one : vec_len gathered.passes ≡ 1 = gathered.passes.ok.0 ∙ ap length passes in
       let Draws : TicketPassView → Type 0 = λ pass. DrawsFrom ticket pass in record {
-        own = subst (λ ps. ArePassesOf slicelet ps) (sym passes) (own, tt);
+        own = subst (λ ps. ArePassesOf slicelet.lock ps) (sym passes) (own, tt);
         lanes = subst (λ ps. AreOfLanesFrom 0 ps) (sym passes) (lane, tt);
         draws = subst (λ ps. All Draws ps) (sym draws) (All-cons Draws draw [] drawn (λ k d below. let b : k < 0 = below in absurd (omega (arith, b))));
         even = gathered.draws.ok.0 ∙ (ap length draws ∙ sym one);
@@ -117,11 +118,11 @@ module _ (slicelet : Lock SliceletState) (ticket : TicketView) where
       let more : vec_len after.passes ≡ vec_len before.passes + 1 = omega (arith, after.passes.ok.0, before.passes.ok.0, ap length passes, length-append before.passes.items (worked.pass ∷ [])) in
       let drew : vec_len after.draws ≡ vec_len before.draws + 1 = omega (arith, after.draws.ok.0, before.draws.ok.0, ap length draws, length-append before.draws.items (worked.draws ∷ [])) in
       let at : worked.pass.lane ≡ 0 + length before.passes.items = omega (arith, w.of_lane, before.passes.ok.0) in
-      let task = slicelet.opened.machine.task in let workers = g.asked.0 in
+      let task = slicelet.number in let workers = g.asked.0 in
       let own = asked_by_worker task 0 worked.records.items w.asked ∙ ap (λ n. worker_keys task 0 n) (sym worked.records.ok.0 ∙ w.many) in
       let both = ap asked_keys records ∙ (asked-append before.records.items worked.records.items ∙ (ap (λ ks. ks ++ asked_keys worked.records.items) g.asked.2 ∙ ap (λ ks. task_keys task asks workers ++ ks) own)) in
       let Draws : TicketPassView → Type 0 = λ pass. DrawsFrom ticket pass in record {
-        own = subst (λ ps. ArePassesOf slicelet ps) (sym passes) (passes_push slicelet before.passes.items worked.pass g.own w.own);
+        own = subst (λ ps. ArePassesOf slicelet.lock ps) (sym passes) (passes_push slicelet.lock before.passes.items worked.pass g.own w.own);
         lanes = subst (λ ps. AreOfLanesFrom 0 ps) (sym passes) (lanes_push 0 before.passes.items worked.pass g.lanes at);
         draws = subst (λ ps. All Draws ps) (sym draws) (All-push Draws before.draws.items worked.draws g.draws w.draws);
         even = omega (arith, more, drew, g.even);
@@ -129,8 +130,8 @@ module _ (slicelet : Lock SliceletState) (ticket : TicketView) where
       }
 
   -- what all threads of a task leave
-  pub has_left : (table : Lock Standing) (workers asks task : ℕ) (left : CrewLeft) (gathered : Gathered) → IsGathered slicelet ticket asks gathered → vec_len gathered.passes ≡ workers + 1
-      → slicelet.opened.machine.task ≡ task → IsLegal event_step (opening task) left.history → IsPassOf table left.table → left.table.lane ≡ task + 1 → left.draws ≡ gathered.draws → left.records ≡ gathered.records
+  pub has_left : (table : SharedObject Standing) (workers asks task : ℕ) (left : CrewLeft) (gathered : Gathered) → IsGathered slicelet ticket asks gathered → vec_len gathered.passes ≡ workers + 1
+      → slicelet.number ≡ task → IsLegal event_step (opening task) left.history → IsPassOf table.lock left.table → left.table.lane ≡ task + 1 → left.draws ≡ gathered.draws → left.records ≡ gathered.records
       → HasLeft table ticket workers asks task left
   has_left table workers asks task left gathered g many of_task played own at draws records =
       let Draws : TicketPassView → Type 0 = λ pass. DrawsFrom ticket pass in
@@ -140,5 +141,5 @@ module _ (slicelet : Lock SliceletState) (ticket : TicketView) where
         of_lane = at;
         draws = subst (λ ds. All Draws ds) (sym (ap (λ d. d.items) draws)) g.draws;
         many = ap (λ d. vec_len d) draws ∙ (g.even ∙ many);
-        asked = ap (λ r. asked_keys r.items) records ∙ (g.asked.2 ∙ (ap (λ n. task_keys slicelet.opened.machine.task asks n) same ∙ ap (λ n. task_keys n asks workers) of_task));
+        asked = ap (λ r. asked_keys r.items) records ∙ (g.asked.2 ∙ (ap (λ n. task_keys slicelet.number asks n) same ∙ ap (λ n. task_keys n asks workers) of_task));
       }

@@ -1,5 +1,5 @@
 -- Calls leave a pass in its lane.
-use Rattle.std.proofs.Common.{◌≡◌, ℕ, ◌∙◌, ⊎_elim, ap}
+use Rattle.std.proofs.Common.{◌≡◌, ℕ, ◌∙◌, ap}
 use Rattle.std.specs.Prelude.{Result, Ok, Err, Option, List}
 use Rattle.assignment.specs.Slices.{Slicing}
 use Rattle.machines.specs.declared.event.Event.{Event}
@@ -34,11 +34,11 @@ module _ {M E R F : Type 0} (step : M → E → Result (M × R) F) (lock : Lock 
   shown_lane : (old : PassView M E) (machine : M) (new : PassView M E) → IsShown step lock old machine new → new.lane ≡ old.lane
   shown_lane old machine new s = ap lane_of s.only
 
-  wrote_lane : (made : E → Type 0) (unmade : Type 0) (old : PassView M E) (answer : Result R (WriteError F)) (new : PassView M E) → Wrote step lock made unmade old answer new
+  wrote_lane : (made : E → Type 0) (unmade : Type 0) (old : PassView M E) (answer : Result R (WriteError E F)) (new : PassView M E) → Wrote step lock made unmade old answer new
       → new.lane ≡ old.lane
   wrote_lane made unmade old (Ok reply) new w = ap lane_of w.adds ∙ shown_lane old w.before w.shown w.shows
   wrote_lane made unmade old (Err write_error.HistoryFull) new w = shown_lane old w.1.0 new w.1.1
-  wrote_lane made unmade old (Err (write_error.Refused fault)) new w = shown_lane old w.machine new w.shows
+  wrote_lane made unmade old (Err (write_error.Refused event fault)) new w = shown_lane old w.machine new w.shows
   wrote_lane made unmade old (Err write_error.NoMemory) new w = shown_lane old w.machine new w.shows
 
   module _ (old_draws new_draws : TicketPassView) where
@@ -52,17 +52,16 @@ module _ {M E R F : Type 0} (step : M → E → Result (M × R) F) (lock : Lock 
     asked_lane answers recorded told old (Err spent) new w = ap lane_of w.same
 
 module _ {M C R F : Type 0} (step : M → Event C → Result (M × R) F) (lock : Lock M) (old_draws new_draws : TicketPassView) (call : ℕ → C) where
-  writes_lane : (old : PassView M (Event C)) (answer : Result R (WriteError F)) (new : PassView M (Event C)) → Writes step lock old_draws new_draws call old answer new → new.lane ≡ old.lane
+  writes_lane : (old : PassView M (Event C)) (answer : Result R (WriteError (Event C) F)) (new : PassView M (Event C)) → Writes step lock old_draws new_draws call old answer new → new.lane ≡ old.lane
   writes_lane old answer new w = wrote_lane step lock _ _ w.late answer new w.wrote ∙ waited_lane lock old w.late w.waited
 
-  pub called_lane : {A : Type 0} (recorded : ℕ → ClusterCall) (told : F → ClusterReply) (reply_for : A → R) (old : PassView M (Event C)) (result : Result A (CallError F)) (new : PassView M (Event C))
-      → CalledToWrite step lock old_draws new_draws call recorded told reply_for old result new → new.lane ≡ old.lane
-  called_lane recorded told reply_for old (Ok answer) new w = writes_lane old (Ok (reply_for answer)) new w
-  called_lane recorded told reply_for old (Err call_error.Spent) new w = ap lane_of w.same
-  called_lane recorded told reply_for old (Err call_error.HistoryFull) new w = writes_lane old (Err write_error.HistoryFull) new w
-  called_lane recorded told reply_for old (Err (call_error.Refused why)) new w = writes_lane old (Err (write_error.Refused w.0)) new w.2
-  called_lane recorded told reply_for old (Err call_error.NoMemory) new w =
-      ⊎_elim (λ a. writes_lane old (Err write_error.NoMemory) new a) (λ b. writes_lane old (Err (write_error.Refused b.0)) new b.1) w
+  pub called_lane : (recorded : ℕ → ClusterCall) (told : F → ClusterReply) (old : PassView M (Event C)) (result : Result R (CallError F)) (new : PassView M (Event C))
+      → CalledToWrite step lock old_draws new_draws call recorded told old result new → new.lane ≡ old.lane
+  called_lane recorded told old (Ok answer) new w = writes_lane old (Ok answer) new w
+  called_lane recorded told old (Err call_error.Spent) new w = ap lane_of w.same
+  called_lane recorded told old (Err call_error.HistoryFull) new w = writes_lane old (Err write_error.HistoryFull) new w
+  called_lane recorded told old (Err (call_error.Refused why)) new w = writes_lane old (Err (write_error.Refused w.0 w.1)) new w.3
+  called_lane recorded told old (Err call_error.NoMemory) new w = writes_lane old (Err write_error.NoMemory) new w
 
 module _ (lock : Lock Standing) where
   pub rows_lane : (old_draws new_draws : TicketPassView) (old : PassView Standing (Event TableCall)) (result : Result (Recorded (List Row)) RowsError) (new : PassView Standing (Event TableCall))

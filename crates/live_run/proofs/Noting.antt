@@ -14,12 +14,12 @@ use Rattle.shared_objects.specs.Calls.{CalledToWrite}
 use Rattle.live_run.specs.internals.Notes.{IsNoted, CalledAndNoted}
 
 module _ {M C R F : Type 0} (step : M → Event C → Result (M × R) F) (lock : Lock M) (old_draws new_draws : TicketPassView) (call : ℕ → C) (recorded : ℕ → ClusterCall) (told : F → ClusterReply) where
-  pub called_noted : {A : Type 0} (reply_for : A → R) (old : PassView M (Event C)) (old_notes : Notes) (answer : Result A (CallError F)) (result : Result A Halt) (new : PassView M (Event C)) (new_notes : Notes)
-      → CalledToWrite step lock old_draws new_draws call recorded told reply_for old answer new → IsNoted answer old_notes result new_notes
-      → CalledAndNoted step lock old_draws new_draws call recorded told reply_for old old_notes result new new_notes
-  called_noted reply_for old old_notes (Ok answer) (Ok value) new new_notes called noted =
+  pub called_noted : (old : PassView M (Event C)) (old_notes : Notes) (answer : Result R (CallError F)) (result : Result R Halt) (new : PassView M (Event C)) (new_notes : Notes)
+      → CalledToWrite step lock old_draws new_draws call recorded told old answer new → IsNoted answer old_notes result new_notes
+      → CalledAndNoted step lock old_draws new_draws call recorded told old old_notes result new new_notes
+  called_noted old old_notes (Ok answer) (Ok value) new new_notes called noted =
       let same : answer ≡ value = cc in (rw (sym same) called, noted.1)
-  called_noted reply_for old old_notes (Err error) (Ok value) new new_notes called noted = absurd (cc)
-  called_noted reply_for old old_notes (Ok answer) (Err halt.Stopped) new new_notes called noted = absurd noted
-  called_noted reply_for old old_notes (Err error) (Err halt.Stopped) new new_notes called noted = (error, called, noted)
-  called_noted reply_for old old_notes answer (Err halt.NoMemory) new new_notes called noted = noted
+  called_noted old old_notes (Err error) (Ok value) new new_notes called noted = absurd (cc)
+  called_noted old old_notes (Ok answer) (Err halt.Stopped) new new_notes called noted = absurd noted
+  called_noted old old_notes (Err error) (Err halt.Stopped) new new_notes called noted = (error, called, noted)
+  called_noted old old_notes answer (Err halt.NoMemory) new new_notes called noted = noted

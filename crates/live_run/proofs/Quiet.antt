@@ -13,11 +13,11 @@ use Rattle.live_run.specs.Reports.{is_serve}
 use Rattle.live_run.specs.internals.Notes.{RefusesNoServe}
 
 module _ {M C R F : Type 0} (step : M → Event C → Result (M × R) F) (lock : Lock M) (old_draws new_draws : TicketPassView) (call : ℕ → C) where
-  pub called_quiet : {A : Type 0} (recorded : ℕ → ClusterCall) (told : F → ClusterReply) (reply_for : A → R) → ((ticket : ℕ) → is_serve (recorded ticket) ≡ false)
-      → (old : PassView M (Event C)) (result : Result A (CallError F)) (new : PassView M (Event C))
-      → CalledToWrite step lock old_draws new_draws call recorded told reply_for old result new → RefusesNoServe result
-  called_quiet recorded told reply_for quiet old (Ok answer) new w = tt
-  called_quiet recorded told reply_for quiet old (Err Spent) new w = tt
-  called_quiet recorded told reply_for quiet old (Err HistoryFull) new w = tt
-  called_quiet recorded told reply_for quiet old (Err (Refused why)) new w = ap is_serve w.1.recorded.called ∙ quiet why.call.ticket
-  called_quiet recorded told reply_for quiet old (Err NoMemory) new w = tt
+  pub called_quiet : (recorded : ℕ → ClusterCall) (told : F → ClusterReply) → ((ticket : ℕ) → is_serve (recorded ticket) ≡ false)
+      → (old : PassView M (Event C)) (result : Result R (CallError F)) (new : PassView M (Event C))
+      → CalledToWrite step lock old_draws new_draws call recorded told old result new → RefusesNoServe result
+  called_quiet recorded told quiet old (Ok answer) new w = tt
+  called_quiet recorded told quiet old (Err Spent) new w = tt
+  called_quiet recorded told quiet old (Err HistoryFull) new w = tt
+  called_quiet recorded told quiet old (Err (Refused why)) new w = ap is_serve w.2.recorded.called ∙ quiet why.call.ticket
+  called_quiet recorded told quiet old (Err NoMemory) new w = tt

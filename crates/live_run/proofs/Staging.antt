@@ -13,6 +13,7 @@ use Rattle.slicelet.specs.States.{opening}
 use Rattle.slicelet.specs.declared.call.SliceletCall.{SliceletCall}
 use Rattle.history_lock.specs.Passes.{Lock, PassView, ArePassesOf, AreNewFrom, new_pass}
 use Rattle.lease_table.specs.Tables.{Standing}
+use Rattle.shared_objects.specs.Objects.{SharedObject}
 use Rattle.tickets.specs.Tickets.{TicketView, TicketPassView, DrawsFrom}
 use Rattle.live_run.specs.declared.passes.TablePasses.{TablePasses}
 use Rattle.live_run.specs.declared.passes.ClerkPasses.{ClerkPasses}
@@ -76,7 +77,7 @@ new_parts {M} {E} lock n all front back are t r len =
       subst (λ (ps : List (PassView M E)). AreNewFrom n lock ps) (sym r) (subst (λ (k : ℕ). AreNewFrom k lock (drop n all)) count both.1),
     )
 
-module _ (table : Lock Standing) (ticket : TicketView) where
+module _ (table : SharedObject Standing) (ticket : TicketView) where
   pub crews_all : (workers task : ℕ) (crews : List Crew) → AreCrewsFrom table ticket workers task crews → All (λ (crew : Crew). IsCrew table ticket workers crew) crews
   crews_all workers task [] are = λ k d below. let b : k < 0 = below in absurd (omega (arith, b))
   crews_all workers task (crew ∷ crews) are = All-cons (λ (c : Crew). IsCrew table ticket workers c) crew crews are.0.0 (crews_all workers (task + 1) crews are.1)
@@ -99,7 +100,7 @@ module _ (table : Lock Standing) (ticket : TicketView) where
     left_from workers asks (task + 1) ms rs (let l : length (r ∷ rs) ≡ length (m ∷ ms) = len in omega (arith, l)) are.1 (λ i d e below. each (suc i) d e (let b : i < length ms = below in omega (arith, b))),
   )
 
-module _ (table : Lock Standing) (clerk : Lock (Option Slicing)) (ticket : TicketView) where
+module _ (table : SharedObject Standing) (clerk : Lock (Option Slicing)) (ticket : TicketView) where
   -- what the threads of the assigner and the clerk leave
   pub remains_two : (workers asks : ℕ) (assigner : TablePasses) (learner : ClerkPasses) (remains : Remains) → AreQuietPasses table ticket 0 assigner → AreQuietClerkPasses table clerk ticket learner
       → remains.table.items ≡ assigner.pass ∷ learner.table.pass ∷ [] → remains.clerk.items ≡ learner.own ∷ [] → remains.draws.items ≡ assigner.draws ∷ learner.table.draws ∷ []
@@ -113,7 +114,7 @@ module _ (table : Lock Standing) (clerk : Lock (Option Slicing)) (ticket : Ticke
       let Draws : TicketPassView → Type 0 = λ pass. DrawsFrom ticket pass in record {
         tasks = subst (λ hs. AreOfTasksFrom 1 hs) (sym tasks) tt;
         one_each = omega (arith, remains.tasks.ok.0, ap length tasks, two);
-        own = subst (λ ps. ArePassesOf table ps) (sym passes) (a.own, (l.at_table.own, tt));
+        own = subst (λ ps. ArePassesOf table.lock ps) (sym passes) (a.own, (l.at_table.own, tt));
         lanes = subst (λ ps. AreOfLanesFrom 0 ps) (sym passes) (a.of_lane, (l.at_table.of_lane, tt));
         clerk_own = subst (λ ps. ArePassesOf clerk ps) (sym own) (l.own, tt);
         clerk_lanes = subst (λ ps. AreOfLanesFrom 0 ps) (sym own) (l.of_lane, tt);
@@ -140,7 +141,7 @@ module _ (table : Lock Standing) (clerk : Lock (Option Slicing)) (ticket : Ticke
       let Draws : TicketPassView → Type 0 = λ pass. DrawsFrom ticket pass in record {
         tasks = subst (λ hs. AreOfTasksFrom 1 hs) (sym tasks) (histories_push 1 before.tasks.items left.history r.tasks (subst (λ n. IsLegal event_step (opening n) left.history) next h.played));
         one_each = omega (arith, grown, r.one_each, more);
-        own = subst (λ ps. ArePassesOf table ps) (sym passes) (passes_push table before.table.items left.table r.own h.table_pass);
+        own = subst (λ ps. ArePassesOf table.lock ps) (sym passes) (passes_push table.lock before.table.items left.table r.own h.table_pass);
         lanes = subst (λ ps. AreOfLanesFrom 0 ps) (sym passes) (lanes_push 0 before.table.items left.table r.lanes at);
         clerk_own = subst (λ ps. ArePassesOf clerk ps) (sym (ap (λ v. v.items) own)) r.clerk_own;
         clerk_lanes = subst (λ ps. AreOfLanesFrom 0 ps) (sym (ap (λ v. v.items) own)) r.clerk_lanes;

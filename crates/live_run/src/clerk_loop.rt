@@ -9,6 +9,7 @@ use crate::job::{LiveJob, TURNS};
 use crate::notes::Halt;
 use crate::objects::Objects;
 use crate::passes::ClerkPasses;
+use clerk::ClerkCall;
 use crossbeam_utils::Backoff;
 use std::alloc::AllocError;
 use std::sync::Wait;
@@ -45,7 +46,7 @@ fn follow_commits<R: Wait>(rt: &R, rounds: u64, seat: &mut ClerkSeat<'_>) -> Res
         if let Some(committed) = seat.table.committed(rt)? {
             let generation = committed.generation();
             if generation > known {
-                seat.learn(rt, committed)?;
+                seat.call(rt, ClerkCall::Learn(committed))?;
                 known = generation;
             }
         }

@@ -2,12 +2,11 @@
 
 ghost use Rattle.history_lock.specs.Passes.{IsPassOf};
 
-use crate::notes::Halt;
+use crate::notes::{Halt, call_noted};
 use crate::objects::Objects;
 use crate::passes::ClerkPasses;
 use crate::seat::TableSeat;
-use assignment::Assignment;
-use clerk::Clerk;
+use clerk::{Clerk, ClerkCall, ClerkReply};
 use history_lock::Pass;
 use shared_objects::SharedClerk;
 use std::sync::Wait;
@@ -28,7 +27,7 @@ impl<'a> ClerkSeat<'a> {
 
     /// Creates the seat of a thread with these passes.
     pub(crate) fn new(objects: &'a Objects, passes: ClerkPasses) -> ClerkSeat<'a>
-        requires table { IsPassOf objects.now.table passes.table.pass }
+        requires table { IsPassOf objects.now.table.lock passes.table.pass }
         requires own { IsPassOf objects.now.clerk.lock passes.own }
         requires draws { DrawsFrom objects.now.ticket passes.table.draws }
         ensures table { result.table.table.now ≡ objects.now.table }
@@ -49,15 +48,13 @@ impl<'a> ClerkSeat<'a> {
 
 impl ClerkSeat<'_> {
     ghost use Rattle.std.specs.Prelude.{◌≡◌, false};
-    ghost use Rattle.clerk.specs.declared.call.ClerkCall.TheVariants as clerk_call;
-    ghost use Rattle.clerk.specs.declared.call.ClerkReply.TheVariants as clerk_reply;
     ghost use Rattle.tickets.specs.Tickets.{DrawsFrom};
     ghost use Rattle.live_run.specs.internals.Notes.{TellsMemory};
     ghost use Rattle.live_run.specs.internals.Seats.{CalledForClerk, KeepsClerkSeat};
 
     /// Returns the passes of the seat.
     pub(crate) fn into_passes(self) -> ClerkPasses
-        ensures table { IsPassOf self.entry.table.table.now result.table.pass }
+        ensures table { IsPassOf self.entry.table.table.now.lock result.table.pass }
         ensures clerk { IsPassOf self.entry.clerk.now.lock result.own }
         ensures from { DrawsFrom self.entry.table.draws.ticket.now result.table.draws }
         ensures pass { result.table.pass ≡ self.entry.table.pass }
@@ -75,16 +72,21 @@ impl ClerkSeat<'_> {
         }
     }
 
-    /// Learns an assignment.
-    #[tactic(auto, using(crate::proofs::Lanes::called_lane, crate::proofs::Quiet::called_quiet, crate::proofs::Noting::called_noted))]
-    pub(crate) fn learn<R: Wait>(&mut self, rt: &R, assignment: Assignment) -> Result<(), Halt>
+    /// Makes a call of the clerk.
+    pub(crate) fn call<R: Wait>(&mut self, rt: &R, call: ClerkCall) -> Result<ClerkReply, Halt>
         requires fed { self.old.table.notes.starved ≡ false }
         ensures kept { KeepsClerkSeat self.old self.new }
         ensures memory { TellsMemory result self.new.table.notes }
-        ensures noted { CalledForClerk (clerk_call.Learn assignment) (λ _. clerk_reply.Learnt) self.old result self.new }
+        ensures noted { CalledForClerk call self.old result self.new }
     {
         let (table, own) = (&mut self.table, &mut self.own);
-        let answer = self.clerk.learn(rt, own, &mut table.draws, assignment);
-        table.notes.note(answer)
+        call_noted(
+            rt,
+            self.clerk,
+            own,
+            &mut table.draws,
+            &mut table.notes,
+            call,
+        )
     }
 }

@@ -6,13 +6,16 @@ ghost use Rattle.live_run.specs.declared.notes.Halt.TheVariants as halt;
 ghost use Rattle.live_run.specs.internals.Notes.{TellsMemory};
 ghost use Rattle.live_run.specs.internals.Seats.{AreTablePasses, KeepsSeat, KeepsTablePasses};
 
-use crate::job::{LiveJob, TURNS};
+use crate::job::{ASSIGNER, LiveJob, TICKET, TURNS};
 use crate::notes::Halt;
 use crate::objects::Objects;
 use crate::passes::TablePasses;
 use crate::seat::TableSeat;
-use assignment::{Assignment, Listed, Slice};
+use assignment::{Assignment, Slice};
 use crossbeam_utils::Backoff;
+use lease_table::TableCall;
+use machines::Listed;
+use shared_objects::job_term;
 use std::alloc::{AllocError, Global};
 use std::sync::Wait;
 
@@ -51,12 +54,20 @@ fn commit_all<R: Wait>(
     ensures kept { KeepsSeat seat.old seat.new }
     ensures memory { TellsMemory result seat.new.notes }
 {
-    let term = seat.take(rt)?.number;
+    let take = TableCall::JobTake {
+        assigner: ASSIGNER,
+        at: TICKET,
+    };
+    let number = job_term(seat.call(rt, take)?).number;
     for generation in 1..=job.rounds() {
-        let next = halves(alloc, generation, job.tasks())?;
-        seat.propose(rt, term, next)?;
+        let propose = TableCall::Propose {
+            number,
+            assignment: halves(alloc, generation, job.tasks())?,
+            at: TICKET,
+        };
+        seat.call(rt, propose)?;
         await_rows(rt, generation, seat)?;
-        seat.commit(rt, term)?;
+        seat.call(rt, TableCall::Commit { number, at: TICKET })?;
     }
     Ok(())
 }

@@ -73,7 +73,7 @@ impl Crew {
     ) -> Result<Crew, AllocError>
         requires few { plan.before ≤ 35 }
         requires before { plan.before + plan.workers ≡ plan.task * plan.workers }
-        requires table { IsPassOf shared.now table }
+        requires table { IsPassOf shared.now.lock table }
         requires lane { table.lane ≡ plan.task + 1 }
         requires draws { All (λ pass. pass ≡ new_ticket_pass ticket.now) draws.items }
         requires many { vec_len draws ≡ plan.workers + 1 }
@@ -86,7 +86,14 @@ impl Crew {
             before,
         } = plan;
         let lanes = u64::from(workers) + 1;
-        let Ok((slicelet, passes)) = SharedSlicelet::new(alloc, task, lanes, MOST_ENTRIES) else {
+        let slicelet = Slicelet::new(alloc, task);
+        let Ok((slicelet, passes)) = SharedSlicelet::new(
+            alloc,
+            slicelet,
+            task.number(),
+            lanes,
+            MOST_ENTRIES,
+        ) else {
             return Err(AllocError);
         };
         let members = members_of(alloc, &slicelet, ticket, before, passes, draws)?;
@@ -144,8 +151,8 @@ fn dismiss(
     gathered: Gathered,
 ) -> CrewLeft
     requires gathered { IsGathered slicelet ticket.now asks gathered }
-    requires many { vec_len gathered.passes ≡ slicelet.opened.lanes }
-    ensures played { IsLegal event_step slicelet.opened.machine result.history }
+    requires many { vec_len gathered.passes ≡ slicelet.lock.opened.lanes }
+    ensures played { IsLegal event_step slicelet.lock.opened.machine result.history }
     ensures table { result.table ≡ table }
     ensures draws { result.draws ≡ gathered.draws }
     ensures records { result.records ≡ gathered.records }
@@ -183,7 +190,7 @@ fn members_of(
     mut draws: Vec<TicketPass>,
 ) -> Result<Vec<Member>, AllocError>
     requires before { before ≤ 35 }
-    requires passes { AreNewFrom 0 slicelet.now passes.items }
+    requires passes { AreNewFrom 0 slicelet.now.lock passes.items }
     requires few { vec_len passes ≤ 8 }
     requires draws { All (λ pass. pass ≡ new_ticket_pass ticket.now) draws.items }
     requires many { vec_len draws ≡ vec_len passes }
@@ -309,7 +316,7 @@ fn work_each<R: Threads + Wait + Sync, G: Gate + Sync>(
     asks: u32,
     workers: Vec<Member>,
 ) -> Result<Vec<Result<Worked, AllocError>>, AllocError>
-    requires workers { All (λ member. IsPassOf shared.now.slicelet.now member.pass × (member.draws ≡ new_ticket_pass shared.now.ticket.now)) workers.items }
+    requires workers { All (λ member. IsPassOf shared.now.slicelet.now.lock member.pass × (member.draws ≡ new_ticket_pass shared.now.ticket.now)) workers.items }
     requires enough { asks ≤ shared.now.ticket.now.terms.quota }
     ensures many { IfOk result (λ results. vec_len results ≡ vec_len workers) }
     ensures each { IfOk result (λ results. (i : ℕ) (m : _) (r : _) → i < vec_len workers
@@ -331,7 +338,7 @@ fn gather(
     passes: TaskPasses,
     worked: Vec<Result<Worked, AllocError>>,
 ) -> Result<(Pass<LeaseTable>, Gathered), AllocError>
-    requires own { IsPassOf slicelet.now passes.own }
+    requires own { IsPassOf slicelet.now.lock passes.own }
     requires lane { passes.own.lane ≡ 0 }
     requires draws { DrawsFrom ticket.now passes.table.draws }
     requires quiet { serves passes.table.notes.records.items ≡ 0 }

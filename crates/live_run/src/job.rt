@@ -19,6 +19,9 @@ pub const MOST_ROUNDS: u64 = 16;
 /// The largest number of keys that each worker asks for.
 pub const MOST_ASKS: u32 = 1000;
 
+/// The reading in a call or question that is made at its ticket, which replaces it.
+pub(crate) const TICKET: u64 = 0;
+
 /// How often a thread reads the table while it waits for one thing.
 pub(crate) const TURNS: u64 = 1_000_000;
 

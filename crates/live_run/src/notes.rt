@@ -1,13 +1,16 @@
 //! What a thread of a live run notes about its calls.
 
-ghost use Rattle.std.specs.Prelude.{◌≡◌, [], false, true};
+ghost use Rattle.std.specs.Prelude.{◌≡◌, ℕ, [], IfOk, false, true};
+ghost use Rattle.history_lock.specs.Passes.{IsPassOf};
 ghost use Rattle.live_run.specs.declared.notes.Halt.TheVariants as halt;
-ghost use Rattle.live_run.specs.internals.Notes.{IsNoted, RefusesNoServe, TellsMemory};
-ghost use Rattle.live_run.specs.Reports.{serves};
+ghost use Rattle.live_run.specs.internals.Notes.{CalledAndNoted, IsNoted, RefusesNoServe, TellsMemory};
+ghost use Rattle.live_run.specs.Reports.{is_serve, serves};
 
 use cluster::CallRecord;
-use shared_objects::{CallError, RefusedCall};
+use history_lock::Pass;
+use shared_objects::{Actor, CallError, Draws, RefusedCall, Shared, When};
 use std::alloc::{AllocError, AllocFailed, Global};
+use std::sync::Wait;
 use tickets::Spent;
 
 /// Why a thread ends early.
@@ -104,4 +107,29 @@ impl Notes {
     {
         self.records
     }
+}
+
+/// Makes a call at its ticket, and notes its record if it is refused, or that memory ran out.
+#[tactic(auto, using(crate::proofs::Lanes::called_lane, crate::proofs::Quiet::called_quiet, crate::proofs::Noting::called_noted))]
+pub(crate) fn call_noted<R: Wait, M: Actor>(
+    rt: &R,
+    object: &Shared<M>,
+    pass: &mut Pass<M>,
+    draws: &mut Draws<'_>,
+    notes: &mut Notes,
+    call: M::Call,
+) -> Result<M::Reply, Halt>
+    requires own { IsPassOf object.now.lock pass.old }
+    requires quiet { (ticket : ℕ) → is_serve (M.recorded object.now.number (M.at call ticket)) ≡ false }
+    requires fed { notes.old.starved ≡ false }
+    ensures own { IsPassOf object.now.lock pass.new }
+    ensures lane { pass.new.lane ≡ pass.old.lane }
+    ensures ticket { draws.new.ticket ≡ draws.old.ticket }
+    ensures served { serves notes.new.records.items ≡ serves notes.old.records.items }
+    ensures memory { TellsMemory result notes.new }
+    ensures noted { CalledAndNoted M.step object.now.lock draws.old.pass draws.new.pass (λ ticket. M.at call ticket) (λ ticket. M.recorded object.now.number (M.at call ticket)) M.told pass.old notes.old result pass.new notes.new }
+    ensures reply { IfOk result (λ reply. M.is_reply call reply) }
+{
+    let answer = object.write(rt, pass, draws, call, When::AtTicket);
+    notes.note(answer)
 }

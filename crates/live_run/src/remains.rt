@@ -135,10 +135,10 @@ pub(crate) fn close_all(
     objects: Objects,
     remains: Remains,
 ) -> Result<LiveReport, AllocError>
-    requires machines { (objects.table.opened.machine ≡ opening live_policy) × (objects.clerk.lock.opened.machine ≡ None) }
+    requires machines { (objects.table.lock.opened.machine ≡ opening live_policy) × (objects.clerk.lock.opened.machine ≡ None) }
     requires remains { IsRemains objects.table objects.clerk.lock objects.ticket job.workers job.asks remains }
     requires tasks { vec_len remains.tasks ≡ job.tasks }
-    requires lanes { (vec_len remains.table ≡ objects.table.opened.lanes) × (objects.clerk.lock.opened.lanes ≡ 1) }
+    requires lanes { (vec_len remains.table ≡ objects.table.lock.opened.lanes) × (objects.clerk.lock.opened.lanes ≡ 1) }
     requires draws { vec_len remains.draws ≡ objects.ticket.terms.passes }
     requires served { serves remains.records.items ≡ job.tasks * job.workers * job.asks }
     requires keys { asked_keys remains.records.items ≡ job_keys job.workers job.asks 1 job.tasks }
@@ -191,10 +191,10 @@ fn close_ticket(ticket: Ticket, draws: Vec<TicketPass>)
 
 // Closes the table's lock.
 fn close_table(table: SharedTable, passes: Vec<Pass<LeaseTable>>) -> History<TableEvent>
-    requires own { ArePassesOf table passes.items }
+    requires own { ArePassesOf table.lock passes.items }
     requires lanes { AreOfLanesFrom 0 passes.items }
-    requires many { vec_len passes ≡ table.opened.lanes }
-    ensures { IsLegal table_step table.opened.machine result }
+    requires many { vec_len passes ≡ table.lock.opened.lanes }
+    ensures { IsLegal table_step table.lock.opened.machine result }
 {
     let Ok(
         Closed {

@@ -2,13 +2,13 @@
 
 ghost use Rattle.history_lock.specs.Passes.{IsPassOf};
 
-use crate::job::{ASSIGNER, LIFE};
-use crate::notes::{Halt, Notes};
+use crate::notes::{Halt, Notes, call_noted};
 use crate::passes::TablePasses;
-use assignment::{Assignment, Listed, TaskId};
+use assignment::Assignment;
 use history_lock::Pass;
-use lease_table::{Grant, JobTerm, LeaseTable, Phase, ReleaseNote, Row};
-use shared_objects::{Draws, Proposal, RowsError, SharedTable, TaskLife, When};
+use lease_table::{LeaseTable, Phase, Row, TableCall, TableReply};
+use machines::Listed;
+use shared_objects::{AskPhase, Draws, RowsError, SharedTable, When};
 use std::sync::Wait;
 use tickets::Ticket;
 
@@ -20,7 +20,7 @@ pub(crate) struct TableSeat<'a> {
     pub(crate) pass: Pass<LeaseTable>,
     pub(crate) draws: Draws<'a>,
     pub(crate) notes: Notes,
-    ghost own: { IsPassOf table.now pass },
+    ghost own: { IsPassOf table.now.lock pass },
 }
 
 impl<'a> TableSeat<'a> {
@@ -33,7 +33,7 @@ impl<'a> TableSeat<'a> {
         ticket: &'a Ticket,
         passes: TablePasses,
     ) -> TableSeat<'a>
-        requires own { IsPassOf table.now passes.pass }
+        requires own { IsPassOf table.now.lock passes.pass }
         requires draws { DrawsFrom ticket.now passes.draws }
         ensures table { result.table.now ≡ table.now }
         ensures ticket { result.draws.ticket.now ≡ ticket.now }
@@ -52,16 +52,15 @@ impl<'a> TableSeat<'a> {
 }
 
 impl TableSeat<'_> {
-    ghost use Rattle.std.specs.Prelude.{◌≡◌, false};
-    ghost use Rattle.lease_table.specs.declared.call.TableCall.TheVariants as table_call;
-    ghost use Rattle.lease_table.specs.declared.call.TableReply.TheVariants as table_reply;
+    ghost use Rattle.std.specs.Prelude.{◌≡◌, IfOk, false};
+    ghost use Rattle.shared_objects.specs.Actors.{IsTableReply};
     ghost use Rattle.tickets.specs.Tickets.{DrawsFrom};
     ghost use Rattle.live_run.specs.internals.Notes.{IsReadNoted, TellsMemory};
     ghost use Rattle.live_run.specs.internals.Seats.{KeepsSeat, CalledForSeat};
 
     /// Returns the passes of the seat.
     pub(crate) fn into_passes(self) -> TablePasses
-        ensures own { IsPassOf self.entry.table.now result.pass }
+        ensures own { IsPassOf self.entry.table.now.lock result.pass }
         ensures from { DrawsFrom self.entry.draws.ticket.now result.draws }
         ensures pass { result.pass ≡ self.entry.pass }
         ensures draws { result.draws ≡ self.entry.draws.pass }
@@ -80,78 +79,16 @@ impl TableSeat<'_> {
         }
     }
 
-    /// Takes the job lease.
-    #[tactic(auto, using(crate::proofs::Lanes::called_lane, crate::proofs::Quiet::called_quiet, crate::proofs::Noting::called_noted))]
-    pub(crate) fn take<R: Wait>(&mut self, rt: &R) -> Result<JobTerm, Halt>
+    /// Makes a call of the table at its ticket.
+    pub(crate) fn call<R: Wait>(&mut self, rt: &R, call: TableCall) -> Result<TableReply, Halt>
         requires fed { self.old.notes.starved ≡ false }
         ensures kept { KeepsSeat self.old self.new }
         ensures memory { TellsMemory result self.new.notes }
-        ensures noted { CalledForSeat (table_call.JobTake ASSIGNER) table_reply.Term self.old result self.new }
+        ensures noted { CalledForSeat call self.old result self.new }
+        ensures reply { IfOk result (λ reply. IsTableReply call reply) }
     {
         let (pass, draws) = (&mut self.pass, &mut self.draws);
-        let answer = self.table.take(rt, pass, draws, ASSIGNER, When::AtTicket);
-        self.notes.note(answer)
-    }
-
-    /// Proposes an assignment under a term.
-    #[tactic(auto, using(crate::proofs::Lanes::called_lane, crate::proofs::Quiet::called_quiet, crate::proofs::Noting::called_noted))]
-    pub(crate) fn propose<R: Wait>(
-        &mut self,
-        rt: &R,
-        term: u64,
-        assignment: Assignment,
-    ) -> Result<(), Halt>
-        requires fed { self.old.notes.starved ≡ false }
-        ensures kept { KeepsSeat self.old self.new }
-        ensures memory { TellsMemory result self.new.notes }
-        ensures noted { CalledForSeat (table_call.Propose term assignment) (λ _. table_reply.Proposed) self.old result self.new }
-    {
-        let (pass, draws) = (&mut self.pass, &mut self.draws);
-        let proposal = Proposal { term, assignment };
-        let answer = self
-            .table
-            .propose(rt, pass, draws, proposal, When::AtTicket);
-        self.notes.note(answer)
-    }
-
-    /// Commits the proposal under a term.
-    #[tactic(auto, using(crate::proofs::Lanes::called_lane, crate::proofs::Quiet::called_quiet, crate::proofs::Noting::called_noted))]
-    pub(crate) fn commit<R: Wait>(&mut self, rt: &R, term: u64) -> Result<u64, Halt>
-        requires fed { self.old.notes.starved ≡ false }
-        ensures kept { KeepsSeat self.old self.new }
-        ensures memory { TellsMemory result self.new.notes }
-        ensures noted { CalledForSeat (table_call.Commit term) table_reply.Committed self.old result self.new }
-    {
-        let (pass, draws) = (&mut self.pass, &mut self.draws);
-        let answer = self.table.commit(rt, pass, draws, term, When::AtTicket);
-        self.notes.note(answer)
-    }
-
-    /// Asks for a lease for a task.
-    #[tactic(auto, using(crate::proofs::Lanes::called_lane, crate::proofs::Quiet::called_quiet, crate::proofs::Noting::called_noted))]
-    pub(crate) fn grant<R: Wait>(&mut self, rt: &R, task: TaskId) -> Result<Grant, Halt>
-        requires fed { self.old.notes.starved ≡ false }
-        ensures kept { KeepsSeat self.old self.new }
-        ensures memory { TellsMemory result self.new.notes }
-        ensures noted { CalledForSeat (table_call.Grant task LIFE) table_reply.Granted self.old result self.new }
-    {
-        let (pass, draws) = (&mut self.pass, &mut self.draws);
-        let life = TaskLife { task, life: LIFE };
-        let answer = self.table.grant(rt, pass, draws, life, When::AtTicket);
-        self.notes.note(answer)
-    }
-
-    /// Frees the rows of a lease that was released.
-    #[tactic(auto, using(crate::proofs::Lanes::called_lane, crate::proofs::Quiet::called_quiet, crate::proofs::Noting::called_noted))]
-    pub(crate) fn free<R: Wait>(&mut self, rt: &R, note: ReleaseNote) -> Result<u64, Halt>
-        requires fed { self.old.notes.starved ≡ false }
-        ensures kept { KeepsSeat self.old self.new }
-        ensures memory { TellsMemory result self.new.notes }
-        ensures noted { CalledForSeat (table_call.Free note) table_reply.Freed self.old result self.new }
-    {
-        let (pass, draws) = (&mut self.pass, &mut self.draws);
-        let answer = self.table.free(rt, pass, draws, note, When::AtTicket);
-        self.notes.note(answer)
+        call_noted(rt, self.table, pass, draws, &mut self.notes, call)
     }
 
     /// Reads the table's phase. No record is kept of it.
@@ -162,7 +99,13 @@ impl TableSeat<'_> {
         ensures memory { TellsMemory result self.new.notes }
         ensures noted { IsReadNoted self.old.notes result self.new.notes }
     {
-        let asked = self.table.phase(rt, &mut self.pass, &mut self.draws)?;
+        let asked = self.table.ask(
+            rt,
+            &mut self.pass,
+            &mut self.draws,
+            AskPhase,
+            When::AtTicket,
+        )?;
         Ok(asked.answer)
     }
 

@@ -52,10 +52,11 @@ impl Stage {
             return Err(AllocError);
         };
         let lanes = job.tasks() + 2;
-        let Ok((table, passes)) = SharedTable::new(alloc, live_policy(), lanes, MOST_ENTRIES) else {
+        let table = LeaseTable::new(alloc, live_policy());
+        let Ok((table, passes)) = SharedTable::new(alloc, table, 0, lanes, MOST_ENTRIES) else {
             return Err(AllocError);
         };
-        let Ok((clerk, own)) = SharedClerk::new(alloc, 1, 1, MOST_ENTRIES) else {
+        let Ok((clerk, own)) = SharedClerk::new(alloc, Clerk::new(), 1, 1, MOST_ENTRIES) else {
             return Err(AllocError);
         };
         let objects = Objects {
@@ -81,7 +82,7 @@ fn deal(
     job: LiveJob,
     passes: NewPasses,
 ) -> Result<Given, AllocError>
-    requires passes { AreNewFrom 0 objects.now.table passes.table.items × (vec_len passes.table ≡ job.tasks + 2) }
+    requires passes { AreNewFrom 0 objects.now.table.lock passes.table.items × (vec_len passes.table ≡ job.tasks + 2) }
     requires few { (job.tasks ≤ 6) × (job.workers ≤ 7) }
     requires own { AreNewFrom 0 objects.now.clerk.lock passes.clerk.items × (vec_len passes.clerk ≡ 1) }
     requires draws { All (λ pass. pass ≡ new_ticket_pass objects.now.ticket) passes.draws.items }
@@ -121,9 +122,9 @@ fn last_passes(
     passes: &mut Vec<Pass<LeaseTable>>,
     draws: &mut Vec<TicketPass>,
 ) -> TablePasses
-    requires passes { AreNewFrom 0 table.now passes.old.items × (0 < vec_len passes.old) }
+    requires passes { AreNewFrom 0 table.now.lock passes.old.items × (0 < vec_len passes.old) }
     requires draws { All (λ pass. pass ≡ new_ticket_pass ticket.now) draws.old.items × (0 < vec_len draws.old) }
-    ensures passes { AreNewFrom 0 table.now passes.new.items × (vec_len passes.new + 1 ≡ vec_len passes.old) }
+    ensures passes { AreNewFrom 0 table.now.lock passes.new.items × (vec_len passes.new + 1 ≡ vec_len passes.old) }
     ensures draws { All (λ pass. pass ≡ new_ticket_pass ticket.now) draws.new.items × (vec_len draws.new + 1 ≡ vec_len draws.old) }
     ensures quiet { AreQuietPasses table.now ticket.now (vec_len passes.new) result }
 {
@@ -166,7 +167,7 @@ fn crews(
     passes: Vec<Pass<LeaseTable>>,
     mut draws: Vec<TicketPass>,
 ) -> Result<Vec<Crew>, AllocError>
-    requires passes { AreNewFrom 2 table.now passes.items × (vec_len passes ≡ job.tasks) }
+    requires passes { AreNewFrom 2 table.now.lock passes.items × (vec_len passes ≡ job.tasks) }
     requires few { (job.tasks ≤ 6) × (job.workers ≤ 7) }
     requires draws { All (λ pass. pass ≡ new_ticket_pass ticket.now) draws.items }
     requires many { vec_len draws ≡ job.tasks * (job.workers + 1) }
@@ -205,7 +206,7 @@ fn next_crew(
 ) -> Result<Crew, AllocError>
     requires few { plan.before ≤ 35 }
     requires before { plan.before + plan.workers ≡ plan.task * plan.workers }
-    requires pass { IsPassOf table.now pass }
+    requires pass { IsPassOf table.now.lock pass }
     requires lane { pass.lane ≡ plan.task + 1 }
     requires draws { All (λ pass. pass ≡ new_ticket_pass ticket.now) draws.old.items }
     requires enough { plan.workers + 1 ≤ vec_len draws.old }

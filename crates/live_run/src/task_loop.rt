@@ -4,14 +4,16 @@ ghost use Rattle.std.specs.Prelude.{◌≡◌, IfOk, false};
 ghost use Rattle.live_run.specs.internals.Notes.{TellsMemory};
 ghost use Rattle.live_run.specs.internals.Seats.{AreTaskPasses, KeepsTaskPasses, KeepsTaskSeat};
 
-use crate::job::{LiveJob, TURNS};
+use crate::job::{LIFE, LiveJob, TICKET, TURNS};
 use crate::notes::Halt;
 use crate::objects::TaskObjects;
 use crate::passes::TaskPasses;
 use crate::task_seat::TaskSeat;
 use crossbeam_utils::Backoff;
-use lease_table::{Grant, Phase};
-use policy_rules::Kind;
+use lease_rule::Kind;
+use lease_table::{Grant, Phase, TableCall};
+use shared_objects::grant;
+use slicelet::SliceletCall;
 use std::alloc::AllocError;
 use std::sync::Wait;
 
@@ -89,7 +91,11 @@ fn follow_phases<R: Wait>(rt: &R, rounds: u64, seat: &mut TaskSeat<'_>) -> Resul
     ensures kept { KeepsTaskSeat seat.old seat.new }
     ensures memory { TellsMemory result seat.new.table.notes }
 {
-    seat.start(rt)?;
+    let start = SliceletCall::Start {
+        life: LIFE,
+        at: TICKET,
+    };
+    seat.call(rt, start)?;
     let mut held = HeldGenerations {
         guard: None,
         bridge: None,
@@ -121,7 +127,12 @@ fn renew<R: Wait>(
     ensures kept { KeepsTaskSeat seat.old seat.new }
     ensures memory { TellsMemory result seat.new.table.notes }
 {
-    let grant = seat.table.grant(rt, seat.task)?;
+    let ask = TableCall::Grant {
+        task: seat.task,
+        life: LIFE,
+        at: TICKET,
+    };
+    let grant = grant(seat.table.call(rt, ask)?);
     let kind = grant.lease.kind;
     let generation = grant.lease.generation;
     replace(rt, grant, held, seat)?;
@@ -149,7 +160,8 @@ fn replace<R: Wait>(
     if held.of(grant.lease.kind).is_some() {
         seat.give_up(rt, grant.lease.kind)?;
     }
-    seat.hear(rt, grant)
+    seat.call(rt, SliceletCall::Hear { grant, at: TICKET })?;
+    Ok(())
 }
 
 // Releases a guard of a lower generation after a bridge was heard.

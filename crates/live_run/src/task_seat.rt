@@ -2,17 +2,17 @@
 
 ghost use Rattle.history_lock.specs.Passes.{IsPassOf};
 
-use crate::job::LIFE;
-use crate::notes::Halt;
+use crate::job::TICKET;
+use crate::notes::{Halt, call_noted};
 use crate::objects::TaskObjects;
 use crate::passes::TaskPasses;
 use crate::seat::TableSeat;
 use assignment::TaskId;
 use history_lock::Pass;
-use lease_table::{Grant, ReleaseNote};
-use policy_rules::Kind;
-use shared_objects::{SharedSlicelet, When};
-use slicelet::Slicelet;
+use lease_rule::Kind;
+use lease_table::TableCall;
+use shared_objects::{SharedSlicelet, release_note};
+use slicelet::{Slicelet, SliceletCall, SliceletReply};
 use std::sync::Wait;
 
 /// The seat of a task's thread: its seat at the table, its slicelet, and its pass of the slicelet's
@@ -23,7 +23,7 @@ pub(crate) struct TaskSeat<'a> {
     pub(crate) table: TableSeat<'a>,
     pub(crate) slicelet: &'a SharedSlicelet,
     pub(crate) own: Pass<Slicelet>,
-    ghost owned: { IsPassOf slicelet.now own },
+    ghost owned: { IsPassOf slicelet.now.lock own },
 }
 
 impl<'a> TaskSeat<'a> {
@@ -32,8 +32,8 @@ impl<'a> TaskSeat<'a> {
 
     /// Creates the seat of a thread with these passes.
     pub(crate) fn new(shared: &TaskObjects<'a>, passes: TaskPasses) -> TaskSeat<'a>
-        requires table { IsPassOf shared.now.table.now passes.table.pass }
-        requires own { IsPassOf shared.now.slicelet.now passes.own }
+        requires table { IsPassOf shared.now.table.now.lock passes.table.pass }
+        requires own { IsPassOf shared.now.slicelet.now.lock passes.own }
         requires draws { DrawsFrom shared.now.ticket.now passes.table.draws }
         ensures table { result.table.table.now ≡ shared.now.table.now }
         ensures ticket { result.table.draws.ticket.now ≡ shared.now.ticket.now }
@@ -53,17 +53,16 @@ impl<'a> TaskSeat<'a> {
 }
 
 impl TaskSeat<'_> {
-    ghost use Rattle.std.specs.Prelude.{◌≡◌, false, OnOk};
-    ghost use Rattle.slicelet.specs.declared.call.SliceletCall.TheVariants as slicelet_call;
-    ghost use Rattle.slicelet.specs.declared.call.SliceletReply.TheVariants as slicelet_reply;
+    ghost use Rattle.std.specs.Prelude.{◌≡◌, IfOk, OnOk, false};
+    ghost use Rattle.shared_objects.specs.Actors.{IsSliceletReply};
     ghost use Rattle.tickets.specs.Tickets.{DrawsFrom};
     ghost use Rattle.live_run.specs.internals.Notes.{TellsMemory};
     ghost use Rattle.live_run.specs.internals.Seats.{CalledForTask, HasFreed, KeepsTaskSeat};
 
     /// Returns the passes of the seat.
     pub(crate) fn into_passes(self) -> TaskPasses
-        ensures table { IsPassOf self.entry.table.table.now result.table.pass }
-        ensures slicelet { IsPassOf self.entry.slicelet.now result.own }
+        ensures table { IsPassOf self.entry.table.table.now.lock result.table.pass }
+        ensures slicelet { IsPassOf self.entry.slicelet.now.lock result.own }
         ensures from { DrawsFrom self.entry.table.draws.ticket.now result.table.draws }
         ensures pass { result.table.pass ≡ self.entry.table.pass }
         ensures own { result.own ≡ self.entry.own }
@@ -82,50 +81,28 @@ impl TaskSeat<'_> {
         }
     }
 
-    /// Starts the task's life.
-    #[tactic(auto, using(crate::proofs::Lanes::called_lane, crate::proofs::Quiet::called_quiet, crate::proofs::Noting::called_noted))]
-    pub(crate) fn start<R: Wait>(&mut self, rt: &R) -> Result<(), Halt>
-        requires fed { self.old.table.notes.starved ≡ false }
-        ensures kept { KeepsTaskSeat self.old self.new }
-        ensures memory { TellsMemory result self.new.table.notes }
-        ensures noted { CalledForTask (slicelet_call.Start LIFE) (λ _. slicelet_reply.Started) self.old result self.new }
-    {
-        let (table, own) = (&mut self.table, &mut self.own);
-        let answer = self
-            .slicelet
-            .start(rt, own, &mut table.draws, LIFE, When::AtTicket);
-        table.notes.note(answer)
-    }
-
-    /// Hears a grant.
-    #[tactic(auto, using(crate::proofs::Lanes::called_lane, crate::proofs::Quiet::called_quiet, crate::proofs::Noting::called_noted))]
-    pub(crate) fn hear<R: Wait>(&mut self, rt: &R, grant: Grant) -> Result<(), Halt>
-        requires fed { self.old.table.notes.starved ≡ false }
-        ensures kept { KeepsTaskSeat self.old self.new }
-        ensures memory { TellsMemory result self.new.table.notes }
-        ensures noted { CalledForTask (slicelet_call.Hear grant) (λ _. slicelet_reply.Heard) self.old result self.new }
-    {
-        let (table, own) = (&mut self.table, &mut self.own);
-        let answer = self
-            .slicelet
-            .hear(rt, own, &mut table.draws, grant, When::AtTicket);
-        table.notes.note(answer)
-    }
-
-    // Releases the lease of a kind.
-    #[tactic(auto, using(crate::proofs::Lanes::called_lane, crate::proofs::Quiet::called_quiet, crate::proofs::Noting::called_noted))]
-    fn release<R: Wait>(&mut self, rt: &R, kind: Kind) -> Result<ReleaseNote, Halt>
+    /// Makes a call of the slicelet at its ticket.
+    pub(crate) fn call<R: Wait>(
+        &mut self,
+        rt: &R,
+        call: SliceletCall,
+    ) -> Result<SliceletReply, Halt>
         requires fed { self.old.table.notes.starved ≡ false }
         ensures kept { KeepsTaskSeat self.old self.new }
         ensures table { self.new.table.pass ≡ self.old.table.pass }
         ensures memory { TellsMemory result self.new.table.notes }
-        ensures noted { CalledForTask (slicelet_call.Release kind) slicelet_reply.Released self.old result self.new }
+        ensures noted { CalledForTask call self.old result self.new }
+        ensures reply { IfOk result (λ reply. IsSliceletReply call reply) }
     {
         let (table, own) = (&mut self.table, &mut self.own);
-        let answer = self
-            .slicelet
-            .release(rt, own, &mut table.draws, kind, When::AtTicket);
-        table.notes.note(answer)
+        call_noted(
+            rt,
+            self.slicelet,
+            own,
+            &mut table.draws,
+            &mut table.notes,
+            call,
+        )
     }
 
     /// Releases the lease of a kind, and frees its row at the table.
@@ -136,8 +113,9 @@ impl TaskSeat<'_> {
         ensures memory { TellsMemory result self.new.table.notes }
         ensures freed { OnOk result (HasFreed kind self.old self.new) }
     {
-        let note = self.release(rt, kind)?;
-        self.table.free(rt, note)?;
+        let reply = self.call(rt, SliceletCall::Release { kind, at: TICKET })?;
+        let note = release_note(reply);
+        self.table.call(rt, TableCall::Free { note, at: TICKET })?;
         Ok(())
     }
 }

@@ -6,12 +6,14 @@ ghost use Rattle.slice_ranges.specs.Hash.{slice_key};
 ghost use Rattle.tickets.specs.Tickets.{DrawsFrom, new_ticket_pass};
 ghost use Rattle.cluster.specs.declared.call.ClusterCall.TheVariants as recorded_call;
 ghost use Rattle.shared_objects.specs.Draws.{CanDraw};
+ghost use Rattle.shared_objects.specs.declared.when.When.TheVariants as when;
 ghost use Rattle.live_run.specs.internals.Crews.{HasWorked, TellsVerdict};
 
+use crate::job::TICKET;
 use crate::objects::TaskObjects;
 use cluster::CallRecord;
 use history_lock::Pass;
-use shared_objects::{Draws, Gate, KeyAsk, SharedSlicelet, Turn, When};
+use shared_objects::{AskServe, Draws, Gate, SharedSlicelet, Turn, When};
 use slice_ranges::{SliceKey, slice_key};
 use slicelet::Slicelet;
 use std::alloc::{AllocError, Global};
@@ -42,7 +44,7 @@ struct WorkerSeat<'a> {
     slicelet: &'a SharedSlicelet,
     pass: Pass<Slicelet>,
     draws: Draws<'a>,
-    ghost own: { IsPassOf slicelet.now pass },
+    ghost own: { IsPassOf slicelet.now.lock pass },
 }
 
 /// Asks the task for the keys that are the decimal texts of 0, 1 and so on, one call for each.
@@ -54,7 +56,7 @@ pub(crate) fn work<R: Wait, G: Gate>(
     asks: u32,
     member: Member,
 ) -> Result<Worked, AllocError>
-    requires own { IsPassOf shared.now.slicelet.now member.pass }
+    requires own { IsPassOf shared.now.slicelet.now.lock member.pass }
     requires draws { member.draws ≡ new_ticket_pass shared.now.ticket.now }
     requires enough { asks ≤ shared.now.ticket.now.terms.quota }
     ensures { IfOk result (λ worked. HasWorked shared.now.slicelet.now shared.now.ticket.now asks member.pass.lane worked) }
@@ -72,7 +74,12 @@ pub(crate) fn work<R: Wait, G: Gate>(
     };
     for ask in 0..asks {
         let key = nth_key(alloc, ask)?;
-        let turn = Turn { gate, worker, ask };
+        let turn = Turn {
+            gate,
+            worker,
+            ask,
+            when: When::AtTicket,
+        };
         let record = seat.ask_for(rt, key, &turn);
         records.push(record)?;
     }
@@ -92,20 +99,18 @@ impl WorkerSeat<'_> {
     #[tactic(auto, using(crate::proofs::Lanes::asked_lane, crate::proofs::Asked::asked_drew, crate::proofs::Asked::asked_step, crate::proofs::Asked::asked_verdict, crate::proofs::Asked::spent_not))]
     fn ask_for<R: Wait, G: Gate>(&mut self, rt: &R, key: SliceKey, turn: &Turn<'_, G>) -> CallRecord
         requires can { CanDraw self.old.draws.pass }
+        requires ticket { turn.now.when ≡ when.AtTicket }
         ensures slicelet { self.new.slicelet ≡ self.old.slicelet }
         ensures ticket { self.new.draws.ticket ≡ self.old.draws.ticket }
         ensures lane { self.new.pass.lane ≡ self.old.pass.lane }
         ensures terms { self.new.draws.pass.terms ≡ self.old.draws.pass.terms }
         ensures drew { length self.new.draws.pass.drawn ≡ length self.old.draws.pass.drawn + 1 }
-        ensures asked { result.step ≡ recorded_call.Serve self.old.slicelet.now.opened.machine.task key result.ticket }
+        ensures asked { result.step ≡ recorded_call.Serve self.old.slicelet.now.number key result.ticket }
         ensures told { TellsVerdict self.old.slicelet.now self.old.draws.pass self.new.draws.pass key self.old.pass result self.new.pass }
     {
         let (pass, draws) = (&mut self.pass, &mut self.draws);
-        let when = When::AtTicket;
-        let Ok(asked) = self
-            .slicelet
-            .serve_gated(rt, pass, draws, KeyAsk { key, when }, turn)
-        else {
+        let question = AskServe { key, at: TICKET };
+        let Ok(asked) = self.slicelet.ask_gated(rt, pass, draws, question, turn) else {
             unreachable!()
         };
         asked.call
@@ -113,7 +118,7 @@ impl WorkerSeat<'_> {
 
     // Returns the passes of the seat, with the records of its asks.
     fn into_worked(self, records: Vec<CallRecord>) -> Worked
-        ensures own { IsPassOf self.entry.slicelet.now result.pass }
+        ensures own { IsPassOf self.entry.slicelet.now.lock result.pass }
         ensures from { DrawsFrom self.entry.draws.ticket.now result.draws }
         ensures pass { result.pass ≡ self.entry.pass }
         ensures records { result.records ≡ records }

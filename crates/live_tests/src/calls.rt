@@ -8,15 +8,18 @@ use crate::objects::{
 };
 use assignment::TaskId;
 use audit::{Audit, audit};
-use clerk::{Clerk, ClerkEvent};
+use clerk::{Clerk, ClerkCall, ClerkEvent};
 use cluster::{CallRecord, ClusterReply, Job};
 use history_lock::{History, Pass};
-use lease_table::{LeaseTable, Phase, Row, TableEvent};
+use lease_rule::{Kind, Verdict};
+use lease_table::{LeaseTable, Phase, Row, TableCall, TableEvent};
 use machines::Event;
-use policy_rules::{Kind, Verdict};
-use shared_objects::{Draws, Proposal, SharedClerk, SharedSlicelet, SharedTable, TaskLife, When};
+use shared_objects::{
+    AskCheck, AskHold, AskLook, AskPhase, AskServe, Draws, SharedClerk, SharedSlicelet,
+    SharedTable, When, freed_rows, generation, grant, job_term, release_note,
+};
 use slice_ranges::slice_key;
-use slicelet::{Slicelet, SliceletEvent};
+use slicelet::{Slicelet, SliceletCall, SliceletEvent};
 use std::alloc::Global;
 use std::sync::Wait;
 use std::test::Fail;
@@ -29,26 +32,26 @@ pub fn commit_first<R: Wait>(
     pass: &mut Pass<LeaseTable>,
     draws: &mut Draws<'_>,
 ) -> Result<(u64, u64), Fail>
-    requires own { IsPassOf table.now pass.old }
-    ensures own { IsPassOf table.now pass.new }
+    requires own { IsPassOf table.now.lock pass.old }
+    ensures own { IsPassOf table.now.lock pass.new }
 {
     let first = first_assignment(alloc)?;
-    let term = table
-        .take(rt, pass, draws, 1, When::At(0))
-        .ok()
-        .ok_or("nobody holds the job")?;
-    let proposal = Proposal {
-        term: term.number,
+    let take = TableCall::JobTake { assigner: 1, at: 0 };
+    let taken = table.write(rt, pass, draws, take, When::AsGiven);
+    let term = job_term(taken.ok().ok_or("nobody holds the job")?);
+    let propose = TableCall::Propose {
+        number: term.number,
         assignment: first,
+        at: 1,
     };
-    table
-        .propose(rt, pass, draws, proposal, When::At(1))
-        .ok()
-        .ok_or("nothing is proposed")?;
-    let generation = table
-        .commit(rt, pass, draws, term.number, When::At(2))
-        .ok()
-        .ok_or("no row holds it up")?;
+    let proposed = table.write(rt, pass, draws, propose, When::AsGiven);
+    proposed.ok().ok_or("nothing is proposed")?;
+    let commit = TableCall::Commit {
+        number: term.number,
+        at: 2,
+    };
+    let committed = table.write(rt, pass, draws, commit, When::AsGiven);
+    let generation = generation(committed.ok().ok_or("no row holds it up")?);
     Ok((term.until, generation))
 }
 
@@ -61,27 +64,26 @@ fn hear_first<R: Wait>(
     task_pass: &mut Pass<Slicelet>,
     draws: &mut Draws<'_>,
 ) -> Result<(u64, u64, u64), Fail>
-    requires table { IsPassOf table.now table_pass.old }
-    requires task { IsPassOf task.now task_pass.old }
-    ensures table { IsPassOf table.now table_pass.new }
-    ensures task { IsPassOf task.now task_pass.new }
+    requires table { IsPassOf table.now.lock table_pass.old }
+    requires task { IsPassOf task.now.lock task_pass.old }
+    ensures table { IsPassOf table.now.lock table_pass.new }
+    ensures task { IsPassOf task.now.lock task_pass.new }
 {
-    let life = TaskLife {
+    let start = SliceletCall::Start { life: 1, at: 3 };
+    let started = task.write(rt, task_pass, draws, start, When::AsGiven);
+    started.ok().ok_or("no life was started")?;
+    let ask = TableCall::Grant {
         task: first_task()?,
         life: 1,
+        at: 5,
     };
-    task.start(rt, task_pass, draws, 1, When::At(3))
-        .ok()
-        .ok_or("no life was started")?;
-    let grant = table
-        .grant(rt, table_pass, draws, life, When::At(5))
-        .ok()
-        .ok_or("numbers are left")?;
-    let granted = (grant.number, grant.lease.ends, grant.table_ends);
-    task.hear(rt, task_pass, draws, grant, When::At(6))
-        .ok()
-        .ok_or("the grant is the task's first")?;
-    Ok(granted)
+    let granted = table.write(rt, table_pass, draws, ask, When::AsGiven);
+    let grant = grant(granted.ok().ok_or("numbers are left")?);
+    let numbers = (grant.number, grant.lease.ends, grant.table_ends);
+    let hear = SliceletCall::Hear { grant, at: 6 };
+    let heard = task.write(rt, task_pass, draws, hear, When::AsGiven);
+    heard.ok().ok_or("the grant is the task's first")?;
+    Ok(numbers)
 }
 
 const SERVED: Verdict = Verdict::Allow {
@@ -97,16 +99,19 @@ fn serve_twice<R: Wait>(
     draws: &mut Draws<'_>,
     records: &mut Vec<CallRecord>,
 ) -> Result<(Verdict, Verdict), Fail>
-    requires own { IsPassOf task.now pass.old }
-    ensures own { IsPassOf task.now pass.new }
+    requires own { IsPassOf task.now.lock pass.old }
+    ensures own { IsPassOf task.now.lock pass.new }
 {
-    let key = slice_key(b"hello");
+    let question = AskServe {
+        key: slice_key(b"hello"),
+        at: 7,
+    };
     let served = task
-        .serve(rt, pass, draws, key, When::At(7))
+        .ask(rt, pass, draws, question, When::AsGiven)
         .ok()
         .ok_or("a draw is left")?;
     let tried = task
-        .try_serve(pass, draws, key, When::At(7))
+        .try_ask(pass, draws, question, When::AsGiven)
         .ok()
         .ok_or("the lane is free")?;
     records.push(served.call)?;
@@ -122,18 +127,22 @@ fn hold_and_check<R: Wait>(
     draws: &mut Draws<'_>,
     records: &mut Vec<CallRecord>,
 ) -> Result<(bool, bool), Fail>
-    requires own { IsPassOf task.now pass.old }
-    ensures own { IsPassOf task.now pass.new }
+    requires own { IsPassOf task.now.lock pass.old }
+    ensures own { IsPassOf task.now.lock pass.new }
 {
-    let key = slice_key(b"hello");
+    let question = AskHold {
+        key: slice_key(b"hello"),
+        at: 7,
+    };
     let held = task
-        .hold(rt, pass, draws, key, When::At(7))
+        .ask(rt, pass, draws, question, When::AsGiven)
         .ok()
         .ok_or("a draw is left")?;
     let handle = held.answer.ok().ok_or("the task may serve the key")?;
     records.push(held.call)?;
+    let question = AskCheck { handle, at: 8 };
     let checked = task
-        .check(rt, pass, draws, handle, When::At(8))
+        .ask(rt, pass, draws, question, When::AsGiven)
         .ok()
         .ok_or("a draw is left")?;
     let told = matches!(checked.call.reply, ClusterReply::Continuous);
@@ -149,10 +158,13 @@ fn ask_table<R: Wait>(
     draws: &mut Draws<'_>,
     records: &mut Vec<CallRecord>,
 ) -> Result<(Phase, bool), Fail>
-    requires own { IsPassOf table.now pass.old }
-    ensures own { IsPassOf table.now pass.new }
+    requires own { IsPassOf table.now.lock pass.old }
+    ensures own { IsPassOf table.now.lock pass.new }
 {
-    let phase = table.phase(rt, pass, draws).ok().ok_or("a draw is left")?;
+    let phase = table
+        .ask(rt, pass, draws, AskPhase, When::AsGiven)
+        .ok()
+        .ok_or("a draw is left")?;
     records.push(phase.call)?;
     let rows = table
         .rows(rt, pass, draws)
@@ -173,13 +185,12 @@ fn renew<R: Wait>(
     pass: &mut Pass<LeaseTable>,
     draws: &mut Draws<'_>,
 ) -> Result<u64, Fail>
-    requires own { IsPassOf table.now pass.old }
-    ensures own { IsPassOf table.now pass.new }
+    requires own { IsPassOf table.now.lock pass.old }
+    ensures own { IsPassOf table.now.lock pass.new }
 {
-    let term = table
-        .renew(rt, pass, draws, 1, When::At(8))
-        .ok()
-        .ok_or("assigner 1 holds the job")?;
+    let renew = TableCall::JobRenew { number: 1, at: 8 };
+    let renewed = table.write(rt, pass, draws, renew, When::AsGiven);
+    let term = job_term(renewed.ok().ok_or("assigner 1 holds the job")?);
     Ok(term.until)
 }
 
@@ -192,18 +203,17 @@ fn learn<R: Wait>(
     clerk_pass: &mut Pass<Clerk>,
     draws: &mut Draws<'_>,
 ) -> Result<(), Fail>
-    requires table { IsPassOf table.now table_pass.old }
+    requires table { IsPassOf table.now.lock table_pass.old }
     requires clerk { IsPassOf clerk.now.lock clerk_pass.old }
-    ensures table { IsPassOf table.now table_pass.new }
+    ensures table { IsPassOf table.now.lock table_pass.new }
     ensures clerk { IsPassOf clerk.now.lock clerk_pass.new }
 {
     let committed = table
         .committed(rt, table_pass)?
         .ok_or("generation 1 is committed")?;
-    clerk
-        .learn(rt, clerk_pass, draws, committed)
-        .ok()
-        .ok_or("the clerk has learnt nothing")?;
+    let learn = ClerkCall::Learn(committed);
+    let learnt = clerk.write(rt, clerk_pass, draws, learn, When::AsGiven);
+    learnt.ok().ok_or("the clerk has learnt nothing")?;
     Ok(())
 }
 
@@ -218,17 +228,18 @@ fn look<R: Wait>(
     requires own { IsPassOf clerk.now.lock pass.old }
     ensures own { IsPassOf clerk.now.lock pass.new }
 {
+    let question = AskLook {
+        key: slice_key(b"hello"),
+    };
     let looked = clerk
-        .look(rt, pass, draws, slice_key(b"hello"))
+        .ask(rt, pass, draws, question, When::AsGiven)
         .ok()
         .ok_or("a draw is left")?;
     records.push(looked.call)?;
     let found = looked.answer.ok().ok_or("the clerk has learnt")?;
     let alone = is_task_1(found.owners.as_slice());
-    clerk
-        .forget(rt, pass, draws)
-        .ok()
-        .ok_or("a clerk forgets at any time")?;
+    let forgot = clerk.write(rt, pass, draws, ClerkCall::Forget, When::AsGiven);
+    forgot.ok().ok_or("a clerk forgets at any time")?;
     Ok((found.generation, alone))
 }
 
@@ -245,21 +256,20 @@ fn give_up<R: Wait>(
     task_pass: &mut Pass<Slicelet>,
     draws: &mut Draws<'_>,
 ) -> Result<u64, Fail>
-    requires table { IsPassOf table.now table_pass.old }
-    requires task { IsPassOf task.now task_pass.old }
-    ensures table { IsPassOf table.now table_pass.new }
-    ensures task { IsPassOf task.now task_pass.new }
+    requires table { IsPassOf table.now.lock table_pass.old }
+    requires task { IsPassOf task.now.lock task_pass.old }
+    ensures table { IsPassOf table.now.lock table_pass.new }
+    ensures task { IsPassOf task.now.lock task_pass.new }
 {
-    let note = task
-        .release(rt, task_pass, draws, Kind::Guard, When::At(9))
-        .ok()
-        .ok_or("the task holds a guard")?;
-    Ok(
-        table
-            .free(rt, table_pass, draws, note, When::At(10))
-            .ok()
-            .ok_or("the row is open")?,
-    )
+    let release = SliceletCall::Release {
+        kind: Kind::Guard,
+        at: 9,
+    };
+    let released = task.write(rt, task_pass, draws, release, When::AsGiven);
+    let note = release_note(released.ok().ok_or("the task holds a guard")?);
+    let free = TableCall::Free { note, at: 10 };
+    let freed = table.write(rt, table_pass, draws, free, When::AsGiven);
+    Ok(freed_rows(freed.ok().ok_or("the row is open")?))
 }
 
 // The tickets of a history's entries.
@@ -304,8 +314,8 @@ fn play<R: Wait>(
     draws: &mut Draws<'_>,
     records: &mut Vec<CallRecord>,
 ) -> Result<Seen, Fail>
-    requires { IsPassOf objects.now.table passes.old.table × IsPassOf objects.now.task passes.old.task × IsPassOf objects.now.clerk.lock passes.old.clerk }
-    ensures { IsPassOf objects.now.table passes.new.table × IsPassOf objects.now.task passes.new.task × IsPassOf objects.now.clerk.lock passes.new.clerk }
+    requires { IsPassOf objects.now.table.lock passes.old.table × IsPassOf objects.now.task.lock passes.old.task × IsPassOf objects.now.clerk.lock passes.old.clerk }
+    ensures { IsPassOf objects.now.table.lock passes.new.table × IsPassOf objects.now.task.lock passes.new.task × IsPassOf objects.now.clerk.lock passes.new.clerk }
 {
     let Objects { table, task, clerk } = objects;
     let Passes {
@@ -341,7 +351,7 @@ struct Histories {
 }
 
 fn close(alloc: Global, objects: Objects, passes: Passes) -> Result<Histories, Fail>
-    requires { IsPassOf objects.table passes.table × IsPassOf objects.task passes.task × IsPassOf objects.clerk.lock passes.clerk }
+    requires { IsPassOf objects.table.lock passes.table × IsPassOf objects.task.lock passes.task × IsPassOf objects.clerk.lock passes.clerk }
 {
     let Objects { table, task, clerk } = objects;
     let Passes {

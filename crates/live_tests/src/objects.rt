@@ -4,10 +4,11 @@ ghost use Rattle.std.specs.Prelude.{IfOk};
 ghost use Rattle.history_lock.specs.Passes.{IsPassOf};
 ghost use Rattle.tickets.specs.Tickets.{DrawsFrom};
 
-use assignment::{Assignment, Listed, Slice, TaskId};
+use assignment::{Assignment, Slice, TaskId};
 use clerk::{Clerk, ClerkEvent};
 use history_lock::{Closed, History, Pass};
 use lease_table::{LeaseTable, Policy, TableEvent};
+use machines::Listed;
 use shared_objects::{SharedClerk, SharedSlicelet, SharedTable};
 use slicelet::{Slicelet, SliceletEvent};
 use std::alloc::Global;
@@ -64,7 +65,7 @@ pub struct Passes {
 
 /// Creates all objects and their passes.
 pub fn open_all(alloc: Global) -> Result<(Objects, Passes), Fail>
-    ensures { IfOk result (λ made. IsPassOf made.0.table made.1.table × IsPassOf made.0.task made.1.task × IsPassOf made.0.clerk.lock made.1.clerk) }
+    ensures { IfOk result (λ made. IsPassOf made.0.table.lock made.1.table × IsPassOf made.0.task.lock made.1.task × IsPassOf made.0.clerk.lock made.1.clerk) }
 {
     let (table, table_pass) = open_table(alloc, 10)?;
     let (task, task_pass) = open_task(alloc)?;
@@ -84,9 +85,9 @@ pub fn open_over(
     table: &LeaseTable,
     entries: usize,
 ) -> Result<(SharedTable, Pass<LeaseTable>), Fail>
-    ensures { IfOk result (λ made. IsPassOf made.0 made.1) }
+    ensures { IfOk result (λ made. IsPassOf made.0.lock made.1) }
 {
-    let made = SharedTable::over(alloc, table, 1, entries);
+    let made = SharedTable::over(alloc, table, 0, 1, entries);
     let (table, mut others) = made.ok().ok_or("one lane and some entries")?;
     let pass = others.pop().ok_or("the pass of lane 0")?;
     Ok((table, pass))
@@ -94,18 +95,20 @@ pub fn open_over(
 
 /// Creates a table of one lane whose history holds this many entries, and its one pass.
 pub fn open_table(alloc: Global, entries: usize) -> Result<(SharedTable, Pass<LeaseTable>), Fail>
-    ensures { IfOk result (λ made. IsPassOf made.0 made.1) }
+    ensures { IfOk result (λ made. IsPassOf made.0.lock made.1) }
 {
-    let made = SharedTable::new(alloc, policy()?, 1, entries);
+    let table = LeaseTable::new(alloc, policy()?);
+    let made = SharedTable::new(alloc, table, 0, 1, entries);
     let (table, mut others) = made.ok().ok_or("one lane and some entries")?;
     let pass = others.pop().ok_or("the pass of lane 0")?;
     Ok((table, pass))
 }
 
 fn open_task(alloc: Global) -> Result<(SharedSlicelet, Pass<Slicelet>), Fail>
-    ensures { IfOk result (λ made. IsPassOf made.0 made.1) }
+    ensures { IfOk result (λ made. IsPassOf made.0.lock made.1) }
 {
-    let made = SharedSlicelet::new(alloc, first_task()?, 1, 10);
+    let task = first_task()?;
+    let made = SharedSlicelet::new(alloc, Slicelet::new(alloc, task), task.number(), 1, 10);
     let (task, mut others) = made.ok().ok_or("one lane and ten entries")?;
     let pass = others.pop().ok_or("the pass of lane 0")?;
     Ok((task, pass))
@@ -114,7 +117,7 @@ fn open_task(alloc: Global) -> Result<(SharedSlicelet, Pass<Slicelet>), Fail>
 fn open_clerk(alloc: Global) -> Result<(SharedClerk, Pass<Clerk>), Fail>
     ensures { IfOk result (λ made. IsPassOf made.0.lock made.1) }
 {
-    let made = SharedClerk::new(alloc, 1, 1, 10);
+    let made = SharedClerk::new(alloc, Clerk::new(), 1, 1, 10);
     let (clerk, mut others) = made.ok().ok_or("one lane and ten entries")?;
     let pass = others.pop().ok_or("the pass of lane 0")?;
     Ok((clerk, pass))
@@ -136,7 +139,7 @@ pub fn close_whole(
     table: SharedTable,
     pass: Pass<LeaseTable>,
 ) -> Result<Closed<LeaseTable>, Fail>
-    requires { IsPassOf table pass }
+    requires { IsPassOf table.lock pass }
 {
     let mut passes = Vec::new(alloc);
     passes.push(pass)?;
@@ -148,7 +151,7 @@ pub fn close_table(
     table: SharedTable,
     pass: Pass<LeaseTable>,
 ) -> Result<History<TableEvent>, Fail>
-    requires { IsPassOf table pass }
+    requires { IsPassOf table.lock pass }
 {
     Ok(close_whole(alloc, table, pass)?.history)
 }
@@ -158,7 +161,7 @@ pub fn close_task(
     task: SharedSlicelet,
     pass: Pass<Slicelet>,
 ) -> Result<History<SliceletEvent>, Fail>
-    requires { IsPassOf task pass }
+    requires { IsPassOf task.lock pass }
 {
     let mut passes = Vec::new(alloc);
     passes.push(pass)?;

@@ -1,11 +1,9 @@
 -- What is written for what is read.
-use Rattle.std.specs.Prelude.{◌≡◌, ◌⊎◌, ℕ, List, take, Option, ⊤, Ok}
-use Rattle.std.specs.Io.KnownBytes.{Appends, Keeps}
+use Rattle.std.specs.Prelude.{◌≡◌, ◌⊎◌, ℕ, List, Option, Ok}
 use Rattle.serde_json.specs.Data.{Data}
 use Rattle.program_io.specs.declared.fault.Fault.{Fault}
-use Rattle.program_io.specs.declared.fault.Fault.TheVariants as fault
+use Rattle.program_io.specs.Endings.{IsAnswered, IsUnanswered}
 use Rattle.program_io.specs.Json.{IsJson, IsNoJson}
-use Rattle.program_io.specs.Streams.{ReadsAll}
 use Rattle.live_run.specs.LiveJobs.{LiveSizes}
 use Rattle.live_run.specs.Reports.{IsReported}
 use Rattle.live_run.specs.declared.report.LiveReport.{LiveReport}
@@ -29,17 +27,8 @@ pub record SaysNone (bytes : List ℕ) : Type 0 where
 abbrev pub IsRefused : List ℕ → Type 0
 IsRefused bytes = IsNoJson bytes ⊎ SaysNone bytes
 
--- no job was read, out of memory or since there is none
-abbrev pub IsUnread : List ℕ → Fault InputError → Type 0
-IsUnread bytes (fault.Input refusal) = IsRefused bytes
-IsUnread bytes fault.Read = ⊥
-IsUnread bytes fault.Write = ⊥
-IsUnread bytes fault.Memory = ⊤
-
--- all was read, it says a job, and this is the text of a report of the job
-pub record IsRun (before after : Option (List ℕ)) (text : List ℕ) (found : Audit) : Type 0 where
-  pub bytes : List ℕ
-  pub reads : ReadsAll before after bytes
+-- the bytes say a job, and this is the text of a report of the job, whose audit found this
+pub record SaysRun (found : Audit) (bytes text : List ℕ) : Type 0 where
   pub job : LiveSizes
   pub says : SaysJob bytes job
   pub report : LiveReport
@@ -47,28 +36,14 @@ pub record IsRun (before after : Option (List ℕ)) (text : List ℕ) (found : A
   pub audited : found ≡ report.audit
   pub is : text ≡ live_text report.asked report.generation report.audit
 
--- a job was run, and its text was written
-pub record Answered (before after held holds : Option (List ℕ)) (found : Audit) : Type 0 where
-  pub text : List ℕ
-  pub run : IsRun before after text found
-  pub wrote : Appends held holds text
+-- the same, whatever was found
+abbrev pub SaysSomeRun : List ℕ → List ℕ → Type 0
+SaysSomeRun bytes text = (found : Audit) × SaysRun found bytes text
 
--- a job was run, and its text was written up to a place
-pub record Cut (before after held holds : Option (List ℕ)) : Type 0 where
-  pub text : List ℕ
-  pub found : Audit
-  pub run : IsRun before after text found
-  pub len : ℕ
-  pub wrote : Appends held holds (take len text)
+-- all was read, it says a job, which was run, and its text was written
+abbrev pub Answered : (before after held holds : Option (List ℕ)) → Audit → Type 0
+Answered before after held holds found = IsAnswered (SaysRun found) before after held holds
 
--- all was read, and it is refused
-pub record Refused (before after : Option (List ℕ)) : Type 0 where
-  pub bytes : List ℕ
-  pub reads : ReadsAll before after bytes
-  pub why : IsRefused bytes
-
-abbrev pub Failed : Option (List ℕ) → Option (List ℕ) → Option (List ℕ) → Option (List ℕ) → Fault InputError → Type 0
-Failed before after held holds (fault.Input refusal) = Refused before after × Keeps held holds
-Failed before after held holds fault.Read = Keeps held holds
-Failed before after held holds fault.Write = Cut before after held holds
-Failed before after held holds fault.Memory = Keeps held holds
+-- no whole text was written
+abbrev pub Failed : (before after held holds : Option (List ℕ)) → Fault InputError → Type 0
+Failed before after held holds why = IsUnanswered SaysSomeRun (λ bytes refusal. IsRefused bytes) before after held holds why

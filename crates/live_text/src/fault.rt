@@ -9,7 +9,7 @@ use thiserror::Error;
 pub struct InputError;
 
 /// Why the program `slicer_live` fails. Its text is what the program writes to standard error.
-#[derive(Clone, Copy, Debug, PartialEq, Eq, Error)]
+#[derive(Debug, PartialEq, Eq, Drop, Error)]
 pub enum LiveProgramError {
     /// The program was given an argument beside its name.
     #[error("slicer_live: no arguments taken")]

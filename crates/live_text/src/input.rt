@@ -3,7 +3,8 @@
 ghost use Rattle.std.specs.Prelude.{◌≡◌, IfOk, IfErr};
 ghost use Rattle.serde_json.specs.View.{view};
 ghost use Rattle.live_text.specs.Jobs.{live_job_of};
-ghost use Rattle.live_text.specs.Inputs.{SaysJob, IsUnread};
+ghost use Rattle.live_text.specs.Inputs.{SaysJob, IsRefused};
+ghost use Rattle.program_io.specs.Status.{IsUnread};
 
 use crate::fault::InputError;
 use live_run::{LiveJob, MOST_ASKS, MOST_ROUNDS, MOST_TASKS, MOST_WORKERS};
@@ -30,7 +31,7 @@ fn live_job_of(value: &Value) -> Result<LiveJob, WrongForm>
 /// Reads the job of a live run from bytes.
 pub fn parsed(alloc: Global, bytes: &[u8]) -> Result<LiveJob, Fault<InputError>>
     ensures ok { IfOk result (SaysJob bytes.now) }
-    ensures err { IfErr result (IsUnread bytes.now) }
+    ensures err { IfErr result (IsUnread (λ refusal. IsRefused bytes.now)) }
 {
     let value = match value_of(alloc, bytes) {
         Ok(value) => value,

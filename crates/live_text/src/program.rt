@@ -45,8 +45,9 @@ pub fn slicer_live<R: Read, W: Write>(
     match run_live_text(rt, rt.alloc(), reader, writer, &OpenGate) {
         Ok(found) => ExitCode::from(status_found(found)),
         Err(fault) => {
+            let status = fault.status();
             let _ = eprintln!(rt; "{}", LiveProgramError::Fault(fault));
-            ExitCode::from(fault.status())
+            ExitCode::from(status)
         }
     }
 }

@@ -8,8 +8,8 @@ ghost use Rattle.load_ledger.specs.Books.{book_of, book_with, gather_checks, gat
 use crate::error::LoadError;
 use crate::loads::loads_of;
 use crate::share::{LoadShare, MOST_TOTAL};
-use assignment::{Assignment, Listed, TaskId};
-use machines::Trouble;
+use assignment::{Assignment, TaskId};
+use machines::{Listed, Trouble};
 use std::alloc::Global;
 use std::marker::Model;
 

@@ -8,8 +8,10 @@
 
 mod copies;
 mod event;
+mod listed;
 mod machine;
 
 pub use copies::Duplicate;
 pub use event::Event;
+pub use listed::Listed;
 pub use machine::{Machine, Trouble};

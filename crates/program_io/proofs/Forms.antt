@@ -1,8 +1,8 @@
 -- What a `Value` shows of its members and elements.
-use Rattle.std.proofs.Common.{◌≡◌, ℕ, List, [], ◌∷◌, length, map, refl, ap, Bor, Bool}
+use Rattle.std.proofs.Common.{◌≡◌, ℕ, ◌+◌, ◌&&◌, ◌∙◌, List, [], ◌∷◌, ◌++◌, length, map, refl, ap, Bor, Bool}
 use Rattle.std.specs.List.{list_all}
-use Rattle.std.proofs.lemmas.List.{length-map}
-use Rattle.std.proofs.lemmas.List.Folds.{list_all-map}
+use Rattle.std.proofs.lemmas.List.{length-append, length-map}
+use Rattle.std.proofs.lemmas.List.Folds.{list_all-append, list_all-map}
 use Rattle.serde_json.specs.Data.{Data}
 use Rattle.serde_json.specs.Events.{members_len}
 use Rattle.serde_json.specs.View.{view, items_of, items_view, members_view}
@@ -25,3 +25,9 @@ all_of_names p names = list_all-map p (λ (n : Bor (List ℕ)). n.now) names
 
 pub length_of_names : (names : List (Bor (List ℕ))) → length (map (λ (n : Bor (List ℕ)). n.now) names) ≡ length names
 length_of_names names = length-map names (λ (n : Bor (List ℕ)). n.now)
+
+pub all_of_both : (p : List ℕ → Bool) (names others : List (Bor (List ℕ))) → list_all p (map (λ (n : Bor (List ℕ)). n.now) names ++ map (λ (n : Bor (List ℕ)). n.now) others) ≡ (list_all (λ (n : Bor (List ℕ)). p n.now) names && list_all (λ (n : Bor (List ℕ)). p n.now) others)
+all_of_both p names others = list_all-append p (map (λ (n : Bor (List ℕ)). n.now) names) (map (λ (n : Bor (List ℕ)). n.now) others) ∙ rw (all_of_names p names, all_of_names p others) refl
+
+pub length_of_both : (names others : List (Bor (List ℕ))) → length (map (λ (n : Bor (List ℕ)). n.now) names ++ map (λ (n : Bor (List ℕ)). n.now) others) ≡ length names + length others
+length_of_both names others = length-append (map (λ (n : Bor (List ℕ)). n.now) names) (map (λ (n : Bor (List ℕ)). n.now) others) ∙ rw (length_of_names names, length_of_names others) refl

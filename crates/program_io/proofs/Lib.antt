@@ -4,3 +4,8 @@ pub mod Written
 pub mod Keeping
 pub mod NameSets
 pub mod Once
+pub mod Bytes
+pub mod Ends
+pub mod PartReading
+pub mod Skipping
+pub mod Failing

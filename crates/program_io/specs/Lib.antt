@@ -2,6 +2,10 @@ pub mod Reading
 pub mod Members
 pub mod Repeated
 pub mod Json
+pub mod Lines
+pub mod LinesRead
 pub mod Streams
 pub mod Status
+pub mod Endings
 pub mod Versions
+pub mod internals

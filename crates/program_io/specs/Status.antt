@@ -1,6 +1,5 @@
 -- Why a program does not answer, and the status that it exits with.
-use Rattle.std.specs.Prelude.{◌≡◌, ℕ, List, Option}
-use Rattle.std.specs.Io.KnownBytes.{Keeps}
+use Rattle.std.specs.Prelude.{ℕ, Result, Ok, Err, ⊤}
 use Rattle.program_io.specs.declared.fault.ReadError.{ReadError}
 use Rattle.program_io.specs.declared.fault.ReadError.TheVariants as reading
 use Rattle.program_io.specs.declared.fault.Fault.{Fault}
@@ -18,7 +17,14 @@ status_of fault.Read = 3
 status_of fault.Write = 3
 status_of fault.Memory = 3
 
--- there were arguments: nothing was read, and nothing written
-pub record EndsAtArguments (before after held holds : Option (List ℕ)) (code : ℕ) : Type 0 where
-  pub status : code ≡ 2
-  pub kept : Keeps before after × Keeps held holds
+-- the same where there may be none: 0 without one
+abbrev pub status_after : {Refusal : Type 0} → Result ⊤ (Fault Refusal) → ℕ
+status_after (Ok done) = 0
+status_after (Err why) = status_of why
+
+-- the input is refused for this, or memory ran out
+abbrev pub IsUnread : {Refusal : Type 0} → (Refusal → Type 0) → Fault Refusal → Type 0
+IsUnread IsRefused (fault.Input why) = IsRefused why
+IsUnread IsRefused fault.Read = ⊥
+IsUnread IsRefused fault.Write = ⊥
+IsUnread IsRefused fault.Memory = ⊤

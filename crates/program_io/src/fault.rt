@@ -97,7 +97,7 @@ impl From<AllocError> for ReadError {
 pub struct WriteError;
 
 /// Why a program failed to handle its input.
-#[derive(Clone, Copy, Debug, PartialEq, Eq, Error)]
+#[derive(Debug, PartialEq, Eq, Drop, Error)]
 #[error_bound(Refusal: Display)]
 pub enum Fault<Refusal> {
     /// The input is refused.

@@ -1,6 +1,6 @@
 //! Readers of JSON values, one call for each kind of value.
 
-ghost use Rattle.std.specs.Prelude.{◌≡◌, List, Result, map, is_some};
+ghost use Rattle.std.specs.Prelude.{◌≡◌, ◌++◌, List, Result, map, is_some};
 ghost use Rattle.std.specs.List.{list_all};
 ghost use Rattle.serde_json.specs.Find.{get};
 ghost use Rattle.serde_json.specs.Data.{Data};
@@ -10,7 +10,7 @@ ghost use Rattle.program_io.specs.Reading.{Gives};
 ghost use Rattle.program_io.specs.Members.{IsRead, count_of, exactly, member_at, number_of, number_at, number_in, flag_at, text_at, array_of, pair_of, two_numbers_of, list_of, list_at};
 
 use crate::fault::{Unread, WrongForm};
-use assignment::Listed;
+use machines::Listed;
 use serde_json::Value;
 use std::alloc::Global;
 
@@ -39,6 +39,21 @@ pub fn exactly(names: &[&str], value: &Value) -> Result<(), WrongForm>
     ensures { result ≡ exactly (map (λ n. n.now) names.now) (view value.now) }
 {
     if count_of(value)? == names.len() && has_all(names, value) {
+        Ok(())
+    } else {
+        Err(WrongForm)
+    }
+}
+
+/// Checks that the value is an object with exactly the members of both lists.
+///
+/// The lists together must not contain a name twice.
+#[tactic(auto, using(crate::proofs::Forms::all_of_both, crate::proofs::Forms::length_of_both))]
+pub fn exactly_beside(beside: &[&str], names: &[&str], value: &Value) -> Result<(), WrongForm>
+    ensures { result ≡ exactly (map (λ n. n.now) beside.now ++ map (λ n. n.now) names.now) (view value.now) }
+{
+    let count = count_of(value)?;
+    if count == beside.len() + names.len() && has_all(beside, value) && has_all(names, value) {
         Ok(())
     } else {
         Err(WrongForm)

@@ -6,10 +6,10 @@ use Rattle.assignment.specs.declared.error.AssignmentError.{AssignmentError}
 use Rattle.assignment.specs.declared.error.AssignmentError.TheVariants as assignment
 use Rattle.slice_ranges.specs.declared.error.RangesError.{RangesError}
 use Rattle.slice_ranges.specs.declared.error.RangesError.TheVariants as ranges
-use Rattle.policy_rules.specs.declared.answer.Ground.{Ground}
-use Rattle.policy_rules.specs.declared.answer.Ground.TheVariants as ground
-use Rattle.policy_rules.specs.declared.answer.Verdict.{Verdict}
-use Rattle.policy_rules.specs.declared.answer.Verdict.TheVariants.{Allow, Deny}
+use Rattle.lease_rule.specs.declared.answer.Ground.{Ground}
+use Rattle.lease_rule.specs.declared.answer.Ground.TheVariants as ground
+use Rattle.lease_rule.specs.declared.answer.Verdict.{Verdict}
+use Rattle.lease_rule.specs.declared.answer.Verdict.TheVariants.{Allow, Deny}
 use Rattle.lease_table.specs.declared.values.Phase.{Phase}
 use Rattle.lease_table.specs.declared.values.Phase.TheVariants.{Steady, Bridging}
 use Rattle.lease_table.specs.declared.values.Row.{Row}
@@ -214,8 +214,9 @@ reply_text (reply.Proposed generation) = codes "proposed " ++ decimal generation
 reply_text (reply.Committed generation) = codes "committed " ++ decimal generation
 reply_text (reply.Phase phase) = codes "phase " ++ phase_words phase
 reply_text (reply.Rows rows) = codes "rows [" ++ rows_text rows ++ codes "]"
-reply_text (reply.Granted number kind generation table_ends ends) =
-    codes "grant " ++ decimal number ++ codes " " ++ kind_word kind ++ codes " " ++ decimal generation ++ codes " until " ++ decimal table_ends ++ codes " " ++ decimal ends
+reply_text (reply.Granted grant) =
+    codes "grant " ++ decimal grant.number ++ codes " " ++ kind_word grant.lease.kind ++ codes " " ++ decimal grant.lease.generation
+    ++ codes " until " ++ decimal grant.table_ends ++ codes " " ++ decimal grant.lease.ends
 reply_text (reply.Freed rows) = codes "freed " ++ decimal rows
 reply_text (reply.Started life) = codes "started " ++ decimal life
 reply_text (reply.Heard number) = codes "heard " ++ decimal number
@@ -230,7 +231,7 @@ reply_text (reply.Recorded total) = codes "recorded " ++ decimal total
 reply_text (reply.Gathered loads totals) = codes "loads" ++ flat_map next_number loads ++ codes " totals" ++ flat_map next_number totals
 reply_text (reply.Planned plan) = codes "plan [" ++ slices_text plan.slices ++ codes "] moves [" ++ moves_text plan.moves ++ codes "]"
 reply_text (reply.Next action) = codes "next " ++ action_word action
-reply_text reply.Restarted = codes "restarted"
+reply_text reply.TermDropped = codes "restarted"
 reply_text (reply.Lost rows) = codes "lost " ++ decimal rows
 reply_text (reply.Refused refusal) = codes "refused " ++ refusal_words refusal
 reply_text reply.NoMemory = codes "no-memory"

@@ -1,9 +1,9 @@
 -- The questions about the written rule that a script asks.
 use Rattle.std.specs.Prelude.{ℕ, ◌&&◌, Bool, nat_le, List, [], ◌∷◌, codes, count_by, Result, Ok}
 use Rattle.serde_json.specs.Data.{Data}
-use Rattle.policy_rules.specs.declared.lease.Kind.{Kind}
-use Rattle.policy_rules.specs.declared.lease.Kind.TheVariants.{Guard, Bridge}
-use Rattle.policy_rules.specs.Leases.{same_kind}
+use Rattle.lease_rule.specs.declared.lease.Kind.{Kind}
+use Rattle.lease_rule.specs.declared.lease.Kind.TheVariants.{Guard, Bridge}
+use Rattle.lease_rule.specs.Leases.{same_kind}
 use Rattle.world.specs.declared.judge.WrittenLease.{WrittenLease}
 use Rattle.world.specs.declared.judge.Question.{Question}
 use Rattle.program_io.specs.declared.fault.WrongForm.{WrongForm}

@@ -9,6 +9,7 @@ use Rattle.service.specs.declared.fault.ScriptError.TheVariants.{NotArray, NoJob
 use Rattle.program_io.specs.declared.fault.Fault.{Fault}
 use Rattle.program_io.specs.declared.fault.Fault.TheVariants as fault
 use Rattle.service.specs.declared.script.Script.{Script}
+use Rattle.program_io.specs.Status.{IsUnread}
 use Rattle.program_io.specs.Reading.{◌>>=◌, ◌>>◌, check, in_turn}
 use Rattle.program_io.specs.Members.{array_of}
 use Rattle.service.specs.Jobs.{job_member, job_of}
@@ -54,17 +55,10 @@ abbrev pub IsReadOrRefused : {X A : Type 0} → (X → A) → Result X ScriptErr
 IsReadOrRefused f (Ok x) read = read ≡ Ok (f x)
 IsReadOrRefused f (Err refusal) read = read ≡ Err refusal
 
--- what a function that failed says of what is read: nothing, where memory ran out
-abbrev pub FailsWith : {A : Type 0} → Fault ScriptError → Result A ScriptError → Type 0
-FailsWith (fault.Input refusal) read = read ≡ Err refusal
-FailsWith fault.Read read = ⊥
-FailsWith fault.Write read = ⊥
-FailsWith fault.Memory read = ⊤
-
 -- what a function returned is what is read, unless memory ran out
 abbrev pub Answers : {A : Type 0} → Result A (Fault ScriptError) → Result A ScriptError → Type 0
 Answers (Ok x) read = read ≡ Ok x
-Answers (Err e) read = FailsWith e read
+Answers (Err e) read = IsUnread (λ refusal. read ≡ Err refusal) e
 
 -- why no script was read of a value: it is refused, or memory ran out where only a step can be refused
 abbrev pub FailsScript : Fault ScriptError → Data → Type 0

@@ -4,7 +4,7 @@ use Rattle.std.specs.Str.{bytes_eq}
 use Rattle.serde_json.specs.Data.{Data}
 use Rattle.world.specs.Jobs.{Job}
 use Rattle.world.specs.declared.step.Step.{Step}
-use Rattle.world.specs.declared.step.Step.TheVariants.{Hash, Assign, Owners, Judge, Take, Renew, Propose, Commit, Phase, Rows, Grant, Free, Start, Hear, Release, Serve, Hold, Check, Learn, Look, Forget, Load, Gather, Plan, Next, Restart, Lose}
+use Rattle.world.specs.declared.step.Step.TheVariants.{Hash, Assign, Owners, Judge, Take, Renew, Propose, Commit, Phase, Rows, Grant, Free, Start, Hear, Release, Serve, Hold, Check, Learn, Look, Forget, Load, Gather, Plan, Next, DropTerm, Lose}
 use Rattle.program_io.specs.declared.fault.WrongForm.{WrongForm}
 use Rattle.machines.specs.Numbers.{is_within}
 use Rattle.assignment.specs.declared.task.TheConstants.{TASKS}
@@ -187,11 +187,11 @@ forget_step job d = do
   Ok (Forget clerk)
 
 -- a `restart` has an assigner
-unfoldable pub restart_step : Job → Data → Result Step WrongForm
-restart_step job d = do
+unfoldable pub drop_term_step : Job → Data → Result Step WrongForm
+drop_term_step job d = do
   exactly (codes "do" ∷ codes "assigner" ∷ []) d
   assigner ← number_in 1 job.assigners (codes "assigner") d
-  Ok (Restart assigner)
+  Ok (DropTerm assigner)
 
 -- a `lose` has nothing more
 unfoldable pub lose_step : Data → Result Step WrongForm
@@ -301,7 +301,7 @@ table_kinds =
     (codes "rows", λ job. rows_step) ∷
     (codes "grant", grant_step) ∷
     (codes "free", λ job. free_step) ∷
-    (codes "restart", restart_step) ∷
+    (codes "restart", drop_term_step) ∷
     (codes "lose", λ job. lose_step) ∷ []
 
 -- the steps of no actor

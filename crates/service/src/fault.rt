@@ -28,7 +28,7 @@ pub enum ScriptError {
 }
 
 /// Why the program `slicer_run` fails. Its text is what the program writes to standard error.
-#[derive(Clone, Copy, Debug, PartialEq, Eq, Error)]
+#[derive(Debug, PartialEq, Eq, Drop, Error)]
 pub enum ProgramError {
     /// The program was given an argument beside its name.
     #[error("slicer_run: no arguments taken")]

@@ -4,13 +4,13 @@ ghost use Rattle.serde_json.specs.View.{view};
 ghost use Rattle.program_io.specs.Reading.{Gives};
 ghost use Rattle.service.specs.Keys.{key_at};
 
-use assignment::Listed;
+use machines::Listed;
 use program_io::{Unread, text_at};
 use serde_json::Value;
 use std::alloc::Global;
 
-/// The largest number of bytes in a key.
-const MOST_KEY_BYTES: usize = 4096;
+/// The largest number of bytes in a key of a script or of a log.
+pub const MOST_KEY_BYTES: usize = 4096;
 
 /// Returns the bytes of the text member with this name, at most 4096 of them.
 pub fn key_at(alloc: Global, name: &str, value: &Value) -> Result<Listed<u8>, Unread>

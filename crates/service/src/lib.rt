@@ -22,6 +22,7 @@ mod words;
 
 pub use fault::{ProgramError, ScriptError};
 pub use job::{job_member, job_of};
+pub use key_member::MOST_KEY_BYTES;
 pub use laws::printed_law;
 pub use line::{Hex, Line};
 pub use output::{is_timely, output_of, replies_of};

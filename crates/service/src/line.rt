@@ -7,8 +7,8 @@ ghost use Rattle.service.specs.Lines.{hex_16, verdict_words, phase_words, owners
 use crate::plan_line::{MovesText, SlicesText};
 use crate::words::{RefusalWords, action_word};
 use assignment::TaskId;
+use lease_rule::{Ground, Verdict};
 use lease_table::{Phase, Row};
-use policy_rules::{Ground, Verdict};
 use std::fmt;
 use wire::kind_word;
 use world::Reply;
@@ -162,19 +162,15 @@ impl fmt::Display for Line<'_> {
             Reply::Committed(generation) => write!(f, "committed {generation}"),
             Reply::Phase(phase) => write!(f, "phase {}", PhaseWords(*phase)),
             Reply::Rows(rows) => write!(f, "rows [{}]", RowsText(rows.as_slice())),
-            Reply::Granted {
-                number,
-                kind,
-                generation,
-                table_ends,
-                ends,
-            } => {
-                let kind = kind_word(*kind);
-                write!(
-                    f,
-                    "grant {number} {kind} {generation} until {table_ends} {ends}"
-                )
-            }
+            Reply::Granted(grant) => write!(
+                f,
+                "grant {} {} {} until {} {}",
+                grant.number,
+                kind_word(grant.lease.kind),
+                grant.lease.generation,
+                grant.table_ends,
+                grant.lease.ends
+            ),
             Reply::Freed(rows) => write!(f, "freed {rows}"),
             Reply::Started(life) => write!(f, "started {life}"),
             Reply::Heard(number) => write!(f, "heard {number}"),
@@ -204,7 +200,7 @@ impl fmt::Display for Line<'_> {
                 )
             }
             Reply::Next(action) => write!(f, "next {}", action_word(*action)),
-            Reply::Restarted => f.write_str("restarted"),
+            Reply::TermDropped => f.write_str("restarted"),
             Reply::Lost(rows) => write!(f, "lost {rows}"),
             Reply::Refused(refusal) => write!(f, "refused {}", RefusalWords(*refusal)),
             Reply::NoMemory => f.write_str("no-memory"),

@@ -30,8 +30,9 @@ pub fn slicer_run<R: Read, W: Write>(
     match run_script(rt.alloc(), reader, writer) {
         Ok(()) => ExitCode::SUCCESS,
         Err(fault) => {
+            let status = fault.status();
             let _ = eprintln!(rt; "{}", ProgramError::Fault(fault));
-            ExitCode::from(fault.status())
+            ExitCode::from(status)
         }
     }
 }

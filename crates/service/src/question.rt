@@ -2,12 +2,12 @@
 
 ghost use Rattle.std.specs.Prelude.{◌≡◌, nat_le, count_by};
 ghost use Rattle.serde_json.specs.View.{view};
-ghost use Rattle.policy_rules.specs.Leases.{same_kind};
+ghost use Rattle.lease_rule.specs.Leases.{same_kind};
 ghost use Rattle.program_io.specs.Reading.{Gives};
 ghost use Rattle.service.specs.Questions.{lease_of, question_of};
 
 use crate::key_member::key_at;
-use policy_rules::Kind;
+use lease_rule::Kind;
 use program_io::{Form, TwoNumbers, Unread, exactly, flag_at, list_at, number_at};
 use serde_json::Value;
 use std::alloc::Global;

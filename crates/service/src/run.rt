@@ -1,7 +1,8 @@
 //! The bytes of a script in, the bytes of its replies out.
 
 ghost use Rattle.std.specs.Prelude.{IfOk, IfErr, OnOk};
-ghost use Rattle.service.specs.Service.{SaysScript, IsUnread, Answered, Failed};
+ghost use Rattle.program_io.specs.Status.{IsUnread};
+ghost use Rattle.service.specs.Service.{SaysScript, IsRefusedFor, Answered, Failed};
 
 use crate::fault::ScriptError;
 use crate::output::output_of;
@@ -13,7 +14,7 @@ use std::io::{Read, Write};
 // Reads a script from bytes.
 fn parsed(alloc: Global, bytes: &[u8]) -> Result<Script, Fault<ScriptError>>
     ensures ok { IfOk result (SaysScript bytes.now) }
-    ensures err { IfErr result (IsUnread bytes.now) }
+    ensures err { IfErr result (IsUnread (IsRefusedFor bytes.now)) }
 {
     match value_of(alloc, bytes) {
         Ok(value) => script_of(alloc, &value),

@@ -9,7 +9,7 @@ ghost use Rattle.service.specs.Scripts.{IsReadOrRefused, Answers, AnswersScript,
 use crate::fault::ScriptError;
 use crate::job::{job_member, job_of};
 use crate::step::step_of;
-use assignment::Listed;
+use machines::Listed;
 use program_io::{Fault, Unread, array_of};
 use serde_json::Value;
 use std::alloc::Global;

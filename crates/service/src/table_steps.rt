@@ -3,7 +3,7 @@
 ghost use Rattle.std.specs.Prelude.{◌≡◌, ◌++◌};
 ghost use Rattle.serde_json.specs.View.{view};
 ghost use Rattle.program_io.specs.Reading.{Gives};
-ghost use Rattle.service.specs.Steps.{take_step, renew_step, propose_step, commit_step, phase_step, rows_step, grant_step, free_step, restart_step, lose_step, read_named, table_kinds, task_kinds, clerk_kinds, load_kinds};
+ghost use Rattle.service.specs.Steps.{take_step, renew_step, propose_step, commit_step, phase_step, rows_step, grant_step, free_step, drop_term_step, lose_step, read_named, table_kinds, task_kinds, clerk_kinds, load_kinds};
 
 use crate::task_steps::step_of_task;
 use program_io::{Unread, WrongForm, exactly, list_at, number_at, number_in};
@@ -97,12 +97,12 @@ fn free_step(step: &Value) -> Result<Step, WrongForm>
     })
 }
 
-#[tactic(auto, unfolding(crate::specs::Steps::restart_step))]
-fn restart_step(job: Job, step: &Value) -> Result<Step, WrongForm>
-    ensures { result ≡ restart_step job (view step.now) }
+#[tactic(auto, unfolding(crate::specs::Steps::drop_term_step))]
+fn drop_term_step(job: Job, step: &Value) -> Result<Step, WrongForm>
+    ensures { result ≡ drop_term_step job (view step.now) }
 {
     exactly(&["do", "assigner"], step)?;
-    Ok(Step::Restart {
+    Ok(Step::DropTerm {
         assigner: number_in(1, job.assigners(), "assigner", step)?,
     })
 }
@@ -128,7 +128,7 @@ pub fn step_of_table(alloc: Global, job: Job, name: &str, step: &Value) -> Resul
         "rows" => Ok(rows_step(step)?),
         "grant" => Ok(grant_step(job, step)?),
         "free" => Ok(free_step(step)?),
-        "restart" => Ok(restart_step(job, step)?),
+        "restart" => Ok(drop_term_step(job, step)?),
         "lose" => Ok(lose_step(step)?),
         _ => step_of_task(alloc, job, name, step),
     }

@@ -6,13 +6,13 @@ use slice_ranges::RangesError;
 use slicelet::KeyHandle;
 use std::alloc::Global;
 use std::test::Fail;
-use wire::{DecodeError, JobName, Refusal, Wire, decode};
+use wire::{DecodeError, DecodeRefusal, JobName, Wire, decode};
 
 fn shop() -> Result<JobName, Fail> {
     Ok(JobName::new("shop").ok_or("a name has at most 64 bytes")?)
 }
 
-fn refusal_for<T: Wire>(alloc: Global, job: &JobName, text: &str) -> Option<Refusal> {
+fn refusal_for<T: Wire>(alloc: Global, job: &JobName, text: &str) -> Option<DecodeRefusal> {
     let read: Result<T, DecodeError> = decode(alloc, job, text.as_bytes());
     match read {
         Err(DecodeError::Refused(refusal)) => Some(refusal),
@@ -21,66 +21,66 @@ fn refusal_for<T: Wire>(alloc: Global, job: &JobName, text: &str) -> Option<Refu
 }
 
 // Why the text is not read as a message of the job "shop" with a value of the type.
-fn refusal_of<T: Wire>(alloc: Global, text: &str) -> Result<Option<Refusal>, Fail> {
+fn refusal_of<T: Wire>(alloc: Global, text: &str) -> Result<Option<DecodeRefusal>, Fail> {
     Ok(refusal_for::<T>(alloc, &shop()?, text))
 }
 
-const NOTES: &[(&str, Refusal)] = &[
-    ("", Refusal::NotJson),
+const NOTES: &[(&str, DecodeRefusal)] = &[
+    ("", DecodeRefusal::NotJson),
     (
         r#"{"job":"shop","type":"note","version":2"#,
-        Refusal::NotJson,
+        DecodeRefusal::NotJson,
     ),
-    ("[]", Refusal::WrongForm),
-    (r#"{"job":"shop","type":"note"}"#, Refusal::WrongForm),
+    ("[]", DecodeRefusal::WrongForm),
+    (r#"{"job":"shop","type":"note"}"#, DecodeRefusal::WrongForm),
     (
         r#"{"job":"shop","type":"note","value":{"kind":"guard","life":1,"number":"7","task":2},"version":3}"#,
-        Refusal::Version(3),
+        DecodeRefusal::Version(3),
     ),
-    (r#"{"version":0,"lease":[]}"#, Refusal::Version(0)),
+    (r#"{"version":0,"lease":[]}"#, DecodeRefusal::Version(0)),
     (
         r#"{"job":"shop","type":"note","value":{"kind":"guard","life":1,"number":"7","task":2},"version":"2"}"#,
-        Refusal::WrongForm,
+        DecodeRefusal::WrongForm,
     ),
     (
         r#"{"job":"shop","type":"note","value":{"kind":"guard","life":1,"number":"7","task":2},"version":2,"more":1}"#,
-        Refusal::WrongForm,
+        DecodeRefusal::WrongForm,
     ),
     (
         r#"{"type":"note","value":{"kind":"guard","life":1,"number":"7","task":2},"version":2}"#,
-        Refusal::WrongForm,
+        DecodeRefusal::WrongForm,
     ),
     (
         r#"{"job":7,"type":"note","value":{"kind":"guard","life":1,"number":"7","task":2},"version":2}"#,
-        Refusal::WrongForm,
+        DecodeRefusal::WrongForm,
     ),
     (
         r#"{"job":"shop","type":"grant","value":{"kind":"guard","life":1,"number":"7","task":2},"version":2}"#,
-        Refusal::OtherType,
+        DecodeRefusal::OtherType,
     ),
     (
         r#"{"job":"shop","type":"note","value":{"kind":"guard","life":1,"number":"7","task":2,"more":1},"version":2}"#,
-        Refusal::WrongForm,
+        DecodeRefusal::WrongForm,
     ),
     (
         r#"{"job":"shop","type":"note","value":{"kind":"guard","life":1,"number":"7"},"version":2}"#,
-        Refusal::WrongForm,
+        DecodeRefusal::WrongForm,
     ),
     (
         r#"{"job":"shop","type":"note","value":{"kind":"lease","life":1,"number":"7","task":2},"version":2}"#,
-        Refusal::WrongForm,
+        DecodeRefusal::WrongForm,
     ),
     (
         r#"{"job":"shop","type":"note","value":{"kind":"guard","life":4294967296,"number":"7","task":2},"version":2}"#,
-        Refusal::WrongForm,
+        DecodeRefusal::WrongForm,
     ),
     (
         r#"{"job":"shop","type":"note","value":{"kind":"guard","life":1,"number":"7","task":65},"version":2}"#,
-        Refusal::WrongForm,
+        DecodeRefusal::WrongForm,
     ),
     (
         r#"{"job":"shop","type":"note","value":{"kind":"guard","life":"1","number":"7","task":2},"version":2}"#,
-        Refusal::WrongForm,
+        DecodeRefusal::WrongForm,
     ),
 ];
 
@@ -97,34 +97,34 @@ fn refuses_notes(rt: HostRuntime) -> Result<(), Fail> {
 }
 
 // A message is one of its job; its type is looked at before its job, and its job before its value.
-const OTHER_JOBS: &[(&str, Refusal)] = &[
+const OTHER_JOBS: &[(&str, DecodeRefusal)] = &[
     (
         r#"{"job":"shops","type":"note","value":{"kind":"guard","life":1,"number":"7","task":2},"version":2}"#,
-        Refusal::OtherJob,
+        DecodeRefusal::OtherJob,
     ),
     (
         r#"{"job":"Shop","type":"note","value":{"kind":"guard","life":1,"number":"7","task":2},"version":2}"#,
-        Refusal::OtherJob,
+        DecodeRefusal::OtherJob,
     ),
     (
         r#"{"job":"","type":"note","value":{"kind":"guard","life":1,"number":"7","task":2},"version":2}"#,
-        Refusal::OtherJob,
+        DecodeRefusal::OtherJob,
     ),
     (
         r#"{"job":"shops","type":"note","value":[],"version":2}"#,
-        Refusal::OtherJob,
+        DecodeRefusal::OtherJob,
     ),
     (
         r#"{"job":"shops","type":"grant","value":[],"version":2}"#,
-        Refusal::OtherType,
+        DecodeRefusal::OtherType,
     ),
     (
         r#"{"type":"note","value":{"kind":"guard","life":1,"number":7,"task":2},"version":1}"#,
-        Refusal::OtherJob,
+        DecodeRefusal::OtherJob,
     ),
     (
         r#"{"job":"shop","type":"note","value":{"kind":"guard","life":1,"number":7,"task":2},"version":1}"#,
-        Refusal::WrongForm,
+        DecodeRefusal::WrongForm,
     ),
 ];
 
@@ -137,7 +137,7 @@ fn refuses_messages_of_other_jobs(rt: HostRuntime) -> Result<(), Fail> {
     let of_shop =
         r#"{"job":"shop","type":"note","value":{"kind":"guard","life":1,"number":"7","task":2},"version":2}"#;
     let refusal = refusal_for::<ReleaseNote>(rt.alloc(), &JobName::default(), of_shop);
-    assert_eq!(rt; refusal, Some(Refusal::OtherJob));
+    assert_eq!(rt; refusal, Some(DecodeRefusal::OtherJob));
     Ok(())
 }
 
@@ -164,12 +164,12 @@ fn refuses_numbers(rt: HostRuntime) -> Result<(), Fail> {
             "{{\"job\":\"shop\",\"type\":\"note\",\"value\":{{\"kind\":\"guard\",\"life\":1,\"number\":{number},\"task\":2}},\"version\":2}}"
         )?;
         let refusal = refusal_of::<ReleaseNote>(rt.alloc(), text.as_str())?;
-        assert_eq!(rt; refusal, Some(Refusal::WrongForm), "{number}");
+        assert_eq!(rt; refusal, Some(DecodeRefusal::WrongForm), "{number}");
     }
     let quoted =
         r#"{"type":"note","value":{"kind":"guard","life":1,"number":"7","task":2},"version":1}"#;
     let refusal = refusal_for::<ReleaseNote>(rt.alloc(), &JobName::default(), quoted);
-    assert_eq!(rt; refusal, Some(Refusal::WrongForm));
+    assert_eq!(rt; refusal, Some(DecodeRefusal::WrongForm));
     Ok(())
 }
 
@@ -191,7 +191,7 @@ fn refuses_kept_values(rt: HostRuntime) -> Result<(), Fail> {
             "{{\"job\":\"shop\",\"type\":\"kept\",\"value\":{kept},\"version\":2}}"
         )?;
         let refusal = refusal_of::<Kept>(rt.alloc(), text.as_str())?;
-        assert_eq!(rt; refusal, Some(Refusal::WrongForm), "{kept}");
+        assert_eq!(rt; refusal, Some(DecodeRefusal::WrongForm), "{kept}");
     }
     Ok(())
 }
@@ -212,17 +212,17 @@ const REPEATED: &[&str] = &[
 fn refuses_a_repeated_member(rt: HostRuntime) -> Result<(), Fail> {
     for text in REPEATED {
         let refusal = refusal_of::<ReleaseNote>(rt.alloc(), text)?;
-        assert_eq!(rt; refusal, Some(Refusal::RepeatedMember), "{text}");
+        assert_eq!(rt; refusal, Some(DecodeRefusal::RepeatedMember), "{text}");
     }
     let cut_off = r#"{"version":2,"version":2"#;
     let refusal = refusal_of::<ReleaseNote>(rt.alloc(), cut_off)?;
-    assert_eq!(rt; refusal, Some(Refusal::NotJson));
+    assert_eq!(rt; refusal, Some(DecodeRefusal::NotJson));
     let too_large = r#"{"version":2,"version":1e400}"#;
     let refusal = refusal_of::<ReleaseNote>(rt.alloc(), too_large)?;
-    assert_eq!(rt; refusal, Some(Refusal::NotJson));
+    assert_eq!(rt; refusal, Some(DecodeRefusal::NotJson));
     let in_two_objects = r#"[{"a":1},{"a":{"a":1}}]"#;
     let refusal = refusal_of::<ReleaseNote>(rt.alloc(), in_two_objects)?;
-    assert_eq!(rt; refusal, Some(Refusal::WrongForm));
+    assert_eq!(rt; refusal, Some(DecodeRefusal::WrongForm));
     Ok(())
 }
 
@@ -246,27 +246,27 @@ fn reads_a_mebibyte_and_no_more(rt: HostRuntime) -> Result<(), Fail> {
     assert_eq!(rt; read.number, 7);
     let longer = padded(rt.alloc(), 1_048_577)?;
     let refusal = refusal_of::<ReleaseNote>(rt.alloc(), longer.as_str())?;
-    assert_eq!(rt; refusal, Some(Refusal::TooLong));
+    assert_eq!(rt; refusal, Some(DecodeRefusal::TooLong));
     let mut nothing = Vec::new(rt.alloc());
     nothing.resize(1_048_577, 0)?;
     let read: Result<ReleaseNote, DecodeError> = decode(rt.alloc(), &shop()?, nothing.as_slice());
-    assert!(rt; matches!(read, Err(DecodeError::Refused(Refusal::TooLong))));
+    assert!(rt; matches!(read, Err(DecodeError::Refused(DecodeRefusal::TooLong))));
     Ok(())
 }
 
-const GRANTS: &[(&str, Refusal)] = &[
+const GRANTS: &[(&str, DecodeRefusal)] = &[
     (
         r#"[["5","9"],["0","2"]]"#,
-        Refusal::Ranges(RangesError::Unsorted),
+        DecodeRefusal::Ranges(RangesError::Unsorted),
     ),
-    (r#"[["5","5"]]"#, Refusal::Ranges(RangesError::Empty)),
+    (r#"[["5","5"]]"#, DecodeRefusal::Ranges(RangesError::Empty)),
     (
         r#"[["0","9223372036854775809"]]"#,
-        Refusal::Ranges(RangesError::PastEnd),
+        DecodeRefusal::Ranges(RangesError::PastEnd),
     ),
-    (r#"[["0","1","2"]]"#, Refusal::WrongForm),
-    (r#"["0","1"]"#, Refusal::WrongForm),
-    ("[[0,1]]", Refusal::WrongForm),
+    (r#"[["0","1","2"]]"#, DecodeRefusal::WrongForm),
+    (r#"["0","1"]"#, DecodeRefusal::WrongForm),
+    ("[[0,1]]", DecodeRefusal::WrongForm),
 ];
 
 #[test]
@@ -281,21 +281,27 @@ fn refuses_ranges(rt: HostRuntime) -> Result<(), Fail> {
     Ok(())
 }
 
-const ASSIGNMENTS: &[(&str, Refusal)] = &[
-    ("[]", Refusal::Slices(AssignmentError::NoSlices)),
+const ASSIGNMENTS: &[(&str, DecodeRefusal)] = &[
+    ("[]", DecodeRefusal::Slices(AssignmentError::NoSlices)),
     (
         r#"[["1",[1]]]"#,
-        Refusal::Slices(AssignmentError::FirstNotZero),
+        DecodeRefusal::Slices(AssignmentError::FirstNotZero),
     ),
-    (r#"[["0",[]]]"#, Refusal::Slices(AssignmentError::NoOwner)),
+    (
+        r#"[["0",[]]]"#,
+        DecodeRefusal::Slices(AssignmentError::NoOwner),
+    ),
     (
         r#"[["0",[1,1]]]"#,
-        Refusal::Slices(AssignmentError::OwnerTwice),
+        DecodeRefusal::Slices(AssignmentError::OwnerTwice),
     ),
-    (r#"[["0",[65]]]"#, Refusal::Slices(AssignmentError::BadTask)),
-    (r#"[["0",1]]"#, Refusal::WrongForm),
-    (r#"[["0",["1"]]]"#, Refusal::WrongForm),
-    ("[[0,[1]]]", Refusal::WrongForm),
+    (
+        r#"[["0",[65]]]"#,
+        DecodeRefusal::Slices(AssignmentError::BadTask),
+    ),
+    (r#"[["0",1]]"#, DecodeRefusal::WrongForm),
+    (r#"[["0",["1"]]]"#, DecodeRefusal::WrongForm),
+    ("[[0,[1]]]", DecodeRefusal::WrongForm),
 ];
 
 #[test]
@@ -314,17 +320,17 @@ fn refuses_slices(rt: HostRuntime) -> Result<(), Fail> {
 fn refuses_calls_replies_and_handles(rt: HostRuntime) -> Result<(), Fail> {
     let call = r#"{"job":"shop","type":"table-call","value":{"do":"restart"},"version":2}"#;
     let refusal = refusal_of::<TableCall>(rt.alloc(), call)?;
-    assert_eq!(rt; refusal, Some(Refusal::WrongForm));
+    assert_eq!(rt; refusal, Some(DecodeRefusal::WrongForm));
     let call = r#"{"job":"shop","type":"table-call","value":{"do":"lose","at":"1"},"version":2}"#;
     let refusal = refusal_of::<TableCall>(rt.alloc(), call)?;
-    assert_eq!(rt; refusal, Some(Refusal::WrongForm));
+    assert_eq!(rt; refusal, Some(DecodeRefusal::WrongForm));
     let reply =
         r#"{"job":"shop","type":"table-reply","value":{"reply":"committed","generation":1.5},"version":2}"#;
     let refusal = refusal_of::<TableReply>(rt.alloc(), reply)?;
-    assert_eq!(rt; refusal, Some(Refusal::WrongForm));
+    assert_eq!(rt; refusal, Some(DecodeRefusal::WrongForm));
     let handle =
         r#"{"job":"shop","type":"handle","value":{"life":5,"position":"12","slice_key":"9223372036854775808","task":1},"version":2}"#;
     let refusal = refusal_of::<KeyHandle>(rt.alloc(), handle)?;
-    assert_eq!(rt; refusal, Some(Refusal::WrongForm));
+    assert_eq!(rt; refusal, Some(DecodeRefusal::WrongForm));
     Ok(())
 }

@@ -1,9 +1,10 @@
 //! What values are written as, and what is read from it.
 
-use assignment::{Assignment, Listed, Slice, TaskId};
+use assignment::{Assignment, Slice, TaskId};
 use clerk::{ClerkCall, ClerkReply};
+use lease_rule::{Kind, Lease};
 use lease_table::{Grant, JobTerm, Kept, Policy, ReleaseNote, TableCall, TableReply};
-use policy_rules::{Kind, Lease};
+use machines::Listed;
 use slice_ranges::{Ranges, SliceKey};
 use slicelet::{KeyHandle, SliceletCall, SliceletReply};
 use std::alloc::Global;

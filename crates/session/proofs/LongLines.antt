@@ -1,8 +1,9 @@
 -- What is answered to a line that is too long.
 use Rattle.std.proofs.Common.{◌≡◌, ℕ, Bool, true, List, refl, inl}
 use Rattle.std.specs.Prelude.{Result, Ok, Err, IfOk}
+use Rattle.diagnosis.specs.JobLines.{long_words}
 use Rattle.session.specs.declared.session.Session.{Session}
-use Rattle.session.specs.Answers.{error_text, long_words}
+use Rattle.session.specs.Answers.{error_text}
 use Rattle.session.specs.internals.Reading.{IsReadTurned}
 
 pub long_answered : {T E : Type 0} (bytes : T → List ℕ) (result : Result T E) (kept : List ℕ) (long : Bool) (s : Session) → long ≡ true

@@ -1,18 +1,17 @@
 -- A step that was played alone, and one that was not.
 use Rattle.std.proofs.Common.{◌≡◌, ℕ, List, [], ◌∷◌, ◌++◌, length, refl, sym, subst, ap, arith, length-append, inl, inr, string_bytes, IfOk, Result, Ok, Err}
-use Rattle.cluster.specs.declared.call.ClusterCall.{ClusterCall}
 use Rattle.cluster.specs.Pasts.{Past as Calls}
 use Rattle.cluster.specs.Clusters.{LeadsTo as LeadsToCluster}
 use Rattle.world.specs.Jobs.{Job}
 use Rattle.world.specs.declared.step.Step.{Step}
-use Rattle.world.specs.declared.reply.Refusal.{Refusal}
 use Rattle.world.specs.declared.reply.Reply.{Reply}
 use Rattle.world.specs.declared.reply.Reply.TheVariants as reply
 use Rattle.world.specs.declared.world.World.{World}
 use Rattle.world.specs.Pasts.{Past, event}
-use Rattle.world.specs.Calls.{call_of, calls_in, with_call}
+use Rattle.world.specs.Calls.{call_of, calls_in}
 use Rattle.world.specs.Worlds.{LeadsTo}
 use Rattle.world.specs.Runs.{past_after}
+use Rattle.world.proofs.Asking.{nothing_called}
 use Rattle.session.specs.declared.answer.ReplyForm.{ReplyForm}
 use Rattle.session.specs.declared.session.Session.{Session}
 use Rattle.session.specs.declared.turn.Turn.{Turn}
@@ -27,17 +26,12 @@ one_reply replies (s ∷ rest) r many parts =
     let len : length replies ≡ length (s ∷ rest ++ r ∷ []) = ap (λ (rs : List Reply). length rs) parts in
     absurd (let both = length-append rest (r ∷ []) in omega (arith, len, both, many))
 
--- the calls of the machines are the same after a step that is out of memory
-no_call : (job : Job) (calls : Calls) (made : Result ClusterCall Refusal) → with_call job reply.NoMemory made calls ≡ calls
-no_call job calls (Ok made) = refl
-no_call job calls (Err why) = refl
-
 -- a past leads to a world where it does so with one more step that is out of memory
 not_played : (job : Job) (past : Past) (step : Step) (world : World) → LeadsTo job (event step reply.NoMemory ∷ past) world → LeadsTo job past world
 unfolding LeadsTo
 not_played job past step world keeps = record {
   run = keeps.run.1;
-  cluster = subst (λ (calls : Calls). LeadsToCluster job calls world.cluster) (no_call job (calls_in job past) (call_of job past (calls_in job past) step)) keeps.cluster;
+  cluster = subst (λ (calls : Calls). LeadsToCluster job calls world.cluster) (nothing_called (call_of job past (calls_in job past) step) (calls_in job past)) keeps.cluster;
   same_job = keeps.same_job;
   draft = keeps.draft;
   assigners = keeps.assigners;

@@ -10,20 +10,23 @@ use Rattle.world.specs.Worlds.{LeadsTo}
 use Rattle.world.specs.Runs.{IsRun}
 use Rattle.program_io.specs.declared.fault.ReadError.{ReadError}
 use Rattle.program_io.specs.declared.fault.ReadError.TheVariants as reading
-use Rattle.diagnosis.specs.declared.error.AnswerError.{AnswerError}
-use Rattle.diagnosis.specs.declared.error.AnswerError.TheVariants as answer
-use Rattle.diagnosis.specs.Errors.{error_of_reading}
+use Rattle.program_io.specs.declared.fault.Fault.TheVariants as fault
+use Rattle.program_io.specs.Endings.{IsCut}
+use Rattle.program_io.specs.Lines.{AreLines, without_skipped, IsNext, IsNextLine, HasNoLine, is_long}
+use Rattle.program_io.specs.LinesRead.{IsKept, IsNextRead}
+use Rattle.program_io.specs.Status.{fault_of_reading}
+use Rattle.program_io.proofs.Bytes.{appends_more, appends_none, takes_more}
 use Rattle.program_io.proofs.Keeping.{keeps_itself}
+use Rattle.program_io.proofs.Skipping.{reads_on, with_first, with_line, with_blanks, line_consumed, no_line}
+use Rattle.diagnosis.specs.Faults.{AnswerError}
+use Rattle.diagnosis.specs.JobLines.{SaysJob, IsJobRead, IsNoJobRead, long_words}
 use Rattle.session.specs.declared.answer.ReplyForm.{ReplyForm}
 use Rattle.session.specs.declared.session.Session.{Session}
-use Rattle.session.specs.Answers.{answer_text, error_text, long_words}
-use Rattle.session.specs.Lines.{SaysJob, SaysStep, SaysNoStep, IsNoJob, is_long}
+use Rattle.session.specs.Answers.{answer_text, error_text}
+use Rattle.session.specs.Lines.{SaysStep, SaysNoStep}
 use Rattle.session.specs.Turns.{IsAt, IsTurned}
-use Rattle.session.specs.Talks.{AreLines, without_skipped, IsNextLine, HasNoLine, Turn, past_of, lines_of, text_of, IsPlayed, IsPassed, IsOverlong, AreTurns, IsConversation, IsTalked, IsStopped, IsCut, IsRefused, IsBroken}
-use Rattle.session.specs.LinesRead.{IsKept, IsNextRead}
-use Rattle.session.specs.internals.Reading.{SaysFirst, SaysNoFirst, IsReadTurned}
-use Rattle.session.proofs.Bytes.{appends_more, appends_none, takes_more}
-use Rattle.session.proofs.Skipping.{reads_on, consumed, with_first, with_line, with_blanks, not_empty}
+use Rattle.session.specs.Talks.{Turn, past_of, lines_of, text_of, IsPlayed, IsPassed, IsOverlong, AreTurns, IsConversation, IsAnswer, IsTalked, IsStopped, IsBroken}
+use Rattle.session.specs.internals.Reading.{IsReadTurned}
 
 pub record IsTalking (form : ReplyForm) (before after held holds : Option (List ℕ)) (job : Job) (s : Session) : Type 0 where
   pub same : s.job ≡ job
@@ -87,9 +90,9 @@ turned_short form before mid held was line text job old new t kept short answer 
             past = past_of t.turns;
             is = inr (inl (record {
               short = short;
-              says = subst (λ (j : Job). SaysNoStep j line) t.same unread.says;
-              after = refl;
               words = unread.words;
+              says = subst (λ (j : Job). SaysNoStep j line unread.words) t.same unread.says;
+              after = refl;
               wrote = subst (λ (f : ReplyForm). text ≡ error_text f unread.words) t.same_form unread.text_is;
             }));
             leads = subst (IsAt (past_of t.turns)) (sym unread.kept) t.leads;
@@ -127,12 +130,6 @@ reads_more before mid after lines turns line reads these next = record {
   reads = reads_on before mid after lines (next.blanks ++ line ∷ []) reads next.reads;
   not_blank = rw (with_line lines next.blanks line next.blank next.more, these) refl;
 }
-
--- a line that was read, and is not the end
-pub is_line : (before after : Option (List ℕ)) (kept : List ℕ) (long : Bool) → (not long && nat_eq (length kept) 0) ≡ false → IsNextRead before after kept long
-    → (line : List ℕ) × IsNextLine before after line × IsKept line kept long
-is_line before after kept long more (inl next) = next
-is_line before after kept long more (inr none) = let no : true ≡ false = rw (none.0, none.1) at more in absurd (cc)
 
 pub goes_on : (form : ReplyForm) (before mid after held was holds : Option (List ℕ)) (line kept text : List ℕ) (long : Bool) (job : Job) (old new : Session)
     → IsTalking form before mid held was job old → IsNextLine mid after line → new.job ≡ old.job → new.form ≡ old.form → IsKept line kept long
@@ -172,14 +169,12 @@ pub record IsOpened (before after : Option (List ℕ)) (job : Job) : Type 0 wher
   pub short : is_long first ≡ false
   pub says : SaysJob first job
 
-pub opened : (before after : Option (List ℕ)) (kept : List ℕ) (long : Bool) (job : Job) → IsNextRead before after kept long → SaysFirst kept long job → IsOpened before after job
-opened before after kept long job (inl next) first = record {
-  first = next.0;
-  next = next.1;
-  short = sym next.2.measured ∙ first.short;
-  says = subst (λ (l : List ℕ). SaysJob l job) (next.2.whole first.short) first.says;
-}
-opened before after kept long job (inr none) first = absurd (no_job_in_nothing kept job none.0 first.says)
+opens : (before after : Option (List ℕ)) (first : List ℕ) (job : Job) → IsNext before after first → is_long first ≡ false → SaysJob first job → IsOpened before after job
+opens before after first job (inl next) short says = record { first = first; next = next; short = short; says = says }
+opens before after first job (inr none) short says = absurd (no_job_in_nothing first job none.0 says)
+
+pub opened : (before after : Option (List ℕ)) (job said : Job) → job ≡ said → IsJobRead before after said → IsOpened before after job
+opened before after job said same read = subst (λ (j : Job). IsOpened before after j) (sym same) (opens before after read.first said read.reads read.short read.says)
 
 -- all lines so far, with the first one
 holds_so_far : (form : ReplyForm) (start before mid : Option (List ℕ)) (job : Job) (turns : List Turn) (lines : List (List ℕ)) → IsOpened start before job
@@ -196,15 +191,20 @@ holds_so_far form start before mid job turns lines opened reads these are run = 
   run = run;
 }
 
+answers : (form : ReplyForm) (before after : Option (List ℕ)) (turns : List Turn) → IsConversation form before after turns → IsAnswer form before after (text_of turns)
+answers form before after turns conversation = record { turns = turns; conversation = conversation; answers = refl }
+
 -- what was written so far, and what was read after that
 pub is_stopped : (form : ReplyForm) (start before mid after held was : Option (List ℕ)) (job : Job) (s : Session) (bytes : List ℕ)
     → IsOpened start before job → IsTalking form before mid held was job s → Consumes mid after bytes → IsStopped form start after held was
 is_stopped form start before mid after held was job s bytes opened t more = record {
-  turns = t.turns;
-  middle = mid;
-  conversation = holds_so_far form start before mid job t.turns t.lines opened t.reads t.not_blank t.are t.run;
-  bytes = bytes;
-  more = more;
+  text = text_of t.turns;
+  is = record {
+    middle = mid;
+    answer = answers form start mid t.turns (holds_so_far form start before mid job t.turns t.lines opened t.reads t.not_blank t.are t.run);
+    bytes = bytes;
+    more = more;
+  };
   wrote = t.wrote;
 }
 
@@ -212,20 +212,20 @@ is_stopped form start before mid after held was job s bytes opened t more = reco
 pub is_stopped_after : (form : ReplyForm) (start before mid after held was : Option (List ℕ)) (job : Job) (s : Session) (line : List ℕ)
     → IsOpened start before job → IsTalking form before mid held was job s → IsNextLine mid after line → IsStopped form start after held was
 is_stopped_after form start before mid after held was job s line opened t next =
-    let more = consumed mid after (next.blanks ++ line ∷ []) next.reads in
+    let more = line_consumed mid after line next in
     is_stopped form start before mid after held was job s more.0 opened t more.1
 
 -- and a first part of one answer more
 pub is_cut_in : (form : ReplyForm) (start before mid after held was holds : Option (List ℕ)) (line kept text : List ℕ) (long : Bool) (n : ℕ) (job : Job) (old new : Session)
     → IsOpened start before job → IsTalking form before mid held was job old → IsNextLine mid after line → new.job ≡ old.job → IsKept line kept long
-    → IsReadTurned kept long old new text → Appends was holds (take n text) → IsCut form start after held holds
+    → IsReadTurned kept long old new text → Appends was holds (take n text) → IsCut (IsAnswer form start after) held holds
 is_cut_in form start before mid after held was holds line kept text long n job old new opened t read same keeps answer wrote =
     let next = turned form before mid held was line kept text long job old new t same keeps answer in
     let more = reads_more before mid after t.lines t.turns line t.reads t.not_blank read in
     let turns : List Turn = turn_of line text next.past ∷ t.turns in
     record {
-      turns = turns;
-      conversation = holds_so_far form start before after job turns more.lines opened more.reads more.not_blank (next.is, t.are) next.run;
+      text = text_of turns;
+      is = answers form start after turns (holds_so_far form start before after job turns more.lines opened more.reads more.not_blank (next.is, t.are) next.run);
       len = length (text_of t.turns) + n;
       wrote = subst (Appends held holds) (takes_more (text_of t.turns) text n) (appends_more held was holds (text_of t.turns) (take n text) t.wrote wrote);
     }
@@ -233,55 +233,28 @@ is_cut_in form start before mid after held was holds line kept text long n job o
 -- it ends where no line is left
 pub ends : (form : ReplyForm) (start before mid after held holds : Option (List ℕ)) (kept : List ℕ) (long : Bool) (s : Session) (job : Job)
     → IsOpened start before job → IsTalking form before mid held holds job s → IsNextRead mid after kept long → (not long && nat_eq (length kept) 0) ≡ true → IsTalked form start held holds
-ends form start before mid after held holds kept true s job opens t next none = absurd (cc)
-ends form start before mid after held holds (x ∷ xs) false s job opens t next none =
-    let some : nat_eq (length (x ∷ xs)) 0 ≡ false = not_empty x xs in
-    let both : true ≡ false = sym none ∙ some in
-    absurd (cc)
-ends form start before mid after held holds [] false s job opened t (inl next) none =
-    let no : true ≡ false = rw (sym (next.2.whole refl)) at next.1.more in absurd (cc)
-ends form start before mid after held holds [] false s job opened t (inr last) none =
-    let end : HasNoLine mid = last.2 in
+ends form start before mid after held holds kept long s job opened t next none =
+    let end : HasNoLine mid = no_line mid after kept long none next in
     record {
-      turns = t.turns;
-      at_end = end.at_end;
-      conversation = holds_so_far form start before end.at_end job t.turns (t.lines ++ end.blanks) opened
-          (reads_on before mid end.at_end t.lines end.blanks t.reads end.reads) (with_blanks t.lines end.blanks end.blank ∙ t.not_blank) t.are t.run;
-      ended = end.ended;
+      text = text_of t.turns;
+      is = record {
+        at_end = end.at_end;
+        answer = answers form start end.at_end t.turns (holds_so_far form start before end.at_end job t.turns (t.lines ++ end.blanks) opened
+            (reads_on before mid end.at_end t.lines end.blanks t.reads end.reads) (with_blanks t.lines end.blanks end.blank ∙ t.not_blank) t.are t.run);
+        ended = end.ended;
+      };
       wrote = t.wrote;
     }
 
--- where the first line was not read
-pub unread_first : (form : ReplyForm) (before after held : Option (List ℕ)) (e : ReadError) → IsBroken form before after held held (error_of_reading e)
-unread_first form before after held reading.Failed = inl (keeps_itself held)
-unread_first form before after held reading.Memory = inl (keeps_itself held)
-
--- where the first line says no job
-is_refused : (before after held : Option (List ℕ)) (kept : List ℕ) (long : Bool) (e : AnswerError) → IsNextRead before after kept long → SaysNoFirst kept long e
-    → IsRefused before after held held e
-is_refused before after held kept long e (inl next) (inl lack) =
-    record { first = next.0; reads = inl next.1; says = inl (sym next.2.measured ∙ lack.0, lack.1); kept = keeps_itself held }
-is_refused before after held kept long e (inl next) (inr lack) = record {
-  first = next.0;
-  reads = inl next.1;
-  says = inr (sym next.2.measured ∙ lack.0, subst (λ (l : List ℕ). IsNoJob l e) (next.2.whole lack.0) lack.1);
-  kept = keeps_itself held;
-}
-is_refused before after held kept long e (inr none) (inl lack) = let not : true ≡ false = sym lack.0 ∙ none.1 in absurd (cc)
-is_refused before after held kept long e (inr none) (inr lack) =
-    record { first = []; reads = inr (refl, none.2); says = inr (refl, subst (λ (l : List ℕ). IsNoJob l e) none.0 lack.1); kept = keeps_itself held }
-
-pub unopened : (form : ReplyForm) (before after held : Option (List ℕ)) (kept : List ℕ) (long : Bool) (e : AnswerError) → IsNextRead before after kept long → SaysNoFirst kept long e
-    → IsBroken form before after held held e
-unopened form before after held kept long (answer.Refused faults) read says = is_refused before after held kept long (answer.Refused faults) read says
-unopened form before after held kept long answer.Read read (inl lack) = absurd lack.1
-unopened form before after held kept long answer.Read read (inr lack) = absurd lack.1
-unopened form before after held kept long answer.Write read (inl lack) = absurd lack.1
-unopened form before after held kept long answer.Write read (inr lack) = absurd lack.1
-unopened form before after held kept long answer.Memory read says = inl (keeps_itself held)
+-- where no job was read
+pub unopened : (form : ReplyForm) (before after held : Option (List ℕ)) (e : AnswerError) → IsNoJobRead before after e → IsBroken form before after held held e
+unopened form before after held (fault.Input faults) says = (says, keeps_itself held)
+unopened form before after held fault.Read says = inl (keeps_itself held)
+unopened form before after held fault.Write says = absurd says
+unopened form before after held fault.Memory says = inl (keeps_itself held)
 
 -- where a later line was not read
 pub unread_later : (form : ReplyForm) (before after held holds : Option (List ℕ)) (e : ReadError) → IsStopped form before after held holds
-    → IsBroken form before after held holds (error_of_reading e)
+    → IsBroken form before after held holds (fault_of_reading e)
 unread_later form before after held holds reading.Failed stopped = inr stopped
 unread_later form before after held holds reading.Memory stopped = inr stopped

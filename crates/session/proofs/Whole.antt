@@ -2,10 +2,10 @@
 use Rattle.std.proofs.Common.{◌≡◌, ℕ, false, Option, Some, None, refl}
 use Rattle.serde_json.specs.Written.{has_float}
 use Rattle.assignment.specs.declared.slice.Slice.{Slice}
-use Rattle.policy_rules.specs.declared.answer.Ground.{Ground}
-use Rattle.policy_rules.specs.declared.answer.Ground.TheVariants as why
-use Rattle.policy_rules.specs.declared.answer.Verdict.{Verdict}
-use Rattle.policy_rules.specs.declared.answer.Verdict.TheVariants.{Allow, Deny}
+use Rattle.lease_rule.specs.declared.answer.Ground.{Ground}
+use Rattle.lease_rule.specs.declared.answer.Ground.TheVariants as why
+use Rattle.lease_rule.specs.declared.answer.Verdict.{Verdict}
+use Rattle.lease_rule.specs.declared.answer.Verdict.TheVariants.{Allow, Deny}
 use Rattle.lease_table.specs.declared.error.TableError.{TableError}
 use Rattle.lease_table.specs.declared.error.TableError.TheVariants as table
 use Rattle.lease_table.specs.declared.values.Phase.{Phase}
@@ -107,7 +107,7 @@ reply_whole (reply.Proposed generation) = refl
 reply_whole (reply.Committed generation) = refl
 reply_whole (reply.Phase phase) = phase_whole phase
 reply_whole (reply.Rows rows) = rw (items_whole row_data (λ row. refl) rows) refl
-reply_whole (reply.Granted number kind generation table_ends ends) = refl
+reply_whole (reply.Granted grant) = refl
 reply_whole (reply.Freed rows) = refl
 reply_whole (reply.Lost rows) = refl
 reply_whole (reply.Started life) = refl
@@ -123,6 +123,6 @@ reply_whole (reply.Recorded total) = refl
 reply_whole (reply.Gathered loads totals) = rw (items_whole number_data (λ n. refl) loads, items_whole number_data (λ n. refl) totals) refl
 reply_whole (reply.Planned plan) = rw (items_whole move_data move_whole plan.moves, items_whole (slice_data Bare) slice_whole plan.slices) refl
 reply_whole (reply.Next action) = refl
-reply_whole reply.Restarted = refl
+reply_whole reply.TermDropped = refl
 reply_whole (reply.Refused r) = refusal_whole r
 reply_whole reply.NoMemory = refl

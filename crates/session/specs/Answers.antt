@@ -29,7 +29,3 @@ error_text form.Json words = compact_text (error_data words) ++ codes "\n"
 abbrev pub turn_text : ReplyForm → Turn → List ℕ
 turn_text form (turn.Played reply) = answer_text form reply
 turn_text form (turn.Unread words) = error_text form (string_bytes words)
-
--- the words for a line that is too long
-abbrev pub long_words : List ℕ
-long_words = codes "the line has more than 1048576 bytes"

@@ -4,5 +4,4 @@ pub mod Answers
 pub mod Lines
 pub mod Turns
 pub mod Talks
-pub mod LinesRead
 pub mod internals

@@ -1,10 +1,10 @@
 -- Replies as JSON: the first word of the line, and each thing that the line names under a name of its own.
 use Rattle.std.specs.Prelude.{ℕ, List, [], ◌∷◌, codes, Option, Some, None}
 use Rattle.serde_json.specs.Data.{Data, string}
-use Rattle.policy_rules.specs.declared.answer.Ground.{Ground}
-use Rattle.policy_rules.specs.declared.answer.Ground.TheVariants as why
-use Rattle.policy_rules.specs.declared.answer.Verdict.{Verdict}
-use Rattle.policy_rules.specs.declared.answer.Verdict.TheVariants.{Allow, Deny}
+use Rattle.lease_rule.specs.declared.answer.Ground.{Ground}
+use Rattle.lease_rule.specs.declared.answer.Ground.TheVariants as why
+use Rattle.lease_rule.specs.declared.answer.Verdict.{Verdict}
+use Rattle.lease_rule.specs.declared.answer.Verdict.TheVariants.{Allow, Deny}
 use Rattle.lease_table.specs.declared.values.JobTerm.{JobTerm}
 use Rattle.lease_table.specs.declared.values.Phase.{Phase}
 use Rattle.lease_table.specs.declared.values.Phase.TheVariants.{Steady, Bridging}
@@ -99,9 +99,9 @@ reply_data (reply.Proposed generation) = generation_data (codes "proposed") gene
 reply_data (reply.Committed generation) = generation_data (codes "committed") generation
 reply_data (reply.Phase phase) = phase_data phase
 reply_data (reply.Rows rows) = object_data ((codes "reply", string (codes "rows")) ∷ (codes "rows", list_data row_data rows) ∷ [])
-reply_data (reply.Granted number kind generation table_ends ends) = object_data
-    ((codes "ends", number_data ends) ∷ (codes "generation", number_data generation) ∷ (codes "kind", kind_data kind)
-    ∷ (codes "number", number_data number) ∷ (codes "reply", string (codes "grant")) ∷ (codes "until", number_data table_ends) ∷ [])
+reply_data (reply.Granted grant) = object_data
+    ((codes "ends", number_data grant.lease.ends) ∷ (codes "generation", number_data grant.lease.generation) ∷ (codes "kind", kind_data grant.lease.kind)
+    ∷ (codes "number", number_data grant.number) ∷ (codes "reply", string (codes "grant")) ∷ (codes "until", number_data grant.table_ends) ∷ [])
 reply_data (reply.Freed rows) = rows_reply_data (codes "freed") rows
 reply_data (reply.Lost rows) = rows_reply_data (codes "lost") rows
 reply_data (reply.Started life) = object_data ((codes "life", number_data life) ∷ (codes "reply", string (codes "started")) ∷ [])
@@ -120,6 +120,6 @@ reply_data (reply.Gathered loads totals) = object_data
 reply_data (reply.Planned plan) = object_data
     ((codes "moves", list_data move_data plan.moves) ∷ (codes "reply", string (codes "plan")) ∷ (codes "slices", list_data (slice_data Bare) plan.slices) ∷ [])
 reply_data (reply.Next action) = object_data ((codes "next", string (action_word action)) ∷ (codes "reply", string (codes "next")) ∷ [])
-reply_data reply.Restarted = plain_data (codes "restarted")
+reply_data reply.TermDropped = plain_data (codes "restarted")
 reply_data (reply.Refused refusal) = refusal_data refusal
 reply_data reply.NoMemory = plain_data (codes "no-memory")

@@ -1,5 +1,5 @@
 -- What a line is answered.
-use Rattle.std.specs.Prelude.{◌≡◌, ◌⊎◌, ℕ, List, ◌∷◌, true}
+use Rattle.std.specs.Prelude.{◌≡◌, ◌⊎◌, ℕ, List, ◌∷◌, true, string_bytes}
 use Rattle.world.specs.declared.step.Step.{Step}
 use Rattle.world.specs.declared.reply.Reply.{Reply}
 use Rattle.world.specs.Pasts.{Past, event}
@@ -25,7 +25,7 @@ pub record IsReplied (step : Step) (old new : Session) (reply : Reply) : Type 0 
 -- the line says a step, which was played with this reply; or it says no step, and nothing changed
 abbrev pub IsTurn : List ℕ → Session → Session → Turn → Type 0
 IsTurn line old new (turn.Played reply) = (step : Step) × SaysStep old.job line step × IsReplied step old new reply
-IsTurn line old new (turn.Unread words) = SaysNoStep old.job line × (new ≡ old)
+IsTurn line old new (turn.Unread words) = SaysNoStep old.job line (string_bytes words) × (new ≡ old)
 
 -- no step was played: each past that led to the session leads to it still
 abbrev pub IsUnplayed : Session → Session → Type 0
@@ -47,8 +47,8 @@ pub record IsAnswered (line : List ℕ) (old new : Session) (text : List ℕ) : 
 
 -- the line says no step, the text has words for it, and nothing changed
 pub record IsUnread (line : List ℕ) (old new : Session) (text : List ℕ) : Type 0 where
-  pub says : SaysNoStep old.job line
   pub words : List ℕ
+  pub says : SaysNoStep old.job line words
   pub kept : new ≡ old
   pub text_is : text ≡ error_text old.form words
 

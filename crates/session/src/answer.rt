@@ -11,9 +11,6 @@ use service::Line;
 use std::alloc::{AllocError, Global};
 use world::Reply;
 
-/// The words for a line that is too long.
-pub const LONG_WORDS: &str = "the line has more than 1048576 bytes";
-
 /// How replies are written.
 #[derive(Clone, Copy, Debug, PartialEq, Eq)]
 pub enum ReplyForm {

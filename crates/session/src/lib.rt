@@ -3,7 +3,6 @@
 #![tactic(auto)]
 
 mod answer;
-mod line_reading;
 mod reading;
 mod refusal_json;
 mod reply_json;
@@ -11,9 +10,7 @@ mod session;
 mod talk;
 mod turn;
 
-pub use answer::{LONG_WORDS, ReplyForm, answer_text, error_text};
-pub use line_reading::{LineRead, MOST_LINE_BYTES, is_long};
-pub use reading::job_said;
+pub use answer::{ReplyForm, answer_text, error_text};
 pub use session::Session;
-pub use talk::{is_blank, next_line, run_session};
+pub use talk::run_session;
 pub use turn::Turn;

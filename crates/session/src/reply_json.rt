@@ -11,8 +11,8 @@ use crate::refusal_json::refusal_json;
 use assigner::Action;
 use assignment::{Slice, TaskId};
 use clerk::Found;
-use lease_table::{JobTerm, Phase, Row};
-use policy_rules::{Ground, Kind, Verdict};
+use lease_rule::{Ground, Verdict};
+use lease_table::{Grant, JobTerm, Phase, Row};
 use serde_json::{Value, json};
 use service::{Hex, action_word};
 use slice_ranges::SliceKey;
@@ -261,23 +261,16 @@ fn next_json(alloc: Global, action: Action) -> Result<Value, AllocError>
 }
 
 // Converts a grant, with the deadlines of the table and the task.
-fn granted_json(
-    alloc: Global,
-    number: u64,
-    kind: Kind,
-    generation: u64,
-    until: u64,
-    ends: u64,
-) -> Result<Value, AllocError>
-    ensures { IfOk result (λ v. view v ≡ reply_data (Reply.Granted number kind generation until ends)) }
+fn granted_json(alloc: Global, grant: &Grant) -> Result<Value, AllocError>
+    ensures { IfOk result (λ v. view v ≡ reply_data (Reply.Granted grant.now)) }
 {
     json!(in alloc; {
-        "ends": ends,
-        "generation": generation,
-        "kind": kind_word(kind),
-        "number": number,
+        "ends": grant.lease.ends,
+        "generation": grant.lease.generation,
+        "kind": kind_word(grant.lease.kind),
+        "number": grant.number,
         "reply": "grant",
-        "until": until
+        "until": grant.table_ends
     })
 }
 
@@ -298,13 +291,7 @@ pub fn reply_json(alloc: Global, reply: &Reply) -> Result<Value, AllocError>
         Reply::Committed(generation) => generation_json(alloc, "committed", *generation),
         Reply::Phase(phase) => phase_json(alloc, *phase),
         Reply::Rows(rows) => rows_line_json(alloc, rows.as_slice()),
-        Reply::Granted {
-            number,
-            kind,
-            generation,
-            table_ends,
-            ends,
-        } => granted_json(alloc, *number, *kind, *generation, *table_ends, *ends),
+        Reply::Granted(grant) => granted_json(alloc, grant),
         Reply::Freed(rows) => rows_reply_json(alloc, "freed", *rows),
         Reply::Lost(rows) => rows_reply_json(alloc, "lost", *rows),
         Reply::Started(life) => started_json(alloc, *life),
@@ -322,7 +309,7 @@ pub fn reply_json(alloc: Global, reply: &Reply) -> Result<Value, AllocError>
         }
         Reply::Planned(plan) => plan_json(alloc, plan),
         Reply::Next(action) => next_json(alloc, *action),
-        Reply::Restarted => plain_json(alloc, "restarted"),
+        Reply::TermDropped => plain_json(alloc, "restarted"),
         Reply::Refused(refusal) => refusal_json(alloc, *refusal),
         Reply::NoMemory => plain_json(alloc, "no-memory"),
     }

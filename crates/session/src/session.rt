@@ -1,16 +1,16 @@
 //! A session: a job and its world, which the steps on lines change.
 
 ghost use Rattle.std.specs.Prelude.{◌≡◌, [], IfOk, IfErr, OnErr, string_bytes};
+ghost use Rattle.diagnosis.specs.JobLines.{SaysJob, IsNoJob};
 ghost use Rattle.session.specs.Answers.{turn_text};
-ghost use Rattle.session.specs.Lines.{SaysJob, IsNoJob};
 ghost use Rattle.session.specs.Turns.{IsAt, IsReplied, IsTurn, IsTurned, IsUnplayed};
-ghost use Rattle.session.specs.internals.Reading.{IsReadTurned, SaysFirst, SaysNoFirst};
+ghost use Rattle.session.specs.internals.Reading.{IsReadTurned};
 
-use crate::answer::{LONG_WORDS, ReplyForm, answer_text, error_text};
-use crate::line_reading::LineRead;
-use crate::reading::{NoStep, job_said, long_job_faults, step_said};
+use crate::answer::{ReplyForm, answer_text, error_text};
+use crate::reading::{NoStep, step_said};
 use crate::turn::Turn;
-use diagnosis::AnswerError;
+use diagnosis::{AnswerError, LONG_WORDS, job_said};
+use program_io::LineRead;
 use std::alloc::{AllocError, Global};
 use world::{Job, Reply, Step, World};
 
@@ -32,6 +32,15 @@ impl Session {
         ensures err { IfErr result (IsNoJob line.now) }
     {
         let job = job_said(alloc, line)?;
+        Ok(Session::of_job(alloc, form, job)?)
+    }
+
+    // Opens a session for a job.
+    pub(crate) fn of_job(alloc: Global, form: ReplyForm, job: Job) -> Result<Session, AllocError>
+        ensures at { IfOk result (λ s. IsAt [] s) }
+        ensures job { IfOk result (λ s. s.job ≡ job) }
+        ensures form { IfOk result (λ s. s.form ≡ form) }
+    {
         let world = World::new(alloc, job)?;
         Ok(Session {
             alloc,
@@ -80,23 +89,6 @@ impl Session {
     {
         let turn = self.turn(line)?;
         self.turn_text(&turn)
-    }
-
-    // Opens a session for the job on a line that was read.
-    pub(crate) fn open_read(
-        alloc: Global,
-        form: ReplyForm,
-        line: &LineRead,
-    ) -> Result<Session, AnswerError>
-        ensures at { IfOk result (λ s. IsAt [] s) }
-        ensures job { IfOk result (λ s. SaysFirst line.now.bytes.items line.now.is_long s.job) }
-        ensures form { IfOk result (λ s. s.form ≡ form) }
-        ensures err { IfErr result (SaysNoFirst line.now.bytes.items line.now.is_long) }
-    {
-        if line.is_long {
-            return Err(AnswerError::Refused(long_job_faults(alloc)?));
-        }
-        Session::open(alloc, form, line.bytes.as_slice())
     }
 
     // Plays the step on a line that was read, and returns the line of its reply.

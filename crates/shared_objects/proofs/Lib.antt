@@ -1,3 +1,2 @@
-pub mod NamedReplies
-pub mod Restarting
+pub mod Replying
 pub mod Writing

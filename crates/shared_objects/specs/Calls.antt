@@ -1,5 +1,5 @@
 -- What the calls of shared objects do to their lock and their ticket pass, and what they answer.
-use Rattle.std.specs.Prelude.{◌≡◌, ◌⊎◌, ℕ, Result, Ok, Err}
+use Rattle.std.specs.Prelude.{◌≡◌, ℕ, Result, Ok, Err}
 use Rattle.machines.specs.declared.event.Event.{Event}
 use Rattle.history_lock.specs.Histories.{IsLegal}
 use Rattle.history_lock.specs.Passes.{Lock, PassView}
@@ -31,28 +31,25 @@ IsNoRefusal error = Unit {0}
 
 module _ {M C R F : Type 0} (step : M → Event C → Result (M × R) F) (lock : Lock M) (old_draws new_draws : TicketPassView) (call : ℕ → C) where
   -- the one write of the lock that a call makes: its event is the call at the draw
-  pub record Writes (old : PassView M (Event C)) (answer : Result R (WriteError F)) (new : PassView M (Event C)) : Type 0 where
+  pub record Writes (old : PassView M (Event C)) (answer : Result R (WriteError (Event C) F)) (new : PassView M (Event C)) : Type 0 where
     pub could : CanDraw old_draws
     pub late : PassView M (Event C)
     pub waited : HasWaited lock old late
     pub wrote : Wrote step lock (λ event. DrewFor call old_draws event new_draws) (new_draws ≡ old_draws) late answer new
 
-  -- the machine refused the call
-  abbrev pub IsRefusedWith : PassView M (Event C) → F → PassView M (Event C) → Type 0
-  IsRefusedWith old fault new = Writes old (Err (write_error.Refused fault)) new
-
   module _ (recorded : ℕ → ClusterCall) (told : F → ClusterReply) where
-    -- why a call did not write; where memory is wanting, the machine may have refused the call
+    -- why a call did not write
     abbrev pub WroteNothing : PassView M (Event C) → CallError F → PassView M (Event C) → Type 0
     WroteNothing old call_error.Spent new = WasSpent old_draws new_draws old new
     WroteNothing old call_error.HistoryFull new = Writes old (Err write_error.HistoryFull) new
-    WroteNothing old (call_error.Refused why) new = (fault : F) × IsRefusal recorded told old_draws fault why new_draws × IsRefusedWith old fault new
-    WroteNothing old call_error.NoMemory new = Writes old (Err write_error.NoMemory) new ⊎ ((fault : F) × IsRefusedWith old fault new)
+    WroteNothing old (call_error.Refused why) new =
+        (event : Event C) × (fault : F) × IsRefusal recorded told old_draws fault why new_draws × Writes old (Err (write_error.Refused event fault)) new
+    WroteNothing old call_error.NoMemory new = Writes old (Err write_error.NoMemory) new
 
-    -- what a call that writes answers, which stands for this reply of the machine
-    abbrev pub CalledToWrite : {A : Type 0} → (A → R) → PassView M (Event C) → Result A (CallError F) → PassView M (Event C) → Type 0
-    CalledToWrite reply_for old (Ok answer) new = Writes old (Ok (reply_for answer)) new
-    CalledToWrite reply_for old (Err error) new = WroteNothing old error new
+    -- what a call that writes answers
+    abbrev pub CalledToWrite : PassView M (Event C) → Result R (CallError F) → PassView M (Event C) → Type 0
+    CalledToWrite old (Ok reply) new = Writes old (Ok reply) new
+    CalledToWrite old (Err error) new = WroteNothing old error new
 
 module _ {M E R F : Type 0} (step : M → E → Result (M × R) F) (lock : Lock M) (old_draws new_draws : TicketPassView) {T : Type 0} (answers : M → ℕ → T → Type 0) where
   -- the one shared call of the lock that a call makes, which draws once; `answers machine ticket answer`: what the machine answers

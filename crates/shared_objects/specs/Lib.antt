@@ -1,7 +1,7 @@
 -- What callers are promised.
-pub mod Readings
+pub mod Actors
+pub mod Questions
 pub mod Draws
 pub mod Calls
 pub mod Objects
-pub mod Checks
 pub mod internals

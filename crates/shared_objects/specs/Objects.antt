@@ -1,63 +1,30 @@
--- Shared objects, as callers know them, and what their calls answer.
+-- Shared objects, as callers know them, and what the calls of a table alone answer.
 use Rattle.std.specs.Prelude.{◌≡◌, ℕ, List, Option, Result, Ok, Err, IfOk}
 use Rattle.assignment.specs.Slices.{Slicing}
 use Rattle.lease_table.specs.Calls.{event_step as table_step}
 use Rattle.lease_table.specs.Tables.{Standing}
 use Rattle.lease_table.specs.declared.call.TableCall.{TableCall}
-use Rattle.lease_table.specs.declared.call.TableReply.{TableReply}
-use Rattle.lease_table.specs.declared.error.TableError.{TableError}
 use Rattle.lease_table.specs.declared.values.Row.{Row}
-use Rattle.slicelet.specs.Steps.{event_step as slicelet_step}
-use Rattle.slicelet.specs.States.{SliceletState}
-use Rattle.slicelet.specs.declared.call.SliceletCall.{SliceletCall}
-use Rattle.slicelet.specs.declared.call.SliceletReply.{SliceletReply}
-use Rattle.slicelet.specs.declared.error.SliceletError.{SliceletError}
-use Rattle.clerk.specs.Calls.{event_step as clerk_step}
-use Rattle.clerk.specs.declared.call.ClerkCall.{ClerkCall}
-use Rattle.clerk.specs.declared.call.ClerkReply.{ClerkReply}
-use Rattle.clerk.specs.declared.error.ClerkError.{ClerkError}
 use Rattle.machines.specs.declared.event.Event.{Event}
 use Rattle.history_lock.specs.Passes.{Lock, PassView}
 use Rattle.history_lock.specs.Answers.{HasWaited, Shared}
 use Rattle.tickets.specs.Tickets.{TicketPassView}
 use Rattle.cluster.specs.declared.call.ClusterCall.TheVariants as recorded_call
-use Rattle.cluster.specs.declared.error.ClusterError.TheVariants as refusal
-use Rattle.cluster.specs.declared.reply.ClusterReply.{ClusterReply}
 use Rattle.cluster.specs.declared.reply.ClusterReply.TheVariants as told
-use Rattle.shared_objects.specs.declared.error.CallError.{CallError}
 use Rattle.shared_objects.specs.declared.error.Recorded.{Recorded}
 use Rattle.shared_objects.specs.declared.error.RowsError.{RowsError}
 use Rattle.shared_objects.specs.declared.error.RowsError.TheVariants.{Spent, NoMemory}
-use Rattle.shared_objects.specs.Calls.{WasSpent, CalledToWrite, Asks, AsksFor}
+use Rattle.shared_objects.specs.Calls.{WasSpent, Asks, AsksFor}
 
--- a clerk under its lock, and the number by which its calls are recorded
-pub record NumberedClerk : Type 0 where
+-- a machine under its lock, and the number by which its calls are recorded
+pub record SharedObject (M : Type 0) : Type 0 where
   pub number : ℕ
-  pub lock : Lock (Option Slicing)
+  pub lock : Lock M
 
-abbrev pub numbered_clerk : ℕ → Lock (Option Slicing) → NumberedClerk
-numbered_clerk number lock = record { number = number; lock = lock }
+abbrev pub shared_object : {M : Type 0} → ℕ → Lock M → SharedObject M
+shared_object number lock = record { number = number; lock = lock }
 
--- WHAT CALLERS ARE TOLD
-
-abbrev pub table_told : TableError → ClusterReply
-table_told fault = told.Refused (refusal.Table fault)
-
-abbrev pub slicelet_told : SliceletError → ClusterReply
-slicelet_told fault = told.Refused (refusal.Slicelet fault)
-
-abbrev pub clerk_told : ClerkError → ClusterReply
-clerk_told fault = told.Refused (refusal.Clerk fault)
-
--- CALLS THAT WRITE
-
--- a call that may change the table: one write of its lock, of this call at each ticket; its answer stands for this reply of the table
 module _ (lock : Lock Standing) (old_draws new_draws : TicketPassView) where
-  abbrev pub CalledTable : {A : Type 0} → (ℕ → TableCall) → (A → TableReply)
-      → PassView Standing (Event TableCall) → Result A (CallError TableError) → PassView Standing (Event TableCall) → Type 0
-  CalledTable call reply_for old result new =
-      CalledToWrite table_step lock old_draws new_draws call (λ ticket. recorded_call.Table (call ticket)) table_told reply_for old result new
-
   -- `rows`
   abbrev pub AskedForRows : PassView Standing (Event TableCall) → Result (Recorded (List Row)) RowsError → PassView Standing (Event TableCall) → Type 0
   AskedForRows old (Ok asked) new = AsksFor table_step lock old_draws new_draws (λ table _ rows. rows ≡ table.rows) (λ _. recorded_call.Rows) told.Rows old asked new
@@ -68,15 +35,3 @@ module _ (lock : Lock Standing) (old_draws new_draws : TicketPassView) where
 abbrev pub AskedForCommitted : {E : Type 0} → Lock Standing → PassView Standing (Event TableCall) → Result (Option Slicing) E → PassView Standing (Event TableCall) → Type 0
 AskedForCommitted lock old result new =
     (late : PassView Standing (Event TableCall)) × HasWaited lock old late × Shared table_step lock (λ table answer. IfOk answer (λ assignment. assignment ≡ table.committed)) late result new
-
--- a call that may change a slicelet
-abbrev pub CalledSlicelet : {A : Type 0} → Lock SliceletState → TicketPassView → TicketPassView → (ℕ → SliceletCall) → (A → SliceletReply)
-    → PassView SliceletState (Event SliceletCall) → Result A (CallError SliceletError) → PassView SliceletState (Event SliceletCall) → Type 0
-CalledSlicelet lock old_draws new_draws call reply_for old result new =
-    CalledToWrite slicelet_step lock old_draws new_draws call (λ ticket. recorded_call.Task lock.opened.machine.task (call ticket)) slicelet_told reply_for old result new
-
--- a call that may change a clerk
-abbrev pub CalledClerk : {A : Type 0} → NumberedClerk → TicketPassView → TicketPassView → ClerkCall → (A → ClerkReply)
-    → PassView (Option Slicing) (Event ClerkCall) → Result A (CallError ClerkError) → PassView (Option Slicing) (Event ClerkCall) → Type 0
-CalledClerk clerk old_draws new_draws call reply_for old result new =
-    CalledToWrite clerk_step clerk.lock old_draws new_draws (λ _. call) (λ _. recorded_call.Clerk clerk.number call) clerk_told reply_for old result new

@@ -1,2 +1,2 @@
 -- What private functions and proofs speak of, and no clause of a public call.
-pub mod NamedReplies
+pub mod Laws

@@ -1,8 +1,7 @@
 //! Why calls of shared objects return no answer.
 
 use cluster::CallRecord;
-use history_lock::{Busy, Pass};
-use machines::Machine;
+use history_lock::Busy;
 
 /// A refusal of a machine, with the record of the call.
 #[derive(Debug, Drop)]
@@ -22,8 +21,7 @@ pub enum CallError<Fault> {
     HistoryFull,
     /// The machine refuses the call, for the reason in the record.
     Refused(RefusedCall<Fault>),
-    /// Memory ran out for the write, or for the record of its refusal. A ticket may have been
-    /// drawn.
+    /// Memory ran out for the write. A ticket may have been drawn.
     NoMemory,
 }
 
@@ -52,15 +50,4 @@ pub struct Recorded<Answer> {
     pub answer: Answer,
     /// The record of the call.
     pub call: CallRecord,
-}
-
-/// A shared object that was not closed because one of its passes is missing, with its passes.
-///
-/// The object and the passes are unchanged.
-#[derive(Drop)]
-pub struct NotClosed<Object, M: Machine> {
-    /// The object.
-    pub object: Object,
-    /// The passes that were given to close it.
-    pub passes: Vec<Pass<M>>,
 }

@@ -1,5 +1,6 @@
 //! What workers call inside their shared calls.
 
+use crate::when::When;
 use std::sync::Wait;
 
 /// A hook that each worker calls inside its shared call, after its draw and while it holds its
@@ -30,4 +31,6 @@ pub struct Turn<'g, G> {
     pub worker: u32,
     /// The number of the ask, from 0.
     pub ask: u32,
+    /// The reading of the ask.
+    pub when: When,
 }

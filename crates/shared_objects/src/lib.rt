@@ -1,30 +1,32 @@
 //! The table, the tasks and the clerks of a key ownership service, as objects that threads share.
 //!
-//! [`SharedTable`], [`SharedSlicelet`] and [`SharedClerk`] put a machine under a lock of lanes.
-//! Each call takes the caller's pass of that lock and its [`Draws`], draws one ticket while it
-//! holds its lanes, and returns the machine's answer. A call that writes no entry also returns its
-//! record.
+//! [`Shared`] puts the machine of an [`Actor`] under a lock of lanes: [`SharedTable`],
+//! [`SharedSlicelet`] or [`SharedClerk`]. [`Shared::write`] makes a call of the machine, and
+//! [`Shared::ask`] a call that only looks at it. Each takes the caller's pass of that lock and its
+//! [`Draws`], draws one ticket while it holds its lanes, and returns the machine's answer. A call
+//! that writes no entry also returns its record.
 #![tactic(auto)]
 
-mod ask;
-mod calls;
-mod clerk_requests;
+mod actor;
 mod draws;
 mod error;
 mod gate;
-mod shared_clerk;
-mod shared_slicelet;
+mod question;
+mod questions;
+mod read;
+mod replies;
+mod shared;
 mod shared_table;
-mod slicelet_requests;
-mod table_requests;
 mod when;
 mod write;
 
+pub use actor::Actor;
 pub use draws::Draws;
-pub use error::{CallError, NotClosed, Recorded, RefusedCall, RowsError, TryError};
+pub use error::{CallError, Recorded, RefusedCall, RowsError, TryError};
 pub use gate::{Gate, OpenGate, Turn};
-pub use shared_clerk::SharedClerk;
-pub use shared_slicelet::{KeyAsk, SharedSlicelet};
+pub use question::{Question, RecordedQuestion};
+pub use questions::{AskCheck, AskHold, AskLook, AskPhase, AskServe};
+pub use replies::{ended_notes, freed_rows, generation, grant, job_term, lost_rows, release_note};
+pub use shared::{NotClosed, Shared, SharedClerk, SharedSlicelet};
 pub use shared_table::SharedTable;
-pub use table_requests::{Proposal, TaskLife};
 pub use when::When;

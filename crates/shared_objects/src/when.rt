@@ -1,25 +1,10 @@
-//! The readings of calls.
+//! The readings of calls and questions.
 
-ghost use Rattle.std.specs.Prelude.{◌≡◌};
-ghost use Rattle.shared_objects.specs.Readings.{reading_at};
-
-/// The reading of a call: a given one, or the call's own ticket.
+/// The reading of a call or a question: the one in it, or its ticket.
 #[derive(Clone, Copy, Debug, PartialEq, Eq)]
 pub enum When {
-    /// This reading, in ticks, of the clock of the table or of the task whose slicelet is called.
-    At(u64),
-    /// The call's own ticket.
+    /// The reading that is given in the call or question.
+    AsGiven,
+    /// The ticket that is drawn for it, instead of the reading in it.
     AtTicket,
-}
-
-impl When {
-    /// Returns the reading, in ticks, of the call that drew a ticket.
-    pub fn reading(self, ticket: u64) -> u64
-        ensures { result ≡ reading_at self ticket }
-    {
-        match self {
-            When::At(reading) => reading,
-            When::AtTicket => ticket,
-        }
-    }
 }

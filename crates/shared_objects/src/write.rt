@@ -1,87 +1,93 @@
-//! Calls that write.
+//! Writes of a lock, whose events are calls that draw a ticket.
 
 ghost use Rattle.std.specs.Prelude.{◌≡◌, Some, IfSome};
 ghost use Rattle.history_lock.specs.Passes.{IsPassOf};
-ghost use Rattle.tickets.specs.Tickets.{IsDrawn};
-ghost use Rattle.shared_objects.specs.Readings.{reading_at};
+ghost use Rattle.shared_objects.specs.Actors.{made_at};
 ghost use Rattle.shared_objects.specs.Draws.{CanDraw, DrewFor};
 ghost use Rattle.shared_objects.specs.Calls.{CalledToWrite};
 
-use crate::calls::{Order, Request, SharedCall};
+use crate::actor::Actor;
 use crate::draws::Draws;
 use crate::error::{CallError, RefusedCall};
+use crate::when::When;
 use cluster::CallRecord;
 use history_lock::{LaneLock, Pass, WriteError};
-use machines::{Duplicate, Event, Machine};
+use machines::Event;
 use std::sync::Wait;
 
+/// A call of the actor with this number, and the reading that it is made at.
+#[derive(Drop)]
+pub(crate) struct Order<C> {
+    pub(crate) actor: u64,
+    pub(crate) call: C,
+    pub(crate) when: When,
+}
+
 // Makes one write of the lock, whose event is the ordered call at the ticket that it draws.
-pub(crate) fn write<
-    R: Wait,
-    X: Copy,
-    C: SharedCall<X>,
-    M: Machine<Event = Event<C>, Fault = X>,
-    Q: Request<C>,
->(
+pub(crate) fn write<R: Wait, M: Actor>(
     rt: &R,
     lock: &LaneLock<M>,
     pass: &mut Pass<M>,
     draws: &mut Draws<'_>,
-    order: Order<Q>,
-) -> Result<M::Reply, CallError<X>>
+    order: Order<M::Call>,
+) -> Result<M::Reply, CallError<M::Fault>>
     requires own { IsPassOf lock.now pass.old }
     ensures own { IsPassOf lock.now pass.new }
     ensures ticket { draws.new.ticket ≡ draws.old.ticket }
-    ensures answer { CalledToWrite M.step lock.now draws.old.pass draws.new.pass (λ number. Q.call_at order.request (reading_at order.when number))
-        (λ number. C.recorded order.actor (Q.call_at order.request (reading_at order.when number))) C.told (λ reply. reply) pass.old result pass.new }
+    ensures answer { CalledToWrite M.step lock.now draws.old.pass draws.new.pass (λ ticket. made_at M.at order.when order.call ticket)
+        (λ ticket. M.recorded order.actor (made_at M.at order.when order.call ticket)) M.told pass.old result pass.new }
 {
     if draws.left() == 0 {
         return Err(CallError::Spent);
     }
-    let Order {
-        actor,
-        request,
-        when,
-    } = order;
-    let mut request = Some(request);
-    let mut kept: Option<Event<C>> = None;
-    let mut make = || -> Event<C>
+    let Order { actor, call, when } = order;
+    let mut call = Some(call);
+    let mut make = || -> Event<M::Call>
         requires can { CanDraw draws.now.pass }
-        requires request { (q : Q) × (request ≡ Some q) }
+        requires call { (given : M.Call) × (call ≡ Some given) }
         ensures ticket { draws.exit.now.ticket ≡ draws.entry.now.ticket }
-        ensures made { IfSome request.entry (λ q. DrewFor (λ number. Q.call_at q (reading_at when number)) draws.entry.now.pass result draws.exit.now.pass) }
-        ensures kept { IfSome kept.exit (λ copied. copied ≡ result) }
+        ensures made { IfSome call.entry (λ given. DrewFor (λ ticket. made_at M.at when given ticket) draws.entry.now.pass result draws.exit.now.pass) }
     {
         let ticket = draws.draw();
-        let call = request.take().unwrap().into_call(when.reading(ticket));
-        let event = Event { ticket, call };
-        kept = event.copy().ok();
-        event
+        event_of::<M>(call.take().unwrap(), when, ticket)
     };
     match lock.write(rt, pass, &mut make) {
         Ok(reply) => Ok(reply),
         Err(WriteError::HistoryFull) => Err(CallError::HistoryFull),
         Err(WriteError::NoMemory) => Err(CallError::NoMemory),
-        Err(WriteError::Refused(fault)) => match kept {
-            Some(event) => Err(CallError::Refused(refused_call(actor, event, fault))),
-            None => Err(CallError::NoMemory),
-        },
+        Err(WriteError::Refused { event, fault }) => Err(CallError::Refused(refused_call::<M>(
+            actor, event, fault,
+        ))),
     }
 }
 
+// Returns the event of a call that drew a ticket.
+fn event_of<M: Actor>(call: M::Call, when: When, ticket: u64) -> Event<M::Call>
+    ensures ticket { result.ticket ≡ ticket }
+    ensures call { result.call ≡ made_at M.at when call ticket }
+{
+    let call = match when {
+        When::AsGiven => call,
+        When::AtTicket => M::at(call, ticket),
+    };
+    Event { ticket, call }
+}
+
 // Returns the refusal of an actor's event by the machine, with its record.
-fn refused_call<X: Copy, C: SharedCall<X>>(actor: u64, event: Event<C>, fault: X) -> RefusedCall<X>
+fn refused_call<M: Actor>(
+    actor: u64,
+    event: Event<M::Call>,
+    fault: M::Fault,
+) -> RefusedCall<M::Fault>
     ensures fault { result.fault ≡ fault }
     ensures ticket { result.call.ticket ≡ event.ticket }
-    ensures step { result.call.step ≡ C.recorded actor event.call }
-    ensures reply { result.call.reply ≡ C.told fault }
+    ensures step { result.call.step ≡ M.recorded actor event.call }
+    ensures reply { result.call.reply ≡ M.told fault }
 {
-    RefusedCall {
-        fault,
-        call: CallRecord {
-            ticket: event.ticket,
-            step: event.call.into_record(actor),
-            reply: C::tell(fault),
-        },
-    }
+    let call = CallRecord {
+        ticket: event.ticket,
+        step: M::into_record(actor, event.call),
+        reply: M::tell(&fault),
+    };
+    RefusedCall { fault, call }
 }

@@ -4,11 +4,11 @@ use Rattle.std.proofs.lemmas.Bool.{true≢false}
 use Rattle.std.specs.Prelude.{Option, Some, None, Result, Ok, Err, IfOk, is_some, option_map}
 use Rattle.slice_ranges.specs.Sets.{has}
 use Rattle.machines.specs.Refusals.{first_of}
-use Rattle.policy_rules.specs.declared.lease.Kind.{Kind}
-use Rattle.policy_rules.specs.declared.lease.Kind.TheVariants.{Guard, Bridge}
-use Rattle.policy_rules.specs.declared.holding.Holding.{Holding}
-use Rattle.policy_rules.specs.declared.lease.Lease.{Lease}
-use Rattle.policy_rules.specs.Rule.{SeenHolding, holding_seen_from, rule, is_allowed}
+use Rattle.lease_rule.specs.declared.lease.Kind.{Kind}
+use Rattle.lease_rule.specs.declared.lease.Kind.TheVariants.{Guard, Bridge}
+use Rattle.lease_rule.specs.declared.holding.Holding.{Holding}
+use Rattle.lease_rule.specs.declared.lease.Lease.{Lease}
+use Rattle.lease_rule.specs.Rule.{SeenHolding, holding_seen_from, rule, is_allowed}
 use Rattle.slicelet.specs.Stamps.{Stamps, since, stamp_after_change}
 use Rattle.lease_table.specs.declared.values.Grant.{Grant}
 use Rattle.lease_table.specs.declared.values.ReleaseNote.{ReleaseNote}

@@ -5,10 +5,10 @@ use Rattle.std.specs.Prelude.{Option, Some, None, is_none, nat_le, max, find, if
 use Rattle.std.specs.List.{AllByRecursion}
 use Rattle.machines.specs.Refusals.{when, first_of}
 use Rattle.machines.proofs.Every.{all_weaker}
-use Rattle.policy_rules.specs.declared.lease.Kind.{Kind}
-use Rattle.policy_rules.specs.declared.lease.Kind.TheVariants.{Guard, Bridge}
-use Rattle.policy_rules.specs.Leases.{same_kind}
-use Rattle.policy_rules.specs.Rule.{greatest}
+use Rattle.lease_rule.specs.declared.lease.Kind.{Kind}
+use Rattle.lease_rule.specs.declared.lease.Kind.TheVariants.{Guard, Bridge}
+use Rattle.lease_rule.specs.Leases.{same_kind}
+use Rattle.lease_rule.specs.Rule.{greatest}
 use Rattle.lease_table.specs.declared.values.Grant.{Grant}
 use Rattle.lease_table.specs.declared.values.ReleaseNote.{ReleaseNote}
 use Rattle.slicelet.specs.declared.error.SliceletError.TheVariants.{Old}

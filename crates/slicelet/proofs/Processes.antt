@@ -4,13 +4,13 @@ use Rattle.std.specs.List.{AllByRecursion}
 use Rattle.std.proofs.lemmas.Bool.{true≢false}
 use Rattle.std.proofs.lemmas.Bool.Decides.{nat_tests}
 use Rattle.std.specs.Prelude.{not, nat_le, nat_lt, ◌==◌, ◌&&◌, ◌||◌}
-use Rattle.policy_rules.specs.Rule.{SeenHolding, rule, is_allowed}
-use Rattle.policy_rules.proofs.Permitting.{permitted_down}
+use Rattle.lease_rule.specs.Rule.{SeenHolding, rule, is_allowed}
+use Rattle.lease_rule.proofs.Permitting.{permitted_down}
 use Rattle.lease_table.specs.declared.values.Grant.{Grant}
 use Rattle.lease_table.specs.declared.values.Row.{Row}
 use Rattle.lease_table.specs.declared.policy.TheConstants.{MOST_GRANTS}
 use Rattle.lease_table.specs.Rows.{closes}
-use Rattle.policy_rules.specs.Leases.{same_kind}
+use Rattle.lease_rule.specs.Leases.{same_kind}
 use Rattle.slicelet.specs.Steps.{ended_note}
 use Rattle.slicelet.specs.declared.handle.KeyHandle.{KeyHandle}
 use Rattle.slicelet.specs.declared.call.SliceletCall.{SliceletCall}

@@ -1,9 +1,9 @@
 -- The leases of a state are seen from a key as the rule sees them.
 use Rattle.std.proofs.Common.{◌≡◌, ◌∙◌, ℕ, ◌≤◌, true, refl, sym, ap}
 use Rattle.std.specs.Prelude.{Option, Some, None, option_map}
-use Rattle.policy_rules.specs.Leases.{seen_from}
-use Rattle.policy_rules.specs.Rule.{SeenHolding, holding_seen_from, rule, is_allowed}
-use Rattle.policy_rules.proofs.Permitting.{permitted_live}
+use Rattle.lease_rule.specs.Leases.{seen_from}
+use Rattle.lease_rule.specs.Rule.{SeenHolding, holding_seen_from, rule, is_allowed}
+use Rattle.lease_rule.proofs.Permitting.{permitted_live}
 use Rattle.lease_table.specs.declared.values.Grant.{Grant}
 use Rattle.slicelet.specs.Rules.{seen_by, covers_key}
 use Rattle.slicelet.specs.States.{SliceletState, holding_in, permits}

@@ -8,7 +8,7 @@ use Rattle.slicelet.specs.declared.call.SliceletReply.TheVariants.{Started, Hear
 use Rattle.slicelet.specs.declared.call.SliceletCall.{SliceletCall}
 use Rattle.slicelet.specs.declared.call.SliceletCall.TheVariants.{Start, Hear, Release, Resume}
 use Rattle.slicelet.specs.States.{SliceletState, state_after}
-use Rattle.policy_rules.specs.declared.lease.Kind.TheVariants.{Guard, Bridge}
+use Rattle.lease_rule.specs.declared.lease.Kind.TheVariants.{Guard, Bridge}
 use Rattle.slicelet.specs.Steps.{start_checks, hear_checks, release_checks, resume_checks, note_of, ended_note}
 
 -- the refusals of a call

@@ -1,8 +1,8 @@
 -- What the slicelets of a task heard: their accepted calls over all processes and lives, newest first.
 use Rattle.std.specs.Prelude.{ℕ, Bool, true, false, List, [], ◌∷◌, find, length, Option, Some, None, if◌then◌else◌}
-use Rattle.policy_rules.specs.declared.lease.Kind.{Kind}
-use Rattle.policy_rules.specs.Leases.{same_kind}
-use Rattle.policy_rules.specs.Rule.{greatest}
+use Rattle.lease_rule.specs.declared.lease.Kind.{Kind}
+use Rattle.lease_rule.specs.Leases.{same_kind}
+use Rattle.lease_rule.specs.Rule.{greatest}
 use Rattle.lease_table.specs.declared.values.Grant.{Grant}
 use Rattle.slicelet.specs.declared.call.SliceletCall.{SliceletCall}
 use Rattle.slicelet.specs.declared.call.SliceletCall.TheVariants.{Start, Hear, Release, Resume}

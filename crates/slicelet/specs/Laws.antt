@@ -1,7 +1,7 @@
 -- What holds after every list of accepted calls.
 use Rattle.std.specs.Prelude.{◌≡◌, ℕ, ◌<◌, ◌≤◌, Bool, true, List, ◌∷◌, ◌++◌, Option, Some, None, ⊤}
 use Rattle.std.specs.List.{AllByRecursion}
-use Rattle.policy_rules.specs.declared.lease.Kind.{Kind}
+use Rattle.lease_rule.specs.declared.lease.Kind.{Kind}
 use Rattle.lease_table.specs.declared.values.Grant.{Grant}
 use Rattle.lease_table.specs.declared.values.ReleaseNote.{ReleaseNote}
 use Rattle.slicelet.specs.declared.call.SliceletCall.{SliceletCall}

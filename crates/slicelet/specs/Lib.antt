@@ -14,5 +14,5 @@ pub mod internals
 pub use Rattle.machines.specs.Refusals
 pub use Rattle.slice_ranges.specs.Sets
 pub use Rattle.slice_ranges.specs.Levels
-pub use Rattle.policy_rules.specs.Leases
-pub use Rattle.policy_rules.specs.Rule
+pub use Rattle.lease_rule.specs.Leases
+pub use Rattle.lease_rule.specs.Rule

@@ -1,8 +1,8 @@
 -- What a task does next about its leases.
 use Rattle.std.specs.Prelude.{ℕ, ◌==◌, ◌&&◌, Bool, false, not, nat_lt, List, [], ◌∷◌, Option, Some, None, is_some, unwrap_or}
 use Rattle.machines.specs.Refusals.{when, first_of}
-use Rattle.policy_rules.specs.declared.lease.Kind.{Kind}
-use Rattle.policy_rules.specs.declared.lease.Kind.TheVariants.{Guard, Bridge}
+use Rattle.lease_rule.specs.declared.lease.Kind.{Kind}
+use Rattle.lease_rule.specs.declared.lease.Kind.TheVariants.{Guard, Bridge}
 use Rattle.lease_table.specs.declared.values.Grant.{Grant}
 use Rattle.lease_table.specs.declared.values.Phase.{Phase}
 use Rattle.lease_table.specs.declared.values.Phase.TheVariants.{Steady, Bridging}

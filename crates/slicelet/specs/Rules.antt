@@ -1,10 +1,10 @@
 -- The written rule over what a slicelet heard.
 use Rattle.std.specs.Prelude.{ℕ, Bool, List, option_map}
-use Rattle.policy_rules.specs.declared.lease.Kind.TheVariants.{Guard, Bridge}
-use Rattle.policy_rules.specs.declared.answer.Verdict.{Verdict}
-use Rattle.policy_rules.specs.Leases.{SeenLease}
-use Rattle.policy_rules.specs.Rule.{SeenHolding, rule}
-pub use Rattle.policy_rules.specs.Rule.{is_allowed}
+use Rattle.lease_rule.specs.declared.lease.Kind.TheVariants.{Guard, Bridge}
+use Rattle.lease_rule.specs.declared.answer.Verdict.{Verdict}
+use Rattle.lease_rule.specs.Leases.{SeenLease}
+use Rattle.lease_rule.specs.Rule.{SeenHolding, rule}
+pub use Rattle.lease_rule.specs.Rule.{is_allowed}
 use Rattle.slice_ranges.specs.Sets.{has}
 use Rattle.lease_table.specs.declared.values.Grant.{Grant}
 use Rattle.slicelet.specs.declared.call.SliceletCall.{SliceletCall}

@@ -1,8 +1,8 @@
 -- What each call answers, and what it leaves.
 use Rattle.std.specs.Prelude.{ℕ, ◌+◌, ◌==◌, true, not, nat_lt, nat_le, List, [], ◌∷◌, Option, Some, None, is_none, Result}
 use Rattle.machines.specs.Refusals.{when, answer}
-use Rattle.policy_rules.specs.declared.lease.Kind.{Kind}
-use Rattle.policy_rules.specs.declared.lease.Kind.TheVariants.{Guard, Bridge}
+use Rattle.lease_rule.specs.declared.lease.Kind.{Kind}
+use Rattle.lease_rule.specs.declared.lease.Kind.TheVariants.{Guard, Bridge}
 use Rattle.lease_table.specs.declared.values.Grant.{Grant}
 use Rattle.lease_table.specs.declared.values.ReleaseNote.{ReleaseNote}
 use Rattle.lease_table.specs.declared.policy.TheConstants.{MOST_GRANTS}

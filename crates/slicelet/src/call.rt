@@ -5,9 +5,9 @@ ghost use Rattle.lease_table.specs.declared.policy.TheConstants.{MOST_GRANTS};
 ghost use Rattle.slicelet.specs.Steps.{ended_notes};
 
 use assignment::TaskId;
+use lease_rule::Kind;
 use lease_table::{Grant, MOST_GRANTS, ReleaseNote};
 use machines::Duplicate;
-use policy_rules::Kind;
 use std::alloc::AllocError;
 
 /// A call that may change a slicelet; `at` is a reading of the task's clock, in ticks.

@@ -5,8 +5,8 @@ ghost use Rattle.slice_ranges.specs.Sets.{has};
 ghost use Rattle.slicelet.specs.internals.State.{lease_of_kind, with_lease, heard_of_kind, with_heard, number_in, number_or_0};
 ghost use Rattle.slicelet.specs.internals.Stamping.{serves, Stays, ServesSame, ServesAll, RenewsBeside, Renews};
 
+use lease_rule::{Holding, Kind, Lease, live_keys};
 use lease_table::Grant;
-use policy_rules::{Holding, Kind, Lease, live_keys};
 use slice_ranges::Ranges;
 use std::alloc::{AllocError, Global};
 

@@ -2,8 +2,8 @@
 
 ghost use Rattle.std.specs.Prelude.{◌≡◌, ℕ, ◌<◌, ◌≤◌, ◌↔◌, Bool, IsTrue, List, [], ◌∷◌, ◌++◌, true, Some, Ok, Contains};
 ghost use Rattle.std.specs.List.{AllByRecursion};
-ghost use Rattle.policy_rules.specs.declared.lease.Kind.{Kind};
-ghost use Rattle.policy_rules.specs.declared.answer.Verdict.TheVariants.{Allow};
+ghost use Rattle.lease_rule.specs.declared.lease.Kind.{Kind};
+ghost use Rattle.lease_rule.specs.declared.answer.Verdict.TheVariants.{Allow};
 ghost use Rattle.lease_table.specs.declared.values.Grant.{Grant};
 ghost use Rattle.slicelet.specs.declared.call.SliceletCall.{SliceletCall};
 ghost use Rattle.slicelet.specs.declared.call.SliceletCall.TheVariants.{Start, Hear, Resume};

@@ -26,9 +26,9 @@ use crate::heard::{
 use crate::life_stamps::{copy_of, key_law, put_stamps, restamp, still};
 use crate::stamped::Stamped;
 use assignment::TaskId;
+use lease_rule::{Ground, Holding, Kind, Lease, Verdict, permitted, verdict};
 use lease_table::{Grant, ReleaseNote};
 use machines::Trouble;
-use policy_rules::{Ground, Holding, Kind, Lease, Verdict, permitted, verdict};
 use slice_ranges::{Ranges, SliceKey};
 use std::alloc::{AllocError, Global};
 use std::marker::Model;

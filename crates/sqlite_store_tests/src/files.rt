@@ -1,7 +1,8 @@
 //! The files of the tests.
 
-use assignment::{Assignment, Listed, Slice};
+use assignment::{Assignment, Slice};
 use lease_table::{JobTerm, Kept, Policy};
+use machines::Listed;
 use sqlite::{Connection, FileFrom, FileStore, Unknown};
 use sqlite_table_store::{SqliteFault, SqliteStore};
 use std::alloc::Global;

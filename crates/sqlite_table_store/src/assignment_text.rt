@@ -5,8 +5,8 @@ ghost use Rattle.serde_json.specs.Read.{read};
 ghost use Rattle.serde_json.specs.View.{view};
 ghost use Rattle.sqlite_table_store.specs.Texts.{assignment_data, list_data, number_data, slice_data, IsTextOf};
 
-use assignment::{Assignment, Listed, OwnedSlice, Slice, TaskId};
-use machines::Trouble;
+use assignment::{Assignment, OwnedSlice, Slice, TaskId};
+use machines::{Listed, Trouble};
 use serde_json::{Category, Value, json};
 use std::alloc::{AllocError, Global};
 

@@ -1,4 +1,3 @@
 pub mod Untold
-pub mod NoJob
 pub mod Looking
 pub mod Told

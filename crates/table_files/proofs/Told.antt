@@ -3,7 +3,8 @@ use Rattle.std.proofs.Common.{◌≡◌, inl, ℕ, List, Option, Ok, Err, Result
 use Rattle.std.specs.Io.KnownBytes.{Appends}
 use Rattle.table_store.specs.declared.store.StoreError.{StoreError}
 use Rattle.table_store.specs.declared.store.StoreError.TheVariants as store_error
-use Rattle.table_files.specs.Sayings.{IsStoreSaid, line_about}
+use Rattle.diagnosis.specs.Sayings.{line_about}
+use Rattle.table_files.specs.Sayings.{IsStoreSaid}
 
 module _ {F A E : Type 0} (says : F → List ℕ → Type 0) (file : List ℕ) (old new : Option (List ℕ)) where
   pub store_said : (r : Result A E) (error : StoreError F) (fault : F) (words text : List ℕ) → error ≡ store_error.Failed fault → text ≡ words → says fault words

@@ -4,6 +4,7 @@ use Rattle.std.specs.Io.KnownBytes.{Keeps}
 use Rattle.lease_table.specs.Policies.{Terms}
 use Rattle.world.specs.Jobs.{Job}
 use Rattle.table_store.specs.declared.store.Stored.{Stored}
+use Rattle.diagnosis.specs.JobLines.{IsJobRead, IsNoJobRead}
 use Rattle.session.specs.declared.answer.ReplyForm.{ReplyForm}
 use Rattle.table_session.specs.declared.keeping.TableSession.{TableSession}
 use Rattle.table_session.specs.TableTalks.{Point}
@@ -11,7 +12,6 @@ use Rattle.table_files.specs.declared.error.FileError.{FileError}
 use Rattle.table_files.specs.declared.error.KeepError.{KeepError}
 use Rattle.table_files.specs.declared.error.KeepError.TheVariants as keep_error
 use Rattle.table_files.specs.declared.error.ServeError.{ServeError}
-use Rattle.table_files.specs.JobLines.{IsJobRead, IsNoJobRead}
 use Rattle.table_files.specs.Serving.{IsOpenedFor, IsNotOpenedFor, IsServed, IsUnserved}
 
 module _ {S : Type 0} (is_honest : S → Type 0) (may_leave : S → Stored → Type 0) {F : Type 0} (may_fail : S → F → Type 0) where

@@ -1,5 +1,4 @@
 pub mod Statuses
-pub mod JobLines
 pub mod Serving
 pub mod Keeping
 pub mod Seeing

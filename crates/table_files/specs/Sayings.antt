@@ -1,9 +1,7 @@
 -- What is said on standard error of a table in a file: for each fault, in which words.
-use Rattle.std.specs.Prelude.{◌⊎◌, ◌++◌, ℕ, List, codes, string_bytes, Option, ⊤}
+use Rattle.std.specs.Prelude.{◌⊎◌, ℕ, List, codes, string_bytes, Option}
 use Rattle.std.specs.Io.KnownBytes.{Appends}
-use Rattle.diagnosis.specs.Quoted.{escaped}
-use Rattle.diagnosis.specs.declared.error.AnswerError.{AnswerError}
-use Rattle.diagnosis.specs.declared.error.AnswerError.TheVariants as answer
+use Rattle.diagnosis.specs.Sayings.{IsFaultSaid, line_about, memory_line, write_line}
 use Rattle.lease_table.specs.declared.kept.KeptFault.{KeptFault}
 use Rattle.lease_table.specs.declared.kept.KeptFault.TheVariants as kept_fault
 use Rattle.table_store.specs.declared.error.OpenError.{OpenError}
@@ -22,20 +20,6 @@ use Rattle.table_files.specs.declared.error.SeeError.{SeeError}
 use Rattle.table_files.specs.declared.error.SeeError.TheVariants as see_error
 use Rattle.table_files.specs.declared.error.ServeError.{ServeError}
 use Rattle.table_files.specs.declared.error.ServeError.TheVariants as serve_error
-
--- a line of the command
-abbrev pub line : List ℕ → List ℕ
-line words = codes "hourstable: " ++ (words ++ codes "\n")
-
--- a line about a file or an input, whose name has escapes
-abbrev pub line_about : List ℕ → List ℕ → List ℕ
-line_about name words = codes "hourstable: " ++ (escaped name ++ (codes ": " ++ (words ++ codes "\n")))
-
-abbrev pub memory_line : List ℕ
-memory_line = line (codes "out of memory")
-
-abbrev pub write_line : List ℕ
-write_line = line (codes "write fault")
 
 abbrev pub not_open : List ℕ
 not_open = codes "the table is not open"
@@ -65,23 +49,16 @@ see_line file (see_error.NoTable fault) = line_about file (kept_words fault)
 see_line file see_error.Write = write_line
 see_line file see_error.NoMemory = memory_line
 
--- The line is about no job that was read; a job line that is refused is told in the words of its faults, which stand with the readers of scripts.
-abbrev pub IsJobSaid : List ℕ → (old new : Option (List ℕ)) → AnswerError → Type 0
-IsJobSaid input old new (answer.Refused faults) = ⊤
-IsJobSaid input old new answer.Read = Appends old new (line_about input (codes "read fault"))
-IsJobSaid input old new answer.Write = Appends old new write_line
-IsJobSaid input old new answer.Memory = Appends old new memory_line
-
 module _ {F : Type 0} (says : F → List ℕ → Type 0) (file : List ℕ) (old new : Option (List ℕ)) where
   -- words for the fault were said, or there was no memory for them
-  abbrev pub IsFaultSaid : F → Type 0
-  IsFaultSaid fault = ((words : List ℕ) × says fault words × Appends old new (line_about file words)) ⊎ Appends old new memory_line
+  abbrev pub AreWordsSaid : F → Type 0
+  AreWordsSaid fault = ((words : List ℕ) × says fault words × Appends old new (line_about file words)) ⊎ Appends old new memory_line
 
   -- why a store did not load or save
   abbrev pub IsStoreSaid : StoreError F → Type 0
   IsStoreSaid store_error.Replaced = Appends old new (line_about file (codes "another process has saved"))
   IsStoreSaid store_error.NoMemory = Appends old new memory_line
-  IsStoreSaid (store_error.Failed fault) = IsFaultSaid fault
+  IsStoreSaid (store_error.Failed fault) = AreWordsSaid fault
 
   -- why a table is not opened
   abbrev pub IsOpenSaid : OpenError F → Type 0
@@ -93,6 +70,7 @@ module _ {F : Type 0} (says : F → List ℕ → Type 0) (file : List ℕ) (old 
   abbrev pub IsTalkSaid : List ℕ → TalkError F → Type 0
   IsTalkSaid input talk_error.Read = Appends old new (line_about input (codes "read fault"))
   IsTalkSaid input talk_error.Write = Appends old new write_line
+  IsTalkSaid input talk_error.Memory = Appends old new memory_line
   IsTalkSaid input (talk_error.Session (session_error.NotSaved why)) = IsStoreSaid why
   IsTalkSaid input (talk_error.Session session_error.NotOpen) = Appends old new (line_about file not_open)
   IsTalkSaid input (talk_error.Session session_error.NoMemory) = Appends old new memory_line
@@ -107,7 +85,7 @@ module _ {F : Type 0} (says : F → List ℕ → Type 0) (file : List ℕ) (old 
 
   -- why a session over a table in a file did not end well
   abbrev pub IsKeepSaid : List ℕ → KeepError F → Type 0
-  IsKeepSaid input (keep_error.Job why) = IsJobSaid input old new why
+  IsKeepSaid input (keep_error.Job why) = IsFaultSaid input old new why
   IsKeepSaid input (keep_error.File why) = Appends old new (file_line file why)
   IsKeepSaid input (keep_error.Open why) = IsOpenSaid why
   IsKeepSaid input (keep_error.Serve why) = IsServeSaid input why

@@ -1,7 +1,7 @@
 -- What the file of a table has, and how it is told.
-use Rattle.std.specs.Prelude.{◌≡◌, ◌++◌, ℕ, List, [], take, codes, decimal, Option, Some, None, Result, Ok, Err, ⊤}
-use Rattle.std.specs.Io.KnownBytes.{Appends}
+use Rattle.std.specs.Prelude.{◌≡◌, ◌++◌, ℕ, List, [], codes, decimal, Option, Some, None, Result, Ok, Err, ⊤}
 use Rattle.machines.specs.Refusals.{first_of}
+use Rattle.program_io.specs.Endings.{IsCut, IsWritten}
 use Rattle.lease_table.specs.declared.kept.Kept.{Kept}
 use Rattle.lease_table.specs.declared.kept.KeptFault.{KeptFault}
 use Rattle.lease_table.specs.KeptValues.{kept_checks}
@@ -32,42 +32,32 @@ kept_fault (Some kept) = first_of (kept_checks kept.policy kept)
 abbrev pub fault_of : Stored → Option KeptFault
 fault_of stored = kept_fault stored.kept
 
-module _ {S : Type 0} (sees : List ℕ → Result (Seen × S) FileError → Type 0) (file : List ℕ) (held holds : Option (List ℕ)) where
-  -- the file has something, of which this much of its text was written
-  pub record IsShown (is_part : List ℕ → List ℕ → Type 0) : Type 0 where
+module _ {S : Type 0} (sees : List ℕ → Result (Seen × S) FileError → Type 0) (file : List ℕ) where
+  -- the file has something, and this is its text
+  pub record IsShown (text : List ℕ) : Type 0 where
     pub seen : Seen
     pub of : HasLooked (sees file) (Ok seen)
-    pub text : List ℕ
-    pub part : is_part (shown_text seen) text
-    pub wrote : Appends held holds text
+    pub is : text ≡ shown_text seen
 
-  -- the file has the values of a table, or none, and this much of `ok` was written
-  pub record IsChecked (is_part : List ℕ → List ℕ → Type 0) : Type 0 where
+  -- the file has the values of a table, or none, which is told so
+  pub record IsSound (text : List ℕ) : Type 0 where
     pub seen : Seen
     pub of : HasLooked (sees file) (Ok seen)
     pub sound : fault_of seen.stored ≡ None
-    pub text : List ℕ
-    pub part : is_part (codes "ok\n") text
-    pub wrote : Appends held holds text
-
-  abbrev pub IsAll : List ℕ → List ℕ → Type 0
-  IsAll whole text = text ≡ whole
-
-  abbrev pub IsFirst : List ℕ → List ℕ → Type 0
-  IsFirst whole text = (len : ℕ) × (text ≡ take len whole)
+    pub is : text ≡ codes "ok\n"
 
   -- how what a file has was told, or not
-  abbrev pub IsShowEnd : Result ⊤ SeeError → Type 0
-  IsShowEnd (Ok done) = IsShown IsAll
-  IsShowEnd (Err see_error.Write) = IsShown IsFirst
-  IsShowEnd (Err see_error.NoMemory) = holds ≡ held
-  IsShowEnd (Err (see_error.File why)) = HasLooked (sees file) (Err why) × (holds ≡ held)
-  IsShowEnd (Err (see_error.NoTable fault)) = ⊥
+  abbrev pub IsShowEnd : (held holds : Option (List ℕ)) → Result ⊤ SeeError → Type 0
+  IsShowEnd held holds (Ok done) = IsWritten IsShown held holds
+  IsShowEnd held holds (Err see_error.Write) = IsCut IsShown held holds
+  IsShowEnd held holds (Err see_error.NoMemory) = holds ≡ held
+  IsShowEnd held holds (Err (see_error.File why)) = HasLooked (sees file) (Err why) × (holds ≡ held)
+  IsShowEnd held holds (Err (see_error.NoTable fault)) = ⊥
 
   -- whether a session would open the table of a file
-  abbrev pub IsCheckEnd : Result ⊤ SeeError → Type 0
-  IsCheckEnd (Ok done) = IsChecked IsAll
-  IsCheckEnd (Err see_error.Write) = IsChecked IsFirst
-  IsCheckEnd (Err see_error.NoMemory) = ⊥
-  IsCheckEnd (Err (see_error.File why)) = HasLooked (sees file) (Err why) × (holds ≡ held)
-  IsCheckEnd (Err (see_error.NoTable fault)) = ((seen : Seen) × HasLooked (sees file) (Ok seen) × (fault_of seen.stored ≡ Some fault)) × (holds ≡ held)
+  abbrev pub IsCheckEnd : (held holds : Option (List ℕ)) → Result ⊤ SeeError → Type 0
+  IsCheckEnd held holds (Ok done) = IsWritten IsSound held holds
+  IsCheckEnd held holds (Err see_error.Write) = IsCut IsSound held holds
+  IsCheckEnd held holds (Err see_error.NoMemory) = ⊥
+  IsCheckEnd held holds (Err (see_error.File why)) = HasLooked (sees file) (Err why) × (holds ≡ held)
+  IsCheckEnd held holds (Err (see_error.NoTable fault)) = ((seen : Seen) × HasLooked (sees file) (Ok seen) × (fault_of seen.stored ≡ Some fault)) × (holds ≡ held)

@@ -1,6 +1,7 @@
 -- A session over a table, from its opening to its end.
-use Rattle.std.specs.Prelude.{◌≡◌, ℕ, ◌/◌, false, List, take, Option, Result, Ok, Err}
+use Rattle.std.specs.Prelude.{◌≡◌, ℕ, ◌/◌, false, List, Option, Result, Ok, Err}
 use Rattle.std.specs.Io.KnownBytes.{Appends}
+use Rattle.program_io.specs.Endings.{IsCut}
 use Rattle.lease_table.specs.declared.kept.Kept.{Kept}
 use Rattle.lease_table.specs.Lives.{Happening}
 use Rattle.lease_table.specs.Policies.{Terms}
@@ -35,7 +36,7 @@ opened_line session = opened_text session.form session.table.table
 -- what was written where the line of the opened table was not: nothing, or a first part of it
 abbrev pub IsUntold : {S F : Type 0} → TableSession S → (held holds : Option (List ℕ)) → ServeError F → Type 0
 IsUntold session held holds serve_error.NoMemory = holds ≡ held
-IsUntold session held holds serve_error.Write = (len : ℕ) × Appends held holds (take len (opened_line session))
+IsUntold session held holds serve_error.Write = IsCut (λ text. text ≡ opened_line session) held holds
 IsUntold session held holds (serve_error.Talk why) = ⊥
 IsUntold session held holds (serve_error.Settle why) = ⊥
 

@@ -1,6 +1,6 @@
 -- The status that a command exits with, for what it did with a table in a file.
 use Rattle.std.specs.Prelude.{ℕ, Result, Ok, Err, ⊤}
-use Rattle.diagnosis.specs.Errors.{status_of}
+use Rattle.program_io.specs.Status.{status_of}
 use Rattle.table_store.specs.declared.error.OpenError.TheVariants as open_error
 use Rattle.table_files.specs.declared.error.FileError.{FileError}
 use Rattle.table_files.specs.declared.error.FileError.TheVariants as file_error

@@ -4,8 +4,8 @@ ghost use Rattle.table_files.specs.Keeping.{IsKeepEnd, IsOverEnd};
 
 use crate::error::KeepError;
 use crate::files::TableFiles;
-use crate::job_line::read_job;
 use crate::serving::{open_session, serve};
+use diagnosis::read_job;
 use lease_table::Policy;
 use session::ReplyForm;
 use std::alloc::Global;

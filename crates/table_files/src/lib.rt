@@ -3,7 +3,6 @@
 
 mod error;
 mod files;
-mod job_line;
 mod keeping;
 mod saying;
 mod seeing;

@@ -2,12 +2,11 @@
 
 ghost use Rattle.std.specs.Prelude.{◌≡◌, OnOk};
 ghost use Rattle.std.specs.Io.KnownBytes.{Appends};
-ghost use Rattle.table_files.specs.Sayings.{IsJobSaid, IsKeepSaid, IsOpenSaid, IsServeSaid, IsStoreSaid, IsTalkSaid};
-ghost use Rattle.table_files.specs.Sayings.{file_line, kept_words, line_about, memory_line, see_line, write_line};
+ghost use Rattle.table_files.specs.Sayings.{IsKeepSaid, IsOpenSaid, IsServeSaid, IsStoreSaid, IsTalkSaid, file_line, kept_words, see_line};
 
 use crate::error::{FileError, KeepError, SeeError, ServeError};
 use crate::files::TableFiles;
-use diagnosis::{AnswerError, Escaped};
+use diagnosis::{say_about, say_fault, say_memory, say_write};
 use lease_table::KeptFault;
 use std::alloc::Global;
 use std::io::{self, Write};
@@ -21,25 +20,6 @@ pub struct About<'a> {
     pub file: &'a str,
     /// The name of the input.
     pub input: &'a str,
-}
-
-fn say_file<E: Write>(errors: &mut E, file: &str, words: &str) -> io::Result<()>
-    ensures { OnOk result (Appends (E.contents errors.old) (E.contents errors.new) (line_about file.now words.now)) }
-{
-    let file = Escaped(file);
-    writeln!(errors, "hourstable: {file}: {words}")
-}
-
-fn say_memory<E: Write>(errors: &mut E) -> io::Result<()>
-    ensures { OnOk result (Appends (E.contents errors.old) (E.contents errors.new) memory_line) }
-{
-    writeln!(errors, "hourstable: out of memory")
-}
-
-fn say_write<E: Write>(errors: &mut E) -> io::Result<()>
-    ensures { OnOk result (Appends (E.contents errors.old) (E.contents errors.new) write_line) }
-{
-    writeln!(errors, "hourstable: write fault")
 }
 
 // Returns words for why values are those of no table.
@@ -63,8 +43,8 @@ fn say_refusal<E: Write>(errors: &mut E, file: &str, error: &FileError) -> io::R
     ensures { OnOk result (Appends (E.contents errors.old) (E.contents errors.new) (file_line file.now error.now)) }
 {
     match error {
-        FileError::Refused(words) => say_file(errors, file, words.as_str()),
-        FileError::Missing(words) => say_file(errors, file, words.as_str()),
+        FileError::Refused(words) => say_about(errors, file, words.as_str()),
+        FileError::Missing(words) => say_about(errors, file, words.as_str()),
         FileError::NoMemory => say_memory(errors),
     }
 }
@@ -80,32 +60,12 @@ fn say_store<T: TableFiles, E: Write>(
     ensures { OnOk result (IsStoreSaid T.says file.now (E.contents errors.old) (E.contents errors.new) error.now) }
 {
     match error {
-        StoreError::Replaced => say_file(errors, file, "another process has saved"),
+        StoreError::Replaced => say_about(errors, file, "another process has saved"),
         StoreError::NoMemory => say_memory(errors),
         StoreError::Failed(fault) => match files.words_of(alloc, fault) {
-            Ok(words) => say_file(errors, file, words.as_str()),
+            Ok(words) => say_about(errors, file, words.as_str()),
             Err(_) => say_memory(errors),
         },
-    }
-}
-
-fn say_job<E: Write>(errors: &mut E, input: &str, error: &AnswerError) -> io::Result<()>
-    ensures { OnOk result (IsJobSaid input.now (E.contents errors.old) (E.contents errors.new) error.now) }
-{
-    match error {
-        AnswerError::Refused(faults) => {
-            let input = Escaped(input);
-            let mut said = Ok(());
-            for fault in faults {
-                if let Err(error) = writeln!(errors, "hourstable: {input}: {fault}") {
-                    said = Err(error);
-                }
-            }
-            said
-        }
-        AnswerError::Read => say_file(errors, input, "read fault"),
-        AnswerError::Write => say_write(errors),
-        AnswerError::Memory => say_memory(errors),
     }
 }
 
@@ -119,7 +79,7 @@ fn say_open<T: TableFiles, E: Write>(
     ensures { OnOk result (IsOpenSaid T.says file.now (E.contents errors.old) (E.contents errors.new) error.now) }
 {
     match error {
-        OpenError::NoTable(fault) => say_file(errors, file, kept_words(*fault)),
+        OpenError::NoTable(fault) => say_about(errors, file, kept_words(*fault)),
         OpenError::NotLoaded(error) => say_store(alloc, files, errors, file, error),
         OpenError::NotSaved(error) => say_store(alloc, files, errors, file, error),
     }
@@ -135,13 +95,14 @@ fn say_talk<T: TableFiles, E: Write>(
     ensures { OnOk result (IsTalkSaid T.says about.entry.file.now (E.contents errors.old) (E.contents errors.new) about.entry.input.now error.now) }
 {
     match error {
-        TalkError::Read => say_file(errors, about.input, "read fault"),
+        TalkError::Read => say_about(errors, about.input, "read fault"),
         TalkError::Write => say_write(errors),
+        TalkError::Memory => say_memory(errors),
         TalkError::Session(SessionError::NotSaved(error)) => {
             say_store(alloc, files, errors, about.file, error)
         }
         TalkError::Session(SessionError::NotOpen) => {
-            say_file(errors, about.file, "the table is not open")
+            say_about(errors, about.file, "the table is not open")
         }
         TalkError::Session(SessionError::NoMemory) => say_memory(errors),
     }
@@ -161,7 +122,7 @@ fn say_serve<T: TableFiles, E: Write>(
         ServeError::Write => say_write(errors),
         ServeError::Talk(error) => say_talk(alloc, files, errors, about, error),
         ServeError::Settle(SettleError::NotOpen) => {
-            say_file(errors, about.file, "the table is not open")
+            say_about(errors, about.file, "the table is not open")
         }
         ServeError::Settle(SettleError::NotSaved(error)) => {
             say_store(alloc, files, errors, about.file, error)
@@ -183,7 +144,7 @@ pub fn say_keep_error<T: TableFiles, E: Write>(
     ensures { OnOk result (IsKeepSaid T.says about.entry.file.now (E.contents errors.old) (E.contents errors.new) about.entry.input.now error.now) }
 {
     match error {
-        KeepError::Job(error) => say_job(errors, about.input, error),
+        KeepError::Job(error) => say_fault(errors, about.input, error),
         KeepError::File(error) => say_refusal(errors, about.file, error),
         KeepError::Open(error) => say_open(alloc, files, errors, about.file, error),
         KeepError::Serve(error) => say_serve(alloc, files, errors, about, error),
@@ -196,7 +157,7 @@ pub fn say_see_error<E: Write>(errors: &mut E, file: &str, error: &SeeError) -> 
 {
     match error {
         SeeError::File(error) => say_refusal(errors, file, error),
-        SeeError::NoTable(fault) => say_file(errors, file, kept_words(*fault)),
+        SeeError::NoTable(fault) => say_about(errors, file, kept_words(*fault)),
         SeeError::Write => say_write(errors),
         SeeError::NoMemory => say_memory(errors),
     }

@@ -1,29 +1,12 @@
 -- Turns that follow on turns.
-use Rattle.std.proofs.Common.{◌≡◌, ◌∙◌, ◌&&◌, not, ℕ, Bool, true, false, List, [], ◌∷◌, ◌++◌, Option, length, take, refl, sym, inl, inr}
-use Rattle.std.specs.Prelude.{nat_eq}
+use Rattle.std.proofs.Common.{◌≡◌, ℕ, List, [], ◌∷◌, Option, take, refl}
 use Rattle.std.specs.Io.KnownBytes.{Consumes, Appends}
 use Rattle.table_store.specs.declared.store.Stored.{Stored}
-use Rattle.session.specs.Talks.{IsNextLine, HasNoLine}
-use Rattle.session.specs.LinesRead.{IsNextRead}
-use Rattle.session.proofs.Skipping.{consumed, not_empty}
+use Rattle.program_io.specs.declared.fault.ReadError.{ReadError}
+use Rattle.program_io.specs.declared.fault.ReadError.TheVariants as reading
+use Rattle.program_io.specs.Lines.{IsNextLine, HasNoLine}
 use Rattle.table_session.specs.declared.keeping.TableSession.{TableSession}
-use Rattle.table_session.specs.TableTalks.{Point, IsAnswerTo, IsTurn, AreTurns, IsTalk, IsStopped, IsCut}
-
--- no line was read at the end of the input
-pub no_line : (before after : Option (List ℕ)) (kept : List ℕ) (long : Bool) → (not long && nat_eq (length kept) 0) ≡ true
-    → IsNextRead before after kept long → HasNoLine before
-no_line before after kept true none next = absurd (cc)
-no_line before after (x ∷ xs) false none next =
-    let some : nat_eq (length (x ∷ xs)) 0 ≡ false = not_empty x xs in
-    let both : true ≡ false = sym none ∙ some in
-    absurd (cc)
-no_line before after [] false none (inl next) =
-    let no : true ≡ false = rw (sym (next.2.whole refl)) at next.1.more in absurd (cc)
-no_line before after [] false none (inr last) = last.2
-
--- the bytes of a line and of what was skipped before it
-pub line_consumed : (before after : Option (List ℕ)) (line : List ℕ) → IsNextLine before after line → (bytes : List ℕ) × Consumes before after bytes
-line_consumed before after line next = consumed before after (next.blanks ++ line ∷ []) next.reads
+use Rattle.table_session.specs.TableTalks.{Point, IsAnswerTo, IsBroken, IsTurn, AreTurns, IsTalk, IsStopped, IsCut, error_of_reading}
 
 module _ {S : Type 0} (is_honest : S → Type 0) (may_leave : S → Stored → Type 0) (F : Type 0) (from : Point S) where
   -- lines were answered, one after the other
@@ -46,7 +29,7 @@ module _ {S : Type 0} (is_honest : S → Type 0) (may_leave : S → Stored → T
       → IsNextLine mid.reads reads line → IsAnswerTo is_honest may_leave F line mid.session after text → Appends mid.holds holds (take len text)
       → IsCut is_honest may_leave F from after reads holds
   cuts mid after reads holds line text len talking next answers part =
-      record { points = talking.points; last = mid; turns = talking.turns; line = line; next = next; text = text; answers = answers; len = len; wrote = part }
+      record { points = talking.points; last = mid; turns = talking.turns; line = line; next = next; part = record { text = text; is = answers; len = len; wrote = part } }
 
   pub turns_to : (mid after : Point S) (line text : List ℕ) → IsTalking mid
       → IsNextLine mid.reads after.reads line → IsAnswerTo is_honest may_leave F line mid.session after.session text → Appends mid.holds after.holds text
@@ -58,3 +41,9 @@ module _ {S : Type 0} (is_honest : S → Type 0) (may_leave : S → Stored → T
       → IsTalk is_honest may_leave F from to
   ends mid to talking none session holds =
       record { points = talking.points; last = mid; turns = talking.turns; session = session; none = none; wrote = holds }
+
+-- where a line was not read
+pub unread : {S : Type 0} (is_honest : S → Type 0) (may_leave : S → Stored → Type 0) {F : Type 0} (may_fail : S → F → Type 0) (from to : Point S) (e : ReadError)
+    → IsStopped is_honest may_leave F from to.reads to.holds → IsBroken is_honest may_leave may_fail from to (error_of_reading e)
+unread is_honest may_leave may_fail from to reading.Failed stopped = stopped
+unread is_honest may_leave may_fail from to reading.Memory stopped = stopped

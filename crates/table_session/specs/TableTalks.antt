@@ -1,14 +1,22 @@
 -- Lines that are answered one after the other over a table in a store.
-use Rattle.std.specs.Prelude.{◌≡◌, ◌⊎◌, ℕ, List, [], ◌∷◌, take, Option, true, false}
+use Rattle.std.specs.Prelude.{◌≡◌, ◌⊎◌, ℕ, List, [], ◌∷◌, Option, true, false}
 use Rattle.std.specs.Io.KnownBytes.{Consumes, Appends}
 use Rattle.table_store.specs.declared.store.Stored.{Stored}
-use Rattle.session.specs.Answers.{error_text, long_words}
-use Rattle.session.specs.Lines.{is_long}
-use Rattle.session.specs.Talks.{IsNextLine, HasNoLine}
+use Rattle.program_io.specs.declared.fault.ReadError.{ReadError}
+use Rattle.program_io.specs.declared.fault.ReadError.TheVariants as reading
+use Rattle.program_io.specs.Endings.{IsCut as IsTextCut}
+use Rattle.program_io.specs.Lines.{IsNextLine, HasNoLine, is_long}
+use Rattle.diagnosis.specs.JobLines.{long_words}
+use Rattle.session.specs.Answers.{error_text}
 use Rattle.table_session.specs.declared.keeping.TableSession.{TableSession}
 use Rattle.table_session.specs.declared.talking.TalkError.{TalkError}
 use Rattle.table_session.specs.declared.talking.TalkError.TheVariants as talk_error
 use Rattle.table_session.specs.TableTurns.{IsTurned, IsUnanswered}
+
+-- why lines are not answered where one was not read: the reader failed, or memory ran out
+abbrev pub error_of_reading : {F : Type 0} → ReadError → TalkError F
+error_of_reading reading.Failed = talk_error.Read
+error_of_reading reading.Memory = talk_error.Memory
 
 -- where a talk stands: the session, what the reader still gives and what the writer holds
 pub record Point (S : Type 0) : Type 0 where
@@ -61,14 +69,12 @@ module _ {S : Type 0} (is_honest : S → Type 0) (may_leave : S → Stored → T
     pub turns : AreTurns F from points last
     pub line : List ℕ
     pub next : IsNextLine last.reads reads line
-    pub text : List ℕ
-    pub answers : IsAnswerTo F line last.session session text
-    pub len : ℕ
-    pub wrote : Appends last.holds holds (take len text)
+    pub part : IsTextCut (IsAnswerTo F line last.session session) last.holds holds
 
 -- what was answered where a talk came to no end; the next line has no answer for this reason
 abbrev pub IsBroken : {S : Type 0} → (S → Type 0) → (S → Stored → Type 0) → {F : Type 0} → (S → F → Type 0) → Point S → Point S → TalkError F → Type 0
 IsBroken is_honest may_leave {F} may_fail from to talk_error.Read = IsStopped is_honest may_leave F from to.reads to.holds
+IsBroken is_honest may_leave {F} may_fail from to talk_error.Memory = IsStopped is_honest may_leave F from to.reads to.holds
 IsBroken is_honest may_leave {F} may_fail from to talk_error.Write = IsCut is_honest may_leave F from to.session to.reads to.holds
 IsBroken is_honest may_leave {F} may_fail from to (talk_error.Session why) =
     (stopped : IsStopped is_honest may_leave F from to.reads to.holds)

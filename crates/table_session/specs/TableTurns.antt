@@ -10,7 +10,7 @@ use Rattle.cluster.specs.declared.call.ClusterCall.TheVariants as cluster_call
 use Rattle.cluster.specs.declared.error.ClusterError.TheVariants as cluster_error
 use Rattle.world.specs.declared.reply.Reply.{Reply}
 use Rattle.world.specs.declared.reply.Reply.TheVariants as reply
-use Rattle.world.specs.Replies.{refusal_by}
+use Rattle.world.specs.Replies.{refusal_by, table_reply}
 use Rattle.table_store.specs.declared.error.CallError.{CallError}
 use Rattle.table_store.specs.declared.error.CallError.TheVariants as call_error
 use Rattle.table_store.specs.declared.store.Stored.{Stored}
@@ -18,7 +18,7 @@ use Rattle.table_store.specs.Stores.{HasCause, MayHaveOther}
 use Rattle.table_store.specs.KeptTables.{StandsAfter, IsAnswered}
 use Rattle.session.specs.Answers.{answer_text, error_text}
 use Rattle.call_log.specs.declared.line.LoggedCall.TheVariants.{Whole}
-use Rattle.call_log.specs.Told.{table_reply}
+use Rattle.call_log.specs.Told.{named}
 use Rattle.table_session.specs.declared.keeping.SessionError.{SessionError}
 use Rattle.table_session.specs.declared.keeping.SessionError.TheVariants as error
 use Rattle.table_session.specs.declared.keeping.TableSession.{TableSession}
@@ -37,7 +37,7 @@ answer_of (Err refusal) = Err (call_error.Refused refusal)
 
 -- the answer as logs tell it
 abbrev pub told : TableCall → Answer → Reply
-told call (Ok reply) = table_reply (Whole (cluster_call.Table call)) reply
+told call (Ok reply) = table_reply (named (Whole (cluster_call.Table call))) reply
 told call (Err refusal) = reply.Refused (refusal_by (cluster_error.Table refusal))
 
 module _ {S : Type 0} (is_honest : S → Type 0) (may_leave : S → Stored → Type 0) where

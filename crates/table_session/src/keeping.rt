@@ -3,7 +3,7 @@
 ghost use Rattle.std.specs.Prelude.{◌≡◌, ℕ, List, IfErr, IfOk, string_bytes};
 ghost use Rattle.lease_table.specs.declared.kept.Kept.{Kept};
 ghost use Rattle.lease_table.specs.Lives.{Happening};
-ghost use Rattle.session.specs.LinesRead.{IsKept};
+ghost use Rattle.program_io.specs.LinesRead.{IsKept};
 ghost use Rattle.table_store.specs.KeptTables.{StandsAfter, IsSettled, IsSettleStopped};
 ghost use Rattle.table_store.specs.Stores.{MayHaveOther};
 ghost use Rattle.table_session.specs.TableOpenings.{opened_text};
@@ -12,13 +12,15 @@ ghost use Rattle.table_session.specs.TableTalks.{IsAnswerTo};
 
 use crate::opening::opened_text;
 use crate::table_line::{NoLine, TableLine, line_asks};
-use call_log::{LoggedCall, table_reply};
+use call_log::{LoggedCall, named};
 use cluster::{ClusterCall, ClusterError};
+use diagnosis::LONG_WORDS;
 use lease_table::{TableCall, TableError, TableReply};
-use session::{LONG_WORDS, LineRead, ReplyForm, answer_text, error_text};
+use program_io::LineRead;
+use session::{ReplyForm, answer_text, error_text};
 use std::alloc::{AllocError, Global};
 use table_store::{CallError, KeptTable, SettleError, Store, StoreError};
-use world::{Reply, refusal_by};
+use world::{Reply, refusal_by, table_reply};
 
 /// Why a session over a store ends before its lines do.
 #[derive(Debug, Drop)]
@@ -50,13 +52,13 @@ pub struct TableSession<S> {
 }
 
 // Returns the reply to a call, as logs tell it.
-fn told(call: TableCall, answer: &Result<TableReply, TableError>) -> Reply
-    ensures { result ≡ told call answer.now }
+fn told(call: TableCall, answer: Result<TableReply, TableError>) -> Reply
+    ensures { result ≡ told call answer }
 {
     let logged = LoggedCall::Whole(ClusterCall::Table(call));
     match answer {
-        Ok(reply) => table_reply(&logged, reply),
-        Err(why) => Reply::Refused(refusal_by(ClusterError::Table(*why))),
+        Ok(reply) => table_reply(named(&logged), reply),
+        Err(why) => Reply::Refused(refusal_by(ClusterError::Table(why))),
     }
 }
 
@@ -125,7 +127,7 @@ impl<S: Store> TableSession<S> {
         ensures err { IfErr result (IsUnanswered S.is_honest S.may_leave (S.may_fail self.old.table.store) self.old self.new) }
     {
         let answer = self.make(&call)?;
-        let reply = told(call, &answer);
+        let reply = told(call, answer);
         Ok(answer_text(self.alloc, self.form, &reply)?)
     }
 

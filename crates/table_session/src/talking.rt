@@ -1,11 +1,10 @@
 //! A whole session over a store: lines in, and a reply line out for each.
 
 ghost use Rattle.std.specs.Prelude.{◌≡◌, OnOk, IfErr};
-ghost use Rattle.table_session.specs.TableTalks.{IsTalk, IsBroken};
+ghost use Rattle.table_session.specs.TableTalks.{IsTalk, IsBroken, error_of_reading};
 
 use crate::keeping::{SessionError, TableSession};
-use program_io::{ReadError, WriteError, write_all};
-use session::next_line;
+use program_io::{ReadError, WriteError, next_line, write_all};
 use std::alloc::Global;
 use std::io::{BufRead, Write};
 use table_store::Store;
@@ -17,17 +16,20 @@ pub enum TalkError<Fault> {
     Read,
     /// The writer failed.
     Write,
+    /// Memory ran out while a line was read.
+    Memory,
     /// The session ended for this reason.
     Session(SessionError<Fault>),
 }
 
 impl<Fault> From<ReadError> for TalkError<Fault> {
-    ghost use Rattle.table_session.specs.declared.talking.TalkError.TheVariants.{Read};
+    ghost from_gives = { λ error given. given ≡ error_of_reading error };
 
-    ghost from_gives = { λ _ error. error ≡ Read };
-
-    fn from(_error: ReadError) -> Self {
-        TalkError::Read
+    fn from(error: ReadError) -> Self {
+        match error {
+            ReadError::Failed => TalkError::Read,
+            ReadError::Memory => TalkError::Memory,
+        }
     }
 }
 

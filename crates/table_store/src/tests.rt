@@ -1,8 +1,9 @@
 //! How often a table saves, and what is there after a stop at each save.
 
 use crate::{Ahead, KeptTable, MemoryStore, Stop, Store, Stored};
-use assignment::{Assignment, Listed, Slice, TaskId};
+use assignment::{Assignment, Slice, TaskId};
 use lease_table::{Kept, Phase, Policy, TableCall};
+use machines::Listed;
 use std::alloc::Global;
 use std::test::Fail;
 

@@ -1,8 +1,8 @@
 //! Tasks, assignments and the owners of a key.
 
 use crate::plan_samples::{HALF, key_of};
-use assignment::{Assignment, AssignmentError, Listed, Slice, TaskId};
-use machines::Trouble;
+use assignment::{Assignment, AssignmentError, Slice, TaskId};
+use machines::{Listed, Trouble};
 use std::alloc::{AllocError, Global};
 use std::test::Fail;
 

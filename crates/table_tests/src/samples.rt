@@ -1,9 +1,9 @@
 //! What the tests share: assignments, and tables with and without a first grant.
 
-use assignment::{Assignment, AssignmentError, Listed, Slice, TaskId};
+use assignment::{Assignment, AssignmentError, Slice, TaskId};
+use lease_rule::Kind;
 use lease_table::{Grant, JobTerm, LeaseTable, Policy, Row, TableError};
-use machines::Trouble;
-use policy_rules::Kind;
+use machines::{Listed, Trouble};
 use std::alloc::{AllocError, Global};
 use std::test::Fail;
 

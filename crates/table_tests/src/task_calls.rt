@@ -1,8 +1,8 @@
 //! When a slicelet serves, and how many calls it keeps.
 
 use crate::task_samples::{allow, grant_of, hear, serve, slicelet_of, start};
+use lease_rule::{Ground, Kind, Verdict};
 use lease_table::Grant;
-use policy_rules::{Ground, Kind, Verdict};
 use slice_ranges::SliceKey;
 use slicelet::{Slicelet, SliceletError};
 use std::test::Fail;

@@ -3,9 +3,9 @@
 
 use crate::samples::again;
 use crate::task_samples::{allow, copy_of, grant_of, hear, release, serve, slicelet_of, start};
+use lease_rule::{Ground, Kind, Verdict};
 use lease_table::Grant;
 use machines::Trouble;
-use policy_rules::{Ground, Kind, Verdict};
 use slice_ranges::SliceKey;
 use slicelet::Slicelet;
 use std::alloc::{AllocError, Global};

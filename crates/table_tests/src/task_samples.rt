@@ -1,9 +1,9 @@
 //! What the tests of slicelets share.
 
 use crate::samples::task_of;
+use lease_rule::{Kind, Lease, Verdict};
 use lease_table::{Grant, ReleaseNote};
 use machines::Trouble;
-use policy_rules::{Kind, Lease, Verdict};
 use slice_ranges::{Ranges, RangesError, SliceKey};
 use slicelet::{Slicelet, SliceletError};
 use std::alloc::{AllocError, Global};

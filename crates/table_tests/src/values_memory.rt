@@ -2,9 +2,9 @@
 //! then returns what it returns with ample memory.
 
 use crate::plan_samples::{HALF, again, task_of};
-use assignment::{Assignment, Listed, Slice};
-use machines::Trouble;
-use policy_rules::{Holding, Kind, Lease, permitted};
+use assignment::{Assignment, Slice};
+use lease_rule::{Holding, Kind, Lease, permitted};
+use machines::{Listed, Trouble};
 use slice_ranges::{Ranges, RangesError};
 use std::alloc::{AllocError, Global};
 use std::test::Fail;

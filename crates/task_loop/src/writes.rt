@@ -8,8 +8,8 @@ ghost use Rattle.world.specs.Pasts.{Past, event, steps_of, IsTimely};
 ghost use Rattle.world.specs.Headline.{MayServe, IsOwner, is_served};
 ghost use Rattle.world.specs.Worlds.{LeadsTo};
 
-use assignment::Listed;
-use policy_rules::Verdict;
+use lease_rule::Verdict;
+use machines::Listed;
 use std::alloc::AllocError;
 use world::{Reply, Step, World};
 

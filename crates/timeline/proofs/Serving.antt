@@ -2,9 +2,9 @@
 use Rattle.std.proofs.Common.{◌≡◌, ℕ, ◌≤◌, Bool, true, false, refl, ◌∙◌, arith}
 use Rattle.std.proofs.lemmas.Bool.Decides.{nat_tests}
 use Rattle.std.specs.Prelude.{Option, Some, None, ◌&&◌, ◌||◌, nat_lt, if◌then◌else◌}
-use Rattle.policy_rules.specs.Leases.{SeenLease}
-use Rattle.policy_rules.specs.Rule.{SeenHolding, is_serving, rule, is_allowed}
-use Rattle.policy_rules.proofs.Permitting.{permitted_down, permitted_live}
+use Rattle.lease_rule.specs.Leases.{SeenLease}
+use Rattle.lease_rule.specs.Rule.{SeenHolding, is_serving, rule, is_allowed}
+use Rattle.lease_rule.proofs.Permitting.{permitted_down, permitted_live}
 use Rattle.timeline.specs.internals.Ends.{end_by, allowed_to}
 
 -- up to where a lease reaches that may not be there

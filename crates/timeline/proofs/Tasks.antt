@@ -6,7 +6,8 @@ use Rattle.cluster.specs.Pasts.{Event, Past, task_calls, history}
 use Rattle.cluster.proofs.Adding.{adds_to_task}
 use Rattle.timeline.specs.declared.stretch.KeyStretches.{KeyStretches}
 use Rattle.timeline.specs.Stretches.{IsNext}
-use Rattle.timeline.specs.Tasks.{IsKeptOf, resumes, IsNextPast}
+use Rattle.world.specs.Calls.{resumes}
+use Rattle.timeline.specs.Tasks.{IsKeptOf, IsNextPast}
 
 -- one more call of the machines is at most one more of a task
 pub next_calls : (task : ℕ) (before after : Past) → IsNextPast before after → IsNext (task_calls task before) (task_calls task after)

@@ -1,10 +1,8 @@
 -- The stretches of each task of a job.
-use Rattle.std.specs.Prelude.{◌≡◌, ◌⊎◌, ℕ, ◌+◌, Bool, false, List, ◌∷◌, length, Some, slice_get}
+use Rattle.std.specs.Prelude.{◌≡◌, ◌⊎◌, ℕ, ◌+◌, false, List, ◌∷◌, length, Some, slice_get}
 use Rattle.cluster.specs.Jobs.{Job}
-use Rattle.slicelet.specs.Calls.{is_resume}
-use Rattle.cluster.specs.declared.call.ClusterCall.{ClusterCall}
-use Rattle.cluster.specs.declared.call.ClusterCall.TheVariants as call
 use Rattle.cluster.specs.Pasts.{Event, Past, task_calls}
+use Rattle.world.specs.Calls.{resumes}
 use Rattle.timeline.specs.declared.stretch.Stretch.{Stretch}
 use Rattle.timeline.specs.declared.stretch.KeyStretches.{KeyStretches}
 use Rattle.timeline.specs.Stretches.{AreStretches, IsKept}
@@ -20,11 +18,6 @@ AreTaskStretches job past key tasks = Each (λ task. AreStretches key (task_call
 -- what is kept of a task and a key after a past
 abbrev pub IsKeptOf : Past → ℕ → ℕ → KeyStretches → Type 0
 IsKeptOf past key task kept = (kept.key ≡ key) × IsKept (task_calls task past) kept
-
--- a task begins a new process
-abbrev pub resumes : ClusterCall → Bool
-resumes (call.Task task c) = is_resume c
-resumes _ = false
 
 -- nothing happened since, or one call was made, by which no task began a new process
 abbrev pub IsNextPast : Past → Past → Type 0

@@ -2,7 +2,7 @@
 
 use crate::lane::{Item, Look, Part};
 use crate::words::kind_word;
-use policy_rules::Kind;
+use lease_rule::Kind;
 use std::alloc::{AllocError, Global};
 
 /// What happened to a grant.

@@ -8,7 +8,7 @@ ghost use Rattle.timeline.specs.internals.Playing.{ArePlayed};
 
 use crate::stretch::{KeyStretches, Stretch};
 use crate::task_stretches::{new_stretches, observe_tasks, stretches_of};
-use assignment::Listed;
+use machines::Listed;
 use slice_ranges::SliceKey;
 use std::alloc::{AllocError, Global};
 use std::slice;

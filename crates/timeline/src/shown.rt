@@ -9,7 +9,7 @@ use crate::lane::{Actor, Lane};
 use crate::runs::serving_stretches;
 use crate::story::lanes_of;
 use crate::stretch::Stretch;
-use assignment::Listed;
+use machines::Listed;
 use service::Script;
 use slice_ranges::SliceKey;
 use std::alloc::{AllocError, Global};

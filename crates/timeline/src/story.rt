@@ -11,6 +11,7 @@ use crate::table_lane::TableRecord;
 use crate::task_lane::TaskRecord;
 use crate::words::{key_label, reading_of};
 use cluster::Cluster;
+use lease_table::Grant;
 use service::Script;
 use std::alloc::{AllocError, Global};
 use std::slice;
@@ -92,7 +93,7 @@ impl Story {
         self.table.take_in(step, self.now, reply)?;
         self.table.see_phase(cluster.phase(), self.now)?;
         match (step, reply) {
-            (Step::Grant { task, .. }, Reply::Granted { .. }) => self.add_lease(*task, reply),
+            (Step::Grant { task, .. }, Reply::Granted(grant)) => self.add_lease(*task, grant),
             (Step::Free { note, .. }, Reply::Freed(_)) => {
                 self.free(*note);
                 Ok(())
@@ -101,24 +102,14 @@ impl Story {
         }
     }
 
-    fn add_lease(&mut self, task: u64, reply: &Reply) -> Result<(), AllocError> {
-        let Reply::Granted {
-            number,
-            kind,
-            generation,
-            table_ends,
-            ends,
-        } = reply
-        else {
-            return Ok(());
-        };
+    fn add_lease(&mut self, task: u64, grant: &Grant) -> Result<(), AllocError> {
         let lease = LeaseRecord {
-            number: *number,
-            kind: *kind,
-            generation: *generation,
+            number: grant.number,
+            kind: grant.lease.kind,
+            generation: grant.lease.generation,
             granted: self.now,
-            ends: *ends,
-            table_ends: *table_ends,
+            ends: grant.lease.ends,
+            table_ends: grant.table_ends,
             heard: None,
             stopped: None,
             is_released: false,

@@ -10,7 +10,7 @@ ghost use Rattle.slicelet.specs.States.{holding_in, permits};
 ghost use Rattle.timeline.specs.internals.Ends.{allowed_to};
 ghost use Rattle.timeline.specs.Stretches.{AreStretches, IsKept, IsNext, is_in};
 
-use policy_rules::Verdict;
+use lease_rule::Verdict;
 use slice_ranges::SliceKey;
 use slicelet::Slicelet;
 use std::alloc::{AllocError, Global};

@@ -4,7 +4,7 @@ use crate::lane::{FOREVER, Item, Look, Part, Row, add_row};
 use crate::leases::LeaseRecord;
 use crate::stretch::serving_end;
 use crate::words::{Ending, key_label};
-use policy_rules::{Kind, Verdict};
+use lease_rule::{Kind, Verdict};
 use service::Line;
 use slicelet::{KeyHandle, Slicelet};
 use std::alloc::{AllocError, Global};

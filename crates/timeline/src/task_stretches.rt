@@ -8,8 +8,8 @@ ghost use Rattle.cluster.specs.Clusters.{LeadsTo};
 ghost use Rattle.timeline.specs.Tasks.{Each, AreTaskStretches, IsKeptOf, IsNextPast};
 
 use crate::stretch::{KeyStretches, Stretch};
-use assignment::Listed;
 use cluster::{Cluster, Job, told_law};
+use machines::Listed;
 use slice_ranges::SliceKey;
 use std::alloc::{AllocError, Global};
 

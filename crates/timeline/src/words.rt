@@ -1,7 +1,7 @@
 //! Words in pictures.
 
 use crate::lane::FOREVER;
-use policy_rules::Kind;
+use lease_rule::Kind;
 use std::alloc::{AllocError, Global};
 use std::fmt;
 use world::Step;

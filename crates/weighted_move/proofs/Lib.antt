@@ -14,7 +14,7 @@ pub mod TaskLists
 pub mod Chaining
 pub mod Tiling
 pub mod Running
-pub mod Settled
+pub mod Fitted
 pub mod Starts
 pub mod Prepared
 pub mod Planned

@@ -1,4 +1,4 @@
-pub mod Weights
+pub mod Loads
 pub mod Owning
 pub mod Moves
 pub mod Kinds
@@ -6,8 +6,8 @@ pub mod Ranks
 pub mod Chains
 pub mod Merging
 pub mod Halving
-pub mod Settling
-pub mod Weighing
+pub mod Fitting
+pub mod SliceLoads
 pub mod Bounds
 pub mod Policies
 pub mod Plans

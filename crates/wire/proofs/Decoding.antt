@@ -9,8 +9,8 @@ use Rattle.program_io.specs.Reading.{◌>>=◌, ◌>>◌, check}
 use Rattle.program_io.specs.Repeated.{first_repeated}
 use Rattle.wire.specs.declared.fault.DecodeError.{DecodeError}
 use Rattle.wire.specs.declared.fault.DecodeError.TheVariants as failed
-use Rattle.wire.specs.declared.fault.Refusal.{Refusal}
-use Rattle.wire.specs.declared.fault.Refusal.TheVariants.{OtherJob}
+use Rattle.wire.specs.declared.fault.DecodeRefusal.{DecodeRefusal}
+use Rattle.wire.specs.declared.fault.DecodeRefusal.TheVariants.{OtherJob}
 use Rattle.wire.specs.declared.numerals.Numerals.{Numerals}
 use Rattle.wire.specs.declared.numerals.Numerals.TheVariants.{Quoted}
 use Rattle.wire.specs.Messages.{Content, IsDecodedAs, IsMessage, IsNoMessage, IsOfOtherJob, IsUndecoded, IsWritten, content, content_of, message_data, message_of, named_content, value_for}
@@ -23,13 +23,13 @@ one_value o x y e f = cc
 one_result : {A E : Type 0} (r : Result A E) (x y : A) → r ≡ Ok x → r ≡ Ok y → x ≡ y
 one_result r x y e f = cc
 
-pub one_message : {A : Type 0} (job name : List ℕ) (form : Numerals → Data → Result A Refusal) (bytes : List ℕ) (x y : A) → IsMessage job name form bytes x → IsMessage job name form bytes y → x ≡ y
+pub one_message : {A : Type 0} (job name : List ℕ) (form : Numerals → Data → Result A DecodeRefusal) (bytes : List ℕ) (x y : A) → IsMessage job name form bytes x → IsMessage job name form bytes y → x ≡ y
 one_message job name form bytes x y first second =
     let same : first.value ≡ second.value = one_value _ _ _ first.json.json.reads second.json.json.reads in
     one_result (message_of job name form first.value) x y first.says (rw same second.says)
 
 -- a message is refused for its length alone
-pub is_no_other : {A : Type 0} (job name : List ℕ) (form : Numerals → Data → Result A Refusal) (bytes : List ℕ) (x : A) (why : Refusal) → IsMessage job name form bytes x
+pub is_no_other : {A : Type 0} (job name : List ℕ) (form : Numerals → Data → Result A DecodeRefusal) (bytes : List ℕ) (x : A) (why : DecodeRefusal) → IsMessage job name form bytes x
     → IsNoMessage job name form bytes why → ⊥
 is_no_other job name form bytes x why is (inl none) =
     let reads = none.1 is.json.json.utf8 in
@@ -43,7 +43,7 @@ is_no_other job name form bytes x why is (inr (inr other)) =
     let says = rw same at other.says in
     absurd (cc)
 
-pub decoded_as : {A : Type 0} (job name : List ℕ) (form : Numerals → Data → Result A Refusal) (bytes : List ℕ) (x : A) (e : DecodeError) → IsMessage job name form bytes x
+pub decoded_as : {A : Type 0} (job name : List ℕ) (form : Numerals → Data → Result A DecodeRefusal) (bytes : List ℕ) (x : A) (e : DecodeError) → IsMessage job name form bytes x
     → IsUndecoded job name form bytes e → IsDecodedAs bytes x (Err e)
 decoded_as job name form bytes x (failed.Refused why) is (inl long) = inl (ap failed.Refused long.0, long.1)
 decoded_as job name form bytes x (failed.Refused why) is (inr (_, not)) = absurd (is_no_other job name form bytes x why is not)
@@ -56,22 +56,22 @@ not_equal : (b : Bool) (xs ys zs : List ℕ) → b ≡ bytes_eq xs zs → xs ≡
 not_equal true xs ys zs e same differs = absurd (differs (sym same ∙ (bytes_eq-Decides xs zs).0 (sym e)))
 not_equal false xs ys zs e same differs = sym e
 
-of_job : {A : Type 0} (b : Bool) (r : Result A Refusal) (x : A) → check b OtherJob >> r ≡ Ok x → b ≡ true
+of_job : {A : Type 0} (b : Bool) (r : Result A DecodeRefusal) (x : A) → check b OtherJob >> r ≡ Ok x → b ≡ true
 of_job true r x e = refl
 of_job false r x e = absurd (cc)
 
-refused_content : {A : Type 0} (r : Result Content Refusal) (job other : List ℕ) (form : Numerals → Data → Result A Refusal) (x : A) → other ≢ job → r >>= value_for other form ≡ Ok x
+refused_content : {A : Type 0} (r : Result Content DecodeRefusal) (job other : List ℕ) (form : Numerals → Data → Result A DecodeRefusal) (x : A) → other ≢ job → r >>= value_for other form ≡ Ok x
     → r >>= value_for job form ≡ Err OtherJob
 refused_content (Ok c) job other form x differs says =
     let is : c.job ≡ other = (bytes_eq-Decides c.job other).0 (of_job (bytes_eq c.job other) (form c.numerals c.value) x says) in
     rw (not_equal (bytes_eq c.job job) c.job other job refl is differs) refl
 refused_content (Err e) job other form x differs says = absurd (cc)
 
-of_other : {A : Type 0} (job other name : List ℕ) (form : Numerals → Data → Result A Refusal) (x : A) (d : Data) → other ≢ job → message_of other name form d ≡ Ok x → message_of job name form d ≡ Err OtherJob
+of_other : {A : Type 0} (job other name : List ℕ) (form : Numerals → Data → Result A DecodeRefusal) (x : A) (d : Data) → other ≢ job → message_of other name form d ≡ Ok x → message_of job name form d ≡ Err OtherJob
 of_other job other name form x d differs says = refused_content (content_of name d) job other form x differs says
 
 -- a message of another job is not decoded
-pub not_of_job : {A : Type 0} (job other name : List ℕ) (form : Numerals → Data → Result A Refusal) (bytes : List ℕ) (x y : A) → other ≢ job → IsMessage other name form bytes x
+pub not_of_job : {A : Type 0} (job other name : List ℕ) (form : Numerals → Data → Result A DecodeRefusal) (bytes : List ℕ) (x y : A) → other ≢ job → IsMessage other name form bytes x
     → IsMessage job name form bytes y → ⊥
 not_of_job job other name form bytes x y differs first second =
     let same : first.value ≡ second.value = one_value _ _ _ first.json.json.reads second.json.json.reads in
@@ -79,7 +79,7 @@ not_of_job job other name form bytes x y differs first second =
     let read = rw (← same) at second.says in
     absurd (cc)
 
-other_why : {A : Type 0} (job other name : List ℕ) (form : Numerals → Data → Result A Refusal) (bytes : List ℕ) (x : A) (why : Refusal) → other ≢ job → IsMessage other name form bytes x
+other_why : {A : Type 0} (job other name : List ℕ) (form : Numerals → Data → Result A DecodeRefusal) (bytes : List ℕ) (x : A) (why : DecodeRefusal) → other ≢ job → IsMessage other name form bytes x
     → IsNoMessage job name form bytes why → why ≡ OtherJob
 other_why job other name form bytes x why differs is (inl none) =
     let reads = none.1 is.json.json.utf8 in
@@ -94,7 +94,7 @@ other_why job other name form bytes x why differs is (inr (inr not)) =
     let read = rw (← same) at not.says in
     cc
 
-pub refused_as_other : {A : Type 0} (job other name : List ℕ) (form : Numerals → Data → Result A Refusal) (bytes : List ℕ) (x : A) (e : DecodeError) → other ≢ job → IsMessage other name form bytes x
+pub refused_as_other : {A : Type 0} (job other name : List ℕ) (form : Numerals → Data → Result A DecodeRefusal) (bytes : List ℕ) (x : A) (e : DecodeError) → other ≢ job → IsMessage other name form bytes x
     → IsUndecoded job name form bytes e → IsOfOtherJob {A = A} bytes (Err e)
 refused_as_other job other name form bytes x (failed.Refused why) differs is (inl long) = inr (inl (ap failed.Refused long.0, long.1))
 refused_as_other job other name form bytes x (failed.Refused why) differs is (inr (_, not)) = inl (ap failed.Refused (other_why job other name form bytes x why differs is not))
@@ -106,14 +106,14 @@ pub content_read : (job name : List ℕ) (d : Data) → content_of name (message
 unfolding content_of named_content
 content_read job name d = rw (bytes_themselves name) refl
 
-message_read : {A : Type 0} (job name : List ℕ) (form : Numerals → Data → Result A Refusal) (x : A) (d : Data) → form Quoted d ≡ Ok x → message_of job name form (message_data job name d) ≡ Ok x
+message_read : {A : Type 0} (job name : List ℕ) (form : Numerals → Data → Result A DecodeRefusal) (x : A) (d : Data) → form Quoted d ≡ Ok x → message_of job name form (message_data job name d) ≡ Ok x
 message_read job name form x d reads = rw (content_read job name d, bytes_themselves job) reads
 
 message_once : (job name : List ℕ) (d : Data) → first_repeated (outline d) ≡ None → first_repeated (outline (message_data job name d)) ≡ None
 message_once job name d once = rw once refl
 
 -- bytes that are written of a message of a value are a message of the value
-pub is_message : {A : Type 0} (data_of : Numerals → A → Data) (job name : List ℕ) (form : Numerals → Data → Result A Refusal) (x : A) (d message : Data) (bytes : List ℕ)
+pub is_message : {A : Type 0} (data_of : Numerals → A → Data) (job name : List ℕ) (form : Numerals → Data → Result A DecodeRefusal) (x : A) (d message : Data) (bytes : List ℕ)
     → IsWritten data_of form x d → message ≡ message_data job name d → IsUtf8 bytes → (depth message ≤ max_depth → read bytes ≡ Some message) → IsInOrder bytes message
     → IsMessage job name form bytes x
 is_message data_of job name form x d message bytes written is utf8 reads order =

@@ -1,7 +1,7 @@
 -- What is written of a note is read as the note.
 use Rattle.std.proofs.Common.{◌≡◌, ◌^◌, ◌<◌, ◌≤◌, Ok, refl, arith}
-use Rattle.policy_rules.specs.declared.lease.Kind.{Kind}
-use Rattle.policy_rules.specs.declared.lease.Kind.TheVariants.{Guard, Bridge}
+use Rattle.lease_rule.specs.declared.lease.Kind.{Kind}
+use Rattle.lease_rule.specs.declared.lease.Kind.TheVariants.{Guard, Bridge}
 use Rattle.assignment.specs.declared.task.TheConstants.{TASKS}
 use Rattle.lease_table.specs.declared.values.ReleaseNote.{ReleaseNote}
 use Rattle.wire.specs.declared.numerals.Numerals.TheVariants.{Quoted}

@@ -8,8 +8,8 @@ use Rattle.assignment.specs.declared.error.AssignmentError.{AssignmentError}
 use Rattle.program_io.specs.declared.fault.WrongForm.{WrongForm}
 use Rattle.program_io.specs.Reading.{◌>>=◌, ◌>>◌}
 use Rattle.program_io.specs.Members.{exactly, list_at, list_of, number_of, pair_of}
-use Rattle.wire.specs.declared.fault.Refusal.{Refusal}
-use Rattle.wire.specs.declared.fault.Refusal.TheVariants.{Slices}
+use Rattle.wire.specs.declared.fault.DecodeRefusal.{DecodeRefusal}
+use Rattle.wire.specs.declared.fault.DecodeRefusal.TheVariants.{Slices}
 use Rattle.wire.specs.declared.numerals.Numerals.{Numerals}
 use Rattle.wire.specs.Numerals.{numeral_at, numeral_data, numeral_of}
 use Rattle.wire.specs.Objects.{list_data, number_data, object_data}
@@ -34,19 +34,19 @@ slice_of numerals d = do
   Ok (record { start = start; owners = owners })
 
 -- the assignment that is built of a generation and slices, unless they are refused
-abbrev pub slicing_of : ℕ → List Slice → Option AssignmentError → Result Slicing Refusal
+abbrev pub slicing_of : ℕ → List Slice → Option AssignmentError → Result Slicing DecodeRefusal
 slicing_of generation slices None = Ok (built generation slices)
 slicing_of generation slices (Some why) = Err (Slices why)
 
 -- the members `generation` and `slices` of an object, as an assignment
-unfoldable pub slicing_in : Numerals → Data → Result Slicing Refusal
+unfoldable pub slicing_in : Numerals → Data → Result Slicing DecodeRefusal
 slicing_in numerals d = do
   generation ← or_wrong (numeral_at numerals (codes "generation") d)
   slices ← or_wrong (list_at (slice_of numerals) (codes "slices") d)
   slicing_of generation slices (refusal_of slices)
 
 -- an assignment has a generation and slices
-unfoldable pub assignment_of : Numerals → Data → Result Slicing Refusal
+unfoldable pub assignment_of : Numerals → Data → Result Slicing DecodeRefusal
 assignment_of numerals d = do
   or_wrong (exactly (codes "generation" ∷ codes "slices" ∷ []) d)
   slicing_in numerals d

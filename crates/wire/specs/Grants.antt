@@ -4,7 +4,7 @@ use Rattle.serde_json.specs.Data.{Data}
 use Rattle.lease_table.specs.declared.values.Grant.{Grant}
 use Rattle.program_io.specs.Reading.{◌>>=◌, ◌>>◌}
 use Rattle.program_io.specs.Members.{exactly, member_at}
-use Rattle.wire.specs.declared.fault.Refusal.{Refusal}
+use Rattle.wire.specs.declared.fault.DecodeRefusal.{DecodeRefusal}
 use Rattle.wire.specs.declared.numerals.Numerals.{Numerals}
 use Rattle.wire.specs.LeaseMembers.{kind_at, kind_data, life_at, task_at}
 use Rattle.wire.specs.Numerals.{numeral_at, numeral_data}
@@ -25,7 +25,7 @@ grant_data numerals grant = object_data
     (codes "until", numeral_data numerals grant.table_ends) ∷ [])
 
 -- a grant has the members of a lease, and for whom it is; `until` is the table's deadline
-unfoldable pub grant_of : Numerals → Data → Result Grant Refusal
+unfoldable pub grant_of : Numerals → Data → Result Grant DecodeRefusal
 grant_of numerals d = do
   or_wrong (exactly (codes "ends" ∷ codes "generation" ∷ codes "kind" ∷ codes "life" ∷ codes "number" ∷ codes "ranges" ∷ codes "task" ∷ codes "until" ∷ []) d)
   number ← or_wrong (numeral_at numerals (codes "number") d)

@@ -8,7 +8,7 @@ use Rattle.lease_table.specs.Policies.{Terms, is_policy, terms}
 use Rattle.program_io.specs.declared.fault.WrongForm.{WrongForm}
 use Rattle.program_io.specs.Reading.{◌>>=◌, ◌>>◌, check}
 use Rattle.program_io.specs.Members.{wrong, exactly, member_at, number_at, two_numbers_of}
-use Rattle.wire.specs.declared.fault.Refusal.{Refusal}
+use Rattle.wire.specs.declared.fault.DecodeRefusal.{DecodeRefusal}
 use Rattle.wire.specs.declared.numerals.Numerals.{Numerals}
 use Rattle.wire.specs.Assignments.{assignment_data, assignment_of}
 use Rattle.wire.specs.Numerals.{numeral_at, numeral_data}
@@ -85,7 +85,7 @@ term_or_null_at numerals name d = member_at name d >>= unless_null (job_term_of 
 
 -- kept values have a policy, the last reading, a term, two assignments, and what was granted; each of the term and
 -- the assignments may be null
-unfoldable pub kept_of : Numerals → Data → Result Kept Refusal
+unfoldable pub kept_of : Numerals → Data → Result Kept DecodeRefusal
 kept_of numerals d = do
   or_wrong (exactly (codes "committed" ∷ codes "deadline" ∷ codes "granted" ∷ codes "last" ∷ codes "pending" ∷ codes "policy" ∷ codes "term" ∷ []) d)
   policy ← or_wrong (member_at (codes "policy") d >>= policy_of)

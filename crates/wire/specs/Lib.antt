@@ -1,4 +1,5 @@
 pub mod Refusals
+pub mod Named
 pub mod Objects
 pub mod Numerals
 pub mod LeaseMembers

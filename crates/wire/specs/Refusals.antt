@@ -5,11 +5,11 @@ use Rattle.program_io.specs.declared.fault.Unread.{Unread}
 use Rattle.program_io.specs.declared.fault.Unread.TheVariants as unread
 use Rattle.wire.specs.declared.fault.DecodeError.{DecodeError}
 use Rattle.wire.specs.declared.fault.DecodeError.TheVariants as failed
-use Rattle.wire.specs.declared.fault.Refusal.{Refusal}
-use Rattle.wire.specs.declared.fault.Refusal.TheVariants as refusal
+use Rattle.wire.specs.declared.fault.DecodeRefusal.{DecodeRefusal}
+use Rattle.wire.specs.declared.fault.DecodeRefusal.TheVariants as refusal
 
 -- what is read, or the refusal for its form
-abbrev pub or_wrong : {A : Type 0} → Result A WrongForm → Result A Refusal
+abbrev pub or_wrong : {A : Type 0} → Result A WrongForm → Result A DecodeRefusal
 or_wrong (Ok x) = Ok x
 or_wrong (Err e) = Err refusal.WrongForm
 
@@ -19,16 +19,16 @@ failure_of unread.WrongForm = failed.Refused refusal.WrongForm
 failure_of unread.Memory = failed.NoMemory
 
 -- what a function that failed says of what is read: nothing, where memory ran out
-abbrev pub FailsAs : {A : Type 0} → DecodeError → Result A Refusal → Type 0
+abbrev pub FailsAs : {A : Type 0} → DecodeError → Result A DecodeRefusal → Type 0
 FailsAs (failed.Refused why) read = read ≡ Err why
 FailsAs failed.NoMemory read = ⊤
 
 -- what a function returned is what is read, unless memory ran out
-abbrev pub Gives : {A : Type 0} → Result A DecodeError → Result A Refusal → Type 0
+abbrev pub Gives : {A : Type 0} → Result A DecodeError → Result A DecodeRefusal → Type 0
 Gives (Ok x) read = read ≡ Ok x
 Gives (Err e) read = FailsAs e read
 
 -- what a function returned, seen by f, is what is read
-abbrev pub IsRead : {X A : Type 0} → (X → A) → Result X Refusal → Result A Refusal → Type 0
+abbrev pub IsRead : {X A : Type 0} → (X → A) → Result X DecodeRefusal → Result A DecodeRefusal → Type 0
 IsRead f (Ok x) read = read ≡ Ok (f x)
 IsRead f (Err e) read = read ≡ Err e

@@ -1,16 +1,15 @@
 -- Calls of the table as JSON.
-use Rattle.std.specs.Prelude.{List, [], ◌∷◌, codes, Result, Ok, Err, ℕ, if◌then◌else◌}
-use Rattle.std.specs.Str.{bytes_eq}
+use Rattle.std.specs.Prelude.{List, [], ◌∷◌, ◌++◌, codes, Result, Ok, ℕ}
 use Rattle.serde_json.specs.Data.{Data, string}
 use Rattle.lease_table.specs.declared.call.TableCall.{TableCall}
 use Rattle.lease_table.specs.declared.call.TableCall.TheVariants.{JobTake, JobRenew, Propose, Commit, Grant, Free, Restart}
 use Rattle.program_io.specs.Reading.{◌>>=◌, ◌>>◌}
 use Rattle.program_io.specs.Members.{exactly, member_at, text_at}
-use Rattle.wire.specs.declared.fault.Refusal.{Refusal}
-use Rattle.wire.specs.declared.fault.Refusal.TheVariants.{WrongForm}
+use Rattle.wire.specs.declared.fault.DecodeRefusal.{DecodeRefusal}
 use Rattle.wire.specs.declared.numerals.Numerals.{Numerals}
 use Rattle.wire.specs.Assignments.{slice_data, slicing_in}
 use Rattle.wire.specs.LeaseMembers.{life_at, task_at}
+use Rattle.wire.specs.Named.{read_named}
 use Rattle.wire.specs.Notes.{note_data, note_of}
 use Rattle.wire.specs.Numerals.{numeral_at, numeral_data}
 use Rattle.wire.specs.Objects.{list_data, number_data, object_data}
@@ -34,79 +33,74 @@ call_data numerals (Free note at) = object_data
 call_data numerals Restart = object_data ((codes "do", string (codes "lose")) ∷ [])
 
 -- a `take` has an assigner and a reading
-unfoldable pub take_of : Numerals → Data → Result TableCall Refusal
-take_of numerals d = do
-  or_wrong (exactly (codes "do" ∷ codes "assigner" ∷ codes "at" ∷ []) d)
+unfoldable pub take_of : List (List ℕ) → Numerals → Data → Result TableCall DecodeRefusal
+take_of beside numerals d = do
+  or_wrong (exactly (beside ++ codes "do" ∷ codes "assigner" ∷ codes "at" ∷ []) d)
   assigner ← or_wrong (numeral_at numerals (codes "assigner") d)
   at ← or_wrong (numeral_at numerals (codes "at") d)
   Ok (JobTake assigner at)
 
 -- a `renew` has a term and a reading
-unfoldable pub renew_of : Numerals → Data → Result TableCall Refusal
-renew_of numerals d = do
-  or_wrong (exactly (codes "do" ∷ codes "term" ∷ codes "at" ∷ []) d)
+unfoldable pub renew_of : List (List ℕ) → Numerals → Data → Result TableCall DecodeRefusal
+renew_of beside numerals d = do
+  or_wrong (exactly (beside ++ codes "do" ∷ codes "term" ∷ codes "at" ∷ []) d)
   term ← or_wrong (numeral_at numerals (codes "term") d)
   at ← or_wrong (numeral_at numerals (codes "at") d)
   Ok (JobRenew term at)
 
 -- a `propose` has a term, an assignment and a reading
-unfoldable pub propose_of : Numerals → Data → Result TableCall Refusal
-propose_of numerals d = do
-  or_wrong (exactly (codes "do" ∷ codes "term" ∷ codes "generation" ∷ codes "slices" ∷ codes "at" ∷ []) d)
+unfoldable pub propose_of : List (List ℕ) → Numerals → Data → Result TableCall DecodeRefusal
+propose_of beside numerals d = do
+  or_wrong (exactly (beside ++ codes "do" ∷ codes "term" ∷ codes "generation" ∷ codes "slices" ∷ codes "at" ∷ []) d)
   term ← or_wrong (numeral_at numerals (codes "term") d)
   at ← or_wrong (numeral_at numerals (codes "at") d)
   slicing ← slicing_in numerals d
   Ok (Propose term slicing at)
 
 -- a `commit` has a term and a reading
-unfoldable pub commit_of : Numerals → Data → Result TableCall Refusal
-commit_of numerals d = do
-  or_wrong (exactly (codes "do" ∷ codes "term" ∷ codes "at" ∷ []) d)
+unfoldable pub commit_of : List (List ℕ) → Numerals → Data → Result TableCall DecodeRefusal
+commit_of beside numerals d = do
+  or_wrong (exactly (beside ++ codes "do" ∷ codes "term" ∷ codes "at" ∷ []) d)
   term ← or_wrong (numeral_at numerals (codes "term") d)
   at ← or_wrong (numeral_at numerals (codes "at") d)
   Ok (Commit term at)
 
 -- a `grant` has a task, a life of it and a reading
-unfoldable pub grant_call_of : Numerals → Data → Result TableCall Refusal
-grant_call_of numerals d = do
-  or_wrong (exactly (codes "do" ∷ codes "task" ∷ codes "life" ∷ codes "at" ∷ []) d)
+unfoldable pub grant_call_of : List (List ℕ) → Numerals → Data → Result TableCall DecodeRefusal
+grant_call_of beside numerals d = do
+  or_wrong (exactly (beside ++ codes "do" ∷ codes "task" ∷ codes "life" ∷ codes "at" ∷ []) d)
   task ← or_wrong (task_at (codes "task") d)
   life ← or_wrong (life_at (codes "life") d)
   at ← or_wrong (numeral_at numerals (codes "at") d)
   Ok (Grant task life at)
 
 -- a `free` has a note and a reading
-unfoldable pub free_of : Numerals → Data → Result TableCall Refusal
-free_of numerals d = do
-  or_wrong (exactly (codes "do" ∷ codes "note" ∷ codes "at" ∷ []) d)
+unfoldable pub free_of : List (List ℕ) → Numerals → Data → Result TableCall DecodeRefusal
+free_of beside numerals d = do
+  or_wrong (exactly (beside ++ codes "do" ∷ codes "note" ∷ codes "at" ∷ []) d)
   note ← or_wrong (member_at (codes "note") d >>= note_of numerals)
   at ← or_wrong (numeral_at numerals (codes "at") d)
   Ok (Free note at)
 
 -- a `lose` has nothing more
-unfoldable pub lose_of : Data → Result TableCall Refusal
-lose_of d = do
-  or_wrong (exactly (codes "do" ∷ []) d)
+unfoldable pub lose_of : List (List ℕ) → Data → Result TableCall DecodeRefusal
+lose_of beside d = do
+  or_wrong (exactly (beside ++ codes "do" ∷ []) d)
   Ok Restart
 
--- what the reader of this name makes of the object; a name without one is wrong
-abbrev pub read_named : {A : Type 0} → List (List ℕ × (Data → Result A Refusal)) → List ℕ → Data → Result A Refusal
-read_named [] name d = Err WrongForm
-read_named (kind ∷ kinds) name d = if bytes_eq name kind.0 then kind.1 d else read_named kinds name d
-
 -- the calls of the table, each by its name and its reader
-abbrev pub call_kinds : Numerals → List (List ℕ × (Data → Result TableCall Refusal))
-call_kinds numerals =
-    (codes "take", take_of numerals) ∷
-    (codes "renew", renew_of numerals) ∷
-    (codes "propose", propose_of numerals) ∷
-    (codes "commit", commit_of numerals) ∷
-    (codes "grant", grant_call_of numerals) ∷
-    (codes "free", free_of numerals) ∷
-    (codes "lose", lose_of) ∷ []
+abbrev pub call_kinds : List (List ℕ) → Numerals → List (List ℕ × (Data → Result TableCall DecodeRefusal))
+call_kinds beside numerals =
+    (codes "take", take_of beside numerals) ∷
+    (codes "renew", renew_of beside numerals) ∷
+    (codes "propose", propose_of beside numerals) ∷
+    (codes "commit", commit_of beside numerals) ∷
+    (codes "grant", grant_call_of beside numerals) ∷
+    (codes "free", free_of beside numerals) ∷
+    (codes "lose", lose_of beside) ∷ []
 
 -- a call, named by its member `do`
-unfoldable pub call_of : Numerals → Data → Result TableCall Refusal
+unfoldable pub call_of : Numerals → Data → Result TableCall DecodeRefusal
 call_of numerals d = do
   name ← or_wrong (text_at (codes "do") d)
-  read_named (call_kinds numerals) name d
+  read_named (call_kinds [] numerals) name d

@@ -1,5 +1,5 @@
 -- Calls of a slicelet and their replies as JSON.
-use Rattle.std.specs.Prelude.{List, [], ◌∷◌, codes, Result, Ok, ℕ}
+use Rattle.std.specs.Prelude.{List, [], ◌∷◌, ◌++◌, codes, Result, Ok, ℕ}
 use Rattle.serde_json.specs.Data.{Data, string}
 use Rattle.slicelet.specs.declared.call.SliceletCall.{SliceletCall}
 use Rattle.slicelet.specs.declared.call.SliceletCall.TheVariants.{Start, Hear, Release, Resume}
@@ -7,7 +7,7 @@ use Rattle.slicelet.specs.declared.call.SliceletReply.{SliceletReply}
 use Rattle.slicelet.specs.declared.call.SliceletReply.TheVariants.{Started, Heard, Released, Resumed}
 use Rattle.program_io.specs.Reading.{◌>>=◌, ◌>>◌}
 use Rattle.program_io.specs.Members.{exactly, member_at, text_at}
-use Rattle.wire.specs.declared.fault.Refusal.{Refusal}
+use Rattle.wire.specs.declared.fault.DecodeRefusal.{DecodeRefusal}
 use Rattle.wire.specs.declared.numerals.Numerals.{Numerals}
 use Rattle.wire.specs.Grants.{grant_data, grant_of}
 use Rattle.wire.specs.LeaseMembers.{kind_at, kind_data, life_at}
@@ -15,7 +15,7 @@ use Rattle.wire.specs.Notes.{note_data, note_of}
 use Rattle.wire.specs.Numerals.{numeral_at, numeral_data}
 use Rattle.wire.specs.Objects.{number_data, object_data}
 use Rattle.wire.specs.Refusals.{or_wrong}
-use Rattle.wire.specs.TableCalls.{read_named}
+use Rattle.wire.specs.Named.{read_named}
 
 -- a call is written as the step of a script, with a grant in place of its number
 abbrev pub task_call_data : Numerals → SliceletCall → Data
@@ -28,49 +28,49 @@ task_call_data numerals (Release kind at) = object_data
 task_call_data numerals (Resume life) = object_data ((codes "do", string (codes "resume")) ∷ (codes "life", number_data life) ∷ [])
 
 -- a `start` has a life and a reading
-unfoldable pub start_of : Numerals → Data → Result SliceletCall Refusal
-start_of numerals d = do
-  or_wrong (exactly (codes "do" ∷ codes "life" ∷ codes "at" ∷ []) d)
+unfoldable pub start_of : List (List ℕ) → Numerals → Data → Result SliceletCall DecodeRefusal
+start_of beside numerals d = do
+  or_wrong (exactly (beside ++ codes "do" ∷ codes "life" ∷ codes "at" ∷ []) d)
   life ← or_wrong (life_at (codes "life") d)
   at ← or_wrong (numeral_at numerals (codes "at") d)
   Ok (Start life at)
 
 -- a `hear` has a grant and a reading
-unfoldable pub hear_of : Numerals → Data → Result SliceletCall Refusal
-hear_of numerals d = do
-  or_wrong (exactly (codes "do" ∷ codes "grant" ∷ codes "at" ∷ []) d)
+unfoldable pub hear_of : List (List ℕ) → Numerals → Data → Result SliceletCall DecodeRefusal
+hear_of beside numerals d = do
+  or_wrong (exactly (beside ++ codes "do" ∷ codes "grant" ∷ codes "at" ∷ []) d)
   at ← or_wrong (numeral_at numerals (codes "at") d)
   grant ← or_wrong (member_at (codes "grant") d) >>= grant_of numerals
   Ok (Hear grant at)
 
 -- a `release` has a kind of lease and a reading
-unfoldable pub release_of : Numerals → Data → Result SliceletCall Refusal
-release_of numerals d = do
-  or_wrong (exactly (codes "do" ∷ codes "kind" ∷ codes "at" ∷ []) d)
+unfoldable pub release_of : List (List ℕ) → Numerals → Data → Result SliceletCall DecodeRefusal
+release_of beside numerals d = do
+  or_wrong (exactly (beside ++ codes "do" ∷ codes "kind" ∷ codes "at" ∷ []) d)
   kind ← or_wrong (kind_at (codes "kind") d)
   at ← or_wrong (numeral_at numerals (codes "at") d)
   Ok (Release kind at)
 
 -- a `resume` has a life
-unfoldable pub resume_of : Data → Result SliceletCall Refusal
-resume_of d = do
-  or_wrong (exactly (codes "do" ∷ codes "life" ∷ []) d)
+unfoldable pub resume_of : List (List ℕ) → Data → Result SliceletCall DecodeRefusal
+resume_of beside d = do
+  or_wrong (exactly (beside ++ codes "do" ∷ codes "life" ∷ []) d)
   life ← or_wrong (life_at (codes "life") d)
   Ok (Resume life)
 
 -- the calls of a slicelet, each by its name and its reader
-abbrev pub task_call_kinds : Numerals → List (List ℕ × (Data → Result SliceletCall Refusal))
-task_call_kinds numerals =
-    (codes "start", start_of numerals) ∷
-    (codes "hear", hear_of numerals) ∷
-    (codes "release", release_of numerals) ∷
-    (codes "resume", resume_of) ∷ []
+abbrev pub task_call_kinds : List (List ℕ) → Numerals → List (List ℕ × (Data → Result SliceletCall DecodeRefusal))
+task_call_kinds beside numerals =
+    (codes "start", start_of beside numerals) ∷
+    (codes "hear", hear_of beside numerals) ∷
+    (codes "release", release_of beside numerals) ∷
+    (codes "resume", resume_of beside) ∷ []
 
 -- a call, named by its member `do`
-unfoldable pub task_call_of : Numerals → Data → Result SliceletCall Refusal
+unfoldable pub task_call_of : Numerals → Data → Result SliceletCall DecodeRefusal
 task_call_of numerals d = do
   name ← or_wrong (text_at (codes "do") d)
-  read_named (task_call_kinds numerals) name d
+  read_named (task_call_kinds [] numerals) name d
 
 -- a reply is named by the first word of its line in a script
 abbrev pub task_reply_data : Numerals → SliceletReply → Data
@@ -81,26 +81,26 @@ task_reply_data numerals (Resumed ended) = object_data
     ((codes "bridge", note_data numerals ended.bridge) ∷ (codes "guard", note_data numerals ended.guard) ∷ (codes "reply", string (codes "resumed")) ∷ [])
 
 -- a `started` has nothing more
-unfoldable pub started_of : Data → Result SliceletReply Refusal
+unfoldable pub started_of : Data → Result SliceletReply DecodeRefusal
 started_of d = do
   or_wrong (exactly (codes "reply" ∷ []) d)
   Ok Started
 
 -- a `heard` has nothing more
-unfoldable pub heard_of : Data → Result SliceletReply Refusal
+unfoldable pub heard_of : Data → Result SliceletReply DecodeRefusal
 heard_of d = do
   or_wrong (exactly (codes "reply" ∷ []) d)
   Ok Heard
 
 -- a `released` has the note of the lease
-unfoldable pub released_of : Numerals → Data → Result SliceletReply Refusal
+unfoldable pub released_of : Numerals → Data → Result SliceletReply DecodeRefusal
 released_of numerals d = do
   or_wrong (exactly (codes "reply" ∷ codes "note" ∷ []) d)
   note ← or_wrong (member_at (codes "note") d >>= note_of numerals)
   Ok (Released note)
 
 -- a `resumed` has the notes of the life that ended
-unfoldable pub resumed_of : Numerals → Data → Result SliceletReply Refusal
+unfoldable pub resumed_of : Numerals → Data → Result SliceletReply DecodeRefusal
 resumed_of numerals d = do
   or_wrong (exactly (codes "reply" ∷ codes "guard" ∷ codes "bridge" ∷ []) d)
   guard ← or_wrong (member_at (codes "guard") d >>= note_of numerals)
@@ -108,7 +108,7 @@ resumed_of numerals d = do
   Ok (Resumed (record { guard = guard; bridge = bridge }))
 
 -- the replies of a slicelet, each by its name and its reader
-abbrev pub task_reply_kinds : Numerals → List (List ℕ × (Data → Result SliceletReply Refusal))
+abbrev pub task_reply_kinds : Numerals → List (List ℕ × (Data → Result SliceletReply DecodeRefusal))
 task_reply_kinds numerals =
     (codes "started", started_of) ∷
     (codes "heard", heard_of) ∷
@@ -116,7 +116,7 @@ task_reply_kinds numerals =
     (codes "resumed", resumed_of numerals) ∷ []
 
 -- a reply, named by its member `reply`
-unfoldable pub task_reply_of : Numerals → Data → Result SliceletReply Refusal
+unfoldable pub task_reply_of : Numerals → Data → Result SliceletReply DecodeRefusal
 task_reply_of numerals d = do
   name ← or_wrong (text_at (codes "reply") d)
   read_named (task_reply_kinds numerals) name d

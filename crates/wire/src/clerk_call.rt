@@ -1,17 +1,18 @@
 //! Calls of a clerk and their replies as bytes.
 
-ghost use Rattle.std.specs.Prelude.{◌≡◌, IfOk, Ok, codes};
+ghost use Rattle.std.specs.Prelude.{◌≡◌, IfOk, Ok, codes, map};
 ghost use Rattle.serde_json.specs.View.{view};
 ghost use Rattle.wire.specs.declared.numerals.Numerals.TheVariants as numeral;
+ghost use Rattle.wire.specs.Named.{GivesBy, reader_of};
 ghost use Rattle.wire.specs.Refusals.{Gives};
-ghost use Rattle.wire.specs.ClerkCalls.{clerk_call_data, clerk_call_of, clerk_reply_data, clerk_reply_of, forget_of, forgotten_of, learn_of, learnt_of};
+ghost use Rattle.wire.specs.ClerkCalls.{clerk_call_data, clerk_call_kinds, clerk_call_of, clerk_reply_data, clerk_reply_of, forget_of, forgotten_of, learn_of, learnt_of};
 
-use crate::fault::{DecodeError, Refusal};
+use crate::fault::{DecodeError, DecodeRefusal};
 use crate::message::Wire;
 use crate::numerals::{Numerals, numeral_json};
 use crate::slicing::{assignment_in, slices_json};
 use clerk::{ClerkCall, ClerkReply};
-use program_io::{exactly, text_at};
+use program_io::{exactly, exactly_beside, text_at};
 use serde_json::{Value, json};
 use std::alloc::{AllocError, Global};
 
@@ -33,20 +34,45 @@ fn clerk_call_json(alloc: Global, numerals: Numerals, call: &ClerkCall) -> Resul
 }
 
 #[tactic(auto, unfolding(crate::specs::ClerkCalls::learn_of))]
-fn learn_of(alloc: Global, numerals: Numerals, value: &Value) -> Result<ClerkCall, DecodeError>
-    ensures { Gives result (learn_of numerals (view value.now)) }
+fn learn_of(
+    alloc: Global,
+    beside: &[&str],
+    numerals: Numerals,
+    value: &Value,
+) -> Result<ClerkCall, DecodeError>
+    ensures { Gives result (learn_of (map (λ n. n.now) beside.now) numerals (view value.now)) }
 {
-    exactly(&["do", "generation", "slices"], value)?;
+    exactly_beside(beside, &["do", "generation", "slices"], value)?;
     let assignment = assignment_in(alloc, numerals, value)?;
     Ok(ClerkCall::Learn(assignment))
 }
 
 #[tactic(auto, unfolding(crate::specs::ClerkCalls::forget_of))]
-fn forget_of(value: &Value) -> Result<ClerkCall, Refusal>
-    ensures { result ≡ forget_of (view value.now) }
+fn forget_of(beside: &[&str], value: &Value) -> Result<ClerkCall, DecodeError>
+    ensures { Gives result (forget_of (map (λ n. n.now) beside.now) (view value.now)) }
 {
-    exactly(&["do"], value)?;
+    exactly_beside(beside, &["do"], value)?;
     Ok(ClerkCall::Forget)
+}
+
+/// Reads the clerk's call with this name from an object that has the members `beside`, too.
+///
+/// Returns `None` if there is no such call. The result is an error if a member is missing, is unknown, or does not
+/// have the form that it must have, or if memory runs out.
+pub fn clerk_call_named(
+    alloc: Global,
+    beside: &[&str],
+    numerals: Numerals,
+    name: &str,
+    value: &Value,
+) -> Option<Result<ClerkCall, DecodeError>>
+    ensures { GivesBy (reader_of (clerk_call_kinds (map (λ n. n.now) beside.now) numerals) name.now) (view value.now) result }
+{
+    Some(match name {
+        "learn" => learn_of(alloc, beside, numerals, value),
+        "forget" => forget_of(beside, value),
+        _ => return None,
+    })
 }
 
 // Reads a call from JSON.
@@ -54,10 +80,10 @@ fn forget_of(value: &Value) -> Result<ClerkCall, Refusal>
 fn clerk_call_of(alloc: Global, numerals: Numerals, value: &Value) -> Result<ClerkCall, DecodeError>
     ensures { Gives result (clerk_call_of numerals (view value.now)) }
 {
-    match text_at("do", value)? {
-        "learn" => learn_of(alloc, numerals, value),
-        "forget" => Ok(forget_of(value)?),
-        _ => Err(DecodeError::Refused(Refusal::WrongForm)),
+    let name = text_at("do", value)?;
+    match clerk_call_named(alloc, &[], numerals, name, value) {
+        Some(call) => call,
+        None => Err(DecodeError::Refused(DecodeRefusal::WrongForm)),
     }
 }
 
@@ -107,7 +133,7 @@ fn clerk_reply_json(alloc: Global, reply: &ClerkReply) -> Result<Value, AllocErr
 }
 
 #[tactic(auto, unfolding(crate::specs::ClerkCalls::learnt_of))]
-fn learnt_of(value: &Value) -> Result<ClerkReply, Refusal>
+fn learnt_of(value: &Value) -> Result<ClerkReply, DecodeRefusal>
     ensures { result ≡ learnt_of (view value.now) }
 {
     exactly(&["reply"], value)?;
@@ -115,7 +141,7 @@ fn learnt_of(value: &Value) -> Result<ClerkReply, Refusal>
 }
 
 #[tactic(auto, unfolding(crate::specs::ClerkCalls::forgotten_of))]
-fn forgotten_of(value: &Value) -> Result<ClerkReply, Refusal>
+fn forgotten_of(value: &Value) -> Result<ClerkReply, DecodeRefusal>
     ensures { result ≡ forgotten_of (view value.now) }
 {
     exactly(&["reply"], value)?;
@@ -124,13 +150,13 @@ fn forgotten_of(value: &Value) -> Result<ClerkReply, Refusal>
 
 // Reads a reply from JSON.
 #[tactic(auto, unfolding(crate::specs::ClerkCalls::clerk_reply_of))]
-fn clerk_reply_of(value: &Value) -> Result<ClerkReply, Refusal>
+fn clerk_reply_of(value: &Value) -> Result<ClerkReply, DecodeRefusal>
     ensures { result ≡ clerk_reply_of (view value.now) }
 {
     match text_at("reply", value)? {
         "learnt" => learnt_of(value),
         "forgotten" => forgotten_of(value),
-        _ => Err(Refusal::WrongForm),
+        _ => Err(DecodeRefusal::WrongForm),
     }
 }
 

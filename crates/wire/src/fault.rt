@@ -2,7 +2,7 @@
 
 ghost use Rattle.std.specs.Prelude.{◌≡◌};
 ghost use Rattle.wire.specs.declared.fault.DecodeError.TheVariants as failed;
-ghost use Rattle.wire.specs.declared.fault.Refusal.TheVariants as refusal;
+ghost use Rattle.wire.specs.declared.fault.DecodeRefusal.TheVariants as refusal;
 ghost use Rattle.wire.specs.Refusals.{failure_of};
 
 use assignment::AssignmentError;
@@ -16,7 +16,7 @@ use thiserror::Error;
 /// The length is checked first, then that the bytes are JSON, then that no member is repeated, then
 /// the version, the members of the message, the type, the job and the value.
 #[derive(Clone, Copy, Debug, PartialEq, Eq, Error)]
-pub enum Refusal {
+pub enum DecodeRefusal {
     /// There are more than [`MOST_BYTES`](crate::MOST_BYTES) bytes.
     #[error("longer than 1048576 bytes")]
     TooLong,
@@ -51,7 +51,7 @@ pub enum Refusal {
 pub enum DecodeError {
     /// The bytes are not a message of the type, for this reason.
     #[error("{0}")]
-    Refused(Refusal),
+    Refused(DecodeRefusal),
     /// Memory ran out.
     #[error("out of memory")]
     NoMemory,
@@ -61,7 +61,7 @@ impl From<WrongForm> for DecodeError {
     ghost from_gives = { λ _ e. e ≡ failed.Refused refusal.WrongForm };
 
     fn from(_error: WrongForm) -> Self {
-        DecodeError::Refused(Refusal::WrongForm)
+        DecodeError::Refused(DecodeRefusal::WrongForm)
     }
 }
 
@@ -70,25 +70,25 @@ impl From<Unread> for DecodeError {
 
     fn from(error: Unread) -> Self {
         match error {
-            Unread::WrongForm => DecodeError::Refused(Refusal::WrongForm),
+            Unread::WrongForm => DecodeError::Refused(DecodeRefusal::WrongForm),
             Unread::Memory => DecodeError::NoMemory,
         }
     }
 }
 
-impl From<Refusal> for DecodeError {
+impl From<DecodeRefusal> for DecodeError {
     ghost from_gives = { λ error e. e ≡ failed.Refused error };
 
-    fn from(error: Refusal) -> Self {
+    fn from(error: DecodeRefusal) -> Self {
         DecodeError::Refused(error)
     }
 }
 
-impl From<WrongForm> for Refusal {
+impl From<WrongForm> for DecodeRefusal {
     ghost from_gives = { λ _ e. e ≡ refusal.WrongForm };
 
     fn from(_error: WrongForm) -> Self {
-        Refusal::WrongForm
+        DecodeRefusal::WrongForm
     }
 }
 

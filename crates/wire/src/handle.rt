@@ -32,8 +32,8 @@ pub fn handle_json(
     })
 }
 
-// Returns the member with this name as a slice key.
-fn slice_key_at(numerals: Numerals, name: &str, value: &Value) -> Result<SliceKey, WrongForm>
+/// Returns the member with this name as a slice key, a number below 2^63.
+pub fn slice_key_at(numerals: Numerals, name: &str, value: &Value) -> Result<SliceKey, WrongForm>
     ensures { result ≡ slice_key_at numerals name.now (view value.now) }
 {
     match SliceKey::new(numeral_at(numerals, name, value)?) {

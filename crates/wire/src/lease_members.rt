@@ -5,7 +5,7 @@ ghost use Rattle.serde_json.specs.View.{view};
 ghost use Rattle.wire.specs.LeaseMembers.{kind_word, kind_at, life_at, task_at};
 
 use assignment::TaskId;
-use policy_rules::Kind;
+use lease_rule::Kind;
 use program_io::{WrongForm, number_at, text_at};
 use serde_json::Value;
 

@@ -23,9 +23,10 @@ mod table_call;
 mod table_reply;
 mod task_call;
 
-pub use fault::{DecodeError, Refusal};
+pub use clerk_call::clerk_call_named;
+pub use fault::{DecodeError, DecodeRefusal};
 pub use grant::{grant_json, grant_of};
-pub use handle::{handle_json, handle_of};
+pub use handle::{handle_json, handle_of, slice_key_at};
 pub use job_name::{JobName, MOST_NAME_BYTES};
 pub use kept::{kept_json, kept_of};
 pub use lease_members::{kind_at, kind_word, life_at, task_at};
@@ -33,3 +34,5 @@ pub use message::{MOST_BYTES, VERSION, Wire, decode, encode};
 pub use note::{note_json, note_of};
 pub use numerals::{Numerals, numeral_at, numeral_json, numeral_of};
 pub use slicing::{EitherSlice, SliceForm, assignment_in, assignment_json, assignment_of};
+pub use table_call::table_call_named;
+pub use task_call::task_call_named;

@@ -3,16 +3,18 @@
 ghost use Rattle.std.specs.Prelude.{◌≡◌, ◌≢◌, ℕ, List, Result, IfErr, IfOk, OnOk};
 ghost use Rattle.serde_json.specs.Data.{Data};
 ghost use Rattle.serde_json.specs.View.{view};
-ghost use Rattle.wire.specs.declared.fault.Refusal.{Refusal};
+ghost use Rattle.wire.specs.declared.fault.DecodeRefusal.{DecodeRefusal};
 ghost use Rattle.wire.specs.declared.numerals.Numerals.{Numerals};
 ghost use Rattle.wire.specs.declared.numerals.Numerals.TheVariants as numeral;
 ghost use Rattle.wire.specs.Refusals.{Gives, IsRead};
 ghost use Rattle.wire.specs.Messages.{IsDecodedAs, IsMessage, IsOfOtherJob, IsShort, IsUndecoded, IsWritten, content, content_of, first_content, message_data, message_text, named_content, value_in};
 
-use crate::fault::{DecodeError, Refusal};
+use crate::fault::{DecodeError, DecodeRefusal};
 use crate::job_name::JobName;
 use crate::numerals::Numerals;
-use program_io::{JsonError, exactly, member_at, number_at, strict_value_of, text_at};
+use program_io::{
+    JsonError, MOST_LINE_BYTES, exactly, member_at, number_at, strict_value_of, text_at,
+};
 use serde_json::{Value, json};
 use std::alloc::{AllocError, Global};
 
@@ -22,8 +24,8 @@ pub const VERSION: u64 = 2;
 /// The version of messages without a job, whose numbers are all JSON numbers.
 const FIRST_VERSION: u64 = 1;
 
-/// The greatest number of bytes that [`decode`] reads as a message.
-pub const MOST_BYTES: usize = 1_048_576;
+/// The greatest number of bytes that [`decode`] reads as a message: that of a line.
+pub const MOST_BYTES: usize = MOST_LINE_BYTES;
 
 /// A value that can be written as the bytes of a message and read back.
 pub trait Wire: Drop {
@@ -33,7 +35,7 @@ pub trait Wire: Drop {
     // What a value is written as, and what is read as a value.
     ghost data_of: { Numerals → Self → Data };
 
-    ghost form: { Numerals → Data → Result Self Refusal };
+    ghost form: { Numerals → Data → Result Self DecodeRefusal };
 
     /// Returns the name of the type in a message.
     fn name() -> &'static str
@@ -66,17 +68,17 @@ struct Content<'v> {
 }
 
 // Returns the value in a message of the type with this name.
-fn value_in<'v>(name: &str, message: &'v Value) -> Result<&'v Value, Refusal>
+fn value_in<'v>(name: &str, message: &'v Value) -> Result<&'v Value, DecodeRefusal>
     ensures { IsRead (λ v. view v.now) result (value_in name.now (view message.now)) }
 {
     if text_at("type", message)? != name {
-        return Err(Refusal::OtherType);
+        return Err(DecodeRefusal::OtherType);
     }
     Ok(member_at("value", message)?)
 }
 
 #[tactic(auto, unfolding(crate::specs::Messages::first_content))]
-fn first_content<'v>(name: &str, message: &'v Value) -> Result<Content<'v>, Refusal>
+fn first_content<'v>(name: &str, message: &'v Value) -> Result<Content<'v>, DecodeRefusal>
     ensures { IsRead (λ c. content c.job.now c.numerals (view c.value.now)) result (first_content name.now (view message.now)) }
 {
     exactly(&["type", "value", "version"], message)?;
@@ -89,7 +91,7 @@ fn first_content<'v>(name: &str, message: &'v Value) -> Result<Content<'v>, Refu
 }
 
 #[tactic(auto, unfolding(crate::specs::Messages::named_content))]
-fn named_content<'v>(name: &str, message: &'v Value) -> Result<Content<'v>, Refusal>
+fn named_content<'v>(name: &str, message: &'v Value) -> Result<Content<'v>, DecodeRefusal>
     ensures { IsRead (λ c. content c.job.now c.numerals (view c.value.now)) result (named_content name.now (view message.now)) }
 {
     exactly(&["job", "type", "value", "version"], message)?;
@@ -104,7 +106,7 @@ fn named_content<'v>(name: &str, message: &'v Value) -> Result<Content<'v>, Refu
 
 // Returns what a message of the type with this name holds.
 #[tactic(auto, unfolding(crate::specs::Messages::content_of))]
-fn content_of<'v>(name: &str, message: &'v Value) -> Result<Content<'v>, Refusal>
+fn content_of<'v>(name: &str, message: &'v Value) -> Result<Content<'v>, DecodeRefusal>
     ensures { IsRead (λ c. content c.job.now c.numerals (view c.value.now)) result (content_of name.now (view message.now)) }
 {
     let version = number_at("version", message)?;
@@ -113,7 +115,7 @@ fn content_of<'v>(name: &str, message: &'v Value) -> Result<Content<'v>, Refusal
     } else if version == FIRST_VERSION {
         first_content(name, message)
     } else {
-        Err(Refusal::Version(version))
+        Err(DecodeRefusal::Version(version))
     }
 }
 
@@ -132,7 +134,7 @@ pub fn encode<T: Wire>(alloc: Global, job: &JobName, value: &T) -> Result<Vec<u8
 /// message.
 ///
 /// Decoding the bytes of a value gives the same value if they are of this job, and
-/// [`Refusal::OtherJob`] if they are of another one, unless memory runs out or there are more than
+/// [`DecodeRefusal::OtherJob`] if they are of another one, unless memory runs out or there are more than
 /// [`MOST_BYTES`] of them. More bytes are refused before they are parsed. A message of version 1
 /// is of the job with the empty name.
 pub fn decode<T: Wire>(alloc: Global, job: &JobName, bytes: &[u8]) -> Result<T, DecodeError>
@@ -145,17 +147,19 @@ pub fn decode<T: Wire>(alloc: Global, job: &JobName, bytes: &[u8]) -> Result<T, 
         → IsOfOtherJob bytes.now result }
 {
     if bytes.len() > MOST_BYTES {
-        return Err(DecodeError::Refused(Refusal::TooLong));
+        return Err(DecodeError::Refused(DecodeRefusal::TooLong));
     }
     let message = match strict_value_of(alloc, bytes) {
         Ok(message) => message,
-        Err(JsonError::NotJson(_)) => return Err(DecodeError::Refused(Refusal::NotJson)),
-        Err(JsonError::Repeated(_)) => return Err(DecodeError::Refused(Refusal::RepeatedMember)),
+        Err(JsonError::NotJson(_)) => return Err(DecodeError::Refused(DecodeRefusal::NotJson)),
+        Err(JsonError::Repeated(_)) => return Err(DecodeError::Refused(
+            DecodeRefusal::RepeatedMember,
+        )),
         Err(JsonError::Memory) => return Err(DecodeError::NoMemory),
     };
     let content = content_of(T::name(), &message)?;
     if content.job != job.as_str() {
-        return Err(DecodeError::Refused(Refusal::OtherJob));
+        return Err(DecodeError::Refused(DecodeRefusal::OtherJob));
     }
     T::of_json(alloc, content.numerals, content.value)
 }

@@ -7,8 +7,8 @@ ghost use Rattle.program_io.specs.Reading.{Gives};
 ghost use Rattle.wire.specs.declared.numerals.Numerals.TheVariants as numeral;
 ghost use Rattle.wire.specs.Numerals.{number_in_digits, numeral_at, numeral_data, numeral_of, quoted_of, two_numerals_of};
 
-use assignment::Listed;
 use itoa::Buffer;
+use machines::Listed;
 use program_io::{Form, Unread, WrongForm, list_of, member_at, number_of, pair_of};
 use serde_json::{Value, json};
 use std::alloc::{AllocError, Global};

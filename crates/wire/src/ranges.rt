@@ -5,7 +5,7 @@ ghost use Rattle.serde_json.specs.View.{view};
 ghost use Rattle.wire.specs.Ranges.{pair_data, ranges_data, ranges_of};
 ghost use Rattle.wire.specs.Refusals.{Gives};
 
-use crate::fault::{DecodeError, Refusal};
+use crate::fault::{DecodeError, DecodeRefusal};
 use crate::numerals::{Numerals, numeral_json, pairs_of};
 use machines::Trouble;
 use serde_json::{Value, json};
@@ -45,6 +45,6 @@ pub fn ranges_of(alloc: Global, numerals: Numerals, value: &Value) -> Result<Ran
             Ok(ranges)
         }
         Err(Trouble::NoMemory) => Err(DecodeError::NoMemory),
-        Err(Trouble::Refused(why)) => Err(DecodeError::Refused(Refusal::Ranges(why))),
+        Err(Trouble::Refused(why)) => Err(DecodeError::Refused(DecodeRefusal::Ranges(why))),
     }
 }

@@ -9,11 +9,11 @@ ghost use Rattle.wire.specs.Assignments.{assignment_data, assignment_of, slice_d
 ghost use Rattle.wire.specs.Objects.{list_data, number_data};
 ghost use Rattle.wire.specs.Refusals.{Gives};
 
-use crate::fault::{DecodeError, Refusal};
+use crate::fault::{DecodeError, DecodeRefusal};
 use crate::message::Wire;
 use crate::numerals::{Numerals, numeral_at, numeral_json, numeral_of};
-use assignment::{Assignment, Listed, OwnedSlice, Slice, TaskId};
-use machines::Trouble;
+use assignment::{Assignment, OwnedSlice, Slice, TaskId};
+use machines::{Listed, Trouble};
 use program_io::{Form, Number, Unread, exactly, list_at, list_of, pair_of};
 use serde_json::{Value, json};
 use std::alloc::{AllocError, Global};
@@ -139,7 +139,7 @@ pub fn assignment_in(
     match Assignment::build(alloc, generation, slices.as_slice()) {
         Ok(assignment) => Ok(assignment),
         Err(Trouble::NoMemory) => Err(DecodeError::NoMemory),
-        Err(Trouble::Refused(why)) => Err(DecodeError::Refused(Refusal::Slices(why))),
+        Err(Trouble::Refused(why)) => Err(DecodeError::Refused(DecodeRefusal::Slices(why))),
     }
 }
 

@@ -1,13 +1,14 @@
 //! Calls of the table as bytes.
 
-ghost use Rattle.std.specs.Prelude.{◌≡◌, IfOk, Ok, codes};
+ghost use Rattle.std.specs.Prelude.{◌≡◌, IfOk, Ok, codes, map};
 ghost use Rattle.serde_json.specs.View.{view};
 ghost use Rattle.lease_table.specs.declared.call.TableCall.TheVariants as call;
 ghost use Rattle.wire.specs.declared.numerals.Numerals.TheVariants as numeral;
+ghost use Rattle.wire.specs.Named.{GivesBy, reader_of};
 ghost use Rattle.wire.specs.Refusals.{Gives};
-ghost use Rattle.wire.specs.TableCalls.{call_data, call_of, commit_of, free_of, grant_call_of, lose_of, propose_of, renew_of, take_of};
+ghost use Rattle.wire.specs.TableCalls.{call_data, call_kinds, call_of, commit_of, free_of, grant_call_of, lose_of, propose_of, renew_of, take_of};
 
-use crate::fault::{DecodeError, Refusal};
+use crate::fault::{DecodeError, DecodeRefusal};
 use crate::lease_members::{life_at, task_at};
 use crate::message::Wire;
 use crate::note::{note_json, note_law, note_of};
@@ -15,7 +16,7 @@ use crate::numerals::{Numerals, numeral_at, numeral_json};
 use crate::slicing::{assignment_in, slices_json};
 use assignment::TaskId;
 use lease_table::{ReleaseNote, TableCall};
-use program_io::{exactly, member_at, text_at};
+use program_io::{exactly_beside, member_at, text_at};
 use serde_json::{Value, json};
 use std::alloc::{AllocError, Global};
 
@@ -96,10 +97,10 @@ fn call_json(alloc: Global, numerals: Numerals, call: &TableCall) -> Result<Valu
 }
 
 #[tactic(auto, unfolding(crate::specs::TableCalls::take_of))]
-fn take_of(numerals: Numerals, value: &Value) -> Result<TableCall, Refusal>
-    ensures { result ≡ take_of numerals (view value.now) }
+fn take_of(beside: &[&str], numerals: Numerals, value: &Value) -> Result<TableCall, DecodeError>
+    ensures { Gives result (take_of (map (λ n. n.now) beside.now) numerals (view value.now)) }
 {
-    exactly(&["do", "assigner", "at"], value)?;
+    exactly_beside(beside, &["do", "assigner", "at"], value)?;
     Ok(TableCall::JobTake {
         assigner: numeral_at(numerals, "assigner", value)?,
         at: numeral_at(numerals, "at", value)?,
@@ -107,10 +108,10 @@ fn take_of(numerals: Numerals, value: &Value) -> Result<TableCall, Refusal>
 }
 
 #[tactic(auto, unfolding(crate::specs::TableCalls::renew_of))]
-fn renew_of(numerals: Numerals, value: &Value) -> Result<TableCall, Refusal>
-    ensures { result ≡ renew_of numerals (view value.now) }
+fn renew_of(beside: &[&str], numerals: Numerals, value: &Value) -> Result<TableCall, DecodeError>
+    ensures { Gives result (renew_of (map (λ n. n.now) beside.now) numerals (view value.now)) }
 {
-    exactly(&["do", "term", "at"], value)?;
+    exactly_beside(beside, &["do", "term", "at"], value)?;
     Ok(TableCall::JobRenew {
         number: numeral_at(numerals, "term", value)?,
         at: numeral_at(numerals, "at", value)?,
@@ -118,10 +119,15 @@ fn renew_of(numerals: Numerals, value: &Value) -> Result<TableCall, Refusal>
 }
 
 #[tactic(auto, unfolding(crate::specs::TableCalls::propose_of))]
-fn propose_of(alloc: Global, numerals: Numerals, value: &Value) -> Result<TableCall, DecodeError>
-    ensures { Gives result (propose_of numerals (view value.now)) }
+fn propose_of(
+    alloc: Global,
+    beside: &[&str],
+    numerals: Numerals,
+    value: &Value,
+) -> Result<TableCall, DecodeError>
+    ensures { Gives result (propose_of (map (λ n. n.now) beside.now) numerals (view value.now)) }
 {
-    exactly(&["do", "term", "generation", "slices", "at"], value)?;
+    exactly_beside(beside, &["do", "term", "generation", "slices", "at"], value)?;
     let number = numeral_at(numerals, "term", value)?;
     let at = numeral_at(numerals, "at", value)?;
     let assignment = assignment_in(alloc, numerals, value)?;
@@ -133,10 +139,10 @@ fn propose_of(alloc: Global, numerals: Numerals, value: &Value) -> Result<TableC
 }
 
 #[tactic(auto, unfolding(crate::specs::TableCalls::commit_of))]
-fn commit_of(numerals: Numerals, value: &Value) -> Result<TableCall, Refusal>
-    ensures { result ≡ commit_of numerals (view value.now) }
+fn commit_of(beside: &[&str], numerals: Numerals, value: &Value) -> Result<TableCall, DecodeError>
+    ensures { Gives result (commit_of (map (λ n. n.now) beside.now) numerals (view value.now)) }
 {
-    exactly(&["do", "term", "at"], value)?;
+    exactly_beside(beside, &["do", "term", "at"], value)?;
     Ok(TableCall::Commit {
         number: numeral_at(numerals, "term", value)?,
         at: numeral_at(numerals, "at", value)?,
@@ -144,10 +150,14 @@ fn commit_of(numerals: Numerals, value: &Value) -> Result<TableCall, Refusal>
 }
 
 #[tactic(auto, unfolding(crate::specs::TableCalls::grant_call_of))]
-fn grant_call_of(numerals: Numerals, value: &Value) -> Result<TableCall, Refusal>
-    ensures { result ≡ grant_call_of numerals (view value.now) }
+fn grant_call_of(
+    beside: &[&str],
+    numerals: Numerals,
+    value: &Value,
+) -> Result<TableCall, DecodeError>
+    ensures { Gives result (grant_call_of (map (λ n. n.now) beside.now) numerals (view value.now)) }
 {
-    exactly(&["do", "task", "life", "at"], value)?;
+    exactly_beside(beside, &["do", "task", "life", "at"], value)?;
     Ok(TableCall::Grant {
         task: task_at("task", value)?,
         life: life_at("life", value)?,
@@ -156,10 +166,10 @@ fn grant_call_of(numerals: Numerals, value: &Value) -> Result<TableCall, Refusal
 }
 
 #[tactic(auto, unfolding(crate::specs::TableCalls::free_of))]
-fn free_of(numerals: Numerals, value: &Value) -> Result<TableCall, Refusal>
-    ensures { result ≡ free_of numerals (view value.now) }
+fn free_of(beside: &[&str], numerals: Numerals, value: &Value) -> Result<TableCall, DecodeError>
+    ensures { Gives result (free_of (map (λ n. n.now) beside.now) numerals (view value.now)) }
 {
-    exactly(&["do", "note", "at"], value)?;
+    exactly_beside(beside, &["do", "note", "at"], value)?;
     Ok(TableCall::Free {
         note: note_of(numerals, member_at("note", value)?)?,
         at: numeral_at(numerals, "at", value)?,
@@ -167,11 +177,36 @@ fn free_of(numerals: Numerals, value: &Value) -> Result<TableCall, Refusal>
 }
 
 #[tactic(auto, unfolding(crate::specs::TableCalls::lose_of))]
-fn lose_of(value: &Value) -> Result<TableCall, Refusal>
-    ensures { result ≡ lose_of (view value.now) }
+fn lose_of(beside: &[&str], value: &Value) -> Result<TableCall, DecodeError>
+    ensures { Gives result (lose_of (map (λ n. n.now) beside.now) (view value.now)) }
 {
-    exactly(&["do"], value)?;
+    exactly_beside(beside, &["do"], value)?;
     Ok(TableCall::Restart)
+}
+
+/// Reads the table's call with this name from an object that has the members `beside`, too.
+///
+/// Returns `None` if there is no such call. The result is an error if a member is missing, is unknown, or does not
+/// have the form that it must have, or if memory runs out.
+pub fn table_call_named(
+    alloc: Global,
+    beside: &[&str],
+    numerals: Numerals,
+    name: &str,
+    value: &Value,
+) -> Option<Result<TableCall, DecodeError>>
+    ensures { GivesBy (reader_of (call_kinds (map (λ n. n.now) beside.now) numerals) name.now) (view value.now) result }
+{
+    Some(match name {
+        "take" => take_of(beside, numerals, value),
+        "renew" => renew_of(beside, numerals, value),
+        "propose" => propose_of(alloc, beside, numerals, value),
+        "commit" => commit_of(beside, numerals, value),
+        "grant" => grant_call_of(beside, numerals, value),
+        "free" => free_of(beside, numerals, value),
+        "lose" => lose_of(beside, value),
+        _ => return None,
+    })
 }
 
 // Reads a call from JSON.
@@ -179,15 +214,10 @@ fn lose_of(value: &Value) -> Result<TableCall, Refusal>
 fn call_of(alloc: Global, numerals: Numerals, value: &Value) -> Result<TableCall, DecodeError>
     ensures { Gives result (call_of numerals (view value.now)) }
 {
-    match text_at("do", value)? {
-        "take" => Ok(take_of(numerals, value)?),
-        "renew" => Ok(renew_of(numerals, value)?),
-        "propose" => propose_of(alloc, numerals, value),
-        "commit" => Ok(commit_of(numerals, value)?),
-        "grant" => Ok(grant_call_of(numerals, value)?),
-        "free" => Ok(free_of(numerals, value)?),
-        "lose" => Ok(lose_of(value)?),
-        _ => Err(DecodeError::Refused(Refusal::WrongForm)),
+    let name = text_at("do", value)?;
+    match table_call_named(alloc, &[], numerals, name, value) {
+        Some(call) => call,
+        None => Err(DecodeError::Refused(DecodeRefusal::WrongForm)),
     }
 }
 

@@ -6,7 +6,7 @@ ghost use Rattle.wire.specs.declared.numerals.Numerals.TheVariants as numeral;
 ghost use Rattle.wire.specs.Refusals.{Gives};
 ghost use Rattle.wire.specs.TableReplies.{committed_of, freed_of, granted_of, lost_of, proposed_of, reply_data, reply_of, term_of};
 
-use crate::fault::{DecodeError, Refusal};
+use crate::fault::{DecodeError, DecodeRefusal};
 use crate::grant::{grant_json, grant_law, grant_of};
 use crate::message::Wire;
 use crate::numerals::{Numerals, numeral_at, numeral_json};
@@ -47,7 +47,7 @@ fn reply_json(alloc: Global, numerals: Numerals, reply: &TableReply) -> Result<V
 }
 
 #[tactic(auto, unfolding(crate::specs::TableReplies::term_of))]
-fn term_of(numerals: Numerals, value: &Value) -> Result<TableReply, Refusal>
+fn term_of(numerals: Numerals, value: &Value) -> Result<TableReply, DecodeRefusal>
     ensures { result ≡ term_of numerals (view value.now) }
 {
     exactly(&["reply", "number", "assigner", "until"], value)?;
@@ -59,7 +59,7 @@ fn term_of(numerals: Numerals, value: &Value) -> Result<TableReply, Refusal>
 }
 
 #[tactic(auto, unfolding(crate::specs::TableReplies::proposed_of))]
-fn proposed_of(value: &Value) -> Result<TableReply, Refusal>
+fn proposed_of(value: &Value) -> Result<TableReply, DecodeRefusal>
     ensures { result ≡ proposed_of (view value.now) }
 {
     exactly(&["reply"], value)?;
@@ -67,7 +67,7 @@ fn proposed_of(value: &Value) -> Result<TableReply, Refusal>
 }
 
 #[tactic(auto, unfolding(crate::specs::TableReplies::committed_of))]
-fn committed_of(numerals: Numerals, value: &Value) -> Result<TableReply, Refusal>
+fn committed_of(numerals: Numerals, value: &Value) -> Result<TableReply, DecodeRefusal>
     ensures { result ≡ committed_of numerals (view value.now) }
 {
     exactly(&["reply", "generation"], value)?;
@@ -84,7 +84,7 @@ fn granted_of(alloc: Global, numerals: Numerals, value: &Value) -> Result<TableR
 }
 
 #[tactic(auto, unfolding(crate::specs::TableReplies::freed_of))]
-fn freed_of(numerals: Numerals, value: &Value) -> Result<TableReply, Refusal>
+fn freed_of(numerals: Numerals, value: &Value) -> Result<TableReply, DecodeRefusal>
     ensures { result ≡ freed_of numerals (view value.now) }
 {
     exactly(&["reply", "rows"], value)?;
@@ -92,7 +92,7 @@ fn freed_of(numerals: Numerals, value: &Value) -> Result<TableReply, Refusal>
 }
 
 #[tactic(auto, unfolding(crate::specs::TableReplies::lost_of))]
-fn lost_of(numerals: Numerals, value: &Value) -> Result<TableReply, Refusal>
+fn lost_of(numerals: Numerals, value: &Value) -> Result<TableReply, DecodeRefusal>
     ensures { result ≡ lost_of numerals (view value.now) }
 {
     exactly(&["reply", "rows"], value)?;
@@ -111,7 +111,7 @@ fn reply_of(alloc: Global, numerals: Numerals, value: &Value) -> Result<TableRep
         "grant" => granted_of(alloc, numerals, value),
         "freed" => Ok(freed_of(numerals, value)?),
         "lost" => Ok(lost_of(numerals, value)?),
-        _ => Err(DecodeError::Refused(Refusal::WrongForm)),
+        _ => Err(DecodeError::Refused(DecodeRefusal::WrongForm)),
     }
 }
 

@@ -1,18 +1,19 @@
 //! Calls of a slicelet and their replies as bytes.
 
-ghost use Rattle.std.specs.Prelude.{◌≡◌, IfOk, Ok, codes};
+ghost use Rattle.std.specs.Prelude.{◌≡◌, IfOk, Ok, codes, map};
 ghost use Rattle.serde_json.specs.View.{view};
 ghost use Rattle.wire.specs.declared.numerals.Numerals.TheVariants as numeral;
+ghost use Rattle.wire.specs.Named.{GivesBy, reader_of};
 ghost use Rattle.wire.specs.Refusals.{Gives};
-ghost use Rattle.wire.specs.TaskCalls.{hear_of, heard_of, release_of, released_of, resume_of, resumed_of, start_of, started_of, task_call_data, task_call_of, task_reply_data, task_reply_of};
+ghost use Rattle.wire.specs.TaskCalls.{hear_of, heard_of, release_of, released_of, resume_of, resumed_of, start_of, started_of, task_call_data, task_call_kinds, task_call_of, task_reply_data, task_reply_of};
 
-use crate::fault::{DecodeError, Refusal};
+use crate::fault::{DecodeError, DecodeRefusal};
 use crate::grant::{grant_json, grant_law, grant_of};
 use crate::lease_members::{kind_at, kind_word, life_at};
 use crate::message::Wire;
 use crate::note::{note_json, note_law, note_of};
 use crate::numerals::{Numerals, numeral_at, numeral_json};
-use program_io::{exactly, member_at, text_at};
+use program_io::{exactly, exactly_beside, member_at, text_at};
 use serde_json::{Value, json};
 use slicelet::{EndedNotes, SliceletCall, SliceletReply};
 use std::alloc::{AllocError, Global};
@@ -44,10 +45,10 @@ fn task_call_json(
 }
 
 #[tactic(auto, unfolding(crate::specs::TaskCalls::start_of))]
-fn start_of(numerals: Numerals, value: &Value) -> Result<SliceletCall, Refusal>
-    ensures { result ≡ start_of numerals (view value.now) }
+fn start_of(beside: &[&str], numerals: Numerals, value: &Value) -> Result<SliceletCall, DecodeError>
+    ensures { Gives result (start_of (map (λ n. n.now) beside.now) numerals (view value.now)) }
 {
-    exactly(&["do", "life", "at"], value)?;
+    exactly_beside(beside, &["do", "life", "at"], value)?;
     Ok(SliceletCall::Start {
         life: life_at("life", value)?,
         at: numeral_at(numerals, "at", value)?,
@@ -55,20 +56,29 @@ fn start_of(numerals: Numerals, value: &Value) -> Result<SliceletCall, Refusal>
 }
 
 #[tactic(auto, unfolding(crate::specs::TaskCalls::hear_of))]
-fn hear_of(alloc: Global, numerals: Numerals, value: &Value) -> Result<SliceletCall, DecodeError>
-    ensures { Gives result (hear_of numerals (view value.now)) }
+fn hear_of(
+    alloc: Global,
+    beside: &[&str],
+    numerals: Numerals,
+    value: &Value,
+) -> Result<SliceletCall, DecodeError>
+    ensures { Gives result (hear_of (map (λ n. n.now) beside.now) numerals (view value.now)) }
 {
-    exactly(&["do", "grant", "at"], value)?;
+    exactly_beside(beside, &["do", "grant", "at"], value)?;
     let at = numeral_at(numerals, "at", value)?;
     let grant = grant_of(alloc, numerals, member_at("grant", value)?)?;
     Ok(SliceletCall::Hear { grant, at })
 }
 
 #[tactic(auto, unfolding(crate::specs::TaskCalls::release_of))]
-fn release_of(numerals: Numerals, value: &Value) -> Result<SliceletCall, Refusal>
-    ensures { result ≡ release_of numerals (view value.now) }
+fn release_of(
+    beside: &[&str],
+    numerals: Numerals,
+    value: &Value,
+) -> Result<SliceletCall, DecodeError>
+    ensures { Gives result (release_of (map (λ n. n.now) beside.now) numerals (view value.now)) }
 {
-    exactly(&["do", "kind", "at"], value)?;
+    exactly_beside(beside, &["do", "kind", "at"], value)?;
     Ok(SliceletCall::Release {
         kind: kind_at("kind", value)?,
         at: numeral_at(numerals, "at", value)?,
@@ -76,12 +86,34 @@ fn release_of(numerals: Numerals, value: &Value) -> Result<SliceletCall, Refusal
 }
 
 #[tactic(auto, unfolding(crate::specs::TaskCalls::resume_of))]
-fn resume_of(value: &Value) -> Result<SliceletCall, Refusal>
-    ensures { result ≡ resume_of (view value.now) }
+fn resume_of(beside: &[&str], value: &Value) -> Result<SliceletCall, DecodeError>
+    ensures { Gives result (resume_of (map (λ n. n.now) beside.now) (view value.now)) }
 {
-    exactly(&["do", "life"], value)?;
+    exactly_beside(beside, &["do", "life"], value)?;
     Ok(SliceletCall::Resume {
         life: life_at("life", value)?,
+    })
+}
+
+/// Reads the slicelet's call with this name from an object that has the members `beside`, too.
+///
+/// Returns `None` if there is no such call. The result is an error if a member is missing, is unknown, or does not
+/// have the form that it must have, or if memory runs out.
+pub fn task_call_named(
+    alloc: Global,
+    beside: &[&str],
+    numerals: Numerals,
+    name: &str,
+    value: &Value,
+) -> Option<Result<SliceletCall, DecodeError>>
+    ensures { GivesBy (reader_of (task_call_kinds (map (λ n. n.now) beside.now) numerals) name.now) (view value.now) result }
+{
+    Some(match name {
+        "start" => start_of(beside, numerals, value),
+        "hear" => hear_of(alloc, beside, numerals, value),
+        "release" => release_of(beside, numerals, value),
+        "resume" => resume_of(beside, value),
+        _ => return None,
     })
 }
 
@@ -94,12 +126,10 @@ fn task_call_of(
 ) -> Result<SliceletCall, DecodeError>
     ensures { Gives result (task_call_of numerals (view value.now)) }
 {
-    match text_at("do", value)? {
-        "start" => Ok(start_of(numerals, value)?),
-        "hear" => hear_of(alloc, numerals, value),
-        "release" => Ok(release_of(numerals, value)?),
-        "resume" => Ok(resume_of(value)?),
-        _ => Err(DecodeError::Refused(Refusal::WrongForm)),
+    let name = text_at("do", value)?;
+    match task_call_named(alloc, &[], numerals, name, value) {
+        Some(call) => call,
+        None => Err(DecodeError::Refused(DecodeRefusal::WrongForm)),
     }
 }
 
@@ -175,7 +205,7 @@ fn task_reply_json(
 }
 
 #[tactic(auto, unfolding(crate::specs::TaskCalls::started_of))]
-fn started_of(value: &Value) -> Result<SliceletReply, Refusal>
+fn started_of(value: &Value) -> Result<SliceletReply, DecodeRefusal>
     ensures { result ≡ started_of (view value.now) }
 {
     exactly(&["reply"], value)?;
@@ -183,7 +213,7 @@ fn started_of(value: &Value) -> Result<SliceletReply, Refusal>
 }
 
 #[tactic(auto, unfolding(crate::specs::TaskCalls::heard_of))]
-fn heard_of(value: &Value) -> Result<SliceletReply, Refusal>
+fn heard_of(value: &Value) -> Result<SliceletReply, DecodeRefusal>
     ensures { result ≡ heard_of (view value.now) }
 {
     exactly(&["reply"], value)?;
@@ -191,7 +221,7 @@ fn heard_of(value: &Value) -> Result<SliceletReply, Refusal>
 }
 
 #[tactic(auto, unfolding(crate::specs::TaskCalls::released_of))]
-fn released_of(numerals: Numerals, value: &Value) -> Result<SliceletReply, Refusal>
+fn released_of(numerals: Numerals, value: &Value) -> Result<SliceletReply, DecodeRefusal>
     ensures { result ≡ released_of numerals (view value.now) }
 {
     exactly(&["reply", "note"], value)?;
@@ -200,7 +230,7 @@ fn released_of(numerals: Numerals, value: &Value) -> Result<SliceletReply, Refus
 }
 
 #[tactic(auto, unfolding(crate::specs::TaskCalls::resumed_of))]
-fn resumed_of(numerals: Numerals, value: &Value) -> Result<SliceletReply, Refusal>
+fn resumed_of(numerals: Numerals, value: &Value) -> Result<SliceletReply, DecodeRefusal>
     ensures { result ≡ resumed_of numerals (view value.now) }
 {
     exactly(&["reply", "guard", "bridge"], value)?;
@@ -211,7 +241,7 @@ fn resumed_of(numerals: Numerals, value: &Value) -> Result<SliceletReply, Refusa
 
 // Reads a reply from JSON.
 #[tactic(auto, unfolding(crate::specs::TaskCalls::task_reply_of))]
-fn task_reply_of(numerals: Numerals, value: &Value) -> Result<SliceletReply, Refusal>
+fn task_reply_of(numerals: Numerals, value: &Value) -> Result<SliceletReply, DecodeRefusal>
     ensures { result ≡ task_reply_of numerals (view value.now) }
 {
     match text_at("reply", value)? {
@@ -219,7 +249,7 @@ fn task_reply_of(numerals: Numerals, value: &Value) -> Result<SliceletReply, Ref
         "heard" => heard_of(value),
         "released" => released_of(numerals, value),
         "resumed" => resumed_of(numerals, value),
-        _ => Err(Refusal::WrongForm),
+        _ => Err(DecodeRefusal::WrongForm),
     }
 }
 

@@ -120,10 +120,13 @@ fn played(alloc: Global, script: &[u8]) -> Result<Outcome> {
     let mut written = Vec::new(alloc);
     let (said, status) = match run_script(alloc, &mut reader, &mut written) {
         Ok(()) => (String::new(alloc), 0),
-        Err(fault) => (
-            format!(in alloc; "{}\n", ProgramError::Fault(fault))?,
-            fault.status(),
-        ),
+        Err(fault) => {
+            let status = fault.status();
+            (
+                format!(in alloc; "{}\n", ProgramError::Fault(fault))?,
+                status,
+            )
+        }
     };
     Ok(Outcome {
         written: String::from_utf8(written)?,

@@ -6,19 +6,17 @@ use Rattle.machines.specs.Numbers.{is_within}
 use Rattle.world.specs.Jobs.{Job}
 use Rattle.assignment.specs.declared.error.AssignmentError.{AssignmentError}
 use Rattle.assignment.specs.Slices.{Slicing}
-use Rattle.weighted_move.specs.declared.made.Plan.{Plan}
+use Rattle.weighted_move.specs.declared.slice_plan.Plan.{Plan}
 use Rattle.weighted_move.specs.declared.error.PlanError.{PlanError}
 use Rattle.weighted_move.specs.Plans.{plan_refusal}
 use Rattle.world.specs.declared.step.Step.{Step}
-use Rattle.world.specs.declared.step.Step.TheVariants as step
 use Rattle.world.specs.declared.reply.Refusal.{Refusal}
 use Rattle.world.specs.declared.reply.Refusal.TheVariants as refusal
 use Rattle.world.specs.declared.reply.Reply.{Reply}
 use Rattle.world.specs.declared.reply.Reply.TheVariants as reply
 use Rattle.world.specs.Pasts.{event, Past, is_accepted}
-use Rattle.world.specs.Front.{draft_of}
 use Rattle.world.specs.Calls.{call_of, calls_in}
-use Rattle.world.specs.Replies.{Outcome, Plain, plan_in, by_actor, from_layer, if_built, planned, plan_reply, reply_to}
+use Rattle.world.specs.Replies.{Outcome, Plain, by_actor, from_layer, if_built, planned, plan_reply, reply_to}
 use Rattle.world.specs.Runs.{IsReply, IsOutcome, takes_memory, needs_memory}
 use Rattle.machines.specs.declared.machine.Trouble.{Trouble}
 use Rattle.machines.specs.declared.machine.Trouble.TheVariants.{Refused, NoMemory}

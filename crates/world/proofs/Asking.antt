@@ -1,28 +1,19 @@
 -- A step that makes a call of the machines leads on as its call does.
 use Rattle.std.proofs.Common.{◌≡◌, ℕ, Bool, true, false, List, ◌∷◌, refl, sym, ◌∙◌, ap, subst, inl, inr}
-use Rattle.std.specs.Prelude.{Option, Some, None, Result, Ok, Err, IsTrue, is_err, option_map, if◌then◌else◌}
+use Rattle.std.specs.Prelude.{Option, Result, Ok, Err, IsTrue, is_err, if◌then◌else◌}
 use Rattle.std.specs.declared.alloc.AllocError.{AllocError}
 use Rattle.machines.specs.Numbers.{is_within}
-use Rattle.lease_table.specs.declared.call.TableReply.TheVariants as table
 use Rattle.lease_table.specs.declared.values.JobTerm.{JobTerm}
 use Rattle.load_ledger.specs.Shares.{Share}
 use Rattle.load_ledger.specs.Books.{book_of}
 use Rattle.assignment.specs.Slices.{Slicing}
 use Rattle.assigner.specs.Terms.{Keeping}
-use Rattle.slicelet.specs.declared.call.SliceletReply.TheVariants as slicelet
-use Rattle.slicelet.specs.Continuity.{is_strange}
-use Rattle.clerk.specs.declared.call.ClerkReply.TheVariants as clerk
 use Rattle.cluster.specs.declared.call.ClusterCall.{ClusterCall}
-use Rattle.cluster.specs.declared.call.ClusterCall.TheVariants as call
-use Rattle.cluster.specs.declared.error.ClusterError.TheVariants as error
 use Rattle.cluster.specs.declared.reply.ClusterReply.{ClusterReply}
-use Rattle.cluster.specs.declared.reply.ClusterReply.TheVariants as machine
-use Rattle.cluster.specs.Pasts.{Event as ClusterEvent, event as cluster_event, Past as ClusterPast, is_accepted as is_accepted_call, history}
-use Rattle.cluster.specs.Deliveries.{is_given}
-use Rattle.cluster.specs.Replies.{check_reply, reply_to as cluster_reply}
-use Rattle.cluster.specs.Memory.{takes_memory as call_takes_memory, gives_handle as gives_handle_itself, needs_memory as call_needs_memory}
+use Rattle.cluster.specs.Pasts.{event as cluster_event, Past as ClusterPast, is_accepted as is_accepted_call}
+use Rattle.cluster.specs.Memory.{takes_memory as call_takes_memory, needs_memory as call_needs_memory}
 use Rattle.cluster.specs.Runs.{IsOutcome as IsClusterOutcome, IsRun as IsClusterRun}
-use Rattle.cluster.specs.Clusters.{AreActors, LeadsTo as LeadsToCluster, IsPlayed, IsPlayedOr}
+use Rattle.cluster.specs.Clusters.{AreActors, LeadsTo as LeadsToCluster, IsPlayed}
 use Rattle.cluster.proofs.ActorLists.{actors_same}
 use Rattle.world.specs.Jobs.{Job}
 use Rattle.world.specs.declared.step.Step.{Step}
@@ -35,89 +26,37 @@ use Rattle.world.specs.declared.told.NextNumbers.{NextNumbers}
 use Rattle.world.specs.declared.world.World.{World}
 use Rattle.world.specs.Pasts.{event, Past, is_accepted}
 use Rattle.world.specs.Front.{draft_after, draft_of, kept_with, kept_term, recorded_with, recorded_by, share_of, gathered_with, gathers_in}
-use Rattle.world.specs.Calls.{if_actor, if_sent, call_of, is_continuous, unless_out_of_memory, with_call, calls_in}
-use Rattle.world.specs.Replies.{Outcome, Plain, Checked, is_continuous_in, next_numbers, told_as, reply_by_call, assigner_of, book_in, reply_to}
-use Rattle.world.specs.Runs.{IsCallOutcome, IsOutcome, takes_memory, gives_handle, needs_memory, IsReply}
+use Rattle.world.specs.Calls.{if_actor, call_of, with_call, calls_in}
+use Rattle.world.specs.Replies.{Outcome, Plain, Checked, is_continuous_in, named, next_numbers, told_as, reply_by_call, assigner_of, reply_to}
+use Rattle.world.specs.Runs.{IsCallOutcome, IsOutcome, takes_memory, needs_memory, IsReply}
 use Rattle.world.specs.Worlds.{Keeps}
 use Rattle.world.specs.internals.Asking.{told_of, IsAsked}
+use Rattle.world.proofs.Telling.{faithful, calls_after}
 
 pub either : {A : Type 0} (b : Bool) (x y : A) → x ≡ y → (if b then x else y) ≡ y
 either true x y e = e
 either false x y e = refl
 
--- WHAT IS TOLD OF A REPLY
-
--- what is told of a reply accepts its step where the reply accepts its call, gives a handle where the reply does, and is never out of memory
-pub record IsFaithful (told : Reply) (r : ClusterReply) : Type 0 where
-  pub accepts : is_accepted told ≡ is_accepted_call r
-  pub gives : gives_handle told ≡ gives_handle_itself r
-  pub calls : (e : ClusterEvent) (calls : ClusterPast) → unless_out_of_memory told e calls ≡ e ∷ calls
-
-pub faithful : (s : Step) (next : NextNumbers) (r : ClusterReply) → IsFaithful (told_as s next r) r
-faithful s next (machine.Table (table.Term term)) = by_step s
-  where
-    by_step : (s : Step) → IsFaithful (told_as s next (machine.Table (table.Term term))) (machine.Table (table.Term term))
-    by_step (step.Renew assigner at) = record { accepts = refl; gives = refl; calls = λ e calls. refl }
-    by_step _ = record { accepts = refl; gives = refl; calls = λ e calls. refl }
-faithful s next (machine.Table _) = record { accepts = refl; gives = refl; calls = λ e calls. refl }
-faithful s next (machine.Task slicelet.Started) = record { accepts = refl; gives = refl; calls = λ e calls. refl }
-faithful s next (machine.Task slicelet.Heard) = record { accepts = refl; gives = refl; calls = λ e calls. refl }
-faithful s next (machine.Task (slicelet.Released note)) = record { accepts = refl; gives = refl; calls = λ e calls. refl }
-faithful s next (machine.Task (slicelet.Resumed ended)) = record { accepts = refl; gives = refl; calls = λ e calls. refl }
-faithful s next (machine.Clerk clerk.Learnt) = record { accepts = refl; gives = refl; calls = λ e calls. refl }
-faithful s next (machine.Clerk clerk.Forgotten) = record { accepts = refl; gives = refl; calls = λ e calls. refl }
-faithful s next _ = record { accepts = refl; gives = refl; calls = λ e calls. refl }
-
--- the reply to a `check` by a task of the job or not
-abbrev pub own_check_reply : Bool → Bool → Bool → Bool → ClusterReply
-own_check_reply own given strange kept = if own then check_reply given strange kept else machine.Refused error.NoActor
-
-module _ (job : Job) (calls : ClusterPast) (s : Step) where
-  abbrev told_reply : ClusterCall → Bool → Reply
-  told_reply made kept = told_as s (next_numbers calls) (cluster_reply job calls made kept)
-
-  -- a reply rests on no more of a handle than is told of it
-  pub reply_again : (made : ClusterCall) (kept : Bool) → cluster_reply job calls made (is_continuous (told_reply made kept)) ≡ cluster_reply job calls made kept
-  reply_again (call.Check task handle at) kept = by_tests (is_within task job.tasks) (is_given calls handle) (is_strange (history task calls) handle) kept
-    where
-      by_tests : (own given strange kept : Bool) → own_check_reply own given strange (is_continuous (told_as s (next_numbers calls) (own_check_reply own given strange kept))) ≡ own_check_reply own given strange kept
-      by_tests false given strange kept = refl
-      by_tests true false strange kept = refl
-      by_tests true true true kept = refl
-      by_tests true true false true = refl
-      by_tests true true false false = refl
-  reply_again _ kept = refl
-
-  -- the calls after one more, by what is told of it
-  pub calls_after : (made : ClusterCall) (kept : Bool) (r : ClusterReply) (answer : Reply) → r ≡ cluster_reply job calls made kept → answer ≡ told_as s (next_numbers calls) r
-      → with_call job answer (Ok made) calls ≡ cluster_event made r ∷ calls
-  calls_after made kept r answer given e =
-      let told = told_reply made kept in
-      let after : cluster_reply job calls made (is_continuous told) ≡ r = reply_again made kept ∙ sym given in
-      ap (λ (a : Reply). with_call job a (Ok made) calls) (e ∙ ap (told_as s (next_numbers calls)) given)
-      ∙ ((faithful s (next_numbers calls) (cluster_reply job calls made kept)).calls (cluster_event made (cluster_reply job calls made (is_continuous told))) calls
-      ∙ ap (λ (x : ClusterReply). cluster_event made x ∷ calls) after)
-
 -- a step without memory makes no call
-pub nothing_called : (job : Job) (o : Result ClusterCall Refusal) (calls : ClusterPast) → with_call job reply.NoMemory o calls ≡ calls
-nothing_called job (Ok made) calls = refl
-nothing_called job (Err why) calls = refl
+pub nothing_called : (o : Result ClusterCall Refusal) (calls : ClusterPast) → with_call reply.NoMemory o calls ≡ calls
+nothing_called (Ok made) calls = refl
+nothing_called (Err why) calls = refl
 
 -- a step that calls no machine leaves their calls
-pub no_call : (job : Job) (answer : Reply) (o : Result ClusterCall Refusal) (calls : ClusterPast) → is_err o ≡ true → with_call job answer o calls ≡ calls
-no_call job answer (Ok made) calls e = absurd (let f : false ≡ true = e in cc)
-no_call job answer (Err why) calls e = refl
+pub no_call : (answer : Reply) (o : Result ClusterCall Refusal) (calls : ClusterPast) → is_err o ≡ true → with_call answer o calls ≡ calls
+no_call answer (Ok made) calls e = absurd (let f : false ≡ true = e in cc)
+no_call answer (Err why) calls e = refl
 
 -- A STEP WITH A CALL
 
 -- a call takes memory for a reply only where its step does
 pub record Fits (s : Step) (made : ClusterCall) : Type 0 where
   pub takes : call_takes_memory made ≡ true → takes_memory s ≡ true
-  pub needs : (next : NextNumbers) (r : ClusterReply) → call_needs_memory made r ≡ true → needs_memory s (told_as s next r) ≡ true
+  pub needs : (next : NextNumbers) (r : ClusterReply) → call_needs_memory made r ≡ true → needs_memory s (told_as (named s) next r) ≡ true
 
 pub fits : (s : Step) (made : ClusterCall) → (call_takes_memory made ≡ true → takes_memory s ≡ true) → ((r : ClusterReply) → call_needs_memory made r ≡ is_accepted_call r)
     → ((r : Reply) → needs_memory s r ≡ is_accepted r) → Fits s made
-fits s made takes asked told = record { takes = takes; needs = λ next r n. told (told_as s next r) ∙ ((faithful s next r).accepts ∙ (sym (asked r) ∙ n)) }
+fits s made takes asked told = record { takes = takes; needs = λ next r n. told (told_as (named s) next r) ∙ ((faithful (named s) next r).accepts ∙ (sym (asked r) ∙ n)) }
 
 module _ (job : Job) (past : Past) (calls : ClusterPast) (made : ClusterCall) where
   -- a step with a call has no other matter
@@ -131,7 +70,7 @@ module _ (job : Job) (past : Past) (calls : ClusterPast) (made : ClusterCall) wh
   replied_by_call step.Gather outcome e same = absurd (cc)
   replied_by_call (step.Plan loads tasks bounds) outcome e same = absurd (cc)
   replied_by_call (step.Next assigner at wanted) outcome e same = absurd (cc)
-  replied_by_call (step.Restart assigner) outcome e same = absurd (cc)
+  replied_by_call (step.DropTerm assigner) outcome e same = absurd (cc)
   replied_by_call s outcome e same =
       subst (λ (c : ClusterPast). reply_by_call job c s (is_continuous_in outcome) (call_of job past c s) ≡ reply_by_call job calls s (is_continuous_in outcome) (Ok made)) same
       (ap (reply_by_call job calls s (is_continuous_in outcome)) e)
@@ -175,7 +114,7 @@ module _ (job : Job) (past : Past) (s : Step) (made : ClusterCall) (old new : Wo
   calls = calls_in job past
 
   -- where the calls lead to the cluster, and the assigners keep their terms, the step leads on
-  kept_on : (answer : Reply) → IsReply job past (event s answer) → LeadsToCluster job (with_call job answer (call_of job past calls s) calls) new.cluster
+  kept_on : (answer : Reply) → IsReply job past (event s answer) → LeadsToCluster job (with_call answer (call_of job past calls s) calls) new.cluster
       → AreActors (assigner_of job (event s answer ∷ past)) job.assigners new.assigners.items → Keeps job (event s answer ∷ past) new
   kept_on answer answered leads assigners = record {
     run = (answered, k.run);
@@ -195,13 +134,13 @@ module _ (job : Job) (past : Past) (s : Step) (made : ClusterCall) (old new : Wo
     played_on (Ok r) leads answer e assigners =
         let given = (law job (cluster_event made r ∷ calls) leads).0 in
         let kept = given.0 in
-        let told = e ∙ (ap (told_as s (next_numbers calls)) given.2 ∙ sym (replied_by_call job past calls made s (Checked kept) is refl)) in
-        let after = ap (λ (o : Result ClusterCall Refusal). with_call job answer o calls) is ∙ calls_after job calls s made kept r answer given.2 e in
+        let told = e ∙ (ap (told_as (named s) (next_numbers calls)) given.2 ∙ sym (replied_by_call job past calls made s (Checked kept) is refl)) in
+        let after = ap (λ (o : Result ClusterCall Refusal). with_call answer o calls) is ∙ calls_after job calls past s made kept r answer is given.2 e in
         kept_on answer (inl (Checked kept, outcome_by_call job past calls made s (Checked kept) is refl given.1, told)) (subst (λ (c : ClusterPast). LeadsToCluster job c new.cluster) (sym after) leads) assigners
     played_on (Err error) h answer e assigners =
         let needed : (outcome : Outcome) → IsTrue (needs_memory s (reply_to job past s outcome)) = λ outcome.
         subst (λ (r : Reply). needs_memory s r ≡ true) (sym (replied_by_call job past calls made s outcome is refl)) (fit.needs (next_numbers calls) _ (h.1.1 (is_continuous_in outcome))) in
-        let after = ap (λ (a : Reply). with_call job a (call_of job past calls s) calls) e ∙ nothing_called job (call_of job past calls s) calls in
+        let after = ap (λ (a : Reply). with_call a (call_of job past calls s) calls) e ∙ nothing_called (call_of job past calls s) calls in
         kept_on answer (inr (e, fit.takes h.1.0, needed)) (subst (λ (c : ClusterPast). LeadsToCluster job c new.cluster) (sym after) h.0) assigners
 
     -- which changes no assigner

@@ -1,7 +1,6 @@
 -- A handle keeps its number, and what a `hold` and a `check` tell of it.
 use Rattle.std.proofs.Common.{◌≡◌, ℕ, ◌+◌, ◌-◌, Bool, true, false, List, [], ◌∷◌, ◌++◌, length, refl, sym, ◌∙◌, ap, subst, inl, inr, arith}
 use Rattle.std.specs.Prelude.{Option, Some, None, Result, Ok, Err, ◌==◌, Contains, reverse, slice_get, IsTrue, ◌↔◌, if◌then◌else◌}
-use Rattle.std.specs.List.{list_any}
 use Rattle.std.proofs.lemmas.Bool.Decides.{nat_tests}
 use Rattle.std.proofs.lemmas.List.{length-reverse}
 use Rattle.std.proofs.lemmas.List.Folds.{list_any_at}
@@ -9,8 +8,8 @@ use Rattle.std.proofs.lemmas.Option.{slice_get_within, get_or_from_slice_get}
 use mathlib.Core.List.{reverse-cons}
 use Rattle.machines.specs.Numbers.{is_within}
 use Rattle.slice_ranges.specs.Hash.{slice_key}
-use Rattle.policy_rules.specs.declared.answer.Verdict.{Verdict}
-use Rattle.policy_rules.specs.declared.answer.Verdict.TheVariants.{Allow, Deny}
+use Rattle.lease_rule.specs.declared.answer.Verdict.{Verdict}
+use Rattle.lease_rule.specs.declared.answer.Verdict.TheVariants.{Allow, Deny}
 use Rattle.slicelet.specs.declared.handle.KeyHandle.{KeyHandle}
 use Rattle.slicelet.specs.Continuity.{handle_on, held_by, is_strange, IsContinuous}
 use Rattle.cluster.specs.declared.call.ClusterCall.{ClusterCall}
@@ -19,7 +18,7 @@ use Rattle.cluster.specs.declared.error.ClusterError.TheVariants as error
 use Rattle.cluster.specs.declared.reply.ClusterReply.{ClusterReply}
 use Rattle.cluster.specs.declared.reply.ClusterReply.TheVariants as machine
 use Rattle.cluster.specs.Numbers.{with_number}
-use Rattle.cluster.specs.Pasts.{Event as ClusterEvent, event as cluster_event, Past as ClusterPast, history, task_calls}
+use Rattle.cluster.specs.Pasts.{event as cluster_event, Past as ClusterPast, history, task_calls}
 use Rattle.cluster.specs.Deliveries.{same_handle, handle_told, with_handle, handles_made as handles_given, is_given}
 use Rattle.cluster.specs.Replies.{covers, rule_in, hold_reply}
 use Rattle.cluster.proofs.ActorLists.{get_left, get_last}
@@ -34,11 +33,12 @@ use Rattle.world.specs.declared.reply.Refusal.{Refusal}
 use Rattle.world.specs.declared.reply.Refusal.TheVariants as refusal
 use Rattle.world.specs.declared.told.NextNumbers.{NextNumbers}
 use Rattle.world.specs.Pasts.{event, Past}
-use Rattle.world.specs.Calls.{if_actor, if_sent, call_of, with_call, calls_in, handles_made}
-use Rattle.world.specs.Replies.{is_continuous_in, next_numbers, told_as, reply_by_call}
+use Rattle.world.specs.Calls.{if_sent, call_of, with_call, calls_in, handles_made}
+use Rattle.world.specs.Replies.{is_continuous_in, named, next_numbers, told_as, reply_by_call}
 use Rattle.world.specs.Runs.{IsReply}
 use Rattle.world.specs.Headline.{IsCheckedByHistory}
-use Rattle.world.proofs.Asking.{own_check_reply, replied_by_call, outcome_of_call, calls_after}
+use Rattle.world.proofs.Telling.{own_check_reply, calls_after}
+use Rattle.world.proofs.Asking.{replied_by_call, outcome_of_call}
 
 -- A HANDLE KEEPS ITS NUMBER
 
@@ -99,7 +99,7 @@ module _ (s : Step) (next : NextNumbers) where
   abbrev told_hold : Bool → Verdict → KeyHandle → ClusterReply
   told_hold b v made = if b then hold_reply (held_by v made) else machine.Refused error.NoActor
 
-  hold_told : (b : Bool) (v : Verdict) (made handle : KeyHandle) (number : ℕ) → reply.Holding number handle ≡ told_as s next (told_hold b v made)
+  hold_told : (b : Bool) (v : Verdict) (made handle : KeyHandle) (number : ℕ) → reply.Holding number handle ≡ told_as (named s) next (told_hold b v made)
       → (number ≡ next.handle) × (made ≡ handle) × (machine.Holding handle ≡ told_hold b v made)
   hold_told true (Allow kind generation) made handle number e =
       let same : handle ≡ made = cc in
@@ -126,7 +126,7 @@ module _ (job : Job) (past : Past) (task : ℕ) (key : List ℕ) (at number : �
             let made = call.Hold task (slice_key key) at in
             let told = hold_told s (next_numbers before_hold) (is_within task job.tasks) (rule_in before_hold task (slice_key key) at) (handle_on (slice_key key) (history task before_hold)) handle number answered.2 in
             record {
-              event_now = calls_after job before_hold s made false (machine.Holding handle) (reply.Holding number handle) told.2 (ap (λ (n : ℕ). reply.Holding n handle) told.0);
+              event_now = calls_after job before_hold past s made false (machine.Holding handle) (reply.Holding number handle) refl told.2 (ap (λ (n : ℕ). reply.Holding n handle) told.0);
               numbered_now = subst (λ (n : ℕ). IsNumbered n handle (handle ∷ handles_given before_hold)) (sym told.0) (last_numbered (handles_given before_hold) handle);
               taken = told.1;
             })
@@ -136,14 +136,14 @@ module _ (job : Job) (past : Past) (task : ℕ) (key : List ℕ) (at number : �
 -- THE CHECK
 
 module _ (s : Step) (next : NextNumbers) where
-  check_told : (b given strange kept : Bool) → reply.Continuous ≡ told_as s next (own_check_reply b given strange kept) → machine.Continuous ≡ own_check_reply b given strange kept
+  check_told : (b given strange kept : Bool) → reply.Continuous ≡ told_as (named s) next (own_check_reply b given strange kept) → machine.Continuous ≡ own_check_reply b given strange kept
   check_told true true false true e = refl
   check_told true true false false e = absurd (cc)
   check_told true true true kept e = absurd (cc)
   check_told true false strange kept e = absurd (cc)
   check_told false given strange kept e = absurd (cc)
 
-  pub familiar_told : (b given strange kept : Bool) → b ≡ true → given ≡ true → strange ≡ false → told_as s next (own_check_reply b given strange kept) ≡ (if kept then reply.Continuous else reply.Broken)
+  pub familiar_told : (b given strange kept : Bool) → b ≡ true → given ≡ true → strange ≡ false → told_as (named s) next (own_check_reply b given strange kept) ≡ (if kept then reply.Continuous else reply.Broken)
   familiar_told true true false true e f g = refl
   familiar_told true true false false e f g = refl
   familiar_told true true true kept e f g = absurd (let h : true ≡ false = g in cc)
@@ -181,7 +181,7 @@ module _ (job : Job) (past : Past) (task number at : ℕ) (handle : KeyHandle) w
             let is : call_of job past before_check s ≡ Ok (deliver handle) = check_call (is_within task job.tasks) given inside made in
             let told = answered.2 ∙ replied_by_call job past before_check (deliver handle) s answered.0 is refl in
             let reply_is = check_told s (next_numbers before_check) (is_within task job.tasks) (is_given before_check handle) (is_strange (history task before_check) handle) kept told in
-            ap (λ (o : Result ClusterCall Refusal). with_call job reply.Continuous o before_check) is ∙ calls_after job before_check s (deliver handle) kept machine.Continuous reply.Continuous reply_is refl)
+            ap (λ (o : Result ClusterCall Refusal). with_call reply.Continuous o before_check) is ∙ calls_after job before_check past s (deliver handle) kept machine.Continuous reply.Continuous is reply_is refl)
         | inr none ↦ absurd (let f : reply.Continuous ≡ reply.NoMemory = none.0 in cc)
       ]
 

@@ -1,44 +1,30 @@
 -- Who may serve by the steps may serve by their calls, and a point between a `hold` and a `check` stands between their calls.
-use Rattle.std.proofs.Common.{◌≡◌, ℕ, Bool, true, false, List, ◌∷◌, ◌++◌, refl, sym, ◌∙◌, ap, subst}
-use Rattle.std.specs.Prelude.{if◌then◌else◌}
-use Rattle.machines.specs.Numbers.{is_within}
+use Rattle.std.proofs.Common.{◌≡◌, ℕ, List, ◌∷◌, ◌++◌, refl, sym, ◌∙◌, ap, subst}
 use Rattle.slice_ranges.specs.Hash.{slice_key}
-use Rattle.policy_rules.specs.declared.answer.Verdict.{Verdict}
 use Rattle.slicelet.specs.declared.handle.KeyHandle.{KeyHandle}
-use Rattle.slicelet.specs.Rules.{is_allowed}
 use Rattle.cluster.specs.declared.call.ClusterCall.TheVariants as call
-use Rattle.cluster.specs.declared.error.ClusterError.TheVariants as error
 use Rattle.cluster.specs.declared.reply.ClusterReply.TheVariants as machine
 use Rattle.cluster.specs.declared.timing.Reading.TheVariants.{TaskClock}
 use Rattle.cluster.specs.Timing.{IsNear}
 use Rattle.cluster.specs.Pasts.{Event as ClusterEvent, event as cluster_event, Past as ClusterPast}
 use Rattle.cluster.specs.Deliveries.{handles_made as handles_given}
-use Rattle.cluster.specs.Replies.{rule_in}
 use Rattle.cluster.specs.Headline.{MayServe as MayServeKey, IsWhileHeld as IsWhileKept}
 use Rattle.world.specs.Jobs.{Job}
-use Rattle.world.specs.declared.step.Step.{Step}
 use Rattle.world.specs.declared.step.Step.TheVariants as step
 use Rattle.world.specs.declared.reply.Reply.TheVariants as reply
-use Rattle.world.specs.declared.told.NextNumbers.{NextNumbers}
 use Rattle.world.specs.Pasts.{Event, event, Past}
 use Rattle.world.specs.Calls.{calls_in}
-use Rattle.world.specs.Replies.{next_numbers, told_as}
 use Rattle.world.specs.Runs.{IsRun}
-use Rattle.world.specs.Headline.{is_served, MayServe, IsWhileHeld}
+use Rattle.world.specs.Headline.{MayServe, IsWhileHeld}
 use Rattle.world.proofs.Ruling.{run_before}
 use Rattle.world.proofs.Running.{calls_extend}
 use Rattle.world.proofs.Timing.{all_called, timely_calls}
 use Rattle.world.proofs.Handles.{IsTaken, IsNumbered, handle_stays, hold_taken, check_found}
 
-served_allowed : (s : Step) (next : NextNumbers) (b : Bool) (v : Verdict) → is_served (told_as s next (if b then machine.Verdict v else machine.Refused error.NoActor)) ≡ true → is_allowed v ≡ true
-served_allowed s next true v served = served
-served_allowed s next false v served = absurd (let f : false ≡ true = served in cc)
-
 pub may_serve : (job : Job) (past : Past) (task : ℕ) (key : List ℕ) → MayServe job past task key → MayServeKey job (calls_in job past) task (slice_key key)
 may_serve job past task key may =
     let at = may.0 in
-    let calls = calls_in job past in
-    (at, (all_called (IsNear job.policy.skew (TaskClock at)) job past may.1.0, timely_calls job.policy.skew job past may.1.1), served_allowed (step.Serve task key at) (next_numbers calls) (is_within task job.tasks) (rule_in calls task (slice_key key) at) may.2)
+    (at, (all_called (IsNear job.policy.skew (TaskClock at)) job past may.1.0, timely_calls job.policy.skew job past may.1.1), may.2)
 
 module _ (job : Job) (run past : Past) (task : ℕ) (key : List ℕ) (while : IsWhileHeld run past task key) (is_run : IsRun job run) where
   abbrev from_hold : Past

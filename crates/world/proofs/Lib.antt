@@ -1,3 +1,4 @@
+pub mod Telling
 pub mod Asking
 pub mod Answering
 pub mod AssignerTerms

@@ -7,8 +7,8 @@ use Rattle.lease_table.specs.Policies.{Terms, is_policy}
 use Rattle.machines.specs.Numbers.{is_within}
 use Rattle.assignment.specs.Slices.{Slicing, refusal_of}
 use Rattle.weighted_move.specs.declared.error.PlanError.{PlanError}
-use Rattle.weighted_move.specs.declared.made.Plan.{Plan}
-use Rattle.weighted_move.specs.Policies.{Limits, limits_of, is_policy as is_plan_policy}
+use Rattle.weighted_move.specs.declared.slice_plan.Plan.{Plan}
+use Rattle.weighted_move.specs.Policies.{PlanTerms, plan_terms_of, is_policy as is_plan_policy}
 use Rattle.weighted_move.specs.Plans.{CanPlan, IsPlan, plan_refusal}
 use Rattle.world.specs.Jobs.{Job}
 use Rattle.weighted_move.specs.Bounds.{Bounds, is_bounds}
@@ -31,8 +31,8 @@ both true b e f = f
 both false b e f = absurd (let g : false ≡ true = e in cc)
 
 -- what holds a plan in a job is within its limits
-pub are_limits : (t : Terms) (b : Bounds) → is_policy t ≡ true → is_bounds b ≡ true → is_plan_policy (limits_of t.low t.high b) ≡ true
-are_limits t b h k =
+pub are_plan_terms : (t : Terms) (b : Bounds) → is_policy t ≡ true → is_bounds b ≡ true → is_plan_policy (plan_terms_of t.low t.high b) ≡ true
+are_plan_terms t b h k =
     let few = (and_parts _ _ (and_parts _ _ (and_parts _ _ (and_parts _ _ (and_parts _ _ (and_parts _ _ h).0).0).0).0).0).0 in
     both (is_within t.low t.high && nat_le t.high MOST_OWNERS) (is_bounds b) few k
 
@@ -83,7 +83,7 @@ module _ (job : Job) (past : Past) (loads tasks : List ℕ) (bounds : Bounds) wh
     unplanned_played world k (Some why) e = (k, unplanned_reply why e, refl)
 
   -- a plan that is answered is one of the draft
-  module _ (law : (list : List _) (given set : List ℕ) (limits : Limits) (made : Plan) → CanPlan list given set limits → IsPlan list given set limits made → refusal_of made.slices ≡ None) (plan : Plan) where
+  module _ (law : (list : List _) (given set : List ℕ) (terms : PlanTerms) (made : Plan) → CanPlan list given set terms → IsPlan list given set terms made → refusal_of made.slices ≡ None) (plan : Plan) where
     by_refusal : (draft : Slicing) (o : Option PlanError) → draft_of past ≡ Some draft → plan_refusal draft.slices loads tasks ≡ o → (made : Plan)
         → (plan_refusal draft.slices loads tasks ≡ None → IsPlanOf job draft loads tasks bounds made) → reply.Planned plan ≡ planned o made → IsPlannedFromDraft job past loads tasks bounds plan
     by_refusal draft None drafted free made h e =

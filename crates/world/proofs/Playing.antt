@@ -22,7 +22,7 @@ use Rattle.world.specs.declared.world.World.{World}
 use Rattle.world.specs.Pasts.{event, Past}
 use Rattle.world.specs.Front.{kept_with, share_of}
 use Rattle.world.specs.Calls.{if_sent, call_of, calls_in}
-use Rattle.world.specs.Replies.{next_numbers, told_as, assigner_of}
+use Rattle.world.specs.Replies.{named, next_numbers, told_as, assigner_of}
 use Rattle.world.specs.Runs.{IsReply, past_after}
 use Rattle.world.specs.Worlds.{Keeps}
 use Rattle.world.specs.internals.Asking.{told_of}
@@ -34,7 +34,7 @@ module _ (job : Job) (past : Past) (s : Step) (world : World) (k : Keeps job pas
   pub refused_leads : (why : Refusal) → IsReply job past (event s (reply.Refused why)) → is_err (call_of job past (calls_in job past) s) ≡ true → Keeps job (event s (reply.Refused why) ∷ past) world
   refused_leads why answered none = record {
     run = (answered, k.run);
-    cluster = subst (λ (calls : ClusterPast). LeadsToCluster job calls world.cluster) (sym (no_call job (reply.Refused why) (call_of job past (calls_in job past) s) (calls_in job past) none)) k.cluster;
+    cluster = subst (λ (calls : ClusterPast). LeadsToCluster job calls world.cluster) (sym (no_call (reply.Refused why) (call_of job past (calls_in job past) s) (calls_in job past) none)) k.cluster;
     same_job = k.same_job;
     draft = k.draft;
     assigners = k.assigners;
@@ -46,7 +46,7 @@ module _ (job : Job) (past : Past) (s : Step) (world : World) (k : Keeps job pas
   pub unplayed_leads : IsReply job past (event s reply.NoMemory) → Keeps job (event s reply.NoMemory ∷ past) world
   unplayed_leads answered = record {
     run = (answered, k.run);
-    cluster = subst (λ (calls : ClusterPast). LeadsToCluster job calls world.cluster) (sym (nothing_called job (call_of job past (calls_in job past) s) (calls_in job past))) k.cluster;
+    cluster = subst (λ (calls : ClusterPast). LeadsToCluster job calls world.cluster) (sym (nothing_called (call_of job past (calls_in job past) s) (calls_in job past))) k.cluster;
     same_job = k.same_job;
     draft = k.draft;
     assigners = k.assigners;
@@ -71,7 +71,7 @@ module _ (job : Job) (past : Past) (s : Step) (old new : World) (k : Keeps job p
       → (answer : Reply) → answer ≡ told_of s (next_numbers (calls_in job past)) result → ((n : ℕ) (before : Option JobTerm) → kept_with n s answer before ≡ before) → Keeps job (event s answer ∷ past) new
   delivered_on (Some x) deliver is fit none unfound result played answer e stays = led_on job past s (deliver x) old new k is same (fit x) law result played answer e assigners stays
   delivered_on None deliver is fit none unfound result played answer e stays =
-      let told : answer ≡ reply.Refused refusal.NotSent = e ∙ ap (told_of s (next_numbers (calls_in job past))) played.0 ∙ ap (told_as s (next_numbers (calls_in job past))) unfound in
+      let told : answer ≡ reply.Refused refusal.NotSent = e ∙ ap (told_of s (next_numbers (calls_in job past))) played.0 ∙ ap (told_as (named s) (next_numbers (calls_in job past))) unfound in
       let kept = kept_same job past old new k played.1 same.job same.draft
       (subst (λ (xs : List Keeping). AreActors (assigner_of job past) job.assigners xs) (sym assigners) k.assigners) (subst (λ (xs : List Share). AreActors (share_of past) job.tasks xs) (sym same.shares) k.shares) same.book in
       subst (λ (a : Reply). Keeps job (event s a ∷ past) new) (sym told) (refused_leads job past s new kept refusal.NotSent (unsent is) (ap is_err is))

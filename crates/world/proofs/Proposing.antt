@@ -1,7 +1,6 @@
 -- A proposal of slices for which there is no memory.
-use Rattle.std.proofs.Common.{◌≡◌, ℕ, Bool, true, List, ◌∷◌, refl, sym, ◌∙◌, ap, subst}
-use Rattle.std.specs.Prelude.{Option, Some, None, Result, Ok, Err, alloc_error}
-use Rattle.std.specs.declared.alloc.AllocError.{AllocError}
+use Rattle.std.proofs.Common.{◌≡◌, ℕ, Bool, true, List, ◌∷◌, refl, sym, ap}
+use Rattle.std.specs.Prelude.{Option, Some, None, Ok, Err, alloc_error}
 use Rattle.machines.specs.Answers.{with_named_reply}
 use Rattle.machines.specs.Refusals.{first_of, unless_refused}
 use Rattle.assignment.specs.declared.slice.Slice.{Slice}
@@ -9,7 +8,6 @@ use Rattle.assignment.specs.Slices.{Slicing, refusal_of}
 use Rattle.assignment.specs.Owners.{built}
 use Rattle.assignment.proofs.RisingOwners.{same_counts}
 use Rattle.lease_table.specs.declared.call.TableCall.TheVariants.{Propose}
-use Rattle.lease_table.specs.declared.call.TableReply.{TableReply}
 use Rattle.lease_table.specs.declared.call.TableReply.TheVariants.{Proposed}
 use Rattle.lease_table.specs.declared.error.TableError.{TableError}
 use Rattle.lease_table.specs.Tables.{Standing}
@@ -18,11 +16,10 @@ use Rattle.cluster.specs.declared.call.ClusterCall.{ClusterCall}
 use Rattle.cluster.specs.declared.call.ClusterCall.TheVariants as call
 use Rattle.cluster.specs.declared.error.ClusterError.{ClusterError}
 use Rattle.cluster.specs.declared.error.ClusterError.TheVariants as error
-use Rattle.cluster.specs.declared.reply.ClusterReply.{ClusterReply}
 use Rattle.cluster.specs.declared.reply.ClusterReply.TheVariants as machine
 use Rattle.cluster.specs.declared.cluster.Cluster.{Cluster}
 use Rattle.cluster.specs.Pasts.{event as cluster_event, Past as ClusterPast, is_accepted, standing}
-use Rattle.cluster.specs.Replies.{from_machine, reply_to as cluster_reply}
+use Rattle.cluster.specs.Replies.{from_machine}
 use Rattle.cluster.specs.Runs.{IsReply as IsClusterReply}
 use Rattle.cluster.specs.Clusters.{LeadsTo as LeadsToCluster}
 use Rattle.world.specs.Jobs.{Job}

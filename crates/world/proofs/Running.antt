@@ -1,5 +1,5 @@
 -- The calls of a run of steps are a run of the machines, and a longer past makes more of them.
-use Rattle.std.proofs.Common.{◌≡◌, Bool, List, [], ◌∷◌, ◌++◌, refl, sym, ◌∙◌, ap, subst, inl, inr}
+use Rattle.std.proofs.Common.{◌≡◌, [], ◌∷◌, ◌++◌, refl, sym, ◌∙◌, ap, subst, inl, inr}
 use Rattle.std.specs.Prelude.{Result, Ok, Err}
 use Rattle.cluster.specs.declared.call.ClusterCall.{ClusterCall}
 use Rattle.cluster.specs.Pasts.{Event as ClusterEvent, Past as ClusterPast}
@@ -13,10 +13,11 @@ use Rattle.world.specs.Pasts.{Event, Past}
 use Rattle.world.specs.Calls.{call_of, unless_out_of_memory, with_call, calls_in}
 use Rattle.world.specs.Replies.{is_continuous_in}
 use Rattle.world.specs.Runs.{IsReply, IsRun}
-use Rattle.world.proofs.Asking.{replied_by_call, outcome_of_call, calls_after}
+use Rattle.world.proofs.Telling.{calls_after}
+use Rattle.world.proofs.Asking.{replied_by_call, outcome_of_call}
 
 module _ (job : Job) (past : Past) (e : Event) (answered : IsReply job past e) (before : IsClusterRun job (calls_in job past)) where
-  one_more : (o : Result ClusterCall Refusal) → call_of job past (calls_in job past) e.step ≡ o → IsClusterRun job (with_call job e.reply o (calls_in job past))
+  one_more : (o : Result ClusterCall Refusal) → call_of job past (calls_in job past) e.step ≡ o → IsClusterRun job (with_call e.reply o (calls_in job past))
   one_more (Err why) is = before
   one_more (Ok made) is =
       let calls = calls_in job past in
@@ -24,9 +25,9 @@ module _ (job : Job) (past : Past) (e : Event) (answered : IsReply job past e) (
         | inl given ↦ (
             let kept = is_continuous_in given.0 in
             let r = cluster_reply job calls made kept in
-            let after = calls_after job calls e.step made kept r e.reply refl (given.2 ∙ replied_by_call job past calls made e.step given.0 is refl) in
+            let after = calls_after job calls past e.step made kept r e.reply is refl (given.2 ∙ replied_by_call job past calls made e.step given.0 is refl) in
             subst (IsClusterRun job) (sym after) ((kept, outcome_of_call job past calls made e.step given.0 is refl given.1, refl), before))
-        | inr none ↦ subst (λ (a : Reply). IsClusterRun job (with_call job a (Ok made) calls)) (sym none.0) before
+        | inr none ↦ subst (λ (a : Reply). IsClusterRun job (with_call a (Ok made) calls)) (sym none.0) before
       ]
 
 pub calls_run : (job : Job) (past : Past) → IsRun job past → IsClusterRun job (calls_in job past)
@@ -42,11 +43,11 @@ one_longer : (answer : Reply) (e : ClusterEvent) (whole before : ClusterPast) �
 one_longer reply.NoMemory e whole before h = h
 one_longer _ e whole before h = (e ∷ h.0, ap (λ (p : ClusterPast). e ∷ p) h.1)
 
-longer_with : (job : Job) (answer : Reply) (o : Result ClusterCall Refusal) (whole before : ClusterPast) → Extends whole before → Extends (with_call job answer o whole) before
-longer_with job answer (Ok made) whole before h = one_longer answer _ whole before h
-longer_with job answer (Err why) whole before h = h
+longer_with : (answer : Reply) (o : Result ClusterCall Refusal) (whole before : ClusterPast) → Extends whole before → Extends (with_call answer o whole) before
+longer_with answer (Ok made) whole before h = one_longer answer _ whole before h
+longer_with answer (Err why) whole before h = h
 
 pub calls_extend : (job : Job) (more past : Past) → Extends (calls_in job (more ++ past)) (calls_in job past)
 calls_extend job [] past = ([], refl)
 calls_extend job (e ∷ more) past =
-    longer_with job e.reply (call_of job (more ++ past) (calls_in job (more ++ past)) e.step) (calls_in job (more ++ past)) (calls_in job past) (calls_extend job more past)
+    longer_with e.reply (call_of job (more ++ past) (calls_in job (more ++ past)) e.step) (calls_in job (more ++ past)) (calls_in job past) (calls_extend job more past)

@@ -75,17 +75,17 @@ module _ (P : Reading → Type 0) where
   all_more reply.NoMemory e calls p all = all
   all_more _ e calls p all = (p, all)
 
-  all_with : (job : Job) (s : Step) (answer : Reply) (o : Result ClusterCall Refusal) (calls : ClusterPast) → IsReadBy s o → P (step_reading s)
-      → AllByRecursion P (readings calls) → AllByRecursion P (readings (with_call job answer o calls))
+  all_with : (s : Step) (answer : Reply) (o : Result ClusterCall Refusal) (calls : ClusterPast) → IsReadBy s o → P (step_reading s)
+      → AllByRecursion P (readings calls) → AllByRecursion P (readings (with_call answer o calls))
   unfolding IsReadBy
-  all_with job s answer (Err why) calls read p all = all
-  all_with job s answer (Ok made) calls read p all = all_more answer _ calls (subst P (sym read) p) all
+  all_with s answer (Err why) calls read p all = all
+  all_with s answer (Ok made) calls read p all = all_more answer _ calls (subst P (sym read) p) all
 
   -- what holds of the readings of the steps holds of those of the calls
   pub all_called : (job : Job) (past : Past) → AllByRecursion P (map step_reading (steps_of past)) → AllByRecursion P (readings (calls_in job past))
   all_called job [] all = tt
   all_called job (e ∷ past) all =
-      all_with job e.step e.reply (call_of job past (calls_in job past) e.step) (calls_in job past) (call_read job past (calls_in job past) e.step) all.0 (all_called job past all.1)
+      all_with e.step e.reply (call_of job past (calls_in job past) e.step) (calls_in job past) (call_read job past (calls_in job past) e.step) all.0 (all_called job past all.1)
 
 module _ (skew : ℕ) where
   timely_more : (answer : Reply) (e : ClusterEvent) (calls : ClusterPast) → AllByRecursion (IsNear skew (reading e.call)) (readings calls)
@@ -93,15 +93,15 @@ module _ (skew : ℕ) where
   timely_more reply.NoMemory e calls near timely = timely
   timely_more _ e calls near timely = (near, timely)
 
-  timely_with : (job : Job) (s : Step) (answer : Reply) (o : Result ClusterCall Refusal) (calls : ClusterPast) → IsReadBy s o → AllByRecursion (IsNear skew (step_reading s)) (readings calls)
-      → AreTimely skew (readings calls) → AreTimely skew (readings (with_call job answer o calls))
+  timely_with : (s : Step) (answer : Reply) (o : Result ClusterCall Refusal) (calls : ClusterPast) → IsReadBy s o → AllByRecursion (IsNear skew (step_reading s)) (readings calls)
+      → AreTimely skew (readings calls) → AreTimely skew (readings (with_call answer o calls))
   unfolding IsReadBy
-  timely_with job s answer (Err why) calls read near timely = timely
-  timely_with job s answer (Ok made) calls read near timely =
+  timely_with s answer (Err why) calls read near timely = timely
+  timely_with s answer (Ok made) calls read near timely =
       timely_more answer _ calls (subst (λ (x : Reading). AllByRecursion (IsNear skew x) (readings calls)) (sym read) near) timely
 
   pub timely_calls : (job : Job) (past : Past) → IsTimely skew (steps_of past) → AreTimely skew (readings (calls_in job past))
   timely_calls job [] timely = tt
   timely_calls job (e ∷ past) timely =
-      timely_with job e.step e.reply (call_of job past (calls_in job past) e.step) (calls_in job past) (call_read job past (calls_in job past) e.step)
+      timely_with e.step e.reply (call_of job past (calls_in job past) e.step) (calls_in job past) (call_read job past (calls_in job past) e.step)
       (all_called (IsNear skew (step_reading e.step)) job past timely.0) (timely_calls job past timely.1)

@@ -1,21 +1,28 @@
--- The call that a step makes of a job's machines, and the past of the cluster that a past of steps makes.
-use Rattle.std.specs.Prelude.{ℕ, Bool, true, false, List, [], ◌∷◌, reverse, Option, Some, None, Result, Ok, Err, if◌then◌else◌}
+-- The call that a step makes of a job's machines, what they answered it, and the past of the cluster that a past of steps makes.
+use Rattle.std.specs.Prelude.{ℕ, Bool, false, List, [], ◌∷◌, reverse, Option, Some, None, Result, Ok, Err, if◌then◌else◌}
 use Rattle.machines.specs.Numbers.{is_within}
 use Rattle.slice_ranges.specs.Hash.{slice_key}
 use Rattle.assignment.specs.declared.error.AssignmentError.{AssignmentError}
 use Rattle.assignment.specs.Slices.{refusal_of}
 use Rattle.assignment.specs.Owners.{built}
 use Rattle.lease_table.specs.declared.call.TableCall.TheVariants as asked
+use Rattle.lease_table.specs.declared.call.TableReply.TheVariants as table
 use Rattle.slicelet.specs.declared.call.SliceletCall.TheVariants.{Start, Hear, Release}
+use Rattle.slicelet.specs.declared.call.SliceletReply.TheVariants as slicelet
 use Rattle.slicelet.specs.declared.handle.KeyHandle.{KeyHandle}
+use Rattle.slicelet.specs.Calls.{is_resume}
 use Rattle.slicelet.specs.States.{SliceletState}
 use Rattle.clerk.specs.declared.call.ClerkCall.TheVariants.{Learn, Forget}
+use Rattle.clerk.specs.declared.call.ClerkReply.TheVariants as clerk
 use Rattle.cluster.specs.declared.call.ClusterCall.{ClusterCall}
 use Rattle.cluster.specs.declared.call.ClusterCall.TheVariants as call
+use Rattle.cluster.specs.declared.error.ClusterError.{ClusterError}
+use Rattle.cluster.specs.declared.error.ClusterError.TheVariants as error
+use Rattle.cluster.specs.declared.reply.ClusterReply.{ClusterReply}
+use Rattle.cluster.specs.declared.reply.ClusterReply.TheVariants as machine
 use Rattle.cluster.specs.Numbers.{with_number}
 use Rattle.cluster.specs.Pasts.{Event as ClusterEvent, event as cluster_event, Past as ClusterPast, grants, published, history as history_in}
 use Rattle.cluster.specs.Deliveries.{notes_made, handles_made as handles_given}
-use Rattle.cluster.specs.Replies.{reply_to as cluster_reply}
 use Rattle.world.specs.Jobs.{Job}
 use Rattle.world.specs.declared.step.Step.{Step}
 use Rattle.world.specs.declared.step.Step.TheVariants as step
@@ -64,25 +71,59 @@ call_of job past calls (step.Look clerk key) = Ok (call.Look clerk (slice_key ke
 call_of job past calls (step.Forget clerk) = Ok (call.Clerk clerk Forget)
 call_of job past calls _ = Err refusal.NotSent
 
--- whether a `check` is told that its handle is continuous
-abbrev pub is_continuous : Reply → Bool
-is_continuous reply.Continuous = true
-is_continuous _ = false
+-- a call begins a new process of a task; no step makes such a call
+abbrev pub resumes : ClusterCall → Bool
+resumes (call.Task task c) = is_resume c
+resumes _ = false
+
+-- why the machines refused a call, by what its step was told; a step without a call has other reasons
+abbrev pub refused_by : Refusal → ClusterError
+refused_by refusal.NotSent = error.NotSent
+refused_by (refusal.Table why) = error.Table why
+refused_by (refusal.Slicelet why) = error.Slicelet why
+refused_by refusal.Stranger = error.Stranger
+refused_by (refusal.Clerk why) = error.Clerk why
+refused_by refusal.Unknown = error.Unknown
+refused_by _ = error.NoActor
+
+-- what the machines answered a call, by what its step was told; a step without a call has other replies
+abbrev pub answered : Reply → ClusterReply
+answered (reply.Term term) = machine.Table (table.Term term)
+answered (reply.Renewed term) = machine.Table (table.Term term)
+answered (reply.Proposed generation) = machine.Table table.Proposed
+answered (reply.Committed generation) = machine.Table (table.Committed generation)
+answered (reply.Granted grant) = machine.Table (table.Granted grant)
+answered (reply.Freed rows) = machine.Table (table.Freed rows)
+answered (reply.Lost rows) = machine.Table (table.Lost rows)
+answered (reply.Started life) = machine.Task slicelet.Started
+answered (reply.Heard number) = machine.Task slicelet.Heard
+answered (reply.Released number note) = machine.Task (slicelet.Released note)
+answered (reply.Learnt generation) = machine.Clerk clerk.Learnt
+answered reply.Forgotten = machine.Clerk clerk.Forgotten
+answered (reply.Phase phase) = machine.Phase phase
+answered (reply.Rows rows) = machine.Rows rows
+answered (reply.Verdict verdict) = machine.Verdict verdict
+answered (reply.Holding number handle) = machine.Holding handle
+answered reply.Continuous = machine.Continuous
+answered reply.Broken = machine.Broken
+answered (reply.Found found) = machine.Found found
+answered (reply.Refused why) = machine.Refused (refused_by why)
+answered _ = machine.Refused error.NoActor
 
 -- a step that is out of memory calls no machine
 abbrev pub unless_out_of_memory : Reply → ClusterEvent → ClusterPast → ClusterPast
 unless_out_of_memory reply.NoMemory e calls = calls
 unless_out_of_memory _ e calls = e ∷ calls
 
--- calls with their replies, and one more: its reply is the one that those before it give
-abbrev pub with_call : Job → Reply → Result ClusterCall Refusal → ClusterPast → ClusterPast
-with_call job answer (Ok made) calls = unless_out_of_memory answer (cluster_event made (cluster_reply job calls made (is_continuous answer))) calls
-with_call job answer (Err why) calls = calls
+-- calls with their replies, and that of one more step, if it makes one
+abbrev pub with_call : Reply → Result ClusterCall Refusal → ClusterPast → ClusterPast
+with_call answer (Ok made) calls = unless_out_of_memory answer (cluster_event made (answered answer)) calls
+with_call answer (Err why) calls = calls
 
 -- the calls of the machines that the steps of a past made, with their replies
 abbrev pub calls_in : Job → Past → ClusterPast
 calls_in job [] = []
-calls_in job (e ∷ past) = with_call job e.reply (call_of job past (calls_in job past) e.step) (calls_in job past)
+calls_in job (e ∷ past) = with_call e.reply (call_of job past (calls_in job past) e.step) (calls_in job past)
 
 -- the handles made so far, in order, and what a task's slicelet stands at
 abbrev pub handles_made : Job → Past → List KeyHandle

@@ -28,7 +28,7 @@ draft_of (e ∷ past) = if is_accepted e.reply then draft_after e.step (draft_of
 
 -- ASSIGNERS
 
--- the term that an assigner keeps: it is offered each that the table gives it, and forgets it at a `restart`
+-- the term that an assigner keeps: it is offered each that the table gives it, and drops it at a `restart`
 abbrev pub term_told : ℕ → Reply → Option JobTerm → Option JobTerm
 term_told assigner (reply.Term term) before = adopted_term assigner term before
 term_told assigner (reply.Renewed term) before = adopted_term assigner term before
@@ -37,7 +37,7 @@ term_told assigner _ before = before
 abbrev pub kept_with : ℕ → Step → Reply → Option JobTerm → Option JobTerm
 kept_with assigner (step.Take by at) answer before = if by == assigner then term_told assigner answer before else before
 kept_with assigner (step.Renew by at) answer before = if by == assigner then term_told assigner answer before else before
-kept_with assigner (step.Restart by) answer before = if by == assigner then None else before
+kept_with assigner (step.DropTerm by) answer before = if by == assigner then None else before
 kept_with assigner _ answer before = before
 
 abbrev pub kept_term : ℕ → Past → Option JobTerm

@@ -9,7 +9,7 @@ use Rattle.slicelet.specs.Continuity.{IsContinuous}
 use Rattle.cluster.specs.Pasts.{task_calls}
 use Rattle.cluster.specs.Replies.{covers, rule_in}
 use Rattle.cluster.specs.Headline.{IsOwner as IsOwnerIn}
-use Rattle.weighted_move.specs.declared.made.Plan.{Plan}
+use Rattle.weighted_move.specs.declared.slice_plan.Plan.{Plan}
 use Rattle.world.specs.Jobs.{Job}
 use Rattle.world.specs.declared.step.Step.TheVariants as step
 use Rattle.world.specs.declared.reply.Reply.{Reply}
@@ -18,12 +18,18 @@ use Rattle.world.specs.Pasts.{Event, event, Past, steps_of, IsTimely}
 use Rattle.weighted_move.specs.Bounds.{Bounds}
 use Rattle.world.specs.Front.{draft_of}
 use Rattle.world.specs.Calls.{calls_in}
-use Rattle.world.specs.Replies.{Plain, reply_to}
 use Rattle.world.specs.Runs.{IsPlanOf}
 
--- a request is served exactly when the written rule allows its key on what the task was told, and each denial names its ground
-abbrev pub IsServedByRule : Job → Past → ℕ → List ℕ → ℕ → Reply → Type 0
-IsServedByRule job past task key at answer = IsTrue (is_within task job.tasks) → answer ≡ reply.Verdict (rule_in (calls_in job past) task (slice_key key) at)
+-- a reply serves a key
+abbrev pub is_served : Reply → Bool
+is_served (reply.Verdict verdict) = is_allowed verdict
+is_served _ = false
+
+-- a request is served exactly when the written rule allows its key on what the task was told; a task of the job is told the rule's verdict, whose denial names
+-- its ground
+pub record IsServedByRule (job : Job) (past : Past) (task : ℕ) (key : List ℕ) (at : ℕ) (answer : Reply) : Type 0 where
+  pub served : IsTrue (is_served answer) ↔ IsTrue (is_allowed (rule_in (calls_in job past) task (slice_key key) at))
+  pub verdict : IsTrue (is_within task job.tasks) → answer ≡ reply.Verdict (rule_in (calls_in job past) task (slice_key key) at)
 
 -- a handle is continuous exactly when no step since took its key away, and else it is broken
 pub record IsCheckedByHistory (job : Job) (past : Past) (task : ℕ) (handle : KeyHandle) (at : ℕ) (answer : Reply) : Type 0 where
@@ -37,14 +43,10 @@ pub record IsPlannedFromDraft (job : Job) (past : Past) (loads tasks : List ℕ)
   pub planned : IsPlanOf job draft loads tasks bounds plan
   pub accepted : refusal_of plan.slices ≡ None
 
--- a reply serves a key
-abbrev pub is_served : Reply → Bool
-is_served (reply.Verdict verdict) = is_allowed verdict
-is_served _ = false
-
--- a task may serve a key now: at some reading a `serve` would be timely, and allowed
+-- a task may serve a key now: at some reading that keeps the steps timely the written rule allows the key, on what the task was told
 abbrev pub MayServe : Job → Past → ℕ → List ℕ → Type 0
-MayServe job past task key = (at : ℕ) × IsTimely job.policy.skew (step.Serve task key at ∷ steps_of past) × IsTrue (is_served (reply_to job past (step.Serve task key at) Plain))
+MayServe job past task key =
+    (at : ℕ) × IsTimely job.policy.skew (step.Serve task key at ∷ steps_of past) × IsTrue (is_allowed (rule_in (calls_in job past) task (slice_key key) at))
 
 -- a task owns a key in the committed assignment
 abbrev pub IsOwner : Job → Past → ℕ → List ℕ → Type 0

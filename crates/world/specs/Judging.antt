@@ -2,10 +2,10 @@
 use Rattle.std.specs.Prelude.{◌≡◌, ℕ, List, [], ◌∷◌, Option, Some, None, Result, Ok, Err, if◌then◌else◌}
 use Rattle.slice_ranges.specs.declared.error.RangesError.{RangesError}
 use Rattle.slice_ranges.specs.Sets.{pairs_cover, or_else, refusal_of}
-use Rattle.policy_rules.specs.declared.lease.Kind.{Kind}
-use Rattle.policy_rules.specs.declared.lease.Kind.TheVariants.{Guard, Bridge}
-use Rattle.policy_rules.specs.Leases.{SeenLease, same_kind}
-use Rattle.policy_rules.specs.Rule.{SeenHolding, rule}
+use Rattle.lease_rule.specs.declared.lease.Kind.{Kind}
+use Rattle.lease_rule.specs.declared.lease.Kind.TheVariants.{Guard, Bridge}
+use Rattle.lease_rule.specs.Leases.{SeenLease, same_kind}
+use Rattle.lease_rule.specs.Rule.{SeenHolding, rule}
 use Rattle.world.specs.declared.judge.WrittenLease.{WrittenLease}
 use Rattle.world.specs.declared.judge.Question.{Question}
 use Rattle.machines.specs.declared.machine.Trouble.{Trouble}

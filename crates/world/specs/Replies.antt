@@ -7,7 +7,6 @@ use Rattle.assignment.specs.Slices.{Slicing, refusal_of}
 use Rattle.assignment.specs.Owners.{owners_of}
 use Rattle.lease_table.specs.declared.call.TableReply.{TableReply}
 use Rattle.lease_table.specs.declared.call.TableReply.TheVariants as table
-use Rattle.lease_table.specs.declared.values.Grant.{Grant}
 use Rattle.lease_table.specs.declared.values.JobTerm.{JobTerm}
 use Rattle.lease_table.specs.Tables.{phase_of}
 use Rattle.machines.specs.Numbers.{is_within}
@@ -25,7 +24,7 @@ use Rattle.cluster.specs.Deliveries.{notes_made, handles_made}
 use Rattle.cluster.specs.Replies.{reply_to as cluster_reply}
 use Rattle.load_ledger.specs.Shares.{Share, add_step}
 use Rattle.load_ledger.specs.Books.{task_total, book_with, book_of, gather_step}
-use Rattle.weighted_move.specs.declared.made.Plan.{Plan}
+use Rattle.weighted_move.specs.declared.slice_plan.Plan.{Plan}
 use Rattle.weighted_move.specs.declared.error.PlanError.{PlanError}
 use Rattle.weighted_move.specs.Plans.{plan_refusal}
 use Rattle.assigner.specs.Terms.{Keeping}
@@ -37,13 +36,14 @@ use Rattle.world.specs.declared.reply.Reply.{Reply}
 use Rattle.world.specs.declared.reply.Reply.TheVariants as reply
 use Rattle.world.specs.declared.reply.Refusal.{Refusal}
 use Rattle.world.specs.declared.reply.Refusal.TheVariants as refusal
+use Rattle.world.specs.declared.told.Named.{Named}
 use Rattle.world.specs.declared.told.NextNumbers.{NextNumbers}
 use Rattle.world.specs.Pasts.{Past}
 use Rattle.world.specs.Front.{draft_of, kept_term, share_of, shares_in, gathers_in}
 use Rattle.world.specs.Calls.{call_of, calls_in}
 use Rattle.world.specs.Judging.{judge_reply}
 
--- WHAT THE MACHINES ANSWER, AS IT IS TOLD
+-- WHAT A STEP NAMES OF ITS CALL
 
 -- the life that a step names
 abbrev pub life_in : Step → ℕ
@@ -57,33 +57,39 @@ number_in (step.Hear task number at) = number
 number_in (step.Learn clerk generation) = generation
 number_in _ = 0
 
+-- a step renews a job term
+abbrev pub renews : Step → Bool
+renews (step.Renew assigner at) = true
+renews _ = false
+
+abbrev pub named : Step → Named
+named s = record { life = life_in s; number = number_in s; renews = renews s }
+
+-- WHAT THE MACHINES ANSWER, AS IT IS TOLD
+
 -- a job term is told as renewed or as taken
-abbrev pub term_reply : Step → JobTerm → Reply
-term_reply (step.Renew assigner at) term = reply.Renewed term
-term_reply _ term = reply.Term term
+abbrev pub term_reply : Bool → JobTerm → Reply
+term_reply true term = reply.Renewed term
+term_reply false term = reply.Term term
 
--- a grant is told without its ranges
-abbrev pub grant_reply : Grant → Reply
-grant_reply grant = reply.Granted grant.number grant.lease.kind grant.lease.generation grant.table_ends grant.lease.ends
-
-abbrev pub table_reply : Step → TableReply → Reply
-table_reply s (table.Term term) = term_reply s term
-table_reply s table.Proposed = reply.Proposed (number_in s)
-table_reply s (table.Committed generation) = reply.Committed generation
-table_reply s (table.Granted grant) = grant_reply grant
-table_reply s (table.Freed rows) = reply.Freed rows
-table_reply s (table.Lost rows) = reply.Lost rows
+abbrev pub table_reply : Named → TableReply → Reply
+table_reply n (table.Term term) = term_reply n.renews term
+table_reply n table.Proposed = reply.Proposed n.number
+table_reply n (table.Committed generation) = reply.Committed generation
+table_reply n (table.Granted grant) = reply.Granted grant
+table_reply n (table.Freed rows) = reply.Freed rows
+table_reply n (table.Lost rows) = reply.Lost rows
 
 -- a note is told with its number; no step begins a new process, so that the last reply is never told
-abbrev pub task_reply : Step → ℕ → SliceletReply → Reply
-task_reply s number slicelet.Started = reply.Started (life_in s)
-task_reply s number slicelet.Heard = reply.Heard (number_in s)
-task_reply s number (slicelet.Released note) = reply.Released number note
-task_reply s number (slicelet.Resumed ended) = reply.Started (life_in s)
+abbrev pub task_reply : Named → ℕ → SliceletReply → Reply
+task_reply n number slicelet.Started = reply.Started n.life
+task_reply n number slicelet.Heard = reply.Heard n.number
+task_reply n number (slicelet.Released note) = reply.Released number note
+task_reply n number (slicelet.Resumed ended) = reply.Started n.life
 
-abbrev pub clerk_reply : Step → ClerkReply → Reply
-clerk_reply s clerk.Learnt = reply.Learnt (number_in s)
-clerk_reply s clerk.Forgotten = reply.Forgotten
+abbrev pub clerk_reply : Named → ClerkReply → Reply
+clerk_reply n clerk.Learnt = reply.Learnt n.number
+clerk_reply n clerk.Forgotten = reply.Forgotten
 
 abbrev pub refusal_by : ClusterError → Refusal
 refusal_by error.NoActor = refusal.NoActor
@@ -98,23 +104,23 @@ refusal_by error.Unknown = refusal.Unknown
 abbrev pub next_numbers : ClusterPast → NextNumbers
 next_numbers calls = record { note = length (notes_made calls) + 1; handle = length (handles_made calls) + 1 }
 
--- a reply of the machines to a step's call, as it is told
-abbrev pub told_as : Step → NextNumbers → ClusterReply → Reply
-told_as s next (machine.Table r) = table_reply s r
-told_as s next (machine.Task r) = task_reply s next.note r
-told_as s next (machine.Clerk r) = clerk_reply s r
-told_as s next (machine.Phase phase) = reply.Phase phase
-told_as s next (machine.Rows rows) = reply.Rows rows
-told_as s next (machine.Verdict verdict) = reply.Verdict verdict
-told_as s next (machine.Holding handle) = reply.Holding next.handle handle
-told_as s next machine.Continuous = reply.Continuous
-told_as s next machine.Broken = reply.Broken
-told_as s next (machine.Found found) = reply.Found found
-told_as s next (machine.Refused why) = reply.Refused (refusal_by why)
+-- a reply of the machines to a call that names this, as it is told
+abbrev pub told_as : Named → NextNumbers → ClusterReply → Reply
+told_as n next (machine.Table r) = table_reply n r
+told_as n next (machine.Task r) = task_reply n next.note r
+told_as n next (machine.Clerk r) = clerk_reply n r
+told_as n next (machine.Phase phase) = reply.Phase phase
+told_as n next (machine.Rows rows) = reply.Rows rows
+told_as n next (machine.Verdict verdict) = reply.Verdict verdict
+told_as n next (machine.Holding handle) = reply.Holding next.handle handle
+told_as n next machine.Continuous = reply.Continuous
+told_as n next machine.Broken = reply.Broken
+told_as n next (machine.Found found) = reply.Found found
+told_as n next (machine.Refused why) = reply.Refused (refusal_by why)
 
 -- a step that makes a call is told what the machines answer, and else why it makes none
 abbrev pub reply_by_call : Job → ClusterPast → Step → Bool → Result ClusterCall Refusal → Reply
-reply_by_call job calls s kept (Ok made) = told_as s (next_numbers calls) (cluster_reply job calls made kept)
+reply_by_call job calls s kept (Ok made) = told_as (named s) (next_numbers calls) (cluster_reply job calls made kept)
 reply_by_call job calls s kept (Err why) = reply.Refused why
 
 -- WHAT IS ANSWERED WITHOUT THE MACHINES
@@ -190,5 +196,5 @@ reply_to job past step.Gather outcome = gather_reply (draft_of past) job.tasks (
 reply_to job past (step.Plan loads tasks bounds) outcome = plan_reply (draft_of past) loads tasks (plan_in outcome)
 reply_to job past (step.Next assigner at wanted) outcome =
     by_actor assigner job.assigners (reply.Next (next_action (assigner_of job past assigner) (record { reading = at; phase = phase_of (standing job.policy (calls_in job past)); wanted = wanted })))
-reply_to job past (step.Restart assigner) outcome = by_actor assigner job.assigners reply.Restarted
+reply_to job past (step.DropTerm assigner) outcome = by_actor assigner job.assigners reply.TermDropped
 reply_to job past s outcome = reply_by_call job (calls_in job past) s (is_continuous_in outcome) (call_of job past (calls_in job past) s)

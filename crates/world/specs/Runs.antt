@@ -1,7 +1,7 @@
 -- Runs: each step is answered by the steps before it.
 use Rattle.std.specs.Prelude.{◌≡◌, ℕ, Bool, true, false, IsTrue, List, [], ◌∷◌, Some, None, Result, Ok, Err, ⊤, ◌⊎◌}
 use Rattle.assignment.specs.Slices.{Slicing}
-use Rattle.weighted_move.specs.declared.made.Plan.{Plan}
+use Rattle.weighted_move.specs.declared.slice_plan.Plan.{Plan}
 use Rattle.weighted_move.specs.Plans.{CanPlan, IsPlan, plan_refusal}
 use Rattle.cluster.specs.declared.call.ClusterCall.{ClusterCall}
 use Rattle.cluster.specs.Pasts.{Past as ClusterPast}
@@ -14,7 +14,7 @@ use Rattle.world.specs.declared.reply.Reply.{Reply}
 use Rattle.world.specs.declared.reply.Reply.TheVariants as reply
 use Rattle.world.specs.Pasts.{Event, event, Past, is_accepted}
 use Rattle.weighted_move.specs.Bounds.{Bounds}
-use Rattle.weighted_move.specs.Policies.{limits_of}
+use Rattle.weighted_move.specs.Policies.{plan_terms_of}
 use Rattle.world.specs.Front.{draft_of}
 use Rattle.world.specs.Calls.{call_of, calls_in}
 use Rattle.world.specs.Replies.{Outcome, is_continuous_in, plan_in, reply_to}
@@ -22,7 +22,7 @@ use Rattle.world.specs.Replies.{Outcome, is_continuous_in, plan_in, reply_to}
 -- a plan of a draft for loads and tasks, within bounds and by the numbers of owners of the job: there is one, and this is one
 abbrev pub IsPlanOf : Job → Slicing → List ℕ → List ℕ → Bounds → Plan → Type 0
 IsPlanOf job draft loads tasks bounds plan =
-    CanPlan draft.slices loads tasks (limits_of job.policy.low job.policy.high bounds) × IsPlan draft.slices loads tasks (limits_of job.policy.low job.policy.high bounds) plan
+    CanPlan draft.slices loads tasks (plan_terms_of job.policy.low job.policy.high bounds) × IsPlan draft.slices loads tasks (plan_terms_of job.policy.low job.policy.high bounds) plan
 
 -- the outcome of a call that a step makes; where it makes none, there is none
 abbrev pub IsCallOutcome : Job → ClusterPast → Bool → Result ClusterCall Refusal → Type 0

@@ -7,9 +7,8 @@ ghost use Rattle.world.specs.Judging.{leases_refusal, judge_reply, IsJudged};
 ghost use Rattle.world.specs.Troubles.{of_layer};
 
 use crate::reply::{Refusal, Reply};
-use assignment::Listed;
-use machines::Trouble;
-use policy_rules::{Holding, Kind, Lease, verdict};
+use lease_rule::{Holding, Kind, Lease, verdict};
+use machines::{Listed, Trouble};
 use slice_ranges::{Ranges, SliceKey, pairs_refusal};
 use std::alloc::Global;
 

@@ -1,11 +1,11 @@
 //! Laws that hold of every run, stated over steps and their replies.
 
-ghost use Rattle.std.specs.Prelude.{◌≡◌, ℕ, List, ◌∷◌, true, false, Some, IsTrue};
+ghost use Rattle.std.specs.Prelude.{◌≡◌, ℕ, List, ◌∷◌, true, false, Some, IsTrue, ◌↔◌};
 ghost use Rattle.machines.specs.Numbers.{is_within};
 ghost use Rattle.lease_table.specs.Policies.{is_policy};
 ghost use Rattle.slicelet.specs.Continuity.{is_strange};
 ghost use Rattle.slicelet.specs.declared.handle.KeyHandle.{KeyHandle};
-ghost use Rattle.weighted_move.specs.declared.made.Plan.{Plan};
+ghost use Rattle.weighted_move.specs.declared.slice_plan.Plan.{Plan};
 ghost use Rattle.cluster.specs.Numbers.{with_number};
 ghost use Rattle.cluster.specs.Pasts.{readings};
 ghost use Rattle.cluster.specs.Runs.{IsRun as IsClusterRun};
@@ -17,8 +17,9 @@ ghost use Rattle.world.specs.declared.reply.Reply.TheVariants as reply;
 ghost use Rattle.weighted_move.specs.Bounds.{Bounds};
 ghost use Rattle.world.specs.Pasts.{Past, event, steps_of, IsTimely};
 ghost use Rattle.world.specs.Calls.{calls_in, handles_made, history};
+ghost use Rattle.world.specs.Replies.{Plain, reply_to};
 ghost use Rattle.world.specs.Runs.{IsRun};
-ghost use Rattle.world.specs.Headline.{IsServedByRule, IsCheckedByHistory, IsPlannedFromDraft, MayServe, IsOwner, IsWhileHeld};
+ghost use Rattle.world.specs.Headline.{is_served, IsServedByRule, IsCheckedByHistory, IsPlannedFromDraft, MayServe, IsOwner, IsWhileHeld};
 
 /// States that the calls that a run's steps make, with their replies, are a run of the cluster.
 ///
@@ -31,10 +32,14 @@ pub fn calls_law()
 
 /// States that a key is served exactly if the written rule allows it on what its task was told.
 ///
-/// Each denial names its ground.
+/// Each denial names its ground. So a task may serve a key exactly if at some timely reading a
+/// `serve` would be answered so.
 pub fn rule_law()
-    ensures { (job : Job) (past : Past) (task : ℕ) (key : List ℕ) (at : ℕ) (answer : Reply)
+    ensures told { (job : Job) (past : Past) (task : ℕ) (key : List ℕ) (at : ℕ) (answer : Reply)
         → IsRun job (event (step.Serve task key at) answer ∷ past) → IsServedByRule job past task key at answer }
+    ensures may { (job : Job) (past : Past) (task : ℕ) (key : List ℕ) → IsRun job past → MayServe job past task key
+        ↔ ((at : ℕ) × IsTimely job.policy.skew (step.Serve task key at ∷ steps_of past)
+        × IsTrue (is_served (reply_to job past (step.Serve task key at) Plain))) }
 {}
 
 /// States when a handle is continuous.

@@ -4,7 +4,6 @@
 
 mod actors;
 mod clerks;
-mod copies;
 mod judge;
 mod laws;
 mod loads;
@@ -17,7 +16,6 @@ mod tasks;
 mod told;
 mod values;
 mod world;
-mod world_copy;
 
 pub use crate::world::World;
 pub use cluster::{Job, MOST_ASSIGNERS, MOST_CLERKS};
@@ -26,4 +24,4 @@ pub use laws::{calls_law, handle_law, interval_law, owner_law, planned_law, rule
 pub use readings::timely;
 pub use reply::{OwnerList, Refusal, Reply};
 pub use step::Step;
-pub use told::{grant_reply, refusal_by};
+pub use told::{Named, NextNumbers, refusal_by, table_reply, told_as};

@@ -1,7 +1,7 @@
 //! The step of plans.
 
 ghost use Rattle.std.specs.Prelude.{◌≡◌};
-ghost use Rattle.weighted_move.specs.Policies.{limits_of};
+ghost use Rattle.weighted_move.specs.Policies.{plan_terms_of};
 ghost use Rattle.world.specs.Jobs.{Job};
 ghost use Rattle.world.specs.declared.step.Step.TheVariants as step;
 ghost use Rattle.world.specs.Pasts.{Past};
@@ -15,9 +15,9 @@ use machines::Trouble;
 use weighted_move::{PlanBounds, PlanPolicy, TaskSet};
 
 // Returns the policy for a plan with these bounds in a job of this policy.
-#[tactic(auto, using(crate::proofs::Planning::are_limits))]
+#[tactic(auto, using(crate::proofs::Planning::are_plan_terms))]
 fn plan_policy(policy: Policy, bounds: PlanBounds) -> PlanPolicy
-    ensures { result ≡ limits_of policy.low policy.high bounds }
+    ensures { result ≡ plan_terms_of policy.low policy.high bounds }
 {
     policy_law(policy);
     PlanPolicy::with_bounds(policy.low(), policy.high(), bounds).unwrap()

@@ -2,17 +2,15 @@
 
 ghost use Rattle.std.specs.Prelude.{◌≡◌};
 
-use arrayvec::ArrayVec;
 use assigner::Action;
-use assignment::{AssignmentError, Listed, Owners, TaskId};
+use assignment::{AssignmentError, Owners, TaskId};
 use clerk::{ClerkError, Found};
-use lease_table::{JobTerm, Phase, ReleaseNote, Row, TableError};
+use lease_rule::Verdict;
+use lease_table::{Grant, JobTerm, Phase, ReleaseNote, Row, TableError};
 use load_ledger::LoadError;
-use machines::Duplicate;
-use policy_rules::{Kind, Verdict};
+use machines::Listed;
 use slice_ranges::{RangesError, SliceKey};
 use slicelet::{KeyHandle, SliceletError};
-use std::alloc::AllocError;
 use std::marker::Model;
 use weighted_move::{Plan, PlanError};
 
@@ -75,14 +73,6 @@ impl OwnerList {
     }
 }
 
-impl Duplicate for OwnerList {
-    fn copy(&self) -> Result<OwnerList, AllocError> {
-        let mut tasks = ArrayVec::new();
-        tasks.try_extend_from_slice(self.tasks.as_slice()).unwrap();
-        Ok(OwnerList { tasks })
-    }
-}
-
 /// The reply to a step.
 #[derive(Debug, Drop)]
 pub enum Reply {
@@ -109,16 +99,8 @@ pub enum Reply {
     Phase(Phase),
     /// The table's open rows.
     Rows(Listed<Row>),
-    /// The table granted a lease. `number` is the number of the grant, `kind` and `generation` are
-    /// those of the lease, `table_ends` is its deadline on the table's clock and `ends` on the
-    /// task's, in ticks.
-    Granted {
-        number: u64,
-        kind: Kind,
-        generation: u64,
-        table_ends: u64,
-        ends: u64,
-    },
+    /// The table granted a lease.
+    Granted(Grant),
     /// The table freed this number of rows.
     Freed(u64),
     /// The table restarted and lost this number of rows.
@@ -158,8 +140,8 @@ pub enum Reply {
     Planned(Plan),
     /// What the assigner does next.
     Next(Action),
-    /// The assigner forgot its term.
-    Restarted,
+    /// The assigner dropped its term.
+    TermDropped,
     /// The step is refused, for this reason, and changed nothing.
     Refused(Refusal),
     /// Memory ran out, and the step changed nothing.

@@ -159,11 +159,8 @@ impl World {
         ensures { (job : Job) (past : Past) → Keeps job past self.old
             → Played job past (step.Grant task life at) result self.new }
     {
-        let most = self.job.tasks();
-        check_actor(task, most)?;
-        let Some(of_job) = TaskId::new(task) else {
-            return Err(Trouble::Refused(Refusal::NoActor));
-        };
+        check_actor(task, self.job.tasks())?;
+        let of_job = TaskId::new(task).unwrap();
         let call = ClusterCall::Table(TableCall::Grant {
             task: of_job,
             life,
@@ -183,12 +180,12 @@ impl World {
         Ok(ask(&mut self.cluster, &Step::Free { note: number, at }, &call))
     }
 
-    pub(crate) fn restart(&mut self, assigner: u64) -> Result<Reply, Trouble<Refusal>>
+    pub(crate) fn drop_term(&mut self, assigner: u64) -> Result<Reply, Trouble<Refusal>>
         ensures { (job : Job) (past : Past) → Keeps job past self.old
-            → Played job past (step.Restart assigner) result self.new }
+            → Played job past (step.DropTerm assigner) result self.new }
     {
         let place = place_of(assigner, self.assigners.as_slice())?;
-        self.assigners[place].restart();
-        Ok(Reply::Restarted)
+        self.assigners[place].drop_term();
+        Ok(Reply::TermDropped)
     }
 }

@@ -12,8 +12,8 @@ use crate::step::Step;
 use crate::told::{NextNumbers, ask, told_of};
 use crate::world::World;
 use cluster::ClusterCall;
+use lease_rule::Kind;
 use machines::Trouble;
-use policy_rules::Kind;
 use slice_ranges::slice_key;
 use slicelet::SliceletCall;
 

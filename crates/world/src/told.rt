@@ -5,21 +5,48 @@ ghost use Rattle.cluster.specs.Jobs.{Job};
 ghost use Rattle.cluster.specs.Pasts.{Past as ClusterPast};
 ghost use Rattle.cluster.specs.Clusters.{LeadsTo as LeadsToCluster};
 ghost use Rattle.cluster.specs.Runs.{IsRun as IsClusterRun};
-ghost use Rattle.world.specs.Replies.{life_in, number_in, term_reply, grant_reply, table_reply, task_reply, clerk_reply, refusal_by, next_numbers, told_as};
+ghost use Rattle.world.specs.Replies.{life_in, number_in, renews, named, term_reply, table_reply, task_reply, clerk_reply, refusal_by, next_numbers, told_as};
 ghost use Rattle.world.specs.internals.Asking.{told_of, IsAsked};
 
 use crate::reply::{Refusal, Reply};
 use crate::step::Step;
 use clerk::ClerkReply;
 use cluster::{Cluster, ClusterCall, ClusterError, ClusterReply};
-use lease_table::{Grant, JobTerm, TableReply};
+use lease_table::{JobTerm, TableReply};
 use slicelet::SliceletReply;
 use std::alloc::AllocError;
+
+/// What a call names that its reply does not say.
+#[derive(Clone, Copy, Debug)]
+pub struct Named {
+    /// The life that the call begins, or 0.
+    pub life: u32,
+    /// The number of the grant that the call delivers, or the generation that it proposes or
+    /// delivers, or 0.
+    pub number: u64,
+    /// Whether the call renews the job lease.
+    pub renews: bool,
+}
+
+impl Named {
+    // Returns what a step names of its call.
+    fn of(step: &Step) -> Self
+        ensures { result ≡ named step.now }
+    {
+        Named {
+            life: life_in(step),
+            number: number_in(step),
+            renews: renews(step),
+        }
+    }
+}
 
 /// The numbers that the next note and the next handle will get.
 #[derive(Clone, Copy, Debug)]
 pub struct NextNumbers {
+    /// The number of the next note.
     pub note: u64,
+    /// The number of the next handle.
     pub handle: u64,
 }
 
@@ -57,58 +84,54 @@ fn number_in(step: &Step) -> u64
     }
 }
 
-fn term_reply(step: &Step, term: JobTerm) -> Reply
-    ensures { result ≡ term_reply step.now term }
+// Whether a step renews the job lease.
+fn renews(step: &Step) -> bool
+    ensures { result ≡ renews step.now }
 {
-    match step {
-        Step::Renew { .. } => Reply::Renewed(term),
-        _ => Reply::Term(term),
+    matches!(step, Step::Renew { .. })
+}
+
+fn term_reply(renews: bool, term: JobTerm) -> Reply
+    ensures { result ≡ term_reply renews term }
+{
+    if renews {
+        Reply::Renewed(term)
+    } else {
+        Reply::Term(term)
     }
 }
 
-/// Returns a grant of the table as a step's reply.
-pub fn grant_reply(grant: &Grant) -> Reply
-    ensures { result ≡ grant_reply grant.now }
-{
-    Reply::Granted {
-        number: grant.number,
-        kind: grant.lease.kind,
-        generation: grant.lease.generation,
-        table_ends: grant.table_ends,
-        ends: grant.lease.ends,
-    }
-}
-
-fn table_reply(step: &Step, reply: &TableReply) -> Reply
-    ensures { result ≡ table_reply step.now reply.now }
+/// Turns a reply of the table to a call into a step's reply. `named` is what the call names.
+pub fn table_reply(named: Named, reply: TableReply) -> Reply
+    ensures { result ≡ table_reply named reply }
 {
     match reply {
-        TableReply::Term(term) => term_reply(step, *term),
-        TableReply::Proposed => Reply::Proposed(number_in(step)),
-        TableReply::Committed(generation) => Reply::Committed(*generation),
-        TableReply::Granted(grant) => grant_reply(grant),
-        TableReply::Freed(rows) => Reply::Freed(*rows),
-        TableReply::Lost(rows) => Reply::Lost(*rows),
+        TableReply::Term(term) => term_reply(named.renews, term),
+        TableReply::Proposed => Reply::Proposed(named.number),
+        TableReply::Committed(generation) => Reply::Committed(generation),
+        TableReply::Granted(grant) => Reply::Granted(grant),
+        TableReply::Freed(rows) => Reply::Freed(rows),
+        TableReply::Lost(rows) => Reply::Lost(rows),
     }
 }
 
-fn task_reply(step: &Step, number: u64, reply: SliceletReply) -> Reply
-    ensures { result ≡ task_reply step.now number reply }
+fn task_reply(named: Named, number: u64, reply: SliceletReply) -> Reply
+    ensures { result ≡ task_reply named number reply }
 {
     match reply {
-        SliceletReply::Started => Reply::Started(life_in(step)),
-        SliceletReply::Heard => Reply::Heard(number_in(step)),
+        SliceletReply::Started => Reply::Started(named.life),
+        SliceletReply::Heard => Reply::Heard(named.number),
         SliceletReply::Released(note) => Reply::Released { number, note },
         // No step begins a new process.
-        SliceletReply::Resumed(_) => Reply::Started(life_in(step)),
+        SliceletReply::Resumed(_) => Reply::Started(named.life),
     }
 }
 
-fn clerk_reply(step: &Step, reply: ClerkReply) -> Reply
-    ensures { result ≡ clerk_reply step.now reply }
+fn clerk_reply(named: Named, reply: ClerkReply) -> Reply
+    ensures { result ≡ clerk_reply named reply }
 {
     match reply {
-        ClerkReply::Learnt => Reply::Learnt(number_in(step)),
+        ClerkReply::Learnt => Reply::Learnt(named.number),
         ClerkReply::Forgotten => Reply::Forgotten,
     }
 }
@@ -128,14 +151,16 @@ pub fn refusal_by(error: ClusterError) -> Refusal
     }
 }
 
-// Turns a reply of the machines to a step's call into the step's reply.
-fn told_as(step: &Step, next: NextNumbers, reply: ClusterReply) -> Reply
-    ensures { result ≡ told_as step.now next reply }
+/// Turns a reply of the machines to a call into a step's reply.
+///
+/// `named` is what the call names. A note and a handle are told with the next numbers.
+pub fn told_as(named: Named, next: NextNumbers, reply: ClusterReply) -> Reply
+    ensures { result ≡ told_as named next reply }
 {
     match reply {
-        ClusterReply::Table(reply) => table_reply(step, &reply),
-        ClusterReply::Task(reply) => task_reply(step, next.note, reply),
-        ClusterReply::Clerk(reply) => clerk_reply(step, reply),
+        ClusterReply::Table(reply) => table_reply(named, reply),
+        ClusterReply::Task(reply) => task_reply(named, next.note, reply),
+        ClusterReply::Clerk(reply) => clerk_reply(named, reply),
         ClusterReply::Phase(phase) => Reply::Phase(phase),
         ClusterReply::Rows(rows) => Reply::Rows(rows),
         ClusterReply::Verdict(verdict) => Reply::Verdict(verdict),
@@ -155,7 +180,7 @@ pub fn told_of(step: &Step, next: NextNumbers, answer: Result<ClusterReply, Allo
     ensures { result ≡ told_of step.now next answer }
 {
     match answer {
-        Ok(reply) => told_as(step, next, reply),
+        Ok(reply) => told_as(Named::of(step), next, reply),
         Err(AllocError) => Reply::NoMemory,
     }
 }

@@ -217,7 +217,7 @@ impl World {
                 at,
                 wanted,
             } => self.next(*assigner, *at, *wanted),
-            Step::Restart { assigner } => self.restart(*assigner),
+            Step::DropTerm { assigner } => self.drop_term(*assigner),
         }
     }
 }

@@ -5,7 +5,7 @@ use Rattle.cluster.specs.Jobs.{Job}
 use Rattle.cluster.specs.declared.cluster.Cluster.{Cluster}
 use Rattle.cluster.specs.Pasts.{Past}
 use Rattle.cluster.specs.Clusters.{LeadsTo}
-use Rattle.call_log.specs.declared.told.Told.{Told}
+use Rattle.call_log.specs.declared.told.CallerReply.{CallerReply}
 use Rattle.call_log.specs.declared.line.LoggedCall.{LoggedCall}
 use Rattle.call_log.specs.declared.line.LoggedLine.{LoggedLine}
 use Rattle.call_log.specs.Audited.{IsCalled, StandsFor}
@@ -20,24 +20,24 @@ pub record HasGranted (job : Job) (past : Past) (count at : ℕ) (cluster : Clus
   pub leads : LeadsTo job (ahead ++ past) cluster
 
 -- the call of a line was made, and its caller is told so
-pub record IsMade (job : Job) (past : Past) (c : LoggedCall) (told : Told) (cluster : Cluster) : Type 0 where
+pub record IsMade (job : Job) (past : Past) (c : LoggedCall) (told : CallerReply) (cluster : Cluster) : Type 0 where
   pub after : Past
   pub called : IsCalled past c told after
   pub leads : LeadsTo job after cluster
 
 -- what a line stands for was played, and its caller is told so
-pub record IsPlayed (job : Job) (past : Past) (c : LoggedCall) (told : Told) (cluster : Cluster) : Type 0 where
+pub record IsPlayed (job : Job) (past : Past) (c : LoggedCall) (told : CallerReply) (cluster : Cluster) : Type 0 where
   pub after : Past
   pub stands : StandsFor job past c told after
   pub leads : LeadsTo job after cluster
 
 -- the line says that its caller was told this, or should have been told something else
-abbrev pub Compares : LoggedLine → Told → Option Told → Type 0
+abbrev pub Compares : LoggedLine → CallerReply → Option CallerReply → Type 0
 Compares line told None = is_worded line.reply told ≡ true
 Compares line told (Some wanted) = (wanted ≡ told) × (is_worded line.reply told ≡ false)
 
 -- a line was played, and what its caller is told was compared with its words
-pub record IsAnswered (job : Job) (past : Past) (line : LoggedLine) (other : Option Told) (cluster : Cluster) : Type 0 where
-  pub told : Told
+pub record IsAnswered (job : Job) (past : Past) (line : LoggedLine) (other : Option CallerReply) (cluster : Cluster) : Type 0 where
+  pub told : CallerReply
   pub played : IsPlayed job past line.call told cluster
   pub compared : Compares line told other

@@ -1,14 +1,14 @@
 -- Why one of some lines is not read.
 use Rattle.std.specs.Prelude.{◌≡◌, ⊤, List}
-use Rattle.diagnosis.specs.declared.error.AnswerError.TheVariants as answer
-use Rattle.session.specs.Lines.{IsNoJob}
+use Rattle.program_io.specs.declared.fault.Fault.TheVariants as fault
+use Rattle.diagnosis.specs.JobLines.{IsNoJob}
 use Rattle.call_log.specs.declared.log.LogError.{LogError}
 use Rattle.call_log.specs.declared.log.LogError.TheVariants as unread
 use Rattle.call_log.specs.Files.{PlacedLine, IsBadLine, HasLongLine}
 
 -- a line says no job, or memory ran out
 abbrev pub IsNoJobFor : PlacedLine → LogError → Type 0
-IsNoJobFor line (unread.NoJob place faults) = (line.place ≡ place) × IsNoJob line.bytes (answer.Refused faults)
+IsNoJobFor line (unread.NoJob place faults) = (line.place ≡ place) × IsNoJob line.bytes (fault.Input faults)
 IsNoJobFor line unread.Empty = ⊥
 IsNoJobFor line (unread.LongLine place) = ⊥
 IsNoJobFor line (unread.BadLine place why mend) = ⊥

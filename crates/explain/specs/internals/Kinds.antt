@@ -1,8 +1,8 @@
 -- The lease of a kind that a task holds, where it covers a key or is live.
 use Rattle.std.specs.Prelude.{◌≡◌, ◌≢◌, ℕ, ◌<◌, Bool, true, false, Option, Some, None, option_map}
-use Rattle.policy_rules.specs.declared.lease.Kind.{Kind}
-use Rattle.policy_rules.specs.declared.lease.Kind.TheVariants.{Guard, Bridge}
-use Rattle.policy_rules.specs.Rule.{is_covered, live_generation}
+use Rattle.lease_rule.specs.declared.lease.Kind.{Kind}
+use Rattle.lease_rule.specs.declared.lease.Kind.TheVariants.{Guard, Bridge}
+use Rattle.lease_rule.specs.Rule.{is_covered, live_generation}
 use Rattle.lease_table.specs.declared.values.Grant.{Grant}
 use Rattle.slicelet.specs.Rules.{seen_by}
 use Rattle.slicelet.specs.States.{SliceletState, held_in}

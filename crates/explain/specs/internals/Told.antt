@@ -1,7 +1,7 @@
 -- What a reply says of the machines of a job, before its step and after it.
 use Rattle.std.specs.Prelude.{◌≡◌, ℕ, Bool, true, false, reverse, is_some, Some, ⊤}
 use Rattle.machines.specs.Numbers.{is_within}
-use Rattle.policy_rules.specs.declared.answer.Verdict.{Verdict}
+use Rattle.lease_rule.specs.declared.answer.Verdict.{Verdict}
 use Rattle.lease_table.specs.declared.values.Grant.{Grant}
 use Rattle.lease_table.specs.declared.error.TableError.{TableError}
 use Rattle.lease_table.specs.declared.error.TableError.TheVariants.{Held}
@@ -23,17 +23,17 @@ use Rattle.world.specs.declared.reply.Reply.{Reply}
 use Rattle.world.specs.declared.reply.Reply.TheVariants as reply
 use Rattle.world.specs.declared.reply.Refusal.{Refusal}
 use Rattle.world.specs.declared.reply.Refusal.TheVariants as refusal
-use Rattle.explain.specs.declared.verdicts.Asked.{Asked}
+use Rattle.explain.specs.declared.verdicts.KeyQuestion.{KeyQuestion}
 use Rattle.explain.specs.Verdicts.{asked_by}
 use Rattle.explain.specs.Reasons.{is_check, task_of}
 
 -- a verdict is the one of the rule, by what was granted, for a task of the job
-pub record IsRuled (job : Job) (calls : Calls) (asked : Asked) (verdict : Verdict) : Type 0 where
+pub record IsRuled (job : Job) (calls : Calls) (asked : KeyQuestion) (verdict : Verdict) : Type 0 where
   pub own : is_within asked.task job.tasks ≡ true
   pub rules : rule_in calls asked.task asked.key asked.at ≡ verdict
 
 abbrev pub IsAskedOf : Job → Calls → Step → Verdict → Type 0
-IsAskedOf job calls s verdict = (asked : Asked) → asked_by s ≡ Some asked → IsRuled job calls asked verdict
+IsAskedOf job calls s verdict = (asked : KeyQuestion) → asked_by s ≡ Some asked → IsRuled job calls asked verdict
 
 -- the task of a step is of the job
 abbrev pub IsOwn : Job → Step → Type 0

@@ -16,8 +16,8 @@ Stays old new = (new.machine ≡ old.machine) × (new.history.items ≡ old.hist
 
 module _ {M E R F : Type 0} (step : M → E → Result (M × R) F) (lane limit : ℕ) (made : E → Type 0) (unmade : Type 0) where
   -- a turn with a book, and what it leaves
-  abbrev pub IsTurn : Book M E → Result R (WriteError F) → Book M E → Type 0
+  abbrev pub IsTurn : Book M E → Result R (WriteError E F) → Book M E → Type 0
   IsTurn old (Ok reply) new = (event : E) × made event × (length old.history.items < limit) × (step old.machine event ≡ Ok (new.machine, reply)) × (new.history.items ≡ old.history.items ++ entry lane event ∷ [])
   IsTurn old (Err HistoryFull) new = unmade × (limit ≤ length old.history.items) × Stays old new
-  IsTurn old (Err (Refused fault)) new = (event : E) × made event × (length old.history.items < limit) × (step old.machine event ≡ Err fault) × Stays old new
+  IsTurn old (Err (Refused event fault)) new = made event × (length old.history.items < limit) × (step old.machine event ≡ Err fault) × Stays old new
   IsTurn old (Err NoMemory) new = (unmade ⊎ ((event : E) × made event × (is_ok (step old.machine event) ≡ true))) × (length old.history.items < limit) × Stays old new

@@ -61,8 +61,8 @@ TellsMemory (Err why) notes = TellsHalt why notes
 
 module _ {M C R F : Type 0} (step : M → Event C → Result (M × R) F) (lock : Lock M) (old_draws new_draws : TicketPassView) (call : ℕ → C) (recorded : ℕ → ClusterCall) (told : F → ClusterReply) where
   -- what a thread answers of a call that may write, and what it notes: an accepted call leaves no record, a refused one its own, and a call that found no memory is answered so
-  abbrev pub CalledAndNoted : {A : Type 0} → (A → R) → PassView M (Event C) → Notes → Result A Halt → PassView M (Event C) → Notes → Type 0
-  CalledAndNoted reply_for old old_notes (Ok value) new new_notes = Writes step lock old_draws new_draws call old (Ok (reply_for value)) new × (new_notes ≡ old_notes)
-  CalledAndNoted {A} reply_for old old_notes (Err halt.Stopped) new new_notes =
-      (error : CallError F) × WroteNothing step lock old_draws new_draws call recorded told old error new × IsStopped {A = A} (Err error) old_notes new_notes
-  CalledAndNoted reply_for old old_notes (Err halt.NoMemory) new new_notes = IsStarved old_notes new_notes
+  abbrev pub CalledAndNoted : PassView M (Event C) → Notes → Result R Halt → PassView M (Event C) → Notes → Type 0
+  CalledAndNoted old old_notes (Ok reply) new new_notes = Writes step lock old_draws new_draws call old (Ok reply) new × (new_notes ≡ old_notes)
+  CalledAndNoted old old_notes (Err halt.Stopped) new new_notes =
+      (error : CallError F) × WroteNothing step lock old_draws new_draws call recorded told old error new × IsStopped {A = R} (Err error) old_notes new_notes
+  CalledAndNoted old old_notes (Err halt.NoMemory) new new_notes = IsStarved old_notes new_notes

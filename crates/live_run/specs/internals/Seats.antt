@@ -17,7 +17,7 @@ use Rattle.lease_table.specs.declared.call.TableCall.TheVariants.{Free}
 use Rattle.lease_table.specs.declared.call.TableReply.{TableReply}
 use Rattle.lease_table.specs.declared.call.TableReply.TheVariants.{Freed}
 use Rattle.lease_table.specs.declared.values.ReleaseNote.{ReleaseNote}
-use Rattle.policy_rules.specs.declared.lease.Kind.{Kind}
+use Rattle.lease_rule.specs.declared.lease.Kind.{Kind}
 use Rattle.slicelet.specs.Steps.{event_step as slicelet_step}
 use Rattle.slicelet.specs.declared.call.SliceletCall.{SliceletCall}
 use Rattle.slicelet.specs.declared.call.SliceletCall.TheVariants.{Release}
@@ -28,36 +28,37 @@ use Rattle.clerk.specs.declared.call.ClerkCall.{ClerkCall}
 use Rattle.clerk.specs.declared.call.ClerkReply.{ClerkReply}
 use Rattle.cluster.specs.declared.call.ClusterCall.TheVariants.{Clerk, Table, Task}
 use Rattle.shared_objects.specs.Calls.{Writes}
-use Rattle.shared_objects.specs.Objects.{clerk_told, slicelet_told, table_told}
+use Rattle.shared_objects.specs.Actors.{clerk_told, slicelet_call_at, slicelet_told, table_call_at, table_told}
+use Rattle.shared_objects.specs.Objects.{SharedObject}
 use Rattle.live_run.specs.declared.notes.Halt.{Halt}
 use Rattle.live_run.specs.Reports.{serves}
 use Rattle.live_run.specs.internals.Notes.{CalledAndNoted}
 
 -- WHAT THREADS ARE GIVEN, AND WHAT THEY LEAVE
 
-module _ (table : Lock Standing) (ticket : TicketView) where
+module _ (table : SharedObject Standing) (ticket : TicketView) where
   -- the passes are of this table and of this ticket, and no call found no memory
   abbrev pub AreTablePasses : TablePasses → Type 0
-  AreTablePasses passes = IsPassOf table passes.pass × DrawsFrom ticket passes.draws × (passes.notes.starved ≡ false)
+  AreTablePasses passes = IsPassOf table.lock passes.pass × DrawsFrom ticket passes.draws × (passes.notes.starved ≡ false)
 
   -- the passes are still of the same lane, table and ticket, and no record of a key that a task was asked for was added
   pub record KeepsTablePasses (old new : TablePasses) : Type 0 where
-    pub own : IsPassOf table new.pass
+    pub own : IsPassOf table.lock new.pass
     pub draws : DrawsFrom ticket new.draws
     pub lane : new.pass.lane ≡ old.pass.lane
     pub served : serves new.notes.records.items ≡ serves old.notes.records.items
 
-module _ (table : Lock Standing) (slicelet : Lock SliceletState) (ticket : TicketView) where
+module _ (table : SharedObject Standing) (slicelet : SharedObject SliceletState) (ticket : TicketView) where
   abbrev pub AreTaskPasses : TaskPasses → Type 0
-  AreTaskPasses passes = AreTablePasses table ticket passes.table × IsPassOf slicelet passes.own
+  AreTaskPasses passes = AreTablePasses table ticket passes.table × IsPassOf slicelet.lock passes.own
 
   -- the same of a task's thread, with its pass of the task's lock
   pub record KeepsTaskPasses (old new : TaskPasses) : Type 0 where
     pub at_table : KeepsTablePasses table ticket old.table new.table
-    pub own : IsPassOf slicelet new.own
+    pub own : IsPassOf slicelet.lock new.own
     pub lane : new.own.lane ≡ old.own.lane
 
-module _ (table : Lock Standing) (clerk : Lock (Option Slicing)) (ticket : TicketView) where
+module _ (table : SharedObject Standing) (clerk : Lock (Option Slicing)) (ticket : TicketView) where
   abbrev pub AreClerkPasses : ClerkPasses → Type 0
   AreClerkPasses passes = AreTablePasses table ticket passes.table × IsPassOf clerk passes.own
 
@@ -91,26 +92,26 @@ pub record KeepsClerkSeat (old new : ClerkSeat) : Type 0 where
 -- CALLS
 
 -- a call of the table by a thread, at the reading that is its ticket, and what the thread notes of it
-abbrev pub CalledForSeat : {A : Type 0} → (ℕ → TableCall) → (A → TableReply) → TableSeat → Result A Halt → TableSeat → Type 0
-CalledForSeat call reply_for old result new =
-    CalledAndNoted table_step old.table.now old.draws.pass new.draws.pass call (λ number. Table (call number)) table_told reply_for old.pass old.notes result new.pass new.notes
+abbrev pub CalledForSeat : TableCall → TableSeat → Result TableReply Halt → TableSeat → Type 0
+CalledForSeat call old result new =
+    CalledAndNoted table_step old.table.now.lock old.draws.pass new.draws.pass (table_call_at call) (λ ticket. Table (table_call_at call ticket)) table_told old.pass old.notes result new.pass new.notes
 
 -- a call of the slicelet by its task's thread
-abbrev pub CalledForTask : {A : Type 0} → (ℕ → SliceletCall) → (A → SliceletReply) → TaskSeat → Result A Halt → TaskSeat → Type 0
-CalledForTask call reply_for old result new =
-    CalledAndNoted slicelet_step old.slicelet.now old.table.draws.pass new.table.draws.pass call (λ number. Task old.slicelet.now.opened.machine.task (call number)) slicelet_told reply_for
+abbrev pub CalledForTask : SliceletCall → TaskSeat → Result SliceletReply Halt → TaskSeat → Type 0
+CalledForTask call old result new =
+    CalledAndNoted slicelet_step old.slicelet.now.lock old.table.draws.pass new.table.draws.pass (slicelet_call_at call) (λ ticket. Task old.slicelet.now.number (slicelet_call_at call ticket)) slicelet_told
     old.own old.table.notes result new.own new.table.notes
 
 -- a call of the clerk by its thread
-abbrev pub CalledForClerk : {A : Type 0} → ClerkCall → (A → ClerkReply) → ClerkSeat → Result A Halt → ClerkSeat → Type 0
-CalledForClerk call reply_for old result new =
-    CalledAndNoted clerk_step old.clerk.now.lock old.table.draws.pass new.table.draws.pass (λ _. call) (λ _. Clerk old.clerk.now.number call) clerk_told reply_for
+abbrev pub CalledForClerk : ClerkCall → ClerkSeat → Result ClerkReply Halt → ClerkSeat → Type 0
+CalledForClerk call old result new =
+    CalledAndNoted clerk_step old.clerk.now.lock old.table.draws.pass new.table.draws.pass (λ _. call) (λ _. Clerk old.clerk.now.number call) clerk_told
     old.own old.table.notes result new.own new.table.notes
 
 -- the lease of a kind was given up, and then the rows that its note closes were freed at the table
 pub record HasFreed (kind : Kind) (old new : TaskSeat) : Type 0 where
   pub note : ReleaseNote
   pub between : TicketPassView
-  pub released : Writes slicelet_step old.slicelet.now old.table.draws.pass between (Release kind) old.own (Ok (Released note)) new.own
+  pub released : Writes slicelet_step old.slicelet.now.lock old.table.draws.pass between (Release kind) old.own (Ok (Released note)) new.own
   pub rows : ℕ
-  pub freed : Writes table_step old.table.table.now between new.table.draws.pass (Free note) old.table.pass (Ok (Freed rows)) new.table.pass
+  pub freed : Writes table_step old.table.table.now.lock between new.table.draws.pass (Free note) old.table.pass (Ok (Freed rows)) new.table.pass

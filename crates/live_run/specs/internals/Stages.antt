@@ -5,6 +5,7 @@ use Rattle.assignment.specs.Slices.{Slicing}
 use Rattle.history_lock.specs.Passes.{Lock, IsPassOf, ArePassesOf}
 use Rattle.lease_table.specs.Tables.{Standing, opening}
 use Rattle.tickets.specs.Tickets.{TicketView, DrawsFrom}
+use Rattle.shared_objects.specs.Objects.{SharedObject}
 use Rattle.live_run.specs.declared.passes.TablePasses.{TablePasses}
 use Rattle.live_run.specs.declared.passes.ClerkPasses.{ClerkPasses}
 use Rattle.live_run.specs.declared.crew.Crew.{Crew}
@@ -15,10 +16,10 @@ use Rattle.live_run.specs.LiveJobs.{LiveSizes, live_policy}
 use Rattle.live_run.specs.Reports.{serves, asked_keys, job_keys, AreOfTasksFrom}
 use Rattle.live_run.specs.internals.Crews.{AreOfLanesFrom, IsCrew, HasLeft}
 
-module _ (table : Lock Standing) (ticket : TicketView) where
+module _ (table : SharedObject Standing) (ticket : TicketView) where
   -- the passes of a thread that calls the table are of this lane of its lock and of this ticket, none of its records tells of a key that a task was asked for, and no call of it found no memory
   pub record AreQuietPasses (lane : ℕ) (passes : TablePasses) : Type 0 where
-    pub own : IsPassOf table passes.pass
+    pub own : IsPassOf table.lock passes.pass
     pub of_lane : passes.pass.lane ≡ lane
     pub draws : DrawsFrom ticket passes.draws
     pub quiet : serves passes.notes.records.items ≡ 0
@@ -34,7 +35,7 @@ module _ (table : Lock Standing) (ticket : TicketView) where
   HaveLeftFrom workers asks task [] = Unit {0}
   HaveLeftFrom workers asks task (result ∷ results) = IfOk result (λ left. HasLeft table ticket workers asks task left) × HaveLeftFrom workers asks (task + 1) results
 
-module _ (table : Lock Standing) (clerk : Lock (Option Slicing)) (ticket : TicketView) where
+module _ (table : SharedObject Standing) (clerk : Lock (Option Slicing)) (ticket : TicketView) where
   -- the same of the clerk's thread, which has lane 1 of the table's lock, and the one lane of the clerk's
   pub record AreQuietClerkPasses (passes : ClerkPasses) : Type 0 where
     pub at_table : AreQuietPasses table ticket 1 passes.table
@@ -45,7 +46,7 @@ module _ (table : Lock Standing) (clerk : Lock (Option Slicing)) (ticket : Ticke
   pub record IsRemains (workers asks : ℕ) (remains : Remains) : Type 0 where
     pub tasks : AreOfTasksFrom 1 remains.tasks.items
     pub one_each : vec_len remains.tasks + 2 ≡ vec_len remains.table
-    pub own : ArePassesOf table remains.table.items
+    pub own : ArePassesOf table.lock remains.table.items
     pub lanes : AreOfLanesFrom 0 remains.table.items
     pub clerk_own : ArePassesOf clerk remains.clerk.items
     pub clerk_lanes : AreOfLanesFrom 0 remains.clerk.items
@@ -56,13 +57,13 @@ module _ (table : Lock Standing) (clerk : Lock (Option Slicing)) (ticket : Ticke
 
 -- the table and the clerk of a job are new; their locks and the ticket have a pass for each thread: the assigner's has lane 0 of the table's lock, the clerk's lane 1, and the tasks the lanes from 2 on
 pub record IsStaged (job : LiveSizes) (stage : Stage) : Type 0 where
-  pub new_table : stage.objects.table.opened.machine ≡ opening live_policy
+  pub new_table : stage.objects.table.lock.opened.machine ≡ opening live_policy
   pub new_clerk : stage.objects.clerk.lock.opened.machine ≡ None
   pub assigner : AreQuietPasses stage.objects.table stage.objects.ticket 0 stage.given.assigner
   pub learner : AreQuietClerkPasses stage.objects.table stage.objects.clerk.lock stage.objects.ticket stage.given.learner
   pub crews : AreCrewsFrom stage.objects.table stage.objects.ticket job.workers 1 stage.given.crews.items
   pub many : vec_len stage.given.crews ≡ job.tasks
-  pub table_lanes : stage.objects.table.opened.lanes ≡ job.tasks + 2
+  pub table_lanes : stage.objects.table.lock.opened.lanes ≡ job.tasks + 2
   pub clerk_lanes : stage.objects.clerk.lock.opened.lanes ≡ 1
   pub passes : stage.objects.ticket.terms.passes ≡ job.tasks * (job.workers + 1) + 2
   pub quota : job.asks ≤ stage.objects.ticket.terms.quota

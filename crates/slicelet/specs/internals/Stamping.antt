@@ -1,10 +1,10 @@
 -- The keys that held leases serve.
 use Rattle.std.specs.Prelude.{◌≡◌, ℕ, ◌+◌, ◌<◌, ◌≤◌, ◌||◌, Bool, true, Option, option_map}
 use Rattle.slice_ranges.specs.declared.key.TheConstants.{KEYS}
-use Rattle.policy_rules.specs.declared.holding.Holding.{Holding}
-use Rattle.policy_rules.specs.declared.lease.Lease.{Lease}
-use Rattle.policy_rules.specs.Leases.{seen_from}
-use Rattle.policy_rules.specs.Rule.{is_serving}
+use Rattle.lease_rule.specs.declared.holding.Holding.{Holding}
+use Rattle.lease_rule.specs.declared.lease.Lease.{Lease}
+use Rattle.lease_rule.specs.Leases.{seen_from}
+use Rattle.lease_rule.specs.Rule.{is_serving}
 use Rattle.slicelet.specs.Stamps.{Stamps, since, stamp_after_change}
 use Rattle.slicelet.specs.States.{SliceletState, stamp_in, permits}
 

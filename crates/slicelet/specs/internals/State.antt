@@ -1,9 +1,9 @@
 -- What a slicelet keeps, and the state that it stands for.
 use Rattle.std.specs.Prelude.{ℕ, [], Option, Some, None, option_map}
-use Rattle.policy_rules.specs.declared.lease.Kind.{Kind}
-use Rattle.policy_rules.specs.declared.lease.Kind.TheVariants.{Guard, Bridge}
-use Rattle.policy_rules.specs.declared.lease.Lease.{Lease}
-use Rattle.policy_rules.specs.declared.holding.Holding.{Holding}
+use Rattle.lease_rule.specs.declared.lease.Kind.{Kind}
+use Rattle.lease_rule.specs.declared.lease.Kind.TheVariants.{Guard, Bridge}
+use Rattle.lease_rule.specs.declared.lease.Lease.{Lease}
+use Rattle.lease_rule.specs.declared.holding.Holding.{Holding}
 use Rattle.lease_table.specs.declared.values.Grant.{Grant}
 use Rattle.slicelet.specs.Stamps.{Stamps, since}
 use Rattle.slicelet.specs.declared.heard.HeardGrant.{HeardGrant}

@@ -1,7 +1,7 @@
 -- Up to when a task may serve a key, by the leases that it holds.
 use Rattle.std.specs.Prelude.{ℕ, Option, Some, None, if◌then◌else◌}
-use Rattle.policy_rules.specs.Leases.{SeenLease}
-use Rattle.policy_rules.specs.Rule.{SeenHolding, is_serving, rule, is_allowed}
+use Rattle.lease_rule.specs.Leases.{SeenLease}
+use Rattle.lease_rule.specs.Rule.{SeenHolding, is_serving, rule, is_allowed}
 
 -- the end of a lease that allows the key at a reading, and else the reading
 abbrev pub end_by : ℕ → Option SeenLease → ℕ → ℕ

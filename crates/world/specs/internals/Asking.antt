@@ -13,11 +13,11 @@ use Rattle.world.specs.declared.reply.Reply.{Reply}
 use Rattle.world.specs.declared.reply.Reply.TheVariants as reply
 use Rattle.world.specs.declared.told.NextNumbers.{NextNumbers}
 use Rattle.world.specs.Front.{term_told}
-use Rattle.world.specs.Replies.{next_numbers, told_as}
+use Rattle.world.specs.Replies.{named, next_numbers, told_as}
 
 -- a reply of the machines, as it is told, or that they are out of memory
 abbrev pub told_of : Step → NextNumbers → Result ClusterReply AllocError → Reply
-told_of s next (Ok answer) = told_as s next answer
+told_of s next (Ok answer) = told_as (named s) next answer
 told_of s next (Err error) = reply.NoMemory
 
 -- a call of the machines was played, and its reply told

@@ -10,7 +10,7 @@ use Rattle.world_clocks.proofs.drift_law.Goals as goal
 may : (c : goal.After-interval_law) (drift : ℕ → Drift) (job : Job) (past : Past) (task : ℕ) (key : List ℕ) → MayServeByDrift drift job past task key
     → MayServe job past task key
 may c drift job past task key by =
-    (by.at, c.timely_job_law.ensures drift job.policy.skew (map reading (step.Serve task key by.at ∷ steps_of past)) by.within, by.served)
+    (by.at, c.timely_job_law.ensures drift job.policy.skew (map reading (step.Serve task key by.at ∷ steps_of past)) by.within, by.allowed)
 
 pub returns-clause-owner : goal.returns-clause-owner
 returns-clause-owner c = λ drift job later past task key leads by.

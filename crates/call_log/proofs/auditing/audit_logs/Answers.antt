@@ -12,7 +12,8 @@ returns-clause-ok g c = record {
   finding = c.in_ok-finding.finding;
   found = c.in_ok-finding.ensures.found;
   told = c.is_one.ensures;
+  clocks = c.is_timely.ensures;
   hint = c.in_ok-hint.hint;
   hinted = rw (← c.as_slice-entries.ensures.value) c.in_ok-hint.ensures;
-  report = rw (← c.policy.ensures, ← c.skew.ensures, ← c.as_slice-entries.ensures.value) c.in_ok-text.ensures;
+  report = rw (← c.as_slice-entries.ensures.value) c.in_ok-text.ensures;
 }

@@ -1,5 +1,5 @@
 use Rattle.std.proofs.Common.{[], refl, subst, List, arith}
-use Rattle.call_log.specs.declared.entry.Entry.{Entry}
+use Rattle.call_log.specs.declared.entry.LogEntry.{LogEntry}
 use Rattle.call_log.specs.Calls.{held_by_asked}
 use Rattle.call_log.specs.Hints.{with_open}
 use Rattle.call_log.proofs.Opening.{all_of}
@@ -11,7 +11,7 @@ loop-index-init c = record { past = []; told = refl; leads = c.in_ok-cluster.ens
 
 pub returns-in-Some : goal.returns-in-Some
 returns-in-Some c =
-    let all : List Entry = with_open c.args.place c.args.line.now c.args.entries.now in
+    let all : List LogEntry = with_open c.args.place c.args.line.now c.args.entries.now in
     let known = c.loop-index.invariant in
     let answered = rw c.in-Some.is at (c.in_ok-other.ensures c.args.job known.past known.leads) in (
       c.loop-index.index,
@@ -23,7 +23,7 @@ returns-in-Some c =
 
 pub loop-index-preserved : goal.loop-index-preserved
 loop-index-preserved c =
-    let all : List Entry = with_open c.args.place c.args.line.now c.args.entries.now in
+    let all : List LogEntry = with_open c.args.place c.args.line.now c.args.entries.now in
     let known = c.loop-index.invariant in
     let answered = rw c.in_default.is at (c.in_ok-other.ensures c.args.job known.past known.leads) in
     played_more all c.loop-index.index c.entry_with-entry.result.now c.entry_with-entry.ensures.0 c.entry_with-entry.ensures.1
@@ -31,6 +31,6 @@ loop-index-preserved c =
 
 pub returns : goal.returns
 returns c =
-    let known = subst (λ (es : List Entry). IsPlayedTo c.args.job es c.loop-index.cluster)
+    let known = subst (λ (es : List LogEntry). IsPlayedTo c.args.job es c.loop-index.cluster)
     (all_of c.args.entries.now c.args.place c.args.line.now c.requires c.loop-index.index (omega arith)) c.loop-index.invariant in
     record { past = known.past; told = known.told; answered = c.run_law-2.ensures.run c.args.job known.past known.leads }

@@ -1,6 +1,6 @@
 use Rattle.std.proofs.Common.{ℕ, [], refl, ◌∙◌, ap, subst, arith, List}
 use Rattle.std.proofs.lemmas.List.{take_all}
-use Rattle.call_log.specs.declared.entry.Entry.{Entry}
+use Rattle.call_log.specs.declared.entry.LogEntry.{LogEntry}
 use Rattle.lease_table.specs.Policies.{Terms}
 use Rattle.call_log.specs.Late.{AreWatched}
 use Rattle.call_log.proofs.Replaying.{IsPlayedTo, played_more, breaks_here, one_run}
@@ -25,7 +25,7 @@ loop-index-preserved g c =
 
 pub returns : goal.returns
 returns g c =
-    let known = subst (λ (es : List Entry). IsPlayedTo c.args.job es c.loop-index.cluster)
+    let known = subst (λ (es : List LogEntry). IsPlayedTo c.args.job es c.loop-index.cluster)
     (take_all c.loop-index.index c.args.entries.now c.loop-index-test.false) c.loop-index.invariant in
     one_run c.args.job c.args.entries.now c.loop-index.cluster _ c.late_reading.result known
     (c.run_law-2.ensures.run c.args.job known.past known.leads)

@@ -4,8 +4,8 @@ use Rattle.lease_table.specs.declared.kept.Kept.{Kept}
 use Rattle.lease_table.specs.KeptValues.{kept_of, Covers}
 use Rattle.cluster.specs.Pasts.{standing}
 use Rattle.call_log.specs.declared.restored.RestoreFault.{RestoreFault}
-use Rattle.call_log.specs.declared.told.Told.{Told}
-use Rattle.call_log.specs.declared.told.Told.TheVariants.{NotRestored, Restored}
+use Rattle.call_log.specs.declared.told.CallerReply.{CallerReply}
+use Rattle.call_log.specs.declared.told.CallerReply.TheVariants.{NotRestored, Restored}
 use Rattle.call_log.specs.Restores.{IsChecked}
 use Rattle.call_log.proofs.Restoring.{not_restored, restored, not_fewer}
 use Rattle.call_log.proofs.playing.restore.Goals as goal

@@ -9,4 +9,8 @@ returns c =
     let found = found_of c.args.matches.now in
     let names_are : map (λ n. n.now) c.in_ok-names.names.items ≡ option_map_or raw_values (matched_of found (codes "LOG")) [] = search rules in
     let progress = c.get_flag-progress.ensures in
-    (names_are ∙ all_given found (codes "LOG"), flag_is found (codes "progress") c.get_flag-progress.result progress.none progress.value progress.other)
+    let strict = c.get_flag-strict.ensures in (
+      names_are ∙ all_given found (codes "LOG"),
+      flag_is found (codes "progress") c.get_flag-progress.result progress.none progress.value progress.other,
+      flag_is found (codes "strict") c.get_flag-strict.result strict.none strict.value strict.other,
+    )

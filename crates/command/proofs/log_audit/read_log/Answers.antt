@@ -1,5 +1,5 @@
 use Rattle.std.proofs.Common.{inr, arith}
-use Rattle.session.proofs.Bytes.{consumes_more, consumes_none}
+use Rattle.program_io.proofs.Bytes.{consumes_more, consumes_none}
 use Rattle.command.proofs.Runs.{nothing_yet}
 use Rattle.command.proofs.log_audit.read_log.Goals as goal
 

@@ -1,6 +1,6 @@
 use Rattle.std.proofs.Common.{◌≡◌, ◌≤◌, ◌+◌}
 use Rattle.std.specs.Io.KnownBytes.{Consumes}
-use Rattle.session.specs.declared.line_reading.TheConstants.{MOST_LINE_BYTES}
+use Rattle.program_io.specs.declared.line.TheConstants.{MOST_LINE_BYTES}
 use Rattle.command.specs.Audits.{EndsInLine}
 use Rattle.command.proofs.log_audit.read_log.Given as goal
 

@@ -1,4 +1,4 @@
-use Rattle.std.proofs.Common.{◌≡◌, ◌+◌, ◌<◌, map, length, arith, refl}
+use Rattle.std.proofs.Common.{◌+◌, ◌<◌, map, length, arith, refl}
 use Rattle.serde_json.specs.View.{view}
 use Rattle.diagnosis.specs.Faults.{bad_steps_in}
 use Rattle.diagnosis.proofs.Telling.{passes, tells_fault}

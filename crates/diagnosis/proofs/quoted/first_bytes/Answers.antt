@@ -1,4 +1,4 @@
-use Rattle.std.proofs.Common.{◌≡◌, ◌≤◌, length, sym, take_all, arith}
+use Rattle.std.proofs.Common.{◌≤◌, length, sym, take_all, arith}
 use Rattle.std.proofs.lemmas.List.{length-take-le}
 use Rattle.std.proofs.lemmas.Bool.Decides.{nat_tests}
 use Rattle.diagnosis.specs.declared.quoted.TheConstants.{MOST_TOLD}

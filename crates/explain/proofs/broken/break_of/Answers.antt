@@ -1,5 +1,5 @@
 use Rattle.std.proofs.Common.{◌∙◌, sym, ap}
-use Rattle.policy_rules.specs.declared.answer.Verdict.{Verdict}
+use Rattle.lease_rule.specs.declared.answer.Verdict.{Verdict}
 use Rattle.slicelet.specs.Rules.{is_allowed}
 use Rattle.explain.specs.Hearing.{past_of}
 use Rattle.explain.proofs.Causes.{by_call}

@@ -1,5 +1,5 @@
 use Rattle.std.proofs.Common.{◌∙◌, sym, subst}
-use Rattle.policy_rules.specs.declared.answer.Verdict.{Verdict}
+use Rattle.lease_rule.specs.declared.answer.Verdict.{Verdict}
 use Rattle.slicelet.specs.Rules.{covers_key}
 use Rattle.explain.specs.Leases.{IsDeciding}
 use Rattle.explain.proofs.Deciding.{serves_as}

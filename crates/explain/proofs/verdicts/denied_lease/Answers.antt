@@ -1,6 +1,6 @@
 use Rattle.std.proofs.Common.{◌∙◌, sym, ap, subst}
-use Rattle.policy_rules.specs.declared.answer.Ground.{Ground}
-use Rattle.policy_rules.specs.declared.answer.Verdict.TheVariants.{Deny}
+use Rattle.lease_rule.specs.declared.answer.Ground.{Ground}
+use Rattle.lease_rule.specs.declared.answer.Verdict.TheVariants.{Deny}
 use Rattle.slicelet.specs.Rules.{covers_key}
 use Rattle.explain.specs.Leases.{IsDeciding}
 use Rattle.explain.proofs.Deciding.{ended_as, elsewhere_as}

@@ -4,4 +4,4 @@ use Rattle.live_run.proofs.crew.dismiss.Goals as goal
 pub unreachable-requires : goal.unreachable-requires
 unreachable-requires c =
     let passes = c.args.gathered.passes in
-    none_missing passes.len c.args.slicelet.opened.lanes passes.items c.requires.gathered.lanes passes.ok.0 c.requires.many c.in_default.ensures.missing.2
+    none_missing passes.len c.args.slicelet.lock.opened.lanes passes.items c.requires.gathered.lanes passes.ok.0 c.requires.many c.in_default.ensures.missing.2

@@ -13,13 +13,13 @@ loop-pass-preserved c =
     let i = c.loop-pass.invariant in let step = c.in-Some.ensures.steps in
     let slicelet = c.args.slicelet.now in let ticket = c.args.ticket.now in
     let lane = vec_len c.loop-pass.members in
-    let new = subst (λ passes. AreNewFrom lane slicelet passes) step.0 i.passes in
+    let new = subst (λ passes. AreNewFrom lane slicelet.lock passes) step.0 i.passes in
     let taken = All-pop (λ (p : TicketPassView). p ≡ new_ticket_pass ticket) c.loop-pass.draws.items c.pop.new.self.items (Some c.in-Some-pop.own) c.in-Some-pop.ensures.items i.draws in
     let member : Member = record { number = c.loop-pass.number; pass = c.in-Some.pass; draws = c.in-Some-pop.own } in
     let at : lane ≡ 0 + length c.loop-pass.members.items = omega (arith, c.loop-pass.members.ok.0) in record {
       count = omega (arith, c.in_ok-push.ensures.len, i.count);
       rest = omega (arith, i.rest, step.1, c.in_ok-push.ensures.len);
-      passes = subst (λ (n : ℕ). AreNewFrom n slicelet (into_iter_items c.next.new.self)) (sym c.in_ok-push.ensures.len) new.1;
+      passes = subst (λ (n : ℕ). AreNewFrom n slicelet.lock (into_iter_items c.next.new.self)) (sym c.in_ok-push.ensures.len) new.1;
       draws = taken.0;
       left = omega (arith, c.in-Some-pop.ensures.len, step.1, i.left);
       members = subst (λ (members : List Member). AreMembersFrom slicelet ticket 0 members) (sym c.in_ok-push.ensures.items)

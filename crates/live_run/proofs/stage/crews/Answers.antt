@@ -14,14 +14,14 @@ loop-pass-preserved c =
     let made = c.in_ok-crew.ensures in let same = c.workers-per_task.ensures.value in
     let crew = subst (λ (n : ℕ). IsCrew table ticket n c.in_ok-crew.crew) same made.crew in
     let crews = c.loop-pass.crews in
-    let new = subst (λ passes. AreNewFrom (vec_len crews + 2) table passes) step.0 i.passes in
+    let new = subst (λ passes. AreNewFrom (vec_len crews + 2) table.lock passes) step.0 i.passes in
     let more : vec_len c.push.new.self ≡ vec_len crews + 1 = c.in_ok-push.ensures.len in
     let at : c.in_ok-crew.crew.task ≡ 1 + length crews.items = omega (arith, made.task, c.in-Some-new.ensures.value, i.count, crews.ok.0) in
     let next : vec_len crews + 2 + 1 ≡ vec_len c.push.new.self + 2 = omega (arith, more) in
     let left : vec_len c.loop-pass.draws ≡ (into_iter_len c.next.new.self + 1) * (workers + 1) = i.left ∙ ap (λ (n : ℕ). n * (workers + 1)) (sym step.1) in record {
       count = more ∙ ap (λ (n : ℕ). n + 1) i.count;
       rest = omega (arith, i.rest, step.1, more);
-      passes = subst (λ (n : ℕ). AreNewFrom n table (into_iter_items c.next.new.self)) next new.1;
+      passes = subst (λ (n : ℕ). AreNewFrom n table.lock (into_iter_items c.next.new.self)) next new.1;
       draws = made.draws;
       left = omega (arith, left, made.left, same);
       few = omega (arith, i.few, more, c.requires.few.1);

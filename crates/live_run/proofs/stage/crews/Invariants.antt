@@ -9,7 +9,7 @@ abbrev pub invariant-loop-pass : goal.invariant-loop-pass
 invariant-loop-pass l = record {
   count : vec_len l.crews ≡ l.number;
   rest : vec_len l.crews + into_iter_len l.pass-iterator ≡ l.fn.job.tasks;
-  passes : AreNewFrom (vec_len l.crews + 2) l.table (into_iter_items l.pass-iterator);
+  passes : AreNewFrom (vec_len l.crews + 2) l.table.lock (into_iter_items l.pass-iterator);
   draws : All (λ pass. pass ≡ new_ticket_pass l.ticket) l.draws.items;
   left : vec_len l.draws ≡ into_iter_len l.pass-iterator * (l.fn.job.workers + 1);
   few : l.before ≤ vec_len l.crews * 7;

@@ -8,14 +8,14 @@ use Rattle.live_run.proofs.stage.last_passes.Goals as goal
 
 pub returns-clause-passes : goal.returns-clause-passes
 returns-clause-passes c =
-    let table = c.args.table.now in
+    let table = c.args.table.now.lock in
     let p = c.in-Some in
     let old = subst (λ ps. AreNewFrom 0 table ps) p.ensures.items c.requires.passes.0 in
     ((new_last table c.pop.new.self.items p.pass old).0, p.ensures.len)
 
 pub returns-clause-quiet : goal.returns-clause-quiet
 returns-clause-quiet c =
-    let table = c.args.table.now in
+    let table = c.args.table.now.lock in
     let ticket = c.args.ticket.now in
     let p = c.in-Some in
     let q = c.in-Some-pop in

@@ -10,5 +10,5 @@ invariant-loop-ask g l = record {
   lane : l.seat.pass.lane ≡ l.fn.member.pass.lane;
   drawn : length l.seat.draws.pass.drawn ≡ l.ask;
   many : vec_len l.records ≡ l.ask;
-  asked : AreServesFrom l.shared.slicelet.now.opened.machine.task 0 l.records.items;
+  asked : AreServesFrom l.shared.slicelet.now.number 0 l.records.items;
 }

@@ -1,5 +1,4 @@
-use Rattle.std.proofs.Common.{rules, ◌≡◌, inl, inr, subst}
-use Rattle.std.specs.Prelude.{IfSome}
+use Rattle.std.proofs.Common.{rules}
 use Rattle.shared_objects.proofs.Writing.{drawn_write, refused_write}
 use Rattle.shared_objects.proofs.write.write.Goals as goal
 
@@ -9,17 +8,11 @@ returns-in-Ok-clause-answer g c = drawn_write _ _ _ _ _ _ _ _ _ _ c.in-Ok.ensure
 pub returns-in-Err-NoMemory-clause-answer : goal.returns-in-Err-NoMemory-clause-answer
 returns-in-Err-NoMemory-clause-answer g c =
     let written = rw c.in-Err-NoMemory.field-0-is at c.in-Err-NoMemory.ensures.answer in
-    inl (drawn_write _ _ _ _ _ _ _ _ _ _ written (search rules) (λ event made. search rules) (λ unmade. search rules))
-
-pub returns-in-Some-clause-answer : goal.returns-in-Some-clause-answer
-returns-in-Some-clause-answer g c =
-    let written = rw c.in-Err-Refused.field-0-is at c.in-Err-Refused.ensures.answer in
-    refused_write _ _ _ _ _ _ _ _ _ _ written (search rules) (λ event made. search rules) (λ unmade. search rules)
-    (λ call. g.C.SharedCall.recorded c.args.order.actor call) _ c.in-Some.event c.refused_call.result
-    (λ event made. subst (λ kept. IfSome kept (λ copied. copied ≡ event)) c.in-Some.is (search rules))
-    c.refused_call.ensures.fault c.refused_call.ensures.ticket c.refused_call.ensures.step c.refused_call.ensures.reply
+    drawn_write _ _ _ _ _ _ _ _ _ _ written (search rules) (λ event made. search rules) (λ unmade. search rules)
 
 pub returns-clause-answer : goal.returns-clause-answer
 returns-clause-answer g c =
     let written = rw c.in-Err-Refused.field-0-is at c.in-Err-Refused.ensures.answer in
-    inr (_, drawn_write _ _ _ _ _ _ _ _ _ _ written (search rules) (λ event made. search rules) (λ unmade. search rules))
+    refused_write _ _ _ _ _ _ _ _ _ _ _ written (search rules) (λ event made. search rules) (λ unmade. search rules)
+    (λ call. g.M.Actor.recorded c.args.order.actor call) _ c.refused_call.result
+    c.refused_call.ensures.fault c.refused_call.ensures.ticket c.refused_call.ensures.step c.refused_call.ensures.reply

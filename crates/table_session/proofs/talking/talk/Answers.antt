@@ -2,11 +2,11 @@ use Rattle.std.proofs.Common.{rules, ◌≡◌, ◌&&◌, not, true, false, ℕ,
 use Rattle.std.specs.Prelude.{nat_eq, Option}
 use Rattle.std.specs.Io.KnownBytes.{Appends}
 use Rattle.std.proofs.lemmas.Result.{err_from_is_err_and}
-use Rattle.session.proofs.Talking.{is_line}
-use Rattle.session.proofs.Bytes.{consumes_none}
+use Rattle.program_io.proofs.Bytes.{consumes_none}
+use Rattle.program_io.proofs.Skipping.{is_line, line_consumed, no_line}
 use Rattle.table_session.specs.declared.keeping.TableSession.{TableSession}
 use Rattle.table_session.specs.TableTalks.{Point}
-use Rattle.table_session.proofs.Turning.{begins, turns_to, stops, cuts, ends, no_line, line_consumed}
+use Rattle.table_session.proofs.Turning.{begins, turns_to, stops, cuts, ends, unread}
 use Rattle.table_session.proofs.talking.talk.Goals as goal
 
 abbrev point : {S : Type 0} → TableSession S → Option (List ℕ) → Option (List ℕ) → Point S
@@ -23,7 +23,9 @@ returns-in_err-line-clause-err g c =
     let from = point c.args.session.now (g.R.Read.remaining c.args.reader.now) (g.W.Write.contents c.args.writer.now) in
     let mid = point c.lines.session (g.R.Read.remaining c.lines.reader) (g.W.Write.contents c.lines.writer) in
     let more = c.in_err-line.ensures.err in
-    rw (p.1, p.2) (stops g.S.Store.is_honest g.S.Store.may_leave g.row.S-Fault.Denot from mid (g.R.Read.remaining c.next_line.new.reader) more.0 c.lines.invariant more.1)
+    rw (p.1, p.2) (unread g.S.Store.is_honest g.S.Store.may_leave g.S.Store.may_fail from
+    (point c.lines.session (g.R.Read.remaining c.next_line.new.reader) (g.W.Write.contents c.lines.writer)) c.in_err-line.field-0.0
+    (stops g.S.Store.is_honest g.S.Store.may_leave g.row.S-Fault.Denot from mid (g.R.Read.remaining c.next_line.new.reader) more.0 c.lines.invariant more.1))
 
 pub returns-then-is_end-clause-ok : goal.returns-then-is_end-clause-ok
 returns-then-is_end-clause-ok g c =

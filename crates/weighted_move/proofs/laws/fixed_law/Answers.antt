@@ -8,5 +8,5 @@ pub returns-clause-number : goal.returns-clause-number
 returns-clause-number c = number_exact
 
 pub returns-clause-candidates : goal.returns-clause-candidates
-returns-clause-candidates c slices tasks range left move set is_range same fits =
-    (handed_over slices tasks range left set is_range same fits move, taken_over slices tasks range left set is_range same fits move)
+returns-clause-candidates c slices tasks redundancy left move set is_redundancy same fits =
+    (handed_over slices tasks redundancy left set is_redundancy same fits move, taken_over slices tasks redundancy left set is_redundancy same fits move)

@@ -2,7 +2,7 @@ use Rattle.std.proofs.Common.{◌≡◌, ℕ, ◌<◌, ◌^◌, true, List, leng
 use Rattle.std.specs.Prelude.{false, Ok, Err, reverse}
 use Rattle.machines.specs.Numbers.{is_within}
 use Rattle.slicelet.specs.declared.handle.KeyHandle.{KeyHandle}
-use Rattle.policy_rules.specs.declared.answer.Verdict.TheVariants.{Deny}
+use Rattle.lease_rule.specs.declared.answer.Verdict.TheVariants.{Deny}
 use Rattle.slicelet.specs.Rules.{covers_key}
 use Rattle.slicelet.specs.States.{SliceletState}
 use Rattle.cluster.specs.declared.call.ClusterCall.TheVariants as call

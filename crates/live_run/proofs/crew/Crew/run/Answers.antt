@@ -1,7 +1,6 @@
 use Rattle.std.proofs.Common.{◌≡◌, ◌∙◌, ℕ, ◌+◌, ap, arith, subst, vec_len}
 use Rattle.history_lock.specs.Histories.{IsLegal}
 use Rattle.slicelet.specs.Steps.{event_step}
-use Rattle.slicelet.specs.States.{SliceletState}
 use Rattle.live_run.specs.internals.Crews.{IsGathered}
 use Rattle.live_run.proofs.Crewing.{has_left}
 use Rattle.live_run.proofs.crew.Crew.run.Goals as goal
@@ -17,7 +16,7 @@ returns g c =
     omega (arith, gathered.many, c.in_ok-passes.ensures.many, c.in_ok-workers.ensures.tail_len, c.requires.crew.many) in
     let all = subst (λ (n : ℕ). IsGathered c.args.self.slicelet ticket n c.in_ok-table.gathered) c.asks.ensures.value gathered.gathered in
     has_left c.args.self.slicelet ticket table c.args.job.workers c.args.job.asks c.args.self.task c.dismiss.result c.in_ok-table.gathered all many
-    (ap (λ (machine : SliceletState). machine.task) c.requires.crew.new)
+    c.requires.crew.numbered
     (subst (λ machine. IsLegal event_step machine c.dismiss.result.history) c.requires.crew.new left.played)
     (rw same keeps.at_table.own)
     (ap (λ p. p.lane) same ∙ (keeps.at_table.lane ∙ (ap (λ p. p.lane) c.task_passes-passes.ensures.table ∙ c.requires.crew.of_lane)))

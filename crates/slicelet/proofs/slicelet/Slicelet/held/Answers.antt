@@ -1,6 +1,6 @@
 use Rattle.std.proofs.Common.{◌≡◌, ◌∙◌, ℕ, refl, sym}
 use Rattle.std.specs.Prelude.{Option, Some, None, option_map}
-use Rattle.policy_rules.specs.declared.lease.Lease.{Lease}
+use Rattle.lease_rule.specs.declared.lease.Lease.{Lease}
 use Rattle.slicelet.specs.declared.heard.HeardGrant.{HeardGrant}
 use Rattle.slicelet.specs.declared.heard.HeldLease.{HeldLease}
 use Rattle.slicelet.specs.States.{held_lease}

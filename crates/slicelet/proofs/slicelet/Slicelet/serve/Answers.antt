@@ -1,5 +1,5 @@
 use Rattle.std.proofs.Common.{◌∙◌, sym, ap}
-use Rattle.policy_rules.specs.Rule.{SeenHolding, rule}
+use Rattle.lease_rule.specs.Rule.{SeenHolding, rule}
 use Rattle.slicelet.specs.Rules.{covers_key}
 use Rattle.slicelet.specs.internals.State.{stamps_in}
 use Rattle.slicelet.proofs.Keeping.{seen_kept}

@@ -7,7 +7,7 @@ use Rattle.world.proofs.world.World.headline_law.Goals as goal
 pub returns-clause-rule : goal.returns-clause-rule
 returns-clause-rule c = λ job later past task key at answer leads.
     let e = event (step.Serve task key at) answer in
-    c.rule_law.ensures job past task key at answer (run_before job later (e ∷ past) (c.run_law.ensures.run job _ leads))
+    c.rule_law.ensures.told job past task key at answer (run_before job later (e ∷ past) (c.run_law.ensures.run job _ leads))
 
 pub returns-clause-handle : goal.returns-clause-handle
 returns-clause-handle c = λ job later past task number at handle answer leads inside made familiar.

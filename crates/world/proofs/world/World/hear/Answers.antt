@@ -1,9 +1,6 @@
 use Rattle.std.proofs.Common.{◌≡◌, ℕ, true, refl, ◌∙◌, ap, subst}
-use Rattle.std.specs.Prelude.{Result}
-use Rattle.std.specs.declared.alloc.AllocError.{AllocError}
 use Rattle.machines.specs.Numbers.{is_within}
 use Rattle.slicelet.specs.declared.call.SliceletCall.TheVariants.{Hear}
-use Rattle.lease_table.specs.declared.values.Grant.{Grant}
 use Rattle.cluster.specs.Numbers.{with_number}
 use Rattle.cluster.specs.Pasts.{grants}
 use Rattle.cluster.specs.declared.call.ClusterCall.TheVariants as call

@@ -1,8 +1,5 @@
 use Rattle.std.proofs.Common.{◌≡◌, ℕ, true, refl, ◌∙◌, ap, subst}
-use Rattle.std.specs.Prelude.{Result}
-use Rattle.std.specs.declared.alloc.AllocError.{AllocError}
 use Rattle.machines.specs.Numbers.{is_within}
-use Rattle.assignment.specs.Slices.{Slicing}
 use Rattle.clerk.specs.declared.call.ClerkCall.TheVariants.{Learn}
 use Rattle.cluster.specs.Pasts.{published}
 use Rattle.cluster.specs.declared.call.ClusterCall.TheVariants as call

@@ -1,4 +1,4 @@
-use Rattle.std.proofs.Common.{ℕ, refl, sym, ◌∙◌, ap}
+use Rattle.std.proofs.Common.{ℕ, refl, sym, ap}
 use Rattle.std.specs.Prelude.{Result, Ok}
 use Rattle.cluster.specs.declared.call.ClusterCall.{ClusterCall}
 use Rattle.cluster.specs.declared.call.ClusterCall.TheVariants as call

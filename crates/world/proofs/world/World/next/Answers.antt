@@ -1,6 +1,6 @@
 use Rattle.std.proofs.Common.{◌≡◌, ◌<◌, List, length, sym, ◌∙◌, ap, subst}
 use Rattle.lease_table.specs.declared.values.Phase.{Phase}
-use Rattle.lease_table.specs.Tables.{Standing, phase_of}
+use Rattle.lease_table.specs.Tables.{phase_of}
 use Rattle.assigner.specs.Terms.{Keeping}
 use Rattle.assigner.specs.Actions.{next_action}
 use Rattle.assigner.specs.declared.action.View.{View}

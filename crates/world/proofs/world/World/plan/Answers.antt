@@ -1,7 +1,7 @@
 use Rattle.std.proofs.Common.{◌≡◌, ◌∙◌, sym, ap, subst, refl}
 use Rattle.std.specs.Prelude.{Some}
 use Rattle.lease_table.specs.Policies.{Terms}
-use Rattle.weighted_move.specs.Policies.{Limits, limits_of}
+use Rattle.weighted_move.specs.Policies.{PlanTerms, plan_terms_of}
 use Rattle.weighted_move.specs.Plans.{CanPlan, IsPlan, plan_refusal}
 use Rattle.world.specs.Jobs.{Job}
 use Rattle.world.specs.Front.{draft_of}
@@ -11,10 +11,10 @@ use Rattle.world.proofs.world.World.plan.Goals as goal
 pub returns-in-Ok : goal.returns-in-Ok
 returns-in-Ok c = λ job past k.
     let draft : draft_of past ≡ Some c.in-Some.draft = sym k.draft ∙ c.in-Some.is in
-    let held : c.plan_policy-policy.result ≡ limits_of job.policy.low job.policy.high c.args.bounds =
-    c.plan_policy-policy.ensures ∙ ap (λ (t : Terms). limits_of t.low t.high c.args.bounds) (c.policy.ensures ∙ ap (λ (j : Job). j.policy) k.same_job) in
-    let can = subst (λ (l : Limits). CanPlan c.in-Some.draft.slices c.args.loads.now c.args.tasks.now l) held c.in-Ok.ensures.can in
-    let is = subst (λ (l : Limits). IsPlan c.in-Some.draft.slices c.args.loads.now c.args.tasks.now l c.in-Ok.plan) held c.in-Ok.ensures.planned in
+    let held : c.plan_policy-policy.result ≡ plan_terms_of job.policy.low job.policy.high c.args.bounds =
+    c.plan_policy-policy.ensures ∙ ap (λ (t : Terms). plan_terms_of t.low t.high c.args.bounds) (c.policy.ensures ∙ ap (λ (j : Job). j.policy) k.same_job) in
+    let can = subst (λ (l : PlanTerms). CanPlan c.in-Some.draft.slices c.args.loads.now c.args.tasks.now l) held c.in-Ok.ensures.can in
+    let is = subst (λ (l : PlanTerms). IsPlan c.in-Some.draft.slices c.args.loads.now c.args.tasks.now l c.in-Ok.plan) held c.in-Ok.ensures.planned in
     record {
       run = (planned_reply job past c.args.loads.now c.args.tasks.now c.args.bounds c.in-Some.draft draft c.in-Ok.plan can.planned (can, is), k.run);
       cluster = k.cluster;

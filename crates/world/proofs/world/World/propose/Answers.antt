@@ -1,5 +1,5 @@
 use Rattle.std.proofs.Common.{◌≡◌, ℕ, ◌<◌, List, length, refl, sym, ◌∙◌, ap, subst}
-use Rattle.std.specs.Prelude.{Option, None, Result, Ok}
+use Rattle.std.specs.Prelude.{Option, Result, Ok}
 use Rattle.assignment.specs.declared.error.AssignmentError.{AssignmentError}
 use Rattle.assignment.specs.Slices.{Slicing, refusal_of}
 use Rattle.assignment.specs.Owners.{built}

@@ -1,13 +1,9 @@
-use Rattle.std.proofs.Common.{◌≡◌, ℕ, ◌<◌, List, length, refl, sym, ◌∙◌, ap, subst}
-use Rattle.std.specs.Prelude.{Result, Ok}
+use Rattle.std.proofs.Common.{◌<◌, List, length, refl, subst}
 use Rattle.lease_table.specs.declared.call.TableCall.TheVariants as asked
-use Rattle.lease_table.specs.Tables.{last_number}
 use Rattle.assigner.specs.Terms.{Keeping}
-use Rattle.cluster.specs.declared.call.ClusterCall.{ClusterCall}
 use Rattle.cluster.specs.declared.call.ClusterCall.TheVariants as call
-use Rattle.world.specs.declared.reply.Refusal.{Refusal}
 use Rattle.world.specs.declared.step.Step.TheVariants as step
-use Rattle.world.specs.Front.{term_told, kept_number}
+use Rattle.world.specs.Front.{term_told}
 use Rattle.world.specs.Calls.{calls_in}
 use Rattle.world.proofs.Asking.{fits, actor_call, played_on}
 use Rattle.world.proofs.AssignerTerms.{own_assigner, assigners_told}

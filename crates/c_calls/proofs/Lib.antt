@@ -1,0 +1,6 @@
+pub mod Naming
+pub mod Taken
+mod Phases
+mod TaskNumbers
+mod Adding
+pub mod TaskClocks

@@ -1,7 +1,0 @@
-use Rattle.c_clocks.proofs.Calling.{made}
-use Rattle.c_clocks.proofs.task_clock_calls.new_task_clock.Goals as goal
-
-pub returns-in-Some : goal.returns-in-Some
-returns-in-Some c =
-    made c.args.extra c.args.per c.args.grain c.args.oldest c.args.clock.now c.numbers.result c.in-Some.drift c.new-in-Some.result c.in-Some.ensures.some
-    c.new-in-Some.ensures.clock c.numbers.ensures

@@ -1,3 +1,0 @@
-pub mod TaskClocks
-pub mod TableClocks
-pub mod Evidence

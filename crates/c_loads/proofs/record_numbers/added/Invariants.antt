@@ -1,6 +1,0 @@
-use Rattle.std.proofs.Common.{◌≡◌, take}
-use Rattle.c_loads.specs.Records.{share_of}
-use Rattle.c_loads.proofs.record_numbers.added.Given as goal
-
-abbrev pub invariant-loop-record : goal.invariant-loop-record
-invariant-loop-record l = l.share ≡ share_of l.fn.task (take l.record-index l.records)

@@ -1,6 +1,0 @@
-pub mod Jobs
-pub mod Numbers
-pub mod Told
-pub mod Outputs
-pub mod Taken
-pub mod Reading

@@ -1,2 +1,0 @@
-mod Phases
-mod TaskNumbers

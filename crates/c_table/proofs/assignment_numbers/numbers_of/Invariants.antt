@@ -1,6 +1,0 @@
-use Rattle.std.proofs.Common.{◌≡◌, map, take}
-use Rattle.c_table.specs.AssignmentNumbers.{slice_numbers}
-use Rattle.c_table.proofs.assignment_numbers.numbers_of.Given as goal
-
-abbrev pub invariant-loop-slice : goal.invariant-loop-slice
-invariant-loop-slice l = l.numbers.items ≡ map slice_numbers (take l.slice-index l.slices)

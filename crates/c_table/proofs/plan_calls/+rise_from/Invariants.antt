@@ -1,5 +1,0 @@
-use Rattle.std.proofs.Common.{length}
-use Rattle.c_table.proofs.plan_calls.+rise_from.Given as goal
-
-abbrev pub decreases-rise_from : goal.decreases-rise_from
-decreases-rise_from l = length l.numbers.now

@@ -1,5 +1,0 @@
-use Rattle.session.proofs.PartReading.{AreParts}
-use Rattle.session.proofs.line_reading.read_line.Given as goal
-
-abbrev pub invariant-parts : goal.invariant-parts
-invariant-parts g l = AreParts (g.R.Read.remaining l.initial.reader) (g.R.Read.remaining l.reader) l.bytes.items l.is_cut

@@ -1,7 +1,0 @@
-use Rattle.std.proofs.Common.{take}
-use Rattle.weighted_move.specs.Weights.{load_in}
-use Rattle.weighted_move.proofs.Seeking.{IsTakerSoFar}
-use Rattle.weighted_move.proofs.best.first_taker.Given as goal
-
-abbrev pub invariant-loop-task : goal.invariant-loop-task
-invariant-loop-task l = IsTakerSoFar (load_in l.loads) (take l.task-index l.tasks) l.owners l.room l.best l.least

@@ -1,7 +1,0 @@
-use Rattle.std.proofs.Common.{◌≡◌, take}
-use Rattle.weighted_move.specs.Weights.{load_in}
-use Rattle.weighted_move.specs.Settling.{least_loaded}
-use Rattle.weighted_move.proofs.loads.TaskLoads.lowest.Given as goal
-
-abbrev pub invariant-loop-task : goal.invariant-loop-task
-invariant-loop-task l = l.least ≡ least_loaded (load_in l.self) (take l.task-index l.tasks)

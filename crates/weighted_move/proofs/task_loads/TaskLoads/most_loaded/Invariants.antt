@@ -1,0 +1,7 @@
+use Rattle.std.proofs.Common.{◌≡◌, take}
+use Rattle.weighted_move.specs.Loads.{load_in}
+use Rattle.weighted_move.specs.Fitting.{most_loaded}
+use Rattle.weighted_move.proofs.task_loads.TaskLoads.most_loaded.Given as goal
+
+abbrev pub invariant-loop-task : goal.invariant-loop-task
+invariant-loop-task l = l.most ≡ most_loaded (load_in l.self) (take l.task-index l.tasks)
