@@ -47,11 +47,11 @@ func (a *Assigner) Adopt(term Term) error {
 	return done(C.hs_assigner_adopt(&a.c, &it), nil)
 }
 
-// Restart forgets the kept term.
-func (a *Assigner) Restart() error {
+// DropTerm drops the kept term.
+func (a *Assigner) DropTerm() error {
 	a.mutex.Lock()
 	defer a.mutex.Unlock()
-	return done(C.hs_assigner_restart(&a.c), nil)
+	return done(C.hs_assigner_drop_term(&a.c), nil)
 }
 
 // Next returns what to do next, and the number of the kept term, 0 for none. wanted

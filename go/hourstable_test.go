@@ -395,7 +395,7 @@ func TestAssigner(t *testing.T) {
 	next(1, Phase{Committed: 0, Proposed: 1}, false, Commit, 1)
 	next(1, Phase{Committed: 1}, false, Rest, 1)
 	refuses(t, "a term of another", assigner.Adopt(Term{Number: 2, Assigner: 2, Until: 2000}), ErrNotAdopted, "not-adopted")
-	succeeds(t, "restart", assigner.Restart())
+	succeeds(t, "drop term", assigner.DropTerm())
 	next(2, Phase{Committed: 1}, true, Take, 0)
 }
 

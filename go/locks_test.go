@@ -125,7 +125,7 @@ func TestLocksOfAControlPlane(t *testing.T) {
 		{"Next", func() { assigner.Next(1, Phase{}, false) }},
 	}, []call{
 		{"Adopt", func() { assigner.Adopt(Term{}) }},
-		{"Restart", func() { assigner.Restart() }},
+		{"DropTerm", func() { assigner.DropTerm() }},
 		{"Close", func() { assigner.Close() }},
 	})
 }

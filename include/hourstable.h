@@ -747,8 +747,8 @@ int32_t hs_assigner_open(struct hs_place *place, uint64_t id, uint64_t job);
  * greater, or the same with a later `until`. */
 int32_t hs_assigner_adopt(struct hs_place *place, const struct hs_job_term *term);
 
-/* Forgets the kept term. */
-int32_t hs_assigner_restart(struct hs_place *place);
+/* Drops the kept term. */
+int32_t hs_assigner_drop_term(struct hs_place *place);
 
 /* Writes what to do next, an hs_action, and the number of the kept term, 0 for none. `wanted` is
  * not 0 if another assignment is wanted. HS_WRONG_FORM if `proposed` is neither 0 nor

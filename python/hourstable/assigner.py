@@ -129,7 +129,7 @@ class JobAssigner:
         if told.refused is None:
             return after
         if told.refused == "not-holder" and self._lease is not None:
-            self._lease.restart()
+            self._lease.drop_term()
         log.debug("%s: %s: refused %s %s", self.job, what, told.refused, told.value)
         return max(after, 0.1)
 

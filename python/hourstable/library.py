@@ -394,7 +394,7 @@ DECLARED: dict[str, list[CType]] = {
     "load_book_total": [P(Place), U64, P(ctypes.c_uint64)],
     "assigner_open": [P(Place), U64, U64],
     "assigner_adopt": [P(Place), P(JobTerm)],
-    "assigner_restart": [P(Place)],
+    "assigner_drop_term": [P(Place)],
     "assigner_next": [P(Place), U64, P(Phase), U32, P(ctypes.c_uint32), P(ctypes.c_uint64)],
     "task_clock_new": [P(TaskClock), U64, U64, U64, U64],
     "task_clock_sample": [P(TaskClock), U64, U64, U64],
@@ -828,8 +828,8 @@ class Assigner(Standing):
     def adopt(self, term: JobTerm) -> None:
         self.do("adopt", ctypes.byref(term))
 
-    def restart(self) -> None:
-        self.do("restart")
+    def drop_term(self) -> None:
+        self.do("drop_term")
 
     def next(self, at: int, phase: Phase, wanted: bool) -> tuple[str, int]:
         """Returns what to do next, and the number of the kept term, 0 for none."""

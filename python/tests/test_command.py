@@ -200,4 +200,4 @@ def test_the_audit_of_a_run(tmp_path: Path, capfd: pytest.CaptureFixture[str]) -
     asyncio.run(play())
     time.sleep(0.1)
     assert main(["audit", f"{tmp_path}/logs"]) == 0
-    assert capfd.readouterr().out == "audit one\nsteps 8\ntimely yes\n"
+    assert capfd.readouterr().out == "audit one\nsteps 8\ncalls table 8\nno calls of task 1 2\ntimely yes\n"

@@ -237,9 +237,9 @@ impl Assigner {
         done(unsafe { sys::hs_assigner_adopt(self.0.write(), &raw) })
     }
 
-    /// Forgets the kept term.
-    pub fn restart(&mut self) -> Result<(), Refused> {
-        done(unsafe { sys::hs_assigner_restart(self.0.write()) })
+    /// Drops the kept term.
+    pub fn drop_term(&mut self) -> Result<(), Refused> {
+        done(unsafe { sys::hs_assigner_drop_term(self.0.write()) })
     }
 
     /// What to do next, and the number of the kept term, 0 for none. `wanted` says whether another assignment is wanted.

@@ -279,7 +279,7 @@ fn what_an_assigner_does_next() {
     assert_eq!(assigner.next(1, phase(1, 0), false), Ok((Action::Rest, 1)));
     let other = Term { number: 2, assigner: 2, until: 2000 };
     refuses(assigner.adopt(other), Code::NOT_ADOPTED, "not-adopted");
-    assigner.restart().unwrap();
+    assigner.drop_term().unwrap();
     assert_eq!(assigner.next(2, phase(1, 0), true), Ok((Action::Take, 0)));
 }
 
