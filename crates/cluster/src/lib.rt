@@ -9,7 +9,6 @@ mod actors;
 mod call;
 mod clerks;
 mod cluster;
-mod cluster_copy;
 mod deliveries;
 mod error;
 mod job;
