@@ -10,30 +10,30 @@ use Rattle.history_lock.specs.declared.entry.Entry.{Entry}
 use Rattle.history_lock.specs.declared.error.Busy.{Busy}
 use Rattle.history_lock.specs.declared.view.Opened.{Opened}
 use Rattle.history_lock.specs.declared.view.Role.{Role}
-use Rattle.history_lock.specs.declared.view.View.{View}
-use Rattle.history_lock.specs.declared.view.Book.{Book}
+use Rattle.history_lock.specs.declared.view.SeatView.{SeatView}
+use Rattle.history_lock.specs.declared.view.LaneState.{LaneState}
 use Rattle.history_lock.specs.Histories.{IsLegal, StartsWith}
-use Rattle.history_lock.specs.Rule.{IsBook, IsTaken, mine_of, view_after_claim, view_after_return}
-use Rattle.history_lock.specs.internals.Seats.{IsRefusedClaim, IsHolding, AreOut, HaveBooks, HasClaimed, IsTurned, AreCopies, IsBlank}
+use Rattle.history_lock.specs.Rule.{IsLaneState, IsTaken, mine_of, view_after_claim, view_after_return}
+use Rattle.history_lock.specs.internals.Seats.{IsRefusedClaim, IsHolding, AreOut, HaveLaneStates, HasClaimed, IsTurned, AreCopies, IsBlank}
 use Rattle.history_lock.proofs.Histories.{starts_itself, starts_through}
 
 module _ {M E R F : Type 0} (step : M → E → Result (M × R) F) (opened : Opened M) where
   abbrev Held : Type 0
-  Held = List (ℕ × Option (Book M E))
+  Held = List (ℕ × Option (LaneState M E))
 
-  -- books stay those of a history that is the same
-  rebook : (seen log : List (Entry E)) (l : ℕ) (c : Held) → (0 < l → log ≡ seen) → HaveBooks step opened seen l c → HaveBooks step opened log l c
-  rebook seen log zero c same h = h
-  rebook seen log (suc l) c same h = subst (λ x. HaveBooks step opened x (suc l) c) (sym (same (omega arith))) h
+  -- lane states stay those of a history that is the same
+  same_states : (seen log : List (Entry E)) (l : ℕ) (c : Held) → (0 < l → log ≡ seen) → HaveLaneStates step opened seen l c → HaveLaneStates step opened log l c
+  same_states seen log zero c same h = h
+  same_states seen log (suc l) c same h = subst (λ x. HaveLaneStates step opened x (suc l) c) (sym (same (omega arith))) h
 
-  pub are_out : (seen : List (Entry E)) (l : ℕ) (c : Held) → HaveBooks step opened seen l c → AreOut l c
+  pub are_out : (seen : List (Entry E)) (l : ℕ) (c : Held) → HaveLaneStates step opened seen l c → AreOut l c
   are_out seen zero c h = h
   are_out seen (suc l) c h = (h.0, h.1, are_out seen l (rest c) h.3)
 
-  pub claims_none : (v : View M E) (word : ℕ) (me : Me (Option (Book M E)) (View M E)) → me.0 ≡ v → v.end ≤ v.start → me.1 ≡ [] → HasClaimed step opened v 0 word me
-  claims_none v word me same idle bare = subst (λ (m : Me (Option (Book M E)) (View M E)). HasClaimed step opened v 0 word m) (λ i. (sym same i, sym bare i)) record {
+  pub claims_none : (v : SeatView M E) (word : ℕ) (me : Me (Option (LaneState M E)) (SeatView M E)) → me.0 ≡ v → v.end ≤ v.start → me.1 ≡ [] → HasClaimed step opened v 0 word me
+  claims_none v word me same idle bare = subst (λ (m : Me (Option (LaneState M E)) (SeatView M E)). HasClaimed step opened v 0 word m) (λ i. (sym same i, sym bare i)) record {
     holds = record { idle = λ _. idle; low = λ h. absurd (omega arith); high = λ h. absurd (omega arith); shown = λ h. absurd (omega arith) };
-    books = refl;
+    lane_states = refl;
     begins = starts_itself v.seen;
     mine = λ h. absurd (omega arith);
     short = λ h. absurd (omega arith);
@@ -41,24 +41,24 @@ module _ {M E R F : Type 0} (step : M → E → Result (M × R) F) (opened : Ope
     only = refl;
   }
 
-  pub claims_more : (v : View M E) (l next word : ℕ) (me me' : Me (Option (Book M E)) (View M E)) (b : Book M E) (log : List (Entry E)) → next ≡ suc l → HasClaimed step opened v l word me → v.opened ≡ Some opened
+  pub claims_more : (v : SeatView M E) (l next word : ℕ) (me me' : Me (Option (LaneState M E)) (SeatView M E)) (b : LaneState M E) (log : List (Entry E)) → next ≡ suc l → HasClaimed step opened v l word me → v.opened ≡ Some opened
       → me' ≡ (view_after_claim me.0 0 l word log, (l, Some b) ∷ me.1) → IsTaken step me.0 log l b → HasClaimed step opened v next word me'
   claims_more v l next word me me' b log is h knows now t =
-      let known : me.0.opened ≡ Some opened = ap (λ x. x.opened) h.only ∙ knows in let book = t.book opened known in
+      let known : me.0.opened ≡ Some opened = ap (λ x. x.opened) h.only ∙ knows in let lane_state = t.lane_state opened known in
       let role : me.0.role ≡ v.role = ap (λ x. x.role) h.only in let mine : me.0.mine ≡ v.mine = ap (λ x. x.mine) h.only in
       let same : 0 < l → log ≡ me.0.seen = λ some. t.same (let low = h.holds.low some in let high = h.holds.high some in omega arith) in
-      subst (λ n. HasClaimed step opened v n word me') (sym is) (subst (λ (m : Me (Option (Book M E)) (View M E)). HasClaimed step opened v (suc l) word m) (sym now) record {
+      subst (λ n. HasClaimed step opened v n word me') (sym is) (subst (λ (m : Me (Option (LaneState M E)) (SeatView M E)). HasClaimed step opened v (suc l) word m) (sym now) record {
         holds = record { idle = λ e. absurd (omega arith); low = λ _. refl; high = λ _. omega arith; shown = λ _. refl };
-        books = (b, refl, book, rebook me.0.seen log l me.1 same h.books);
+        lane_states = (b, refl, lane_state, same_states me.0.seen log l me.1 same h.lane_states);
         begins = starts_through log me.0.seen v.seen t.begins h.begins;
         mine = λ _. subst (λ (x : Role × List E). mine_of x.0 x.1 log ≡ x.1) (λ i. (role i, mine i)) t.mine;
         short = λ _. t.short opened known;
-        legal = λ _. (b.machine, book.legal);
+        legal = λ _. (b.machine, lane_state.legal);
         only = ap (λ x. view_after_claim x 0 l word log) h.only;
       })
 
   -- a claim that was refused while lanes below were held, said of the view before the first of them was claimed
-  refused_before : (v u : View M E) (busy : Busy) → v.end ≤ v.start → u.role ≡ v.role → u.opened ≡ v.opened → IsRefusedClaim u busy → IsRefusedClaim v busy
+  refused_before : (v u : SeatView M E) (busy : Busy) → v.end ≤ v.start → u.role ≡ v.role → u.opened ≡ v.opened → IsRefusedClaim u busy → IsRefusedClaim v busy
   refused_before v u busy idle role known h = record {
     found = h.found;
     held = h.held;
@@ -72,7 +72,7 @@ module _ {M E R F : Type 0} (step : M → E → Result (M × R) F) (opened : Ope
   }
 
   -- the next claim was refused, and all that was held went back
-  pub turned_back : (v : View M E) (l word : ℕ) (me m1 m2 : Me (Option (Book M E)) (View M E)) (busy : Busy) → HasClaimed step opened v l word me
+  pub turned_back : (v : SeatView M E) (l word : ℕ) (me m1 m2 : Me (Option (LaneState M E)) (SeatView M E)) (busy : Busy) → HasClaimed step opened v l word me
       → v.end ≤ v.start → IsRefusedClaim me.0 busy → m1 ≡ (record me.0 { turned = me.0.turned ++ busy ∷ [] }, me.1) → m2 ≡ (view_after_return m1.0 m2.0.end, []) → m2.0.end ≤ m2.0.start → IsTurned step opened v busy m2
   turned_back v l word me m1 m2 busy h free refused turned gave idle =
       let one : m2.0 ≡ view_after_return (record me.0 { turned = me.0.turned ++ busy ∷ [] }) m2.0.end = ap (λ x. x.0) gave ∙ ap (λ x. view_after_return x.0 m2.0.end) turned in
@@ -82,21 +82,21 @@ module _ {M E R F : Type 0} (step : M → E → Result (M × R) F) (opened : Ope
         begins = subst (λ x. StartsWith x v.seen) (sym seen) h.begins;
         legal = λ was. subst (IsLegal step opened.machine) (sym seen) (h.legal was);
         refused = refused_before v me.0 busy free (ap (λ x. x.role) h.only) (ap (λ x. x.opened) h.only) refused;
-        only = one ∙ (ap (λ (x : View M E). record x { end = m2.0.end; turned = x.turned ++ busy ∷ [] }) h.only
+        only = one ∙ (ap (λ (x : SeatView M E). record x { end = m2.0.end; turned = x.turned ++ busy ∷ [] }) h.only
             ∙ (λ i. record v { start = sym start i; end = m2.0.end; word = sym word i; seen = sym seen i; turned = v.turned ++ busy ∷ [] }));
       }
 
-  -- the books after the refusal are those before it
-  pub still_held : (v : View M E) (l word : ℕ) (me m1 : Me (Option (Book M E)) (View M E)) (busy : Busy) → HasClaimed step opened v l word me
-      → m1 ≡ (record me.0 { turned = me.0.turned ++ busy ∷ [] }, me.1) → IsHolding m1.0 l word × HaveBooks step opened m1.0.seen l m1.1
-  still_held v l word me m1 busy h turned = subst (λ (m : Me (Option (Book M E)) (View M E)). IsHolding m.0 l word × HaveBooks step opened m.0.seen l m.1) (sym turned)
-      (record { idle = h.holds.idle; low = h.holds.low; high = h.holds.high; shown = h.holds.shown }, h.books)
+  -- the lane states after the refusal are those before it
+  pub still_held : (v : SeatView M E) (l word : ℕ) (me m1 : Me (Option (LaneState M E)) (SeatView M E)) (busy : Busy) → HasClaimed step opened v l word me
+      → m1 ≡ (record me.0 { turned = me.0.turned ++ busy ∷ [] }, me.1) → IsHolding m1.0 l word × HaveLaneStates step opened m1.0.seen l m1.1
+  still_held v l word me m1 busy h turned = subst (λ (m : Me (Option (LaneState M E)) (SeatView M E)). IsHolding m.0 l word × HaveLaneStates step opened m.0.seen l m.1) (sym turned)
+      (record { idle = h.holds.idle; low = h.holds.low; high = h.holds.high; shown = h.holds.shown }, h.lane_states)
 
   -- what a seat knows of the last lane that it holds, and of the others once that is given back
-  pub one_back : (v : View M E) (word k left : ℕ) (c : Held) → left ≡ suc k → IsHolding v left word → HaveBooks step opened v.seen left c
-      → (b : Book M E) × (c ≡ (k, Some b) ∷ rest c) × IsBook step opened v.seen k b × (v.start ≤ k) × (v.end ≡ k + 1) × IsHolding (view_after_return v k) k word × HaveBooks step opened v.seen k (rest c)
-  one_back v word k left c is holds books =
-      let h = subst (λ n. HaveBooks step opened v.seen n c) is books in let low = holds.low (omega arith) in let high = holds.high (omega arith) in
+  pub one_back : (v : SeatView M E) (word k left : ℕ) (c : Held) → left ≡ suc k → IsHolding v left word → HaveLaneStates step opened v.seen left c
+      → (b : LaneState M E) × (c ≡ (k, Some b) ∷ rest c) × IsLaneState step opened v.seen k b × (v.start ≤ k) × (v.end ≡ k + 1) × IsHolding (view_after_return v k) k word × HaveLaneStates step opened v.seen k (rest c)
+  one_back v word k left c is holds lane_states =
+      let h = subst (λ n. HaveLaneStates step opened v.seen n c) is lane_states in let low = holds.low (omega arith) in let high = holds.high (omega arith) in
       (h.0, h.1, h.2, (omega arith), (omega arith), record { idle = λ e. (omega arith); low = λ _. low; high = λ _. refl; shown = λ _. holds.shown (omega arith) }, h.3)
 
 -- copies, and one more at the end
@@ -123,18 +123,18 @@ pub length_snoc : {A : Type 0} (xs : List A) (x : A) → length (xs ++ x ∷ [])
 length_snoc [] x = refl
 length_snoc (y ∷ xs) x = ap suc (length_snoc xs x)
 
--- a book more
+-- a lane state more
 pub blank_none : {M E : Type 0} (m : M) → IsBlank {M = M} {E = E} m 0 []
-blank_none m = record { deep = refl; books = λ l below. absurd (omega arith) }
+blank_none m = record { deep = refl; lane_states = λ l below. absurd (omega arith) }
 
-pub blank_more : {M E : Type 0} (m : M) (n next : ℕ) (slots slots' : List (Option (Book M E))) (b : Book M E) → next ≡ suc n → slots' ≡ slots ++ Some b ∷ [] → b.machine ≡ m → b.history.items ≡ []
+pub blank_more : {M E : Type 0} (m : M) (n next : ℕ) (slots slots' : List (Option (LaneState M E))) (b : LaneState M E) → next ≡ suc n → slots' ≡ slots ++ Some b ∷ [] → b.machine ≡ m → b.history.items ≡ []
     → IsBlank m n slots → IsBlank m next slots'
 blank_more m n next slots slots' b is same machine empty h =
     let all : get_elem? (slots ++ Some b ∷ []) n ≡ some (Some b) = at_last slots (Some b) n h.deep in record {
       deep = ap length same ∙ (length_snoc slots (Some b) ∙ (ap suc h.deep ∙ sym is));
-      books = λ l below. dite (ℕ_discrete l n)
-          (λ e. (b, ap (λ (x : List (Option (Book _ _))). get_elem? x l) same ∙ (ap (get_elem? (slots ++ Some b ∷ [])) e ∙ all), machine, empty))
-          (λ ne. let t = h.books l (omega arith) in (t.0, ap (λ (x : List (Option (Book _ _))). get_elem? x l) same ∙ at_longer slots (Some b ∷ []) l (Some t.0) t.1, t.2, t.3));
+      lane_states = λ l below. dite (ℕ_discrete l n)
+          (λ e. (b, ap (λ (x : List (Option (LaneState _ _))). get_elem? x l) same ∙ (ap (get_elem? (slots ++ Some b ∷ [])) e ∙ all), machine, empty))
+          (λ ne. let t = h.lane_states l (omega arith) in (t.0, ap (λ (x : List (Option (LaneState _ _))). get_elem? x l) same ∙ at_longer slots (Some b ∷ []) l (Some t.0) t.1, t.2, t.3));
     }
 
 -- the value of the slot that was taken last

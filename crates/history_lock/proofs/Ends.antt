@@ -12,11 +12,11 @@ use Rattle.history_lock.specs.declared.view.Opened.{Opened}
 use Rattle.history_lock.specs.declared.view.Role.{Role}
 use Rattle.history_lock.specs.declared.view.Role.TheVariants.{Lane}
 use Rattle.history_lock.specs.declared.view.GatheredPass.{GatheredPass}
-use Rattle.history_lock.specs.declared.view.View.{View}
-use Rattle.history_lock.specs.declared.view.Book.{Book}
+use Rattle.history_lock.specs.declared.view.SeatView.{SeatView}
+use Rattle.history_lock.specs.declared.view.LaneState.{LaneState}
 use Rattle.history_lock.specs.Histories.{replay, of_lane, StartsWith}
 use Rattle.history_lock.specs.Passes.{Lock, PassView}
-use Rattle.history_lock.specs.Rule.{spot, HasLane, KnowsRole, KnowsPasses, HasOneHistory}
+use Rattle.history_lock.specs.Rule.{word_index, HasLane, KnowsRole, KnowsPasses, HasOneHistory}
 use Rattle.history_lock.specs.Closing.{has_lane, Agrees, IsWhole}
 use Rattle.history_lock.specs.internals.Gathering.{gathered_pass, gathered_pass_of, IsGathered, IsEnd}
 
@@ -30,15 +30,15 @@ module _ {E : Type 0} (log : List (Entry E)) (next dealer : ℕ) (owner : ℕ �
   all_agree items (x ∷ gs) e h = ((subst (λ (l : List (Entry E)). StartsWith l x.seen) (sym e) h.0.1, ap (of_lane x.lane) e ∙ h.0.0.2), all_agree items gs e h.1)
 
 module _ {M E R F : Type 0} (step : M → E → Result (M × R) F) (opened : Opened M) where
-  -- a seat that has all lanes, and holds none, knows that the book of the last lane is at home
-  pub ends : (id k l : ℕ) (v : View M E) (words : List ℕ) (slots : List (Option (Book M E))) → v.role ≡ Lane k → v.end ≤ v.start → ((n : ℕ) → n < opened.lanes → (n ≡ k) ⊎ IsGathered n v.passes) → length slots ≡ l + 1 → l + 1 ≡ opened.lanes
-      → Final (Seen (HasOneHistory step opened) id v) words slots → (b : Book M E) × (get_elem? slots l ≡ some (Some b)) × IsEnd step opened (gathered_pass k v.seen v.mine ∷ v.passes) b
+  -- a seat that has all lanes, and holds none, knows that the lane state of the last lane is at home
+  pub ends : (id k l : ℕ) (v : SeatView M E) (words : List ℕ) (slots : List (Option (LaneState M E))) → v.role ≡ Lane k → v.end ≤ v.start → ((n : ℕ) → n < opened.lanes → (n ≡ k) ⊎ IsGathered n v.passes) → length slots ≡ l + 1 → l + 1 ≡ opened.lanes
+      → Final (Seen (HasOneHistory step opened) id v) words slots → (b : LaneState M E) × (get_elem? slots l ≡ some (Some b)) × IsEnd step opened (gathered_pass k v.seen v.mine ∷ v.passes) b
   ends id k l v words slots role idle all deeper last f =
       let s = f.0 in let r = f.1.0 in let at = f.1.1 in let q = r.each id v at in let wide = r.wide in let deep = f.3 in
       let mine : HasLane r.log r.next r.dealer r.owner id k v.mine = subst (λ (x : Role). KnowsRole r.log r.next r.dealer r.owner id x v.mine) role q.role in
       let few = r.few in
-      dite (ℕ_discrete (get_or s.words (spot l) 0) 0)
-      (λ hit. let h = r.home l (omega arith) hit in let b : Book M E = h.0 in let same : b.history.items ≡ r.log = h.2.logged last in (
+      dite (ℕ_discrete (get_or s.words (word_index l) 0) 0)
+      (λ hit. let h = r.home l (omega arith) hit in let b : LaneState M E = h.0 in let same : b.history.items ≡ r.log = h.2.logged last in (
         b,
         f.4 l (Some b) h.1,
         record {
@@ -48,13 +48,13 @@ module _ {M E R F : Type 0} (step : M → E → Result (M × R) F) (opened : Ope
           short = subst (λ l. length l ≤ opened.limit) (sym same) r.short;
         },
       ))
-      (λ miss. let t = (r.away l (omega arith) miss).1 in let u : View M E = t.0 in let z = r.each (r.holder l) u t.1 in
+      (λ miss. let t = (r.away l (omega arith) miss).1 in let u : SeatView M E = t.0 in let z = r.each (r.holder l) u t.1 in
       let out = z.out l t.2 t.3 in let n : ℕ = out.word.0 in
       let has : HasLane r.log r.next r.dealer r.owner (r.holder l) n u.mine = subst (λ (x : Role). KnowsRole r.log r.next r.dealer r.owner (r.holder l) x u.mine) out.word.1 z.role in
       let below : n < opened.lanes = (let x : n < r.next = has.1 in omega arith) in
       let same : r.holder l ≡ id = sym has.0 ∙ ⊎_elim (λ (e : n ≡ k). ap r.owner e ∙ mine.0) (λ (e : IsGathered n v.passes). owner_of_gathered r.log r.next r.dealer r.owner id n v.passes q.passes e) (all n below) in
       let one : u ≡ v = some-injective u v (sym t.1 ∙ (ap (get_elem? s.views) same ∙ at)) in
-      let low : v.start ≤ l = subst (λ (x : View M E). x.start ≤ l) one t.2 in let high : l < v.end = subst (λ (x : View M E). l < x.end) one t.3 in absurd (omega arith))
+      let low : v.start ≤ l = subst (λ (x : SeatView M E). x.start ≤ l) one t.2 in let high : l < v.end = subst (λ (x : SeatView M E). l < x.end) one t.3 in absurd (omega arith))
 
 either_true : (b c : Bool) → (b || c) ≡ true → (b ≡ true) ⊎ (c ≡ true)
 either_true true c h = inl refl
@@ -74,7 +74,7 @@ module _ {M E : Type 0} where
   agrees_snoc log (q ∷ ps) p h = (h.1.0, agrees_snoc log ps p (h.0, h.1.1))
 
 module _ {M E R F : Type 0} (step : M → E → Result (M × R) F) where
-  pub whole_of : (lock : Lock M) (opened : Opened M) (passes ps : List (PassView M E)) (p : PassView M E) (gs : List (GatheredPass E)) (b : Book M E) (history : List (Entry E))
+  pub whole_of : (lock : Lock M) (opened : Opened M) (passes ps : List (PassView M E)) (p : PassView M E) (gs : List (GatheredPass E)) (b : LaneState M E) (history : List (Entry E))
       → opened ≡ lock.opened → passes ≡ ps ++ p ∷ [] → gs ≡ gathered_pass_of p ∷ map gathered_pass_of ps → history ≡ b.history.items → IsEnd step opened gs b → IsWhole step lock passes b.machine history
   whole_of lock opened passes ps p gs b history same is view_after_claim items e =
       let fits : List (Entry E) → GatheredPass E → Type 0 = λ l g. StartsWith l g.seen × (of_lane g.lane l ≡ g.mine) in

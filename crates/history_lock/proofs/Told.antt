@@ -11,18 +11,18 @@ use Rattle.history_lock.specs.declared.error.WriteError.TheVariants.{HistoryFull
 use Rattle.history_lock.specs.declared.view.Opened.{Opened}
 use Rattle.history_lock.specs.declared.view.Role.{Role}
 use Rattle.history_lock.specs.declared.view.Role.TheVariants.{Lane}
-use Rattle.history_lock.specs.declared.view.View.{View}
-use Rattle.history_lock.specs.declared.view.Book.{Book}
+use Rattle.history_lock.specs.declared.view.SeatView.{SeatView}
+use Rattle.history_lock.specs.declared.view.LaneState.{LaneState}
 use Rattle.history_lock.specs.Histories.{replay, entry, StartsWith, GrowsBy}
 use Rattle.history_lock.specs.Passes.{lock_at, pass_view}
-use Rattle.history_lock.specs.Rule.{IsBook, holder_of, mine_of}
+use Rattle.history_lock.specs.Rule.{IsLaneState, holder_of, mine_of}
 use Rattle.history_lock.specs.Answers.{IsHeldByOther, IsShown, IsWritten, Wrote}
 use Rattle.history_lock.specs.internals.Seats.{IsRefusedClaim}
 use Rattle.history_lock.specs.internals.Turns.{IsTurn, Stays}
 use Rattle.history_lock.proofs.Histories.{of_lane_snoc, grows_snoc, replay_snoc}
 
--- a pass is seen as its place shows it
-pass_view_at : {M E : Type 0} (z z' : TableId) (lane : ℕ) (v w : View M E) → z' ≡ z → v ≡ w → pass_view z lane w ≡ pass_view z' lane v
+-- a pass is seen as its seat shows it
+pass_view_at : {M E : Type 0} (z z' : TableId) (lane : ℕ) (v w : SeatView M E) → z' ≡ z → v ≡ w → pass_view z lane w ≡ pass_view z' lane v
 pass_view_at z z' lane v w e is = λ i. pass_view (sym e i) lane (sym is i)
 
 -- the word of a writer
@@ -42,7 +42,7 @@ no_reader n word is e = by_test (eqb word 1) refl e
     by_test false test f = absurd (cc)
 
 -- a refused claim names what its word showed
-pub held_by_other : {M E : Type 0} (home : TableId) (opened : Opened M) (lane : ℕ) (v : View M E) (refusal : Busy) → v.opened ≡ Some opened → v.role ≡ Lane lane → IsRefusedClaim v refusal
+pub held_by_other : {M E : Type 0} (home : TableId) (opened : Opened M) (lane : ℕ) (v : SeatView M E) (refusal : Busy) → v.opened ≡ Some opened → v.role ≡ Lane lane → IsRefusedClaim v refusal
     → IsHeldByOther (lock_at home opened) lane refusal
 held_by_other home opened lane v refusal knows role h = record {
   inside = h.other.lane opened knows;
@@ -50,21 +50,21 @@ held_by_other home opened lane v refusal knows role h = record {
   reader = λ is here. let w = h.other.own (role ∙ ap Lane (sym here)) in no_reader w.0 h.found w.1 (sym (ap (λ x. x.holder) h.named) ∙ is);
 }
 
--- a pass of the lane saw this history, and the book of the last lane had it
-module _ {M E R F : Type 0} (step : M → E → Result (M × R) F) (opened : Opened M) (lane : ℕ) (v : View M E) where
-  -- the places are those before, and after the lanes were given back
-  pub shown : (log : List (Entry E)) (machine : M) (home z z' : TableId) (w : View M E) (a t s : ℕ) → z' ≡ z → StartsWith log v.seen → replay step opened.machine log ≡ Some machine
+-- a pass of the lane saw this history, and the lane state of the last lane had it
+module _ {M E R F : Type 0} (step : M → E → Result (M × R) F) (opened : Opened M) (lane : ℕ) (v : SeatView M E) where
+  -- the seats are those before, and after the lanes were given back
+  pub shown : (log : List (Entry E)) (machine : M) (home z z' : TableId) (w : SeatView M E) (a t s : ℕ) → z' ≡ z → StartsWith log v.seen → replay step opened.machine log ≡ Some machine
       → w ≡ record v { start = a; end = t; word = s; seen = log } → IsShown step (lock_at home opened) (pass_view z lane v) machine (pass_view z' lane w)
   shown log machine home z z' w a t s same begins legal is = subst (IsShown step (lock_at home opened) (pass_view z lane v) machine) (pass_view_at z z' lane w (record v { start = a; end = t; word = s; seen = log }) same is)
       record { begins = begins; legal = legal; only = refl }
 
-  module _ (log : List (Entry E)) (b : Book M E) (logged : b.history.items ≡ log) (legal : replay step opened.machine log ≡ Some b.machine) (limit : ℕ) (most : opened.limit ≡ limit) (made : E → Type 0) (unmade : Type 0) (b' : Book M E) where
+  module _ (log : List (Entry E)) (b : LaneState M E) (logged : b.history.items ≡ log) (legal : replay step opened.machine log ≡ Some b.machine) (limit : ℕ) (most : opened.limit ≡ limit) (made : E → Type 0) (unmade : Type 0) (b' : LaneState M E) where
     pub stays : (error : WriteError E F) → IsTurn step lane limit made unmade b (Err error) b' → Stays b b'
     stays HistoryFull t = t.2
     stays (Refused event fault) t = t.3
     stays NoMemory t = t.2
 
-    pub kept : (l : ℕ) (error : WriteError E F) → IsTurn step lane limit made unmade b (Err error) b' → IsBook step opened log l b'
+    pub kept : (l : ℕ) (error : WriteError E F) → IsTurn step lane limit made unmade b (Err error) b' → IsLaneState step opened log l b'
     kept l error t = let h = stays error t in record { legal = legal ∙ ap Some (sym h.0); logged = λ _. h.1 ∙ logged }
 
     module _ (reply : R) (t : IsTurn step lane limit made unmade b (Ok reply) b') where
@@ -79,7 +79,7 @@ module _ {M E R F : Type 0} (step : M → E → Result (M × R) F) (opened : Ope
       new_mine role mine = ap (mine_of v.role v.mine) (t.4 ∙ ap (λ l. l ++ entry lane t.0 ∷ []) logged) ∙ (ap (λ (x : Role). mine_of x v.mine (log ++ entry lane t.0 ∷ [])) role
           ∙ (of_lane_snoc lane log t.0 ∙ ap (λ (l : List E). l ++ t.0 ∷ []) (sym (ap (λ (x : Role). mine_of x v.mine log) role) ∙ mine)))
 
-    module _ (home z z' : TableId) (w : View M E) (a t s : ℕ) (same : z' ≡ z) (begins : StartsWith log v.seen) where
+    module _ (home z z' : TableId) (w : SeatView M E) (a t s : ℕ) (same : z' ≡ z) (begins : StartsWith log v.seen) where
       pub is_not_written : (error : WriteError E F) → length log ≤ opened.limit → IsTurn step lane limit made unmade b (Err error) b' → w ≡ record v { start = a; end = t; word = s; seen = log }
           → Wrote step (lock_at home opened) made unmade (pass_view z lane v) (Err error) (pass_view z' lane w)
       is_not_written HistoryFull few q is = let least = q.1 in let e = ap (λ x. length x.seen) is in let f = ap length logged in (q.0, (b.machine, shown log b.machine home z z' w a t s same begins legal is), omega arith)

@@ -8,9 +8,9 @@ ghost use Rattle.history_lock.specs.internals.Gathering.{AreAt, IsGathered, IsEn
 
 use crate::entry::{History, history_of};
 use crate::pass::{LaneLock, Pass};
-use crate::rule::{Board, Common, Gather, Place};
+use crate::rule::{Common, Gather, LaneSeat, LaneTable};
 use crate::shared_machine::SharedMachine;
-use crate::view::Book;
+use crate::view::LaneState;
 use machines::Machine;
 use std::alloc::AllocError;
 use std::marker::Model;
@@ -87,18 +87,18 @@ impl<M: Machine> LaneLock<M> {
         ensures { IsWhole M.step self passes.items result.machine result.history }
     {
         let LaneLock {
-            board,
+            lane_table,
             lanes: _,
             limit: _,
             alloc: _,
             writers: _,
         } = self;
-        let Pass { mut place, lane } = passes.pop().unwrap();
-        take_in(&board.shared, &mut place, lane, passes);
-        let book = close_table(board, place, lane);
+        let Pass { mut seat, lane } = passes.pop().unwrap();
+        take_in(&lane_table.shared, &mut seat, lane, passes);
+        let lane_state = close_table(lane_table, seat, lane);
         Closed {
-            machine: book.machine,
-            history: History::of(book.history),
+            machine: lane_state.machine,
+            history: History::of(lane_state.history),
         }
     }
 }
@@ -126,60 +126,60 @@ fn has_pass<M: Machine>(passes: &[Pass<M>], lane: u64) -> bool
 // Joins all passes.
 fn take_in<M: Machine>(
     common: &Common<M, M::Event>,
-    place: &mut Place<M, M::Event>,
+    seat: &mut LaneSeat<M, M::Event>,
     lane: u64,
     mut passes: Vec<Pass<M>>,
 )
-    requires table { (place.old.table_id ≡ common.now.table_id) × (0 < common.now.table_id.words) }
+    requires table { (seat.old.table_id ≡ common.now.table_id) × (0 < common.now.table_id.words) }
     requires own { AreAt common.now.table_id passes.items }
-    requires place { IsTaking place.old.me lane [] }
-    ensures table { place.new.table_id ≡ place.old.table_id }
-    ensures taken { IsTaking place.new.me lane (map gathered_pass_of passes.items) }
-    ensures same { (place.new.me.0.seen ≡ place.old.me.0.seen) × (place.new.me.0.mine ≡ place.old.me.0.mine) }
+    requires seat { IsTaking seat.old.me lane [] }
+    ensures table { seat.new.table_id ≡ seat.old.table_id }
+    ensures taken { IsTaking seat.new.me lane (map gathered_pass_of passes.items) }
+    ensures same { (seat.new.me.0.seen ≡ seat.old.me.0.seen) × (seat.new.me.0.mine ≡ seat.old.me.0.mine) }
 {
     while let Some(pass) = passes.pop() {
-        take_one(common, place, lane, pass);
+        take_one(common, seat, lane, pass);
     }
 }
 
 // Joins one pass.
 fn take_one<M: Machine>(
     common: &Common<M, M::Event>,
-    place: &mut Place<M, M::Event>,
+    seat: &mut LaneSeat<M, M::Event>,
     _lane: u64,
     pass: Pass<M>,
 )
-    requires table { (place.old.table_id ≡ common.now.table_id) × (0 < common.now.table_id.words) × (pass.table ≡ common.now.table_id) }
-    requires place { IsTaking place.old.me _lane place.old.me.0.passes }
-    ensures table { place.new.table_id ≡ place.old.table_id }
-    ensures taken { IsTaking place.new.me _lane (gathered_pass_of pass ∷ place.old.me.0.passes) }
-    ensures same { (place.new.me.0.seen ≡ place.old.me.0.seen) × (place.new.me.0.mine ≡ place.old.me.0.mine) }
+    requires table { (seat.old.table_id ≡ common.now.table_id) × (0 < common.now.table_id.words) × (pass.table ≡ common.now.table_id) }
+    requires seat { IsTaking seat.old.me _lane seat.old.me.0.passes }
+    ensures table { seat.new.table_id ≡ seat.old.table_id }
+    ensures taken { IsTaking seat.new.me _lane (gathered_pass_of pass ∷ seat.old.me.0.passes) }
+    ensures same { (seat.new.me.0.seen ≡ seat.old.me.0.seen) × (seat.new.me.0.mine ≡ seat.old.me.0.mine) }
 {
     let Pass {
-        place: other,
+        seat: other,
         lane: _,
     } = pass;
-    common.join_seat::<Gather>(place, other);
+    common.join_seat::<Gather>(seat, other);
 }
 
-// The book of a table, if no seat but this one holds a lane.
+// The state of the last lane, if no seat but this one holds a lane.
 fn close_table<M: Machine>(
-    board: Board<M, M::Event>,
-    place: Place<M, M::Event>,
+    lane_table: LaneTable<M, M::Event>,
+    seat: LaneSeat<M, M::Event>,
     _lane: u64,
-) -> Book<M, M::Event>
-    requires table { (place.table_id ≡ board.shared.table_id) × (board.shared.table_id.slots ≡ board.shared.key.value.lanes) × (0 < board.shared.key.value.lanes) }
-    requires place { IsTaking place.me _lane place.me.0.passes }
-    requires all { (n : ℕ) → n < board.shared.key.value.lanes → (n ≡ _lane) ⊎ IsGathered n place.me.0.passes }
-    ensures { IsEnd M.step board.shared.key.value (gathered_pass _lane place.me.0.seen place.me.0.mine ∷ place.me.0.passes) result }
+) -> LaneState<M, M::Event>
+    requires table { (seat.table_id ≡ lane_table.shared.table_id) × (lane_table.shared.table_id.slots ≡ lane_table.shared.key.value.lanes) × (0 < lane_table.shared.key.value.lanes) }
+    requires seat { IsTaking seat.me _lane seat.me.0.passes }
+    requires all { (n : ℕ) → n < lane_table.shared.key.value.lanes → (n ≡ _lane) ⊎ IsGathered n seat.me.0.passes }
+    ensures { IsEnd M.step lane_table.shared.key.value (gathered_pass _lane seat.me.0.seen seat.me.0.mine ∷ seat.me.0.passes) result }
 {
-    let mut closed = board.close_with(place);
-    let mut book = None;
+    let mut closed = lane_table.close_with(seat);
+    let mut lane_state = None;
     let mut lane = 0;
     while lane < closed.slot_count() {
-        book = closed.take(lane);
+        lane_state = closed.take(lane);
         lane += 1;
     }
     closed.free();
-    book.unwrap()
+    lane_state.unwrap()
 }

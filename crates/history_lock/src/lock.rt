@@ -29,8 +29,8 @@ impl<M: Machine> LaneLock<M> {
             (λ busy. (make.new ≡ make.old) × IsTurnedAway self.now pass.old busy pass.new) }
     {
         write_at(
-            &self.board.shared,
-            &mut pass.place,
+            &self.lane_table.shared,
+            &mut pass.seat,
             pass.lane,
             self.lanes,
             self.limit,
@@ -106,7 +106,7 @@ impl<M: Machine> LaneLock<M> {
         ensures answer { TriedToShare M.step self.now (λ machine answer. CalledAt F.FnMut f.old machine answer f.new) (f.new ≡ f.old) pass.old result pass.new }
         ensures turned { IfErr result (λ busy. IsWriterAt pass.old.lane busy) }
     {
-        share_at(&self.board.shared, &mut pass.place, pass.lane, f)
+        share_at(&self.lane_table.shared, &mut pass.seat, pass.lane, f)
     }
 
     /// Waits until no writer holds the lane of the pass, then lends the machine to `f`, once.
@@ -144,10 +144,10 @@ impl<M: Machine> LaneLock<M> {
         ensures turned { IfErr result (λ busy. IsWriterAt first.old.lane busy) }
     {
         meet_at(
-            &self.board.shared,
-            &mut first.place,
+            &self.lane_table.shared,
+            &mut first.seat,
             first.lane,
-            &mut second.place,
+            &mut second.seat,
             second.lane,
         )
     }

@@ -3,15 +3,15 @@
 ghost use Rattle.std.specs.Prelude.{◌≡◌, ◌+◌, ◌<◌, ◌≤◌, [], ◌∷◌, true, Some, IfOk, OnOk, IfErr, if◌then◌else◌, vec_len, vec_capacity};
 ghost use Rattle.history_lock.specs.declared.error.NewLockError.TheVariants as new_lock_error;
 ghost use Rattle.history_lock.specs.Passes.{lock_at, new_pass, AreNewFrom, is_allowed};
-ghost use Rattle.history_lock.specs.Rule.{spot};
+ghost use Rattle.history_lock.specs.Rule.{word_index};
 ghost use Rattle.history_lock.specs.internals.Views.{first_view};
 ghost use Rattle.history_lock.specs.internals.Seats.{IsDealing, IsBlank};
 
 use crate::error::NewLockError;
 use crate::pass::{LaneLock, Pass};
-use crate::rule::{Board, Common, Deal, Place, WORDS_A_LANE};
+use crate::rule::{Common, Deal, LaneSeat, LaneTable, WORDS_A_LANE};
 use crate::shared_machine::SharedMachine;
-use crate::view::{Book, Opened};
+use crate::view::{LaneState, Opened};
 use crate::waiting::Writers;
 use atomic_table::{Refused, Table};
 use machines::Machine;
@@ -100,10 +100,10 @@ fn open<M: Machine>(
         lanes,
         limit,
     };
-    let (board, mut dealer) = new_table(alloc, opened)?;
-    let passes = deal(alloc, &board.shared, &mut dealer, lanes)?;
+    let (lane_table, mut dealer) = new_table(alloc, opened)?;
+    let passes = deal(alloc, &lane_table.shared, &mut dealer, lanes)?;
     let lock = LaneLock {
-        board,
+        lane_table,
         lanes,
         limit,
         alloc,
@@ -112,13 +112,13 @@ fn open<M: Machine>(
     Ok((lock, passes))
 }
 
-// The table with a cache line of words and a book for each lane, and the seat that deals the lanes.
+// The table with a cache line of words and a lane state for each lane, and the seat that deals the lanes.
 fn new_table<M: Machine>(
     alloc: Global,
     opened: Opened<M>,
-) -> Result<(Board<M, M::Event>, Place<M, M::Event>), AllocError>
+) -> Result<(LaneTable<M, M::Event>, LaneSeat<M, M::Event>), AllocError>
     requires { (0 < opened.lanes) × (opened.lanes ≤ MOST_LANES) }
-    ensures { IfOk result (λ t. (t.0.shared.table_id.words ≡ spot opened.lanes) × (t.0.shared.table_id.slots ≡ opened.lanes)
+    ensures { IfOk result (λ t. (t.0.shared.table_id.words ≡ word_index opened.lanes) × (t.0.shared.table_id.slots ≡ opened.lanes)
         × (t.1.table_id ≡ t.0.shared.table_id) × (t.0.shared.key.value ≡ opened) × (t.1.me ≡ (first_view opened, []))) }
 {
     let key = Snapshot::of(&opened);
@@ -135,12 +135,12 @@ fn new_table<M: Machine>(
     }
 }
 
-// A book for each lane.
+// The state of each lane.
 fn blank<M: Machine>(
     alloc: Global,
     machine: M,
     lanes: u64,
-) -> Result<Vec<Option<Book<M, M::Event>>>, AllocError>
+) -> Result<Vec<Option<LaneState<M, M::Event>>>, AllocError>
     requires { (0 < lanes) × (lanes ≤ MOST_LANES) }
     ensures { IfOk result (λ made. IsBlank machine lanes made.items) }
 {
@@ -148,12 +148,12 @@ fn blank<M: Machine>(
     let mut slots = Vec::new(alloc);
     for done in 1..lanes {
         let _count = done;
-        slots.push(Some(Book {
+        slots.push(Some(LaneState {
             machine: shared.share()?,
             history: Vec::new(alloc),
         }))?;
     }
-    slots.push(Some(Book {
+    slots.push(Some(LaneState {
         machine: shared,
         history: Vec::new(alloc),
     }))?;
@@ -164,7 +164,7 @@ fn blank<M: Machine>(
 fn deal<M: Machine>(
     alloc: Global,
     common: &Common<M, M::Event>,
-    dealer: &mut Place<M, M::Event>,
+    dealer: &mut LaneSeat<M, M::Event>,
     lanes: u64,
 ) -> Result<Vec<Pass<M>>, AllocError>
     requires table { (dealer.old.table_id ≡ common.now.table_id) × (0 < common.now.table_id.words) }
@@ -184,7 +184,7 @@ fn deal<M: Machine>(
 // The pass of the next lane.
 fn deal_one<M: Machine>(
     common: &Common<M, M::Event>,
-    dealer: &mut Place<M, M::Event>,
+    dealer: &mut LaneSeat<M, M::Event>,
     lane: u64,
 ) -> Pass<M>
     requires table { (dealer.old.table_id ≡ common.now.table_id) × (0 < common.now.table_id.words) }
@@ -194,6 +194,6 @@ fn deal_one<M: Machine>(
     ensures dealer { IsDealing dealer.new.me common.now.key.value (lane + 1) }
     ensures pass { result ≡ new_pass (lock_at common.now.table_id common.now.key.value) lane }
 {
-    let place = common.split_seat::<Deal>(dealer);
-    Pass { place, lane }
+    let seat = common.split_seat::<Deal>(dealer);
+    Pass { seat, lane }
 }

@@ -2,7 +2,7 @@
 
 ghost use Rattle.std.specs.Prelude.{◌≡◌};
 
-use crate::rule::{Board, Place};
+use crate::rule::{LaneSeat, LaneTable};
 use crate::waiting::Writers;
 use machines::Machine;
 use std::alloc::Global;
@@ -14,7 +14,7 @@ use std::marker::Model;
 /// history it was opened.
 #[derive(Drop)]
 pub struct LaneLock<M: Machine> {
-    pub(crate) board: Board<M, M::Event>,
+    pub(crate) lane_table: LaneTable<M, M::Event>,
     pub(crate) lanes: u64,
     pub(crate) limit: usize,
     pub(crate) alloc: Global,
@@ -27,9 +27,9 @@ impl<M: Machine> Model for LaneLock<M> {
 
     ghost Value = { Lock M };
 
-    ghost view = { λ l. lock_at l.board.shared.table_id l.board.shared.key.value };
+    ghost view = { λ l. lock_at l.lane_table.shared.table_id l.lane_table.shared.key.value };
 
-    ghost invariant = { λ l. IsOfLanes l.board.shared.table_id l.board.shared.key.value l.lanes l.limit };
+    ghost invariant = { λ l. IsOfLanes l.lane_table.shared.table_id l.lane_table.shared.key.value l.lanes l.limit };
 }
 
 /// A pass: the right to call a lock as one of its lanes.
@@ -38,7 +38,7 @@ impl<M: Machine> Model for LaneLock<M> {
 /// None of them exists when the program runs.
 #[derive(Drop)]
 pub struct Pass<M: Machine> {
-    pub(crate) place: Place<M, M::Event>,
+    pub(crate) seat: LaneSeat<M, M::Event>,
     pub(crate) lane: u64,
 }
 
@@ -48,9 +48,9 @@ impl<M: Machine> Model for Pass<M> {
 
     ghost Value = { PassView M M.Event };
 
-    ghost view = { λ p. pass_view p.place.table_id p.lane p.place.me.0 };
+    ghost view = { λ p. pass_view p.seat.table_id p.lane p.seat.me.0 };
 
-    ghost invariant = { λ p. IsResting p.place.me p.lane × SeesLegal M.step p.place.me.0 };
+    ghost invariant = { λ p. IsResting p.seat.me p.lane × SeesLegal M.step p.seat.me.0 };
 }
 
 impl<M: Machine> Pass<M> {

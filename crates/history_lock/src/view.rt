@@ -20,7 +20,7 @@ pub struct Opened<M> {
 ///
 /// In the other lanes, `history` is empty.
 #[derive(Drop)]
-pub struct Book<M, E> {
+pub struct LaneState<M, E> {
     pub machine: SharedMachine<M>,
     pub history: Vec<Entry<E>>,
 }
@@ -43,7 +43,7 @@ pub struct GatheredPass<E> {
 }
 
 /// What a seat at the table knows; it exists only in proofs.
-pub struct View<M, E> {
+pub struct SeatView<M, E> {
     /// What the lock was opened with; a spent seat does not know it.
     pub opened: Option<Opened<M>>,
     pub role: Role,

@@ -18,7 +18,7 @@ use Rattle.slicelet.specs.Steps.{event_step}
 use Rattle.slicelet.specs.States.{SliceletState}
 use Rattle.slicelet.specs.declared.call.SliceletCall.{SliceletCall}
 use Rattle.shared_objects.specs.declared.error.Recorded.{Recorded}
-use Rattle.live_run.specs.internals.Crews.{TellsVerdict}
+use Rattle.live_run.specs.internals.LiveTasks.{TellsVerdict}
 use Rattle.shared_objects.specs.Draws.{CanDraw}
 use Rattle.shared_objects.specs.Calls.{AsksFor, WasSpent}
 use Rattle.shared_objects.specs.Objects.{SharedObject}

@@ -1,7 +1,7 @@
 pub mod Asked
-pub mod Crewing
+pub mod LiveTaskMembers
 pub mod Keeping
 pub mod Lanes
 pub mod Noting
 pub mod Quiet
-pub mod Staging
+pub mod OpenedRunPasses

@@ -1,5 +1,5 @@
 -- What private functions and proofs speak of, and no clause of a public call.
 pub mod Notes
-pub mod Seats
-pub mod Crews
-pub mod Stages
+pub mod Callers
+pub mod LiveTasks
+pub mod OpenedRuns

@@ -4,13 +4,13 @@ ghost use Rattle.std.specs.Prelude.{◌≡◌, ◌≤◌, IfOk, IfErr, false};
 ghost use Rattle.live_run.specs.LiveJobs.{half_of, halves_of};
 ghost use Rattle.live_run.specs.declared.notes.Halt.TheVariants as halt;
 ghost use Rattle.live_run.specs.internals.Notes.{TellsMemory};
-ghost use Rattle.live_run.specs.internals.Seats.{AreTablePasses, KeepsSeat, KeepsTablePasses};
+ghost use Rattle.live_run.specs.internals.Callers.{AreTablePasses, KeepsCaller, KeepsTablePasses};
 
 use crate::job::{ASSIGNER, LiveJob, TICKET, TURNS};
 use crate::notes::Halt;
 use crate::objects::Objects;
 use crate::passes::TablePasses;
-use crate::seat::TableSeat;
+use crate::table_caller::TableCaller;
 use assignment::{Assignment, Slice};
 use crossbeam_utils::Backoff;
 use lease_table::TableCall;
@@ -34,11 +34,11 @@ pub(crate) fn assign<R: Wait>(
     ensures kept { IfOk result (λ left. KeepsTablePasses objects.now.table objects.now.ticket passes left) }
     ensures fed { IfOk result (λ left. left.notes.starved ≡ false) }
 {
-    let mut seat = TableSeat::new(&objects.table, &objects.ticket, passes);
-    match commit_all(rt, alloc, job, &mut seat) {
+    let mut caller = TableCaller::new(&objects.table, &objects.ticket, passes);
+    match commit_all(rt, alloc, job, &mut caller) {
         Err(Halt::NoMemory) => Err(AllocError),
-        Ok(()) => Ok(seat.into_passes()),
-        Err(Halt::Stopped) => Ok(seat.into_passes()),
+        Ok(()) => Ok(caller.into_passes()),
+        Err(Halt::Stopped) => Ok(caller.into_passes()),
     }
 }
 
@@ -48,40 +48,40 @@ fn commit_all<R: Wait>(
     rt: &R,
     alloc: Global,
     job: LiveJob,
-    seat: &mut TableSeat<'_>,
+    caller: &mut TableCaller<'_>,
 ) -> Result<(), Halt>
-    requires fed { seat.old.notes.starved ≡ false }
-    ensures kept { KeepsSeat seat.old seat.new }
-    ensures memory { TellsMemory result seat.new.notes }
+    requires fed { caller.old.notes.starved ≡ false }
+    ensures kept { KeepsCaller caller.old caller.new }
+    ensures memory { TellsMemory result caller.new.notes }
 {
     let take = TableCall::JobTake {
         assigner: ASSIGNER,
         at: TICKET,
     };
-    let number = job_term(seat.call(rt, take)?).number;
+    let number = job_term(caller.call(rt, take)?).number;
     for generation in 1..=job.rounds() {
         let propose = TableCall::Propose {
             number,
             assignment: halves(alloc, generation, job.tasks())?,
             at: TICKET,
         };
-        seat.call(rt, propose)?;
-        await_rows(rt, generation, seat)?;
-        seat.call(rt, TableCall::Commit { number, at: TICKET })?;
+        caller.call(rt, propose)?;
+        await_rows(rt, generation, caller)?;
+        caller.call(rt, TableCall::Commit { number, at: TICKET })?;
     }
     Ok(())
 }
 
 // Reads the table until no row of an earlier generation is open.
 #[tactic(auto, using(crate::proofs::Keeping::keeps_same, crate::proofs::Keeping::keeps_more))]
-fn await_rows<R: Wait>(rt: &R, generation: u64, seat: &mut TableSeat<'_>) -> Result<(), Halt>
-    requires fed { seat.old.notes.starved ≡ false }
-    ensures kept { KeepsSeat seat.old seat.new }
-    ensures memory { TellsMemory result seat.new.notes }
+fn await_rows<R: Wait>(rt: &R, generation: u64, caller: &mut TableCaller<'_>) -> Result<(), Halt>
+    requires fed { caller.old.notes.starved ≡ false }
+    ensures kept { KeepsCaller caller.old caller.new }
+    ensures memory { TellsMemory result caller.new.notes }
 {
     let backoff = Backoff::new();
     for _ in 0..TURNS {
-        let rows = seat.rows(rt)?;
+        let rows = caller.rows(rt)?;
         if rows
             .as_slice()
             .iter()

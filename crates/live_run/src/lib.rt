@@ -4,21 +4,21 @@
 //! of what they did.
 #![tactic(auto)]
 
+mod clerk_caller;
 mod clerk_loop;
-mod clerk_seat;
 mod commit_loop;
-mod crew;
+mod ended_run;
 mod job;
+mod live_task;
 mod notes;
 mod objects;
+mod opened_run;
 mod passes;
-mod remains;
 mod report;
 mod run;
-mod seat;
-mod stage;
+mod table_caller;
+mod task_caller;
 mod task_loop;
-mod task_seat;
 mod worker;
 
 pub use job::{LiveJob, MOST_ASKS, MOST_ROUNDS, MOST_TASKS, MOST_WORKERS};

@@ -2,19 +2,19 @@
 
 ghost use Rattle.std.specs.Prelude.{ℕ, Ok, ◌≡◌, ◌≤◌, ◌<◌, All, IfOk, vec_len, slice_index_or};
 ghost use Rattle.std.specs.Thread.{IsSync};
-ghost use Rattle.live_run.specs.internals.Crews.{HasLeft, IsCrew};
+ghost use Rattle.live_run.specs.internals.LiveTasks.{HasLeft, IsLiveTask};
 ghost use Rattle.live_run.specs.Reports.{IsReported};
-ghost use Rattle.live_run.specs.internals.Stages.{AreCrewsFrom, AreQuietClerkPasses, AreQuietPasses, HaveLeftFrom};
+ghost use Rattle.live_run.specs.internals.OpenedRuns.{AreLiveTasksFrom, AreQuietClerkPasses, AreQuietPasses, HaveLeftFrom};
 
 use crate::clerk_loop::learn_all;
 use crate::commit_loop::assign;
-use crate::crew::{Crew, CrewLeft};
+use crate::ended_run::{close_all, ended_run_of};
 use crate::job::LiveJob;
+use crate::live_task::{EndedTask, LiveTask};
 use crate::objects::Objects;
+use crate::opened_run::{Given, OpenedRun};
 use crate::passes::{ClerkPasses, TablePasses};
-use crate::remains::{close_all, remains_of};
 use crate::report::LiveReport;
-use crate::stage::{Given, Stage};
 use shared_objects::Gate;
 use std::alloc::{AllocError, Global};
 use std::sync::Wait;
@@ -35,10 +35,10 @@ pub fn run_live<R: Threads + Wait + Sync, G: Gate + Sync>(
 ) -> Result<LiveReport, AllocError>
     ensures { IfOk result (IsReported job.now) }
 {
-    let Stage { objects, given } = Stage::open(alloc, *job)?;
-    let (assigner, learner, crews) = run_threads(rt, alloc, &objects, gate, *job, given)?;
-    let remains = remains_of(alloc, &objects, *job, assigner, learner, crews)?;
-    close_all(alloc, *job, objects, remains)
+    let OpenedRun { objects, given } = OpenedRun::open(alloc, *job)?;
+    let (assigner, learner, live_tasks) = run_threads(rt, alloc, &objects, gate, *job, given)?;
+    let ended_run = ended_run_of(alloc, &objects, *job, assigner, learner, live_tasks)?;
+    close_all(alloc, *job, objects, ended_run)
 }
 
 // Runs the assigner and the clerk beside the tasks.
@@ -49,22 +49,22 @@ fn run_threads<R: Threads + Wait + Sync, G: Gate + Sync>(
     gate: &G,
     job: LiveJob,
     given: Given,
-) -> Result<(TablePasses, ClerkPasses, Vec<Result<CrewLeft, AllocError>>), AllocError>
+) -> Result<(TablePasses, ClerkPasses, Vec<Result<EndedTask, AllocError>>), AllocError>
     requires assigner { AreQuietPasses objects.now.table objects.now.ticket 0 given.assigner }
     requires learner { AreQuietClerkPasses objects.now.table objects.now.clerk.lock objects.now.ticket given.learner }
-    requires crews { AreCrewsFrom objects.now.table objects.now.ticket job.workers 1 given.crews.items }
+    requires live_tasks { AreLiveTasksFrom objects.now.table objects.now.ticket job.workers 1 given.live_tasks.items }
     requires enough { job.asks ≤ objects.now.ticket.terms.quota }
     ensures assigner { IfOk result (λ left. AreQuietPasses objects.now.table objects.now.ticket 0 left.0) }
     ensures learner { IfOk result (λ left. AreQuietClerkPasses objects.now.table objects.now.clerk.lock objects.now.ticket left.1) }
-    ensures crews { IfOk result (λ left. HaveLeftFrom objects.now.table objects.now.ticket job.workers job.asks 1 left.2.items) }
-    ensures many { IfOk result (λ left. vec_len left.2 ≡ vec_len given.crews) }
+    ensures live_tasks { IfOk result (λ left. HaveLeftFrom objects.now.table objects.now.ticket job.workers job.asks 1 left.2.items) }
+    ensures many { IfOk result (λ left. vec_len left.2 ≡ vec_len given.live_tasks) }
 {
     let Given {
         assigner,
         learner,
-        crews,
+        live_tasks,
     } = given;
-    let ((assigner, learner), crews) = join(
+    let ((assigner, learner), live_tasks) = join(
         rt,
         || -> (
             Result<TablePasses, AllocError>,
@@ -75,25 +75,25 @@ fn run_threads<R: Threads + Wait + Sync, G: Gate + Sync>(
             ensures assigner { IfOk result.0 (λ left. AreQuietPasses objects.entry.now.table objects.entry.now.ticket 0 left) }
             ensures learner { IfOk result.1 (λ left. AreQuietClerkPasses objects.entry.now.table objects.entry.now.clerk.lock objects.entry.now.ticket left) }
         { run_pair(rt, alloc, objects, job, assigner, learner) },
-        || -> Result<Vec<Result<CrewLeft, AllocError>>, AllocError>
-            requires { IsSync R.row × IsSync G.row × AreCrewsFrom objects.now.table objects.now.ticket job.workers 1 crews.items
+        || -> Result<Vec<Result<EndedTask, AllocError>>, AllocError>
+            requires { IsSync R.row × IsSync G.row × AreLiveTasksFrom objects.now.table objects.now.ticket job.workers 1 live_tasks.items
                 × (job.asks ≤ objects.now.ticket.terms.quota) }
             ensures left { IfOk result (λ results. HaveLeftFrom objects.entry.now.table objects.entry.now.ticket job.workers job.asks 1 results.items) }
-            ensures many { IfOk result (λ results. vec_len results ≡ vec_len crews) }
-        { run_crews(rt, alloc, objects, gate, job, crews) },
+            ensures many { IfOk result (λ results. vec_len results ≡ vec_len live_tasks) }
+        { run_live_tasks(rt, alloc, objects, gate, job, live_tasks) },
     );
-    all_of(assigner, learner, crews)
+    all_of(assigner, learner, live_tasks)
 }
 
 // Returns what all threads left, or that memory ran out in one of them.
 fn all_of(
     assigner: Result<TablePasses, AllocError>,
     learner: Result<ClerkPasses, AllocError>,
-    crews: Result<Vec<Result<CrewLeft, AllocError>>, AllocError>,
-) -> Result<(TablePasses, ClerkPasses, Vec<Result<CrewLeft, AllocError>>), AllocError>
-    ensures { IfOk result (λ left. (assigner ≡ Ok left.0) × (learner ≡ Ok left.1) × (crews ≡ Ok left.2)) }
+    live_tasks: Result<Vec<Result<EndedTask, AllocError>>, AllocError>,
+) -> Result<(TablePasses, ClerkPasses, Vec<Result<EndedTask, AllocError>>), AllocError>
+    ensures { IfOk result (λ left. (assigner ≡ Ok left.0) × (learner ≡ Ok left.1) × (live_tasks ≡ Ok left.2)) }
 {
-    Ok((assigner?, learner?, crews?))
+    Ok((assigner?, learner?, live_tasks?))
 }
 
 // Runs the assigner beside the clerk.
@@ -121,24 +121,24 @@ fn run_pair<R: Threads + Wait + Sync>(
 }
 
 // Runs each task in a thread of its own: the tasks from 1 on.
-#[tactic(auto, using(crate::proofs::Staging::left_from))]
-fn run_crews<R: Threads + Wait + Sync, G: Gate + Sync>(
+#[tactic(auto, using(crate::proofs::OpenedRunPasses::left_from))]
+fn run_live_tasks<R: Threads + Wait + Sync, G: Gate + Sync>(
     rt: &R,
     alloc: Global,
     objects: &Objects,
     gate: &G,
     job: LiveJob,
-    crews: Vec<Crew>,
-) -> Result<Vec<Result<CrewLeft, AllocError>>, AllocError>
-    requires crews { AreCrewsFrom objects.now.table objects.now.ticket job.workers 1 crews.items }
+    live_tasks: Vec<LiveTask>,
+) -> Result<Vec<Result<EndedTask, AllocError>>, AllocError>
+    requires live_tasks { AreLiveTasksFrom objects.now.table objects.now.ticket job.workers 1 live_tasks.items }
     requires enough { job.asks ≤ objects.now.ticket.terms.quota }
     ensures left { IfOk result (λ results. HaveLeftFrom objects.now.table objects.now.ticket job.workers job.asks 1 results.items) }
-    ensures many { IfOk result (λ results. vec_len results ≡ vec_len crews) }
+    ensures many { IfOk result (λ results. vec_len results ≡ vec_len live_tasks) }
 {
-    run_each(rt, alloc, objects, gate, job, crews)
+    run_each(rt, alloc, objects, gate, job, live_tasks)
 }
 
-// Separate from `run_crews`, whose lemma turns a statement about each place into one about the
+// Separate from `run_live_tasks`, whose lemma turns a statement about each place into one about the
 // list.
 fn run_each<R: Threads + Wait + Sync, G: Gate + Sync>(
     rt: &R,
@@ -146,20 +146,20 @@ fn run_each<R: Threads + Wait + Sync, G: Gate + Sync>(
     objects: &Objects,
     gate: &G,
     job: LiveJob,
-    crews: Vec<Crew>,
-) -> Result<Vec<Result<CrewLeft, AllocError>>, AllocError>
-    requires crews { All (λ crew. IsCrew objects.now.table objects.now.ticket job.workers crew) crews.items }
+    live_tasks: Vec<LiveTask>,
+) -> Result<Vec<Result<EndedTask, AllocError>>, AllocError>
+    requires live_tasks { All (λ live_task. IsLiveTask objects.now.table objects.now.ticket job.workers live_task) live_tasks.items }
     requires enough { job.asks ≤ objects.now.ticket.terms.quota }
-    ensures many { IfOk result (λ results. vec_len results ≡ vec_len crews) }
-    ensures each { IfOk result (λ results. (i : ℕ) (c : _) (r : _) → i < vec_len crews
-        → IfOk (slice_index_or results.items i r) (λ left. HasLeft objects.now.table objects.now.ticket job.workers job.asks (slice_index_or crews.items i c).task left)) }
+    ensures many { IfOk result (λ results. vec_len results ≡ vec_len live_tasks) }
+    ensures each { IfOk result (λ results. (i : ℕ) (c : _) (r : _) → i < vec_len live_tasks
+        → IfOk (slice_index_or results.items i r) (λ left. HasLeft objects.now.table objects.now.ticket job.workers job.asks (slice_index_or live_tasks.items i c).task left)) }
 {
     map_vec(
         rt,
-        crews,
-        &|crew: Crew| -> Result<CrewLeft, AllocError>
-            requires { IsSync R.row × IsSync G.row × IsCrew objects.now.table objects.now.ticket job.workers crew × (job.asks ≤ objects.now.ticket.terms.quota) }
-            ensures { IfOk result (λ left. HasLeft objects.entry.now.table objects.entry.now.ticket job.workers job.asks crew.task left) }
-        { crew.run(rt, alloc, objects, gate, job) },
+        live_tasks,
+        &|live_task: LiveTask| -> Result<EndedTask, AllocError>
+            requires { IsSync R.row × IsSync G.row × IsLiveTask objects.now.table objects.now.ticket job.workers live_task × (job.asks ≤ objects.now.ticket.terms.quota) }
+            ensures { IfOk result (λ left. HasLeft objects.entry.now.table objects.entry.now.ticket job.workers job.asks live_task.task left) }
+        { live_task.run(rt, alloc, objects, gate, job) },
     )
 }

@@ -2,13 +2,13 @@
 
 ghost use Rattle.std.specs.Prelude.{◌≡◌, IfOk, false};
 ghost use Rattle.live_run.specs.internals.Notes.{TellsMemory};
-ghost use Rattle.live_run.specs.internals.Seats.{AreTaskPasses, KeepsTaskPasses, KeepsTaskSeat};
+ghost use Rattle.live_run.specs.internals.Callers.{AreTaskPasses, KeepsTaskPasses, KeepsTaskCaller};
 
 use crate::job::{LIFE, LiveJob, TICKET, TURNS};
 use crate::notes::Halt;
 use crate::objects::TaskObjects;
 use crate::passes::TaskPasses;
-use crate::task_seat::TaskSeat;
+use crate::task_caller::TaskCaller;
 use crossbeam_utils::Backoff;
 use lease_rule::Kind;
 use lease_table::{Grant, Phase, TableCall};
@@ -75,36 +75,36 @@ pub(crate) fn see_to_leases<R: Wait>(
     ensures kept { IfOk result (λ left. KeepsTaskPasses shared.now.table.now shared.now.slicelet.now shared.now.ticket.now passes left) }
     ensures fed { IfOk result (λ left. left.table.notes.starved ≡ false) }
 {
-    let mut seat = TaskSeat::new(shared, passes);
-    match follow_phases(rt, job.rounds(), &mut seat) {
+    let mut caller = TaskCaller::new(shared, passes);
+    match follow_phases(rt, job.rounds(), &mut caller) {
         Err(Halt::NoMemory) => Err(AllocError),
-        Ok(()) => Ok(seat.into_passes()),
-        Err(Halt::Stopped) => Ok(seat.into_passes()),
+        Ok(()) => Ok(caller.into_passes()),
+        Err(Halt::Stopped) => Ok(caller.into_passes()),
     }
 }
 
 // Starts the task's life, and asks for a lease in each phase that needs another, up to the guard of
 // the last round.
 #[tactic(auto, using(crate::proofs::Keeping::task_same, crate::proofs::Keeping::task_more, crate::proofs::Keeping::task_by_table))]
-fn follow_phases<R: Wait>(rt: &R, rounds: u64, seat: &mut TaskSeat<'_>) -> Result<(), Halt>
-    requires fed { seat.old.table.notes.starved ≡ false }
-    ensures kept { KeepsTaskSeat seat.old seat.new }
-    ensures memory { TellsMemory result seat.new.table.notes }
+fn follow_phases<R: Wait>(rt: &R, rounds: u64, caller: &mut TaskCaller<'_>) -> Result<(), Halt>
+    requires fed { caller.old.table.notes.starved ≡ false }
+    ensures kept { KeepsTaskCaller caller.old caller.new }
+    ensures memory { TellsMemory result caller.new.table.notes }
 {
     let start = SliceletCall::Start {
         life: LIFE,
         at: TICKET,
     };
-    seat.call(rt, start)?;
+    caller.call(rt, start)?;
     let mut held = HeldGenerations {
         guard: None,
         bridge: None,
     };
     let backoff = Backoff::new();
     for _ in 0..TURNS {
-        let phase = seat.table.phase(rt)?;
+        let phase = caller.table.phase(rt)?;
         if held.asks_at(phase) {
-            held = renew(rt, held, seat)?;
+            held = renew(rt, held, caller)?;
             backoff.reset();
         }
         if held.guard == Some(rounds) {
@@ -121,27 +121,27 @@ fn follow_phases<R: Wait>(rt: &R, rounds: u64, seat: &mut TaskSeat<'_>) -> Resul
 fn renew<R: Wait>(
     rt: &R,
     held: HeldGenerations,
-    seat: &mut TaskSeat<'_>,
+    caller: &mut TaskCaller<'_>,
 ) -> Result<HeldGenerations, Halt>
-    requires fed { seat.old.table.notes.starved ≡ false }
-    ensures kept { KeepsTaskSeat seat.old seat.new }
-    ensures memory { TellsMemory result seat.new.table.notes }
+    requires fed { caller.old.table.notes.starved ≡ false }
+    ensures kept { KeepsTaskCaller caller.old caller.new }
+    ensures memory { TellsMemory result caller.new.table.notes }
 {
     let ask = TableCall::Grant {
-        task: seat.task,
+        task: caller.task,
         life: LIFE,
         at: TICKET,
     };
-    let grant = grant(seat.table.call(rt, ask)?);
+    let grant = grant(caller.table.call(rt, ask)?);
     let kind = grant.lease.kind;
     let generation = grant.lease.generation;
-    replace(rt, grant, held, seat)?;
+    replace(rt, grant, held, caller)?;
     end_guard(
         rt,
         kind,
         generation,
         held.with(kind, Some(generation)),
-        seat,
+        caller,
     )
 }
 
@@ -151,16 +151,16 @@ fn replace<R: Wait>(
     rt: &R,
     grant: Grant,
     held: HeldGenerations,
-    seat: &mut TaskSeat<'_>,
+    caller: &mut TaskCaller<'_>,
 ) -> Result<(), Halt>
-    requires fed { seat.old.table.notes.starved ≡ false }
-    ensures kept { KeepsTaskSeat seat.old seat.new }
-    ensures memory { TellsMemory result seat.new.table.notes }
+    requires fed { caller.old.table.notes.starved ≡ false }
+    ensures kept { KeepsTaskCaller caller.old caller.new }
+    ensures memory { TellsMemory result caller.new.table.notes }
 {
     if held.of(grant.lease.kind).is_some() {
-        seat.give_up(rt, grant.lease.kind)?;
+        caller.give_up(rt, grant.lease.kind)?;
     }
-    seat.call(rt, SliceletCall::Hear { grant, at: TICKET })?;
+    caller.call(rt, SliceletCall::Hear { grant, at: TICKET })?;
     Ok(())
 }
 
@@ -171,15 +171,15 @@ fn end_guard<R: Wait>(
     kind: Kind,
     generation: u64,
     held: HeldGenerations,
-    seat: &mut TaskSeat<'_>,
+    caller: &mut TaskCaller<'_>,
 ) -> Result<HeldGenerations, Halt>
-    requires fed { seat.old.table.notes.starved ≡ false }
-    ensures kept { KeepsTaskSeat seat.old seat.new }
-    ensures memory { TellsMemory result seat.new.table.notes }
+    requires fed { caller.old.table.notes.starved ≡ false }
+    ensures kept { KeepsTaskCaller caller.old caller.new }
+    ensures memory { TellsMemory result caller.new.table.notes }
 {
     if !held.guards_before(kind, generation) {
         return Ok(held);
     }
-    seat.give_up(rt, Kind::Guard)?;
+    caller.give_up(rt, Kind::Guard)?;
     Ok(held.with(Kind::Guard, None))
 }

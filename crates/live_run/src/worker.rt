@@ -7,7 +7,7 @@ ghost use Rattle.tickets.specs.Tickets.{DrawsFrom, new_ticket_pass};
 ghost use Rattle.cluster.specs.declared.call.ClusterCall.TheVariants as recorded_call;
 ghost use Rattle.shared_objects.specs.Draws.{CanDraw};
 ghost use Rattle.shared_objects.specs.declared.when.When.TheVariants as when;
-ghost use Rattle.live_run.specs.internals.Crews.{HasWorked, TellsVerdict};
+ghost use Rattle.live_run.specs.internals.LiveTasks.{HasWorked, TellsVerdict};
 
 use crate::job::TICKET;
 use crate::objects::TaskObjects;
@@ -37,10 +37,10 @@ pub(crate) struct Worked {
     pub(crate) records: Vec<CallRecord>,
 }
 
-/// The seat of a worker: the slicelet of its task, and its pass of the slicelet's lock and its
+/// What a worker calls with: the slicelet of its task, and its pass of the slicelet's lock and its
 /// draws.
 #[derive(Drop)]
-struct WorkerSeat<'a> {
+struct WorkerCaller<'a> {
     slicelet: &'a SharedSlicelet,
     pass: Pass<Slicelet>,
     draws: Draws<'a>,
@@ -67,7 +67,7 @@ pub(crate) fn work<R: Wait, G: Gate>(
         pass,
         draws,
     } = member;
-    let mut seat = WorkerSeat {
+    let mut caller = WorkerCaller {
         slicelet: shared.slicelet,
         pass,
         draws: Draws::new(shared.ticket, draws),
@@ -80,10 +80,10 @@ pub(crate) fn work<R: Wait, G: Gate>(
             ask,
             when: When::AtTicket,
         };
-        let record = seat.ask_for(rt, key, &turn);
+        let record = caller.ask_for(rt, key, &turn);
         records.push(record)?;
     }
-    Ok(seat.into_worked(records))
+    Ok(caller.into_worked(records))
 }
 
 // Returns the key that is the decimal text of a number.
@@ -94,7 +94,7 @@ fn nth_key(alloc: Global, number: u32) -> Result<SliceKey, AllocError>
     Ok(slice_key(text.as_str().as_bytes()))
 }
 
-impl WorkerSeat<'_> {
+impl WorkerCaller<'_> {
     // Asks for a key at the ticket of the call, and returns the record.
     #[tactic(auto, using(crate::proofs::Lanes::asked_lane, crate::proofs::Asked::asked_drew, crate::proofs::Asked::asked_step, crate::proofs::Asked::asked_verdict, crate::proofs::Asked::spent_not))]
     fn ask_for<R: Wait, G: Gate>(&mut self, rt: &R, key: SliceKey, turn: &Turn<'_, G>) -> CallRecord
@@ -116,14 +116,14 @@ impl WorkerSeat<'_> {
         asked.call
     }
 
-    // Returns the passes of the seat, with the records of its asks.
+    // Returns the passes, with the records of its asks.
     fn into_worked(self, records: Vec<CallRecord>) -> Worked
         ensures own { IsPassOf self.entry.slicelet.now.lock result.pass }
         ensures from { DrawsFrom self.entry.draws.ticket.now result.draws }
         ensures pass { result.pass ≡ self.entry.pass }
         ensures records { result.records ≡ records }
     {
-        let WorkerSeat {
+        let WorkerCaller {
             slicelet: _,
             pass,
             draws,

@@ -4,9 +4,9 @@
 #[cfg(test)]
 mod calls;
 #[cfg(test)]
-mod crews;
-#[cfg(test)]
 mod going_on;
+#[cfg(test)]
+mod live_tasks;
 #[cfg(test)]
 mod objects;
 #[cfg(test)]

@@ -23,7 +23,7 @@ use Rattle.shared_objects.specs.declared.when.When.TheVariants.{AsGiven, AtTicke
 
 -- READINGS
 
--- what is made of a call or question that drew a ticket: itself, or the same at the ticket
+-- what is made of a call or query that drew a ticket: itself, or the same at the ticket
 abbrev pub made_at : {A : Type 0} → (A → ℕ → A) → When → A → ℕ → A
 made_at at AsGiven given ticket = given
 made_at at AtTicket given ticket = at given ticket

@@ -1,6 +1,6 @@
 -- What callers are promised.
 pub mod Actors
-pub mod Questions
+pub mod Queries
 pub mod Draws
 pub mod Calls
 pub mod Objects

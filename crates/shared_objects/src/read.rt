@@ -1,4 +1,4 @@
-//! Shared calls of a lock, which draw a ticket and ask a question.
+//! Shared calls of a lock, which draw a ticket and answer a query.
 
 ghost use Rattle.std.specs.Prelude.{◌≡◌};
 ghost use Rattle.history_lock.specs.Passes.{IsPassOf};
@@ -10,37 +10,37 @@ ghost use Rattle.shared_objects.specs.Calls.{Asks, AsksAtOnce, CalledToAsk, Trie
 use crate::draws::Draws;
 use crate::error::TryError;
 use crate::gate::{Gate, Turn};
-use crate::question::Question;
+use crate::query::Query;
 use crate::when::When;
 use history_lock::{LaneLock, Pass};
 use machines::Machine;
 use std::sync::Wait;
 use tickets::Spent;
 
-// Returns the question that is asked by the call that drew a ticket.
-pub(crate) fn asked_at<M, Q: Question<M>>(question: Q, when: When, ticket: u64) -> Q
-    ensures { result ≡ made_at Q.at when question ticket }
+// Returns the query that is asked by the call that drew a ticket.
+pub(crate) fn asked_at<M, Q: Query<M>>(query: Q, when: When, ticket: u64) -> Q
+    ensures { result ≡ made_at Q.at when query ticket }
 {
     match when {
-        When::AsGiven => question,
-        When::AtTicket => question.at(ticket),
+        When::AsGiven => query,
+        When::AtTicket => query.at(ticket),
     }
 }
 
-// Makes one shared call of the lock, which draws a ticket, calls the gate and asks the question.
-pub(crate) fn read_gated<R: Wait, M: Machine, Q: Question<M>, G: Gate>(
+// Makes one shared call of the lock, which draws a ticket, calls the gate and answers the query.
+pub(crate) fn read_gated<R: Wait, M: Machine, Q: Query<M>, G: Gate>(
     rt: &R,
     lock: &LaneLock<M>,
     pass: &mut Pass<M>,
     draws: &mut Draws<'_>,
-    question: Q,
+    query: Q,
     turn: &Turn<'_, G>,
 ) -> Result<(u64, Q::Answer), Spent>
     requires own { IsPassOf lock.now pass.old }
     ensures own { IsPassOf lock.now pass.new }
     ensures ticket { draws.new.ticket ≡ draws.old.ticket }
     ensures answer { CalledToAsk draws.old.pass draws.new.pass
-        (λ before asked after. Asks M.step lock.now draws.old.pass draws.new.pass (λ machine drawn answer. Q.answers (made_at Q.at turn.now.when question drawn) machine answer) before asked.0 asked.1 after)
+        (λ before asked after. Asks M.step lock.now draws.old.pass draws.new.pass (λ machine drawn answer. Q.answers (made_at Q.at turn.now.when query drawn) machine answer) before asked.0 asked.1 after)
         pass.old result pass.new }
 {
     if draws.left() == 0 {
@@ -50,28 +50,28 @@ pub(crate) fn read_gated<R: Wait, M: Machine, Q: Question<M>, G: Gate>(
         requires can { CanDraw draws.now.pass }
         ensures ticket { draws.exit.now.ticket ≡ draws.entry.now.ticket }
         ensures drawn { IsDrawn draws.entry.now.pass result.0 draws.exit.now.pass }
-        ensures answers { Q.answers (made_at Q.at turn.entry.now.when question result.0) machine.now result.1 }
+        ensures answers { Q.answers (made_at Q.at turn.entry.now.when query result.0) machine.now result.1 }
     {
         let drawn = draws.draw();
         turn.gate.inside(rt, turn.worker, turn.ask, drawn);
-        (drawn, asked_at(question, turn.when, drawn).ask(machine))
+        (drawn, asked_at(query, turn.when, drawn).ask(machine))
     };
     Ok(lock.shared(rt, pass, &mut inside))
 }
 
 // Does the same without a gate and without waiting.
-pub(crate) fn try_read<M: Machine, Q: Question<M>>(
+pub(crate) fn try_read<M: Machine, Q: Query<M>>(
     lock: &LaneLock<M>,
     pass: &mut Pass<M>,
     draws: &mut Draws<'_>,
-    question: Q,
+    query: Q,
     when: When,
 ) -> Result<(u64, Q::Answer), TryError>
     requires own { IsPassOf lock.now pass.old }
     ensures own { IsPassOf lock.now pass.new }
     ensures ticket { draws.new.ticket ≡ draws.old.ticket }
     ensures answer { TriedToAsk M.step lock.now draws.old.pass draws.new.pass
-        (λ before asked after. AsksAtOnce M.step lock.now draws.old.pass draws.new.pass (λ machine drawn answer. Q.answers (made_at Q.at when question drawn) machine answer) before asked.0 asked.1 after)
+        (λ before asked after. AsksAtOnce M.step lock.now draws.old.pass draws.new.pass (λ machine drawn answer. Q.answers (made_at Q.at when query drawn) machine answer) before asked.0 asked.1 after)
         pass.old result pass.new }
 {
     if draws.left() == 0 {
@@ -81,10 +81,10 @@ pub(crate) fn try_read<M: Machine, Q: Question<M>>(
         requires can { CanDraw draws.now.pass }
         ensures ticket { draws.exit.now.ticket ≡ draws.entry.now.ticket }
         ensures drawn { IsDrawn draws.entry.now.pass result.0 draws.exit.now.pass }
-        ensures answers { Q.answers (made_at Q.at when question result.0) machine.now result.1 }
+        ensures answers { Q.answers (made_at Q.at when query result.0) machine.now result.1 }
     {
         let drawn = draws.draw();
-        (drawn, asked_at(question, when, drawn).ask(machine))
+        (drawn, asked_at(query, when, drawn).ask(machine))
     };
     lock.try_shared(pass, &mut inside).map_err(TryError::Busy)
 }

@@ -11,7 +11,7 @@ use crate::actor::Actor;
 use crate::draws::Draws;
 use crate::error::{CallError, Recorded, TryError};
 use crate::gate::{Gate, OpenGate, Turn};
-use crate::question::RecordedQuestion;
+use crate::query::RecordedQuery;
 use crate::read::{asked_at, read_gated, try_read};
 use crate::when::When;
 use crate::write::{Order, write};
@@ -153,24 +153,24 @@ impl<M: Actor> Shared<M> {
         write(rt, &self.lock, pass, draws, order)
     }
 
-    /// Asks the machine a question, and returns the answer with its record.
+    /// Answers a query from the machine's state, and returns the answer with its record.
     ///
-    /// `when` says whether the ticket that is drawn replaces the reading in the question. Fails
+    /// `when` says whether the ticket that is drawn replaces the reading in the query. Fails
     /// with [`Spent`] if the ticket pass may draw no more.
-    pub fn ask<R: Wait, Q: RecordedQuestion<M>>(
+    pub fn ask<R: Wait, Q: RecordedQuery<M>>(
         &self,
         rt: &R,
         pass: &mut Pass<M>,
         draws: &mut Draws<'_>,
-        question: Q,
+        query: Q,
         when: When,
     ) -> Result<Recorded<Q::Answer>, Spent>
         requires own { IsPassOf self.now.lock pass.old }
         ensures own { IsPassOf self.now.lock pass.new }
         ensures ticket { draws.new.ticket ≡ draws.old.ticket }
         ensures answer { CalledToAsk draws.old.pass draws.new.pass
-            (AsksFor M.step self.now.lock draws.old.pass draws.new.pass (λ machine ticket answer. Q.answers (made_at Q.at when question ticket) machine answer)
-            (λ ticket. Q.recorded self.now.number (made_at Q.at when question ticket)) Q.told)
+            (AsksFor M.step self.now.lock draws.old.pass draws.new.pass (λ machine ticket answer. Q.answers (made_at Q.at when query ticket) machine answer)
+            (λ ticket. Q.recorded self.now.number (made_at Q.at when query ticket)) Q.told)
             pass.old result pass.new }
     {
         let turn = Turn {
@@ -179,32 +179,32 @@ impl<M: Actor> Shared<M> {
             ask: 0,
             when,
         };
-        self.ask_gated(rt, pass, draws, question, &turn)
+        self.ask_gated(rt, pass, draws, query, &turn)
     }
 
     /// Does what [`Self::ask`] does, and calls a gate inside the call.
     ///
     /// The gate of `turn` is called after the ticket was drawn, while the lane is held.
-    pub fn ask_gated<R: Wait, Q: RecordedQuestion<M>, G: Gate>(
+    pub fn ask_gated<R: Wait, Q: RecordedQuery<M>, G: Gate>(
         &self,
         rt: &R,
         pass: &mut Pass<M>,
         draws: &mut Draws<'_>,
-        question: Q,
+        query: Q,
         turn: &Turn<'_, G>,
     ) -> Result<Recorded<Q::Answer>, Spent>
         requires own { IsPassOf self.now.lock pass.old }
         ensures own { IsPassOf self.now.lock pass.new }
         ensures ticket { draws.new.ticket ≡ draws.old.ticket }
         ensures answer { CalledToAsk draws.old.pass draws.new.pass
-            (AsksFor M.step self.now.lock draws.old.pass draws.new.pass (λ machine ticket answer. Q.answers (made_at Q.at turn.now.when question ticket) machine answer)
-            (λ ticket. Q.recorded self.now.number (made_at Q.at turn.now.when question ticket)) Q.told)
+            (AsksFor M.step self.now.lock draws.old.pass draws.new.pass (λ machine ticket answer. Q.answers (made_at Q.at turn.now.when query ticket) machine answer)
+            (λ ticket. Q.recorded self.now.number (made_at Q.at turn.now.when query ticket)) Q.told)
             pass.old result pass.new }
     {
-        let (drawn, answer) = read_gated(rt, &self.lock, pass, draws, question, turn)?;
+        let (drawn, answer) = read_gated(rt, &self.lock, pass, draws, query, turn)?;
         Ok(recorded::<M, Q>(
             self.number,
-            asked_at(question, turn.when, drawn),
+            asked_at(query, turn.when, drawn),
             drawn,
             answer,
         ))
@@ -215,23 +215,23 @@ impl<M: Actor> Shared<M> {
     /// # Errors
     ///
     /// Those of [`TryError`], in its order: the ticket pass may draw no more, or a lane is held.
-    pub fn try_ask<Q: RecordedQuestion<M>>(
+    pub fn try_ask<Q: RecordedQuery<M>>(
         &self,
         pass: &mut Pass<M>,
         draws: &mut Draws<'_>,
-        question: Q,
+        query: Q,
         when: When,
     ) -> Result<Recorded<Q::Answer>, TryError>
         requires own { IsPassOf self.now.lock pass.old }
         ensures own { IsPassOf self.now.lock pass.new }
         ensures ticket { draws.new.ticket ≡ draws.old.ticket }
         ensures answer { TriedToAsk M.step self.now.lock draws.old.pass draws.new.pass
-            (AsksAtOnceFor M.step self.now.lock draws.old.pass draws.new.pass (λ machine ticket answer. Q.answers (made_at Q.at when question ticket) machine answer)
-            (λ ticket. Q.recorded self.now.number (made_at Q.at when question ticket)) Q.told)
+            (AsksAtOnceFor M.step self.now.lock draws.old.pass draws.new.pass (λ machine ticket answer. Q.answers (made_at Q.at when query ticket) machine answer)
+            (λ ticket. Q.recorded self.now.number (made_at Q.at when query ticket)) Q.told)
             pass.old result pass.new }
     {
-        let (drawn, answer) = try_read(&self.lock, pass, draws, question, when)?;
-        Ok(recorded::<M, Q>(self.number, asked_at(question, when, drawn), drawn, answer))
+        let (drawn, answer) = try_read(&self.lock, pass, draws, query, when)?;
+        Ok(recorded::<M, Q>(self.number, asked_at(query, when, drawn), drawn, answer))
     }
 
     /// Closes the object and returns the machine and the history of its calls.
@@ -257,21 +257,21 @@ impl<M: Actor> Shared<M> {
     }
 }
 
-// Returns the answer to a question that drew a ticket, with its record.
-fn recorded<M, Q: RecordedQuestion<M>>(
+// Returns the answer to a query that drew a ticket, with its record.
+fn recorded<M, Q: RecordedQuery<M>>(
     actor: u64,
-    question: Q,
+    query: Q,
     drawn: u64,
     answer: Q::Answer,
 ) -> Recorded<Q::Answer>
     ensures answer { result.answer ≡ answer }
     ensures ticket { result.call.ticket ≡ drawn }
-    ensures step { result.call.step ≡ Q.recorded actor question }
+    ensures step { result.call.step ≡ Q.recorded actor query }
     ensures reply { result.call.reply ≡ Q.told answer }
 {
     let call = CallRecord {
         ticket: drawn,
-        step: question.into_record(actor),
+        step: query.into_record(actor),
         reply: Q::tell(&answer),
     };
     Recorded { answer, call }

@@ -7,7 +7,7 @@ ghost use Rattle.shared_objects.specs.Objects.{AskedForCommitted, AskedForRows};
 use crate::draws::Draws;
 use crate::error::{Recorded, RowsError};
 use crate::gate::{OpenGate, Turn};
-use crate::question::Question;
+use crate::query::Query;
 use crate::read::read_gated;
 use crate::shared::Shared;
 use crate::when::When;
@@ -27,12 +27,12 @@ pub type SharedTable = Shared<LeaseTable>;
 #[derive(Clone, Copy)]
 struct AskRows;
 
-impl Question<LeaseTable> for AskRows {
+impl Query<LeaseTable> for AskRows {
     type Answer = Result<Listed<Row>, AllocError>;
 
-    ghost at = { λ question reading. question };
+    ghost at = { λ query reading. query };
 
-    ghost answers = { λ question table answer. IfOk answer (λ rows. rows ≡ table.rows) };
+    ghost answers = { λ query table answer. IfOk answer (λ rows. rows ≡ table.rows) };
 
     fn at(self, _reading: u64) -> AskRows {
         self

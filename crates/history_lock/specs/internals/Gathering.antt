@@ -5,7 +5,7 @@ use Rattle.atomic_table.specs.Seated.{TableId}
 use Rattle.history_lock.specs.declared.entry.Entry.{Entry}
 use Rattle.history_lock.specs.declared.view.Opened.{Opened}
 use Rattle.history_lock.specs.declared.view.GatheredPass.{GatheredPass}
-use Rattle.history_lock.specs.declared.view.Book.{Book}
+use Rattle.history_lock.specs.declared.view.LaneState.{LaneState}
 use Rattle.history_lock.specs.Histories.{replay, of_lane, StartsWith}
 use Rattle.history_lock.specs.Passes.{PassView}
 
@@ -26,8 +26,8 @@ abbrev pub IsGathered : {E : Type 0} → ℕ → List (GatheredPass E) → Type 
 IsGathered n [] = ⊥
 IsGathered n (g ∷ gs) = (g.lane ≡ n) ⊎ IsGathered n gs
 
--- the book at the end, by all that were taken in
-pub record IsEnd {M E R F : Type 0} (step : M → E → Result (M × R) F) (opened : Opened M) (gs : List (GatheredPass E)) (b : Book M E) : Type 0 where
+-- the lane state at the end, by all that were taken in
+pub record IsEnd {M E R F : Type 0} (step : M → E → Result (M × R) F) (opened : Opened M) (gs : List (GatheredPass E)) (b : LaneState M E) : Type 0 where
   pub legal : replay step opened.machine b.history.items ≡ Some b.machine
   pub agrees : AllByRecursion (λ g. StartsWith b.history.items g.seen × (of_lane g.lane b.history.items ≡ g.mine)) gs
   pub others : (n : ℕ) → opened.lanes ≤ n → of_lane n b.history.items ≡ []

@@ -1,17 +1,17 @@
 use Rattle.std.proofs.Common.{rules, refl, ap, ◌∙◌, sym, subst}
 use mathlib.Core.Option.{none}
 use Rattle.atomic_table.specs.Table.{rest, Allows, step as one_step}
-use Rattle.history_lock.specs.Rule.{spot, HasOneHistory, GivesBack, view_after_return}
+use Rattle.history_lock.specs.Rule.{word_index, HasOneHistory, GivesBack, view_after_return}
 use Rattle.history_lock.proofs.Keeps.{gives_back}
 use Rattle.history_lock.proofs.steps.give_back.Goals as goal
 
 pub store-requires : goal.store-requires
 store-requires g c =
-    let me = c.args.place.now.me in let b = c.args.book in let lane = c.args.lane in let seat = c.exchange.new.seat in let common = c.args.common.now in (
+    let me = c.args.seat.now.me in let b = c.args.lane_state in let lane = c.args.lane in let seat = c.exchange.new.seat in let common = c.args.common.now in (
       search rules,
       search rules,
-      subst (λ m. Allows (HasOneHistory g.M.Machine.step common.key.value) common.table_id.slots seat.id m (spot lane) (λ _. 0) (λ _. GivesBack (one_step common.table_id.slots (spot lane) 0 0 none) m 0)) (sym c.exchange.ensures.3)
-          (gives_back g.M.Machine.step common.key.value common.table_id.slots seat.id lane me.0 b (rest me.1) c.requires.range.0 c.requires.range.1 c.requires.book),
+      subst (λ m. Allows (HasOneHistory g.M.Machine.step common.key.value) common.table_id.slots seat.id m (word_index lane) (λ _. 0) (λ _. GivesBack (one_step common.table_id.slots (word_index lane) 0 0 none) m 0)) (sym c.exchange.ensures.3)
+          (gives_back g.M.Machine.step common.key.value common.table_id.slots seat.id lane me.0 b (rest me.1) c.requires.range.0 c.requires.range.1 c.requires.lane_state),
     )
 
 pub returns-clause-back : goal.returns-clause-back

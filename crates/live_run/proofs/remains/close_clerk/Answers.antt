@@ -1,7 +1,0 @@
-use Rattle.live_run.proofs.Crewing.{none_missing}
-use Rattle.live_run.proofs.remains.close_clerk.Goals as goal
-
-pub unreachable-requires : goal.unreachable-requires
-unreachable-requires c =
-    let passes = c.args.passes in
-    none_missing passes.len c.args.clerk.lock.opened.lanes passes.items c.requires.lanes passes.ok.0 c.requires.many c.in_default.ensures.missing.2
