@@ -1,0 +1,64 @@
+"""The programs end with the statuses and the words on standard error that docs/FORMATS.md gives.
+
+Each program's own stored run, in crates/NAME, ends well; these are runs that do not.
+"""
+import subprocess
+from collections.abc import Iterator
+from dataclasses import dataclass
+
+from pages import Fault, Result
+from programs import Missing, Programs
+
+JOB = (
+    '{"job":{"redundancy":1,"skew":10,"guard":100,"bridge":100,"job":1000,"numbers":1000,'
+    '"assigners":2,"tasks":2,"clerks":2}}'
+)
+# A program that still runs after so many seconds has failed.
+LIMIT = 60
+
+
+@dataclass(frozen=True)
+class Run:
+    """A run of a program, and what it must come to."""
+
+    program: str
+    words: list[str]
+    stdin: str
+    status: int
+    stdout: str
+    stderr: str
+
+
+HOLD_OF_NO_TASK = f'[{JOB},{{"do":"hold","task":3,"key":"a","at":7}}]'
+PHASE = f'[{JOB},{{"do":"phase"}}]'
+HOT_IS_NO_SWITCH = '{"tasks":2,"workers":2,"rounds":3,"asks":100,"hot":1}'
+EMPTY = "hourstable: standard input: no job: the array is empty; its first element must be the job line\n"
+
+RUNS = [
+    Run("slicer_run", [], "[]", 2, "", "slicer_run: script refused: no job\n"),
+    Run("slicer_run", [], HOLD_OF_NO_TASK, 2, "", "slicer_run: script refused: bad step 1\n"),
+    Run("slicer_run", [""], PHASE, 2, "", "slicer_run: no arguments taken\n"),
+    Run("slicer_live", [], HOT_IS_NO_SWITCH, 2, "", "slicer_live: input refused\n"),
+    Run("slicer_live", [""], "", 2, "", "slicer_live: no arguments taken\n"),
+    Run("hourstable", ["run"], "[]", 2, "", EMPTY),
+    Run("hourstable", ["run", "-"], PHASE, 0, "phase steady 0\ntimely yes\n", ""),
+]
+
+
+def fault_of(run: Run, programs: Programs) -> str | None:
+    """What is wrong with a run, or None."""
+    try:
+        words = [str(programs.find(run.program)), *run.words]
+        ran = subprocess.run(words, input=run.stdin, capture_output=True, text=True, timeout=LIMIT)
+    except (Missing, subprocess.TimeoutExpired) as why:
+        return str(why)
+    wanted = (run.status, run.stdout, run.stderr)
+    found = (ran.returncode, ran.stdout, ran.stderr)
+    return None if found == wanted else f"{[run.program, *run.words]} on {run.stdin!r} ends with {found}, not {wanted}"
+
+
+def check(programs: Programs) -> Iterator[Result]:
+    """A result for each run."""
+    for run in RUNS:
+        why = fault_of(run, programs)
+        yield Result(run.program, [Fault(".ci/docs-checks/endings.py", 1, why)] if why else [])
