@@ -20,6 +20,4 @@ mod process_exports;
 mod session_exports;
 mod slicelet_exports;
 mod table_exports;
-#[cfg(test)]
-mod tests;
 mod version_exports;

@@ -16,6 +16,3 @@ pub use saying::{About, say_keep_error, say_see_error};
 pub use seeing::{check_file, show_file};
 pub use serving::{ahead_of, open_session, serve};
 pub use sqlite_files::SqliteFiles;
-
-#[cfg(test)]
-mod tests;
