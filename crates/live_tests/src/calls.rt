@@ -46,13 +46,24 @@ pub fn commit_first<R: Wait>(
     };
     let proposed = table.write(rt, pass, draws, propose, When::AsGiven);
     proposed.ok().ok_or("nothing is proposed")?;
-    let commit = TableCall::Commit {
-        number: term.number,
-        at: 2,
-    };
-    let committed = table.write(rt, pass, draws, commit, When::AsGiven);
-    let generation = generation(committed.ok().ok_or("no row holds it up")?);
+    let generation = commit(rt, table, pass, draws, term.number)?;
     Ok((term.until, generation))
+}
+
+// Commits what is proposed under the term with this number: the generation.
+fn commit<R: Wait>(
+    rt: &R,
+    table: &SharedTable,
+    pass: &mut Pass<LeaseTable>,
+    draws: &mut Draws<'_>,
+    number: u64,
+) -> Result<u64, Fail>
+    requires own { IsPassOf table.now.lock pass.old }
+    ensures own { IsPassOf table.now.lock pass.new }
+{
+    let call = TableCall::Commit { number, at: 2 };
+    let committed = table.write(rt, pass, draws, call, When::AsGiven);
+    Ok(generation(committed.ok().ok_or("no row holds it up")?))
 }
 
 // Task 1 starts its first life, is granted a lease and hears of it: the grant's number and its two ends.
@@ -102,16 +113,13 @@ fn serve_twice<R: Wait>(
     requires own { IsPassOf task.now.lock pass.old }
     ensures own { IsPassOf task.now.lock pass.new }
 {
-    let question = AskServe {
-        key: slice_key(b"hello"),
-        at: 7,
-    };
+    let key = slice_key(b"hello");
     let served = task
-        .ask(rt, pass, draws, question, When::AsGiven)
+        .ask(rt, pass, draws, AskServe { key, at: 7 }, When::AsGiven)
         .ok()
         .ok_or("a draw is left")?;
     let tried = task
-        .try_ask(pass, draws, question, When::AsGiven)
+        .try_ask(pass, draws, AskServe { key, at: 7 }, When::AsGiven)
         .ok()
         .ok_or("the lane is free")?;
     records.push(served.call)?;
@@ -130,19 +138,19 @@ fn hold_and_check<R: Wait>(
     requires own { IsPassOf task.now.lock pass.old }
     ensures own { IsPassOf task.now.lock pass.new }
 {
-    let question = AskHold {
+    let query = AskHold {
         key: slice_key(b"hello"),
         at: 7,
     };
     let held = task
-        .ask(rt, pass, draws, question, When::AsGiven)
+        .ask(rt, pass, draws, query, When::AsGiven)
         .ok()
         .ok_or("a draw is left")?;
     let handle = held.answer.ok().ok_or("the task may serve the key")?;
     records.push(held.call)?;
-    let question = AskCheck { handle, at: 8 };
+    let query = AskCheck { handle, at: 8 };
     let checked = task
-        .ask(rt, pass, draws, question, When::AsGiven)
+        .ask(rt, pass, draws, query, When::AsGiven)
         .ok()
         .ok_or("a draw is left")?;
     let told = matches!(checked.call.reply, ClusterReply::Continuous);
@@ -228,11 +236,11 @@ fn look<R: Wait>(
     requires own { IsPassOf clerk.now.lock pass.old }
     ensures own { IsPassOf clerk.now.lock pass.new }
 {
-    let question = AskLook {
+    let query = AskLook {
         key: slice_key(b"hello"),
     };
     let looked = clerk
-        .ask(rt, pass, draws, question, When::AsGiven)
+        .ask(rt, pass, draws, query, When::AsGiven)
         .ok()
         .ok_or("a draw is left")?;
     records.push(looked.call)?;
