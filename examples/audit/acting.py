@@ -1,6 +1,6 @@
-"""What the processes do by themselves, in real time: an assigner that moves keys, tasks that keep their
-leases, and clients that ask for keys. Messages are lost, repeated and late, and processes may be killed
-at any moment."""
+"""What the processes do by themselves, in real time: an assigner that moves keys, tasks that keep
+their leases, and clients that ask for keys. Messages are lost, repeated and late, and processes may
+be killed at any moment."""
 
 import threading
 import time
@@ -63,7 +63,8 @@ class Assigner:
             self.term = taken["made"]["number"]
 
     def slices(self) -> Slices:
-        starts = sorted({0, *(self.random.randrange(KEYS) for _ in range(self.random.randint(0, 5)))})
+        cuts = (self.random.randrange(KEYS) for _ in range(self.random.randint(0, 5)))
+        starts = sorted({0, *cuts})
         return [(start, [self.random.randint(1, self.table.settings.tasks)]) for start in starts]
 
 

@@ -1,5 +1,5 @@
-"""What the processes of the service do with a call: they read the clock, draw a ticket, make the call
-on the machine, store what changed, write the line, and then answer."""
+"""What the processes of the service do with a call: they read the clock, draw a ticket, make the
+call on the machine, store what changed, write the line, and then answer."""
 
 import json
 import os
@@ -80,6 +80,13 @@ class Log:
         return json.dumps(line) in self.path.read_text().splitlines()
 
 
+def store(path: Path, text: str) -> None:
+    """Stores a text in a file, so that a kill leaves all of it, or what was there before."""
+    written = path.with_suffix(".new")
+    written.write_text(text)
+    written.replace(path)
+
+
 class Actor:
     """A machine whose calls are logged."""
 
@@ -156,8 +163,8 @@ class Actor:
 
 
 def grant_in_line(grant: Message, form: str) -> Message:
-    """Returns a grant as a message of version 2 has it, or without its ranges, which follow from the
-    log of the table."""
+    """Returns a grant as a message of version 2 has it, or without its ranges, which follow from
+    the log of the table."""
     if form != WHOLE:
         return {name: it for name, it in grant.items() if name != "ranges"}
     texts = {name: str(grant[name]) for name in TEXTS}
@@ -171,8 +178,8 @@ def one_word(do: str, words: str) -> str:
 
 
 class TableActor(Actor):
-    """The lease table. It stores what changed before it answers, and saves ahead, so that most grants
-    store nothing (docs/OPERATIONS.md)."""
+    """The lease table. It stores what changed before it answers, and saves ahead, so that most
+    grants store nothing (docs/OPERATIONS.md)."""
 
     def __init__(self, folder: Path, name: str, settings: Settings) -> None:
         super().__init__(folder, name, settings)
@@ -207,7 +214,8 @@ class TableActor(Actor):
             self.log.write(line)
         self.machine = table_of(self.settings.policy, self.stored)
         numbers = {name: self.stored[name] for name in ("last", "granted", "deadline")}
-        words = f"restored generation {self.machine.committed.generation} grace {self.machine.grace}"
+        generation, grace = self.machine.committed.generation, self.machine.grace
+        words = f"restored generation {generation} grace {grace}"
         ticket = self.tickets.draw(now)
         line = {"ticket": ticket, "do": "restore", **numbers, "reply": words}
         return self.told(Reply(words), ticket, self.log.write(line))
@@ -218,17 +226,16 @@ class TableActor(Actor):
 
     def is_covered(self, kept: Message) -> bool:
         """Whether what is stored stands for these values too."""
-        if not self.stored or any(kept[it] != self.stored[it] for it in ("term", "committed", "proposed")):
+        stored = self.stored
+        if not stored or any(kept[it] != stored[it] for it in ("term", "committed", "proposed")):
             return False
-        same = all(kept[it] == self.stored[it] for it in ("last", "granted", "deadline"))
-        return same or kept["granted"] < self.stored["granted"] and kept["last"] <= self.stored["last"]
+        same = all(kept[it] == stored[it] for it in ("last", "granted", "deadline"))
+        return same or kept["granted"] < stored["granted"] and kept["last"] <= stored["last"]
 
     def save(self, line: Message) -> None:
         """Stores the values, with some grants and ticks more, and the line of the call."""
         kept = self.ahead(kept_of(self.machine))
-        written = self.store.with_suffix(".new")
-        written.write_text(json.dumps({**kept, "line": line}))
-        written.replace(self.store)
+        store(self.store, json.dumps({**kept, "line": line}))
         self.stored = kept
 
     def ahead(self, kept: Message) -> Message:
@@ -257,7 +264,8 @@ def kept_of(table: LeaseTable) -> Message:
 
 def table_of(policy: Policy, kept: Message) -> LeaseTable:
     """Returns a table of kept values, which has lost its rows."""
-    table = LeaseTable(policy, last=kept["last"], granted=kept["granted"], deadline=kept["deadline"])
+    numbers = {name: kept[name] for name in ("last", "granted", "deadline")}
+    table = LeaseTable(policy, **numbers)
     table.term = kept["term"] and Term(**kept["term"])
     table.committed = Assignment(**kept["committed"])
     table.proposed = kept["proposed"] and Assignment(**kept["proposed"])
@@ -297,7 +305,7 @@ class TaskActor(Actor):
         return super().play(call)
 
     def store(self, life: int) -> None:
-        self.lives.write_text(str(life))
+        store(self.lives, str(life))
         self.greatest_life = life
 
 

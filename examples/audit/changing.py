@@ -1,5 +1,5 @@
-"""Changes of the service's code and of its logs, by which bugs are put in. Each acts in the process that
-it is put in."""
+"""Changes of the service's code and of its logs, by which bugs are put in. Each acts in the process
+that it is put in."""
 
 import json
 import os
@@ -78,7 +78,8 @@ def text_of(line: Message) -> str:
 
 
 def in_log(process: str, do: str, place: int, alter: Callable[[Message], str]) -> Change:
-    """Another text in place of a line: that of the call `do` with this place among those of a process."""
+    """Another text in place of a line: that of the call `do` with this place among those of a
+    process."""
     seen = 0
 
     def write(log: Log, line: Message) -> int:

@@ -12,8 +12,8 @@ STARTS = {"half": HALF, "quarter": QUARTER}
 
 @dataclass
 class Player:
-    """Plays stories on a service. It keeps what was made, as the answers that have it, and where the
-    marked lines end in their logs."""
+    """Plays stories on a service. It keeps what was made, as the answers that have it, and where
+    the marked lines end in their logs."""
 
     service: Service
     made: dict[str, list[Message]] = field(

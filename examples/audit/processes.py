@@ -21,8 +21,8 @@ def right(name: str) -> None:
 
 
 class Service:
-    """The processes of a service, which end with it: the counter of tickets, the lease table with its
-    assigner, tasks, and clients. A folder has their stores and logs. With a seed they act by
+    """The processes of a service, which end with it: the counter of tickets, the lease table with
+    its assigner, tasks, and clients. A folder has their stores and logs. With a seed they act by
     themselves, in real time."""
 
     def __init__(

@@ -1,11 +1,12 @@
-"""Stories: what happens to the service, call by call. They are played by one process that carries all
-messages, and that tells the others the time.
+"""Stories: what happens to the service, call by call. They are played by one process that carries
+all messages, and that tells the others the time.
 
-A line has the time, a process, a call and what the call is given, and perhaps `= MARK`, by which a bug
-names the line that is logged for it. A grant, a note or a handle is named by its place among those that
-the story made, and an assignment by its generation; a call is left out if there is no such thing, or no
-such process. A key is a text, or a slice key after `#`. `kill` kills a process, and `open` or `restore`
-starts it again. Without a bug each story is one run, and its clocks are timely.
+A line has the time, a process, a call and what the call is given, and perhaps `= MARK`, by which a
+bug names the line that is logged for it. A grant, a note or a handle is named by its place among
+those that the story made, and an assignment by its generation; a call is left out if there is no
+such thing, or no such process. A key is a text, or a slice key after `#`. `kill` kills a process,
+and `open` or `restore` starts it again. Without a bug each story is one run, and its clocks are
+timely.
 """
 
 from dataclasses import dataclass

@@ -1,5 +1,5 @@
-"""Tickets, in three of the ways of docs/AUDIT.md: from a shared counter, from a common clock, and by
-hybrid logical clocks.
+"""Tickets, in three of the ways of docs/AUDIT.md: from a shared counter, from a common clock, and
+by hybrid logical clocks.
 
 Whoever answers a call draws a ticket while it holds its machine. What a call makes travels with the
 ticket of the call, and whoever receives it observes that ticket first.
@@ -75,8 +75,8 @@ class CommonClock:
         return first * MOST_PROCESSES + self.process
 
     def observe(self, ticket: int) -> None:
-        """Waits until its own reading is above the sender's. In a story no time passes meanwhile, so
-        it is taken for waited."""
+        """Waits until its own reading is above the sender's. In a story no time passes meanwhile,
+        so it is taken for waited."""
         self.last = max(self.last, ticket // MOST_PROCESSES)
         while self.read(None) <= self.last:
             time.sleep(0)
