@@ -80,7 +80,7 @@ class Log:
         return json.dumps(line) in self.path.read_text().splitlines()
 
 
-def store(path: Path, text: str) -> None:
+def store_text(path: Path, text: str) -> None:
     """Stores a text in a file, so that a kill leaves all of it, or what was there before."""
     written = path.with_suffix(".new")
     written.write_text(text)
@@ -111,7 +111,7 @@ class Actor:
 
     def stamp(self, call: Message, now: int | None) -> int:
         """Puts the reading of the call in it, and returns its ticket. The ticket is drawn first, so
-        that no call with a later one of the table has read its clock before this one."""
+        that each call of the table with a lower one has read its clock before."""
         ticket = self.tickets.draw(now)
         if call["do"] not in WITHOUT_READING:
             call["at"] = self.clock.read(now)
@@ -198,7 +198,8 @@ class TableActor(Actor):
             return self.told(Reply("", self.machine.committed), self.last_ticket, 0)
 
     def stamp(self, call: Message, now: int | None) -> int:
-        """The other way round than a task does."""
+        """As a task does, but the clock is read first, so that each call of a task with a higher
+        ticket reads its clock after."""
         if call["do"] not in WITHOUT_READING:
             call["at"] = self.clock.read(now)
         return self.tickets.draw(now)
@@ -235,7 +236,7 @@ class TableActor(Actor):
     def save(self, line: Message) -> None:
         """Stores the values, with some grants and ticks more, and the line of the call."""
         kept = self.ahead(kept_of(self.machine))
-        store(self.store, json.dumps({**kept, "line": line}))
+        store_text(self.store, json.dumps({**kept, "line": line}))
         self.stored = kept
 
     def ahead(self, kept: Message) -> Message:
@@ -305,7 +306,7 @@ class TaskActor(Actor):
         return super().play(call)
 
     def store(self, life: int) -> None:
-        store(self.lives, str(life))
+        store_text(self.lives, str(life))
         self.greatest_life = life
 
 

@@ -682,7 +682,7 @@ def save_later(save: Callable[..., None]) -> tuple[Change, ...]:
 
 def save_values(table: TableActor, kept: Message, line: Message) -> None:
     """Stores values as `TableActor.save` does."""
-    actors.store(table.store, text_of({**kept, "line": line}))
+    actors.store_text(table.store, text_of({**kept, "line": line}))
 
 
 bug(
