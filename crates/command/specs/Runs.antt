@@ -3,7 +3,6 @@ use Rattle.std.specs.Prelude.{◌≡◌, ◌⊎◌, ℕ, suc, List, [], ◌∷�
 use Rattle.std.specs.Global.{Vec}
 use Rattle.serde_json.specs.Data.{Data}
 use Rattle.world.specs.declared.step.Step.{Step}
-use Rattle.world.specs.declared.step.Step.TheVariants as step
 use Rattle.world.specs.declared.reply.Reply.{Reply}
 use Rattle.program_io.specs.Json.{IsJson, IsNoJson}
 use Rattle.program_io.specs.Endings.{IsAnswered as IsAnsweredBy, IsUnanswered}
@@ -15,39 +14,10 @@ use Rattle.service.specs.Output.{IsOutput}
 use Rattle.service.specs.Service.{SaysShown, IsRefusedFor}
 use Rattle.diagnosis.specs.declared.faults.ScriptFault.{ScriptFault}
 use Rattle.diagnosis.specs.Faults.{AnswerError, refusals, refusals_of}
+use Rattle.explain.specs.StepWords.{step_word}
 use Rattle.explain.specs.Texts.{IsExplainedText}
 use Rattle.command.specs.declared.arguments.ScriptText.{ScriptText}
 use Rattle.command.specs.declared.arguments.ScriptText.TheVariants as show
-
--- the word by which a script names a step
-abbrev pub step_word : Step → List ℕ
-step_word (step.Hash key) = codes "hash"
-step_word (step.Assign generation slices) = codes "assign"
-step_word (step.Owners key) = codes "owners"
-step_word (step.Judge question) = codes "judge"
-step_word (step.Take assigner at) = codes "take"
-step_word (step.Renew assigner at) = codes "renew"
-step_word (step.Propose assigner generation slices at) = codes "propose"
-step_word (step.Commit assigner at) = codes "commit"
-step_word step.Phase = codes "phase"
-step_word step.Rows = codes "rows"
-step_word (step.Grant task life at) = codes "grant"
-step_word (step.Free note at) = codes "free"
-step_word step.Lose = codes "lose"
-step_word (step.Start task life at) = codes "start"
-step_word (step.Hear task number at) = codes "hear"
-step_word (step.Release task kind at) = codes "release"
-step_word (step.Serve task key at) = codes "serve"
-step_word (step.Hold task key at) = codes "hold"
-step_word (step.Check task handle at) = codes "check"
-step_word (step.Learn clerk generation) = codes "learn"
-step_word (step.Look clerk key) = codes "look"
-step_word (step.Forget clerk) = codes "forget"
-step_word (step.Load task key weight) = codes "load"
-step_word step.Gather = codes "gather"
-step_word (step.Plan loads tasks bounds) = codes "plan"
-step_word (step.Next assigner at wanted) = codes "next"
-step_word (step.DropTerm assigner) = codes "restart"
 
 -- the line of a reply, after the number of its element and the name of its step
 abbrev pub numbered_line : ℕ → Step → Reply → List ℕ
@@ -68,11 +38,11 @@ pub record IsShownNumbered (script : Script) (text : List ℕ) : Type 0 where
   pub output : IsOutput script plain
   pub lines : text ≡ numbered_text script.steps output.replies output.timely
 
--- what is written of a script: the text with numbers or without, or with reasons; of a picture only the stretches are said, where they are found
+-- what is written of a script: the text with numbers or without, or with reasons, with numbers or without; of a picture only the stretches are said, where they are found
 abbrev pub IsShown : ScriptText → Script → List ℕ → Type 0
 IsShown show.Lines script text = IsOutput script text
 IsShown show.Numbered script text = IsShownNumbered script text
-IsShown show.Explained script text = IsExplainedText script text
+IsShown (show.Explained numbered) script text = IsExplainedText numbered script text
 IsShown (show.Picture key clerks) script text = ⊤
 
 -- a value was read, which is no script, and these are its faults

@@ -68,7 +68,7 @@ abbrev pub audit_words : Shape
 audit_words = subcommand (codes "audit") (flag (codes "progress") ∷ flag (codes "strict") ∷ logs ∷ [])
 
 abbrev pub explain_words : Shape
-explain_words = subcommand (codes "explain") (file ∷ [])
+explain_words = subcommand (codes "explain") (flag (codes "number") ∷ file ∷ [])
 
 abbrev pub timeline_words : Shape
 timeline_words = subcommand (codes "timeline") (option (codes "key") ∷ flag (codes "clerks") ∷ file ∷ [])
@@ -106,9 +106,9 @@ abbrev pub AsksRun : List Row → Asked → Type 0
 AsksRun rows asked = (number : Bool) × IsFlag (codes "number") rows number
     × IsRequest (command.Play (if number then show.Numbered else show.Lines)) rows asked
 
--- `explain [FILE]`
+-- `explain [--number] [FILE]`
 abbrev pub AsksExplain : List Row → Asked → Type 0
-AsksExplain rows asked = IsRequest (command.Play show.Explained) rows asked
+AsksExplain rows asked = (number : Bool) × IsFlag (codes "number") rows number × IsRequest (command.Play (show.Explained number)) rows asked
 
 -- a session over the table in this file, for the job that `--job` names
 abbrev pub IsKeep : ReplyForm → Text → List Row → Asked → Type 0

@@ -4,7 +4,7 @@ ghost use Rattle.std.specs.Prelude.{◌≡◌, [], IfOk, codes, if◌then◌else
 ghost use Rattle.clap.specs.Kinds.{FailsBy};
 ghost use Rattle.clap.specs.Matches.{found_of};
 ghost use Rattle.clap.specs.Walk.{first_of, rows_of};
-ghost use Rattle.command.specs.Words.{Asks, AsksAudit, AsksRun, AsksSession, AsksStore, AsksTimeline, IsActionNamed, IsHeldOver, IsRequest, IsSource};
+ghost use Rattle.command.specs.Words.{Asks, AsksAudit, AsksExplain, AsksRun, AsksSession, AsksStore, AsksTimeline, IsActionNamed, IsHeldOver, IsRequest, IsSource};
 ghost use Rattle.command.specs.Words.{audit_words, explain_words, run_words, session_options, session_words, store_words, timeline_words};
 ghost use Rattle.command.specs.Words.{IsArgument, IsReadAs, WordsAsk, action, bare_hourstable, file, flag, hourstable, leaf, logs, option, stored_file, word_faults};
 ghost use Rattle.command.specs.declared.arguments.ScriptText.TheVariants as show;
@@ -65,8 +65,8 @@ pub enum ScriptText<'a> {
     Lines,
     /// The same, with each reply line after the number of its element and the name of its step.
     Numbered,
-    /// The same, with each line followed by its reason.
-    Explained,
+    /// Reply lines, each followed by its reason, with numbers and names or without.
+    Explained { numbered: bool },
     /// A picture, optionally with the stretches in which each task may serve a key, and with
     /// clerks.
     Picture { key: Option<&'a str>, clerks: bool },
@@ -153,14 +153,17 @@ fn file_argument<'a>(alloc: Global, help: &'a str) -> Arg<'a>
     Arg::new(alloc, "FILE").help(help).action(ArgAction::Set)
 }
 
+// The help of `--number`.
+const NUMBER: &str =
+    "Begin each reply line with the number of its element and the name of its step";
+
 fn run_command<'a>(alloc: Global) -> Result<Command<'a>, AllocError>
     ensures { IfOk result (IsReadAs (leaf run_words)) }
 {
-    let number = "Begin each reply line with the number of its element and the name of its step";
     Command::new(alloc, "run")
         .about("Play a script, and write the reply to each step and whether clocks were timely")
         .after_help(SCRIPT_STATUSES)
-        .arg(flag(alloc, "number", number))?
+        .arg(flag(alloc, "number", NUMBER))?
         .arg(file_argument(alloc, SCRIPT))
 }
 
@@ -170,6 +173,7 @@ fn explain_command<'a>(alloc: Global) -> Result<Command<'a>, AllocError>
     Command::new(alloc, "explain")
         .about("Play a script as run does, and write a reason after each line that needs one")
         .after_help(SCRIPT_STATUSES)
+        .arg(flag(alloc, "number", NUMBER))?
         .arg(file_argument(alloc, SCRIPT))
 }
 
@@ -359,6 +363,13 @@ fn run_request<'a>(matches: &ArgMatches<'a>) -> Asked<'a>
     play_request(matches, lines_text(number))
 }
 
+fn explain_request<'a>(matches: &ArgMatches<'a>) -> Asked<'a>
+    ensures { AsksExplain (rows_of (found_of matches.now)) result }
+{
+    let numbered = matches.get_flag("number");
+    play_request(matches, ScriptText::Explained { numbered })
+}
+
 fn timeline_request<'a>(matches: &ArgMatches<'a>) -> Asked<'a>
     ensures { AsksTimeline (rows_of (found_of matches.now)) result }
 {
@@ -467,7 +478,7 @@ fn asked_by<'a>(
     match name {
         "audit" => audited(alloc, matches),
         "session" => Ok(session_request(matches)),
-        "explain" => Ok(play_request(matches, ScriptText::Explained)),
+        "explain" => Ok(explain_request(matches)),
         "store" => Ok(store_request(matches)),
         "timeline" => Ok(timeline_request(matches)),
         _ => Ok(run_request(matches)),

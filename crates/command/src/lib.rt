@@ -5,7 +5,6 @@ mod arguments;
 mod log_audit;
 mod program;
 mod script_run;
-mod step_word;
 mod table_file;
 
 pub use arguments::{

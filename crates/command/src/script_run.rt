@@ -8,9 +8,8 @@ ghost use Rattle.program_io.specs.Status.{IsUnread};
 ghost use Rattle.command.specs.Runs.{AreFaultsOf, IsShown, IsShownNumbered, IsAnswered, IsFailed, numbered_lines, numbered_text};
 
 use crate::arguments::ScriptText;
-use crate::step_word::step_word;
 use diagnosis::{AnswerError, faults_of, first_fault_law, json_faults};
-use explain::explained_text;
+use explain::{explained_text, step_word};
 use lease_table::policy_law;
 use program_io::{Fault, read_all, write_all};
 use serde_json::{Category, Value};
@@ -95,7 +94,7 @@ fn shown(alloc: Global, text: ScriptText, script: &Script) -> Result<String, All
     match text {
         ScriptText::Lines => output_of(alloc, script),
         ScriptText::Numbered => numbered_output(alloc, script),
-        ScriptText::Explained => explained_text(alloc, script),
+        ScriptText::Explained { numbered } => explained_text(alloc, script, numbered),
         ScriptText::Picture { key, clerks } => timeline_svg(alloc, script, key, clerks),
     }
 }

@@ -15,15 +15,15 @@ use Rattle.explain.specs.Explanations.{AreExplained}
 use Rattle.explain.specs.Texts.{all_lines, last_lines, IsExplainedText}
 use Rattle.explain.proofs.Telling.{many_replies}
 
-pub explained_text : {T E : Type 0} (bytes : T → List ℕ) (r : Result T E) (script : Script) (told : List Explanation) (timely : Bool)
+pub explained_text : {T E : Type 0} (bytes : T → List ℕ) (r : Result T E) (numbered : Bool) (script : Script) (told : List Explanation) (timely : Bool)
     (untimely : Option Untimely) → is_policy script.job.policy ≡ true → AreExplained script.job script.steps told
     → list_all is_answer (replies_of told) ≡ true
     → MatchBool timely (IsTimely script.job.policy.skew (reverse script.steps)) (IsTimely script.job.policy.skew (reverse script.steps) → ⊥)
     → MatchOption untimely (AreAllNear script.job.policy.skew script.steps (length script.steps)) (IsFirstUntimely script.job.policy.skew script.steps)
-    → IfOk r (λ t. bytes t ≡ all_lines script.steps told ++ last_lines timely untimely script.job.policy.skew)
-    → IfOk r (λ t. IsExplainedText script (bytes t))
-explained_text bytes (Err e) script told timely untimely within explained answers by_readings two_steps made = made
-explained_text bytes (Ok t) script told timely untimely within explained answers by_readings two_steps made = record {
+    → IfOk r (λ t. bytes t ≡ all_lines numbered 1 script.steps told ++ last_lines timely untimely script.job.policy.skew)
+    → IfOk r (λ t. IsExplainedText numbered script (bytes t))
+explained_text bytes (Err e) numbered script told timely untimely within explained answers by_readings two_steps made = made
+explained_text bytes (Ok t) numbered script told timely untimely within explained answers by_readings two_steps made = record {
   told = told;
   explained = explained;
   plain = text_of (replies_of told) timely;

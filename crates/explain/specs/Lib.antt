@@ -7,4 +7,5 @@ pub mod internals
 pub mod Untimely
 pub mod Explanations
 pub mod Sentences
+pub mod StepWords
 pub mod Texts

@@ -1,5 +1,5 @@
 -- The text that explains a script.
-use Rattle.std.specs.Prelude.{◌≡◌, ℕ, List, [], ◌∷◌, ◌++◌, length, codes, decimal, Bool, true, false, Option, Some, None, MatchOption}
+use Rattle.std.specs.Prelude.{◌≡◌, ℕ, suc, List, [], ◌∷◌, ◌++◌, length, codes, decimal, Bool, true, false, Option, Some, None, MatchOption}
 use Rattle.world.specs.declared.step.Step.{Step}
 use Rattle.world.specs.declared.reply.Reply.{Reply}
 use Rattle.service.specs.declared.script.Script.{Script}
@@ -10,6 +10,7 @@ use Rattle.explain.specs.declared.reason.Reason.{Reason}
 use Rattle.explain.specs.declared.untimely.Untimely.{Untimely}
 use Rattle.explain.specs.Hearing.{replies_of}
 use Rattle.explain.specs.Sentences.{sentence_of}
+use Rattle.explain.specs.StepWords.{step_word}
 use Rattle.explain.specs.Untimely.{AreAllNear, IsFirstUntimely}
 use Rattle.explain.specs.Explanations.{AreExplained}
 
@@ -22,13 +23,18 @@ abbrev pub with_reason : Step → Reply → Option Reason → List ℕ
 with_reason s r None = line_of r
 with_reason s r (Some reason) = line_of r ++ indented (sentence_of s r reason)
 
-abbrev pub explained_lines : Step → Explanation → List ℕ
-explained_lines s x = with_reason s x.reply x.reason
+-- the number of an element and the name of its step, if they are wanted
+abbrev pub heading : Bool → ℕ → Step → List ℕ
+heading true place s = decimal place ++ (codes " " ++ (step_word s ++ codes ": "))
+heading false place s = []
 
--- the lines of the replies to steps, one after another
-abbrev pub all_lines : List Step → List Explanation → List ℕ
-all_lines (s ∷ steps) (x ∷ told) = explained_lines s x ++ all_lines steps told
-all_lines _ _ = []
+abbrev pub explained_lines : Bool → ℕ → Step → Explanation → List ℕ
+explained_lines numbered place s x = heading numbered place s ++ with_reason s x.reply x.reason
+
+-- the lines of the replies to steps, one after another; the first step is the element at this place
+abbrev pub all_lines : Bool → ℕ → List Step → List Explanation → List ℕ
+all_lines numbered place (s ∷ steps) (x ∷ told) = explained_lines numbered place s x ++ all_lines numbered (suc place) steps told
+all_lines numbered place _ _ = []
 
 -- a step and its reading of a clock
 abbrev pub read_words : ℕ → ℕ → List ℕ → List ℕ
@@ -46,8 +52,9 @@ last_lines true untimely skew = timely_line true
 last_lines false None skew = timely_line false
 last_lines false (Some two) skew = timely_line false ++ indented (untimely_words two skew)
 
--- the text that explains a script: its lines are those of the text of the script, each followed by its reason in words, where it has one
-pub record IsExplainedText (script : Script) (text : List ℕ) : Type 0 where
+-- the text that explains a script: its lines are those of the text of the script, each after the number and the name of its step, if they are wanted, and
+-- followed by its reason in words, where it has one
+pub record IsExplainedText (numbered : Bool) (script : Script) (text : List ℕ) : Type 0 where
   pub told : List Explanation
   pub explained : AreExplained script.job script.steps told
   pub plain : List ℕ
@@ -56,4 +63,4 @@ pub record IsExplainedText (script : Script) (text : List ℕ) : Type 0 where
   pub untimely : Option Untimely
   pub two_steps : MatchOption untimely (AreAllNear script.job.policy.skew script.steps (length script.steps)) (IsFirstUntimely script.job.policy.skew
       script.steps)
-  pub text_is : text ≡ all_lines script.steps told ++ last_lines output.timely untimely script.job.policy.skew
+  pub text_is : text ≡ all_lines numbered 1 script.steps told ++ last_lines output.timely untimely script.job.policy.skew

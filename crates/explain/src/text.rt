@@ -5,10 +5,11 @@ ghost use Rattle.std.specs.List.{list_all};
 ghost use Rattle.service.specs.Lines.{line_of};
 ghost use Rattle.service.specs.Output.{is_answer};
 ghost use Rattle.explain.specs.Hearing.{replies_of};
-ghost use Rattle.explain.specs.Texts.{all_lines, explained_lines, indented, last_lines, read_words, untimely_words, IsExplainedText};
+ghost use Rattle.explain.specs.Texts.{all_lines, explained_lines, heading, indented, last_lines, read_words, untimely_words, with_reason, IsExplainedText};
 
 use crate::explanation::{Explanation, explanations_of};
 use crate::sentence::sentence_of;
+use crate::step_names::step_word;
 use crate::untimely::{Untimely, first_untimely};
 use lease_table::policy_law;
 use service::{Line, Script, is_timely};
@@ -32,7 +33,7 @@ fn indented(alloc: Global, words: &str) -> Result<String, AllocError>
 
 // Returns the line of a reply, with its reason if it has one.
 fn lines_of(alloc: Global, step: &Step, told: &Explanation) -> Result<String, AllocError>
-    ensures { IfOk result (λ text. string_bytes text ≡ explained_lines step.now told.now) }
+    ensures { IfOk result (λ text. string_bytes text ≡ with_reason step.now told.now.reply told.now.reason) }
 {
     let line = line_of(alloc, &told.reply)?;
     match &told.reason {
@@ -45,20 +46,44 @@ fn lines_of(alloc: Global, step: &Step, told: &Explanation) -> Result<String, Al
     }
 }
 
-// Returns the same, or an error if the reply is out of memory.
-fn answer_lines(alloc: Global, step: &Step, told: &Explanation) -> Result<String, AllocError>
-    ensures lines { IfOk result (λ text. string_bytes text ≡ explained_lines step.now told.now) }
+// Returns the number of an element and the name of its step, if they are wanted.
+fn heading(alloc: Global, numbered: bool, place: usize, step: &Step) -> Result<String, AllocError>
+    ensures { IfOk result (λ text. string_bytes text ≡ heading numbered place step.now) }
+{
+    if numbered {
+        format!(in alloc; "{place} {}: ", step_word(step))
+    } else {
+        Ok(String::new(alloc))
+    }
+}
+
+// Returns the lines of a reply after its heading, or an error if the reply is out of memory.
+fn answer_lines(
+    alloc: Global,
+    numbered: bool,
+    place: usize,
+    step: &Step,
+    told: &Explanation,
+) -> Result<String, AllocError>
+    ensures lines { IfOk result (λ text. string_bytes text ≡ explained_lines numbered place step.now told.now) }
     ensures answers { IfOk result (λ text. is_answer told.now.reply ≡ true) }
 {
     if matches!(told.reply, Reply::NoMemory) {
         return Err(AllocError);
     }
-    lines_of(alloc, step, told)
+    let head = heading(alloc, numbered, place, step)?;
+    let lines = lines_of(alloc, step, told)?;
+    format!(in alloc; "{head}{lines}")
 }
 
 // Returns the lines of all replies, none of which is out of memory.
-fn all_lines(alloc: Global, steps: &[Step], told: &[Explanation]) -> Result<String, AllocError>
-    ensures lines { IfOk result (λ text. string_bytes text ≡ all_lines steps.now told.now) }
+fn all_lines(
+    alloc: Global,
+    numbered: bool,
+    steps: &[Step],
+    told: &[Explanation],
+) -> Result<String, AllocError>
+    ensures lines { IfOk result (λ text. string_bytes text ≡ all_lines numbered 1 steps.now told.now) }
     ensures answers { IfOk result (λ text. list_all is_answer (replies_of told.now) ≡ true) }
 {
     let mut text = String::new(alloc);
@@ -66,7 +91,7 @@ fn all_lines(alloc: Global, steps: &[Step], told: &[Explanation]) -> Result<Stri
         let Some(step) = steps.get(i) else {
             return Err(AllocError);
         };
-        let lines = answer_lines(alloc, step, explained)?;
+        let lines = answer_lines(alloc, numbered, i + 1, step, explained)?;
         text.push_str(lines.as_str())?;
     }
     Ok(text)
@@ -134,15 +159,16 @@ fn last_lines(
 
 /// Plays the steps of a script, and returns the text of their replies with its last line.
 ///
-/// Each line is followed by its reason, if there is more to say.
-pub fn explained_text(alloc: Global, script: &Script) -> Result<String, AllocError>
-    ensures { IfOk result (λ text. IsExplainedText script.now (string_bytes text)) }
+/// Each line is followed by its reason, if there is more to say. If `numbered`, each line of a reply
+/// follows the number of its element and the name of its step.
+pub fn explained_text(alloc: Global, script: &Script, numbered: bool) -> Result<String, AllocError>
+    ensures { IfOk result (λ text. IsExplainedText numbered script.now (string_bytes text)) }
 {
     policy_law(script.job.policy());
     let steps = script.steps.as_slice();
     let skew = script.job.policy().skew();
     let told = explanations_of(alloc, script.job, steps)?;
-    let lines = all_lines(alloc, steps, told.as_slice())?;
+    let lines = all_lines(alloc, numbered, steps, told.as_slice())?;
     let last = last_lines(alloc, is_timely(script), first_untimely(steps, skew), skew)?;
     format!(in alloc; "{lines}{last}")
 }

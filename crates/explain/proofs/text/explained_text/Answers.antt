@@ -29,10 +29,10 @@ returns c =
     (subst (λ (k : ℕ). MatchOption untimely (AreAllNear k c.as_slice-steps.result.now (length c.as_slice-steps.result.now)) (IsFirstUntimely k
     c.as_slice-steps.result.now)) skew c.first_untimely.ensures) in
     let answers = subst (λ (ts : List Explanation). list_all is_answer (replies_of ts) ≡ true) c.as_slice.ensures.value c.in_ok-lines.ensures.answers in
-    let lines_are : lines ≡ all_lines script.steps told =
-    c.in_ok-lines.ensures.lines ∙ ap₂ all_lines c.as_slice-steps.ensures c.as_slice.ensures.value in
+    let lines_are : lines ≡ all_lines c.args.numbered 1 script.steps told =
+    c.in_ok-lines.ensures.lines ∙ ap₂ (all_lines c.args.numbered 1) c.as_slice-steps.ensures c.as_slice.ensures.value in
     let last_is : last ≡ last_lines c.is_timely.result untimely script.job.policy.skew =
     c.in_ok-last.ensures ∙ ap (last_lines c.is_timely.result untimely) skew in
     let joined : IfOk c.format.result (λ t. string_bytes t ≡ lines ++ last) = search rules in
     let made = subst (λ (l : List ℕ). IfOk c.format.result (λ t. string_bytes t ≡ l)) (ap₂ (λ (p q : List ℕ). p ++ q) lines_are last_is) joined in
-    explained_text string_bytes c.format.result script told c.is_timely.result untimely within explained answers c.is_timely.ensures two_steps made
+    explained_text string_bytes c.format.result c.args.numbered script told c.is_timely.result untimely within explained answers c.is_timely.ensures two_steps made

@@ -1,7 +1,7 @@
 //! The names of steps.
 
 ghost use Rattle.std.specs.Prelude.{◌≡◌};
-ghost use Rattle.command.specs.Runs.{step_word};
+ghost use Rattle.explain.specs.StepWords.{step_word};
 
 use world::Step;
 
