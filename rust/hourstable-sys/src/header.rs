@@ -580,7 +580,7 @@ extern "C" {
     /// Keeps a term that a table gave. HS_NOT_ADOPTED. A term is newer than another if its number is
     /// greater, or the same with a later `until`.
     pub fn hs_assigner_adopt(place: *mut hs_place, term: *const hs_job_term) -> i32;
-    /// Forgets the kept term.
+    /// Drops the kept term.
     pub fn hs_assigner_drop_term(place: *mut hs_place) -> i32;
     /// Writes what to do next, an hs_action, and the number of the kept term, 0 for none. `wanted` is
     /// not 0 if another assignment is wanted. HS_WRONG_FORM if `proposed` is neither 0 nor
