@@ -1,6 +1,7 @@
 pub mod Replaying
 pub mod LineSplitting
 pub mod Saying
+pub mod Parting
 pub mod Watching
 pub mod Doubling
 pub mod Reporting

@@ -4,13 +4,11 @@ use Rattle.std.proofs.lemmas.List.{map_more, map-append, take-append-drop, take_
 use Rattle.std.proofs.lemmas.List.Elements.{filter-append}
 use Rattle.wire.specs.declared.fault.DecodeRefusal.{DecodeRefusal}
 use Rattle.program_io.specs.Lines.{is_blank, is_long}
-use Rattle.diagnosis.specs.JobLines.{SaysJob}
 use Rattle.call_log.specs.declared.entry.LogEntry.{LogEntry}
 use Rattle.call_log.specs.declared.entry.LinePosition.{LinePosition}
 use Rattle.call_log.specs.declared.lines.LineBytes.{LineBytes}
-use Rattle.call_log.specs.declared.log.Log.{Log}
 use Rattle.call_log.specs.Lines.{SaysNoLine}
-use Rattle.call_log.specs.Files.{PlacedLine, IsSaid, IsTorn, AreSaid, IsBadLine, AreShort, IsLog, counted, HasLongLine}
+use Rattle.call_log.specs.Files.{PlacedLine, IsSaid, IsTorn, AreSaid, IsBadLine, AreShort, counted, HasLongLine}
 use Rattle.call_log.specs.internals.Shown.{shown}
 
 -- one line more, which says a call
@@ -40,7 +38,7 @@ short_after [] line short this = (this, tt)
 short_after (l ∷ lines) line short this = (short.0, short_after lines line short.1 this)
 
 module _ (lines : List LineBytes) (i : ℕ) (line d : LineBytes) (low : i < length lines) (here : line ≡ get_or lines i d) where
-  one_more : map shown (take (i + 1) lines) ≡ map shown (take i lines) ++ shown line ∷ []
+  pub one_more : map shown (take (i + 1) lines) ≡ map shown (take i lines) ++ shown line ∷ []
   one_more = map_more shown lines i d low ∙ ap (λ (l : LineBytes). map shown (take i lines) ++ shown l ∷ []) (sym here)
 
   pub said_more : (entries : List LogEntry) (torn : List LinePosition) (entry : LogEntry) → AreSaid (map shown (take i lines)) entries torn → IsSaid (shown line) entry
@@ -54,7 +52,7 @@ module _ (lines : List LineBytes) (i : ℕ) (line d : LineBytes) (low : i < leng
       subst (λ (ls : List PlacedLine). AreSaid ls entries (torn ++ line.place ∷ [])) (sym one_more)
       (torn_after (map shown (take i lines)) entries torn (shown line) are (record { unended = unended; why = why; says = says }))
 
-  whole_with : map shown lines ≡ map shown (take i lines) ++ shown line ∷ map shown (drop (i + 1) lines)
+  pub whole_with : map shown lines ≡ map shown (take i lines) ++ shown line ∷ map shown (drop (i + 1) lines)
   whole_with = ap (map shown) (sym (take-append-drop (i + 1) lines)) ∙ map-append shown (take (i + 1) lines) (drop (i + 1) lines)
       ∙ ap (λ (ls : List PlacedLine). ls ++ map shown (drop (i + 1) lines)) one_more
       ∙ append_assoc (map shown (take i lines)) (shown line ∷ []) (map shown (drop (i + 1) lines))
@@ -104,22 +102,3 @@ module _ (lines : List LineBytes) (i : ℕ) (line d : LineBytes) (low : i < leng
   counts_none those so_far blank =
       let this : counted (shown line ∷ []) ≡ [] = rw blank refl in
       so_far ∙ sym (append-nil (counted (map shown (take i lines)))) ∙ ap (λ (ls : List PlacedLine). counted (map shown (take i lines)) ++ ls) (sym this) ∙ sym counted_more
-
--- a job and the calls after it are a log
-head_and_rest : (lines : List LineBytes) (d : LineBytes) → 1 ≤ length lines
-    → map shown lines ≡ shown (get_or lines 0 d) ∷ map shown (take (length lines - 1) (drop 1 lines))
-head_and_rest [] d some = absurd (omega (arith, some))
-head_and_rest (line ∷ lines) d some =
-    ap (λ (ls : List LineBytes). shown line ∷ map shown ls) (sym (take_all (length (line ∷ lines) - 1) lines (omega arith)))
-
-pub is_log : (lines : List PlacedLine) (all those : List LineBytes) (d : LineBytes) (log : Log) → map shown all ≡ lines
-    → (map shown those ≡ counted (map shown all)) × AreShort (map shown all) → 1 ≤ length those
-    → SaysJob (get_or those 0 d).bytes.now log.job → AreSaid (map shown (take (length those - 1) (drop 1 those))) log.entries.items log.torn.items → IsLog lines log
-is_log lines all those d log same counts some job calls = record {
-  short = subst AreShort same counts.1;
-  first = shown (get_or those 0 d);
-  others = map shown (take (length those - 1) (drop 1 those));
-  whole = ap counted (sym same) ∙ sym counts.0 ∙ head_and_rest those d some;
-  job = job;
-  calls = calls;
-}

@@ -1,11 +1,14 @@
--- What the files of a log say: a job on the first line that counts, and a call on each further one.
-use Rattle.std.specs.Prelude.{◌≡◌, ◌⊎◌, ℕ, ◌+◌, ◌==◌, ⊤, Bool, true, false, not, List, [], ◌∷◌, ◌++◌, filter, if◌then◌else◌}
+-- What the files of a log say: a job on the first line of a file that counts, of one file or several, and a call on each other line.
+use Rattle.std.specs.Prelude.{◌≡◌, ◌⊎◌, ℕ, ◌+◌, ◌==◌, ⊤, Bool, true, false, not, List, [], ◌∷◌, ◌++◌, filter, Option, Some, None, Ok, if◌then◌else◌}
 use Rattle.std.specs.List.{AllByRecursion}
 use Rattle.cluster.specs.Jobs.{Job}
+use Rattle.serde_json.specs.Data.{Data}
 use Rattle.program_io.specs.declared.fault.Fault.TheVariants as fault
+use Rattle.program_io.specs.Json.{HasRepeatedMember, IsNoJson, IsStrictJson}
 use Rattle.program_io.specs.Lines.{is_blank, is_long}
+use Rattle.service.specs.Jobs.{job_member}
 use Rattle.diagnosis.specs.Faults.{AnswerError}
-use Rattle.diagnosis.specs.JobLines.{SaysJob, IsNoJob}
+use Rattle.diagnosis.specs.JobLines.{SaysJob, IsNoJob, HasNoJob}
 use Rattle.wire.specs.declared.fault.DecodeRefusal.{DecodeRefusal}
 use Rattle.call_log.specs.declared.entry.LogEntry.{LogEntry}
 use Rattle.call_log.specs.declared.entry.LinePosition.{LinePosition}
@@ -64,6 +67,70 @@ AreShort lines = AllByRecursion (λ line. is_long line.bytes ≡ false) lines
 abbrev pub counted : List PlacedLine → List PlacedLine
 counted lines = filter (λ line. not (is_blank line.bytes)) lines
 
+-- THE JOB
+
+-- the line is a JSON text of an object whose one member is `job`
+pub record HasJobMember (bytes : List ℕ) : Type 0 where
+  pub value : Data
+  pub json : IsStrictJson bytes value
+  pub member : Data
+  pub has : job_member value ≡ Ok member
+
+-- the line is no such text
+abbrev pub HasNoJobMember : List ℕ → Type 0
+HasNoJobMember bytes = IsNoJson bytes ⊎ HasRepeatedMember bytes ⊎ HasNoJob bytes
+
+-- the line is the first of its file, where the line before it is of this file
+abbrev pub begins_file : Option ℕ → PlacedLine → Bool
+begins_file (Some before) line = not (before == line.place.file)
+begins_file None line = true
+
+-- a job line begins its file and has a job, and another line does not
+abbrev pub IsJobLine : Option ℕ → PlacedLine → Bool → Type 0
+IsJobLine before line true = (begins_file before line ≡ true) × HasJobMember line.bytes
+IsJobLine before line false = (begins_file before line ≡ false) ⊎ HasNoJobMember line.bytes
+
+-- of some lines, after one of this file, these are the job lines, and these the others, both in order
+abbrev pub AreParted : Option ℕ → List PlacedLine → List PlacedLine → List PlacedLine → Type 0
+AreParted before [] jobs others = (jobs ≡ []) × (others ≡ [])
+AreParted before (line ∷ lines) jobs others =
+    ((later : List PlacedLine) × (jobs ≡ line ∷ later) × IsJobLine before line true × AreParted (Some line.place.file) lines later others)
+    ⊎ ((later : List PlacedLine) × (others ≡ line ∷ later) × IsJobLine before line false × AreParted (Some line.place.file) lines jobs later)
+
+-- each of some lines says this job
+abbrev pub AreOfJob : List PlacedLine → Job → Type 0
+AreOfJob lines job = AllByRecursion (λ line. SaysJob line.bytes job) lines
+
+-- some lines say one job, where there are any
+abbrev pub HaveOneJob : List PlacedLine → Type 0
+HaveOneJob [] = ⊤
+HaveOneJob (line ∷ lines) = (job : Job) × AreOfJob (line ∷ lines) job
+
+-- the lines before this place say one job, and the one that stands there says none, for this error
+pub record IsBadJob (jobs : List PlacedLine) (place : LinePosition) (error : AnswerError) : Type 0 where
+  pub before : List PlacedLine
+  pub line : PlacedLine
+  pub later : List PlacedLine
+  pub whole : jobs ≡ before ++ line ∷ later
+  pub same : HaveOneJob before
+  pub at : line.place ≡ place
+  pub says : IsNoJob line.bytes error
+
+-- the lines before the second place say one job, the first of them stands at the first place, and the one at the second place says another
+pub record AreOtherJobs (jobs : List PlacedLine) (first second : LinePosition) : Type 0 where
+  pub head : PlacedLine
+  pub before : List PlacedLine
+  pub line : PlacedLine
+  pub later : List PlacedLine
+  pub whole : jobs ≡ (head ∷ before) ++ line ∷ later
+  pub job : Job
+  pub same : AreOfJob (head ∷ before) job
+  pub at_head : head.place ≡ first
+  pub at : line.place ≡ second
+  pub other : Job
+  pub says : SaysJob line.bytes other
+  pub differs : other ≡ job → ⊥
+
 -- THE CALLS
 
 -- each entry is what the line at its place says
@@ -98,13 +165,15 @@ pub record IsBadLine (lines : List PlacedLine) (place : LinePosition) (why : Dec
   pub ended : line.ended ≡ true
   pub says : SaysNoLine line.bytes why
 
--- a log: no line is too long; the first line that counts says its job, and the others its calls, in the order of the lines
+-- a log: no line is too long; a first line of a file that has a job says the job of the log, there is such a line, and the others say calls,
+-- in the order of the lines
 pub record IsLog (lines : List PlacedLine) (log : Log) : Type 0 where
   pub short : AreShort lines
-  pub first : PlacedLine
+  pub jobs : List PlacedLine
   pub others : List PlacedLine
-  pub whole : counted lines ≡ first ∷ others
-  pub job : SaysJob first.bytes log.job
+  pub parted : AreParted None (counted lines) jobs others
+  pub some : jobs ≡ [] → ⊥
+  pub job : AreOfJob jobs log.job
   pub calls : AreSaid others log.entries.items log.torn.items
 
 -- the lines before this place are short, and the one that stands there is too long
@@ -117,27 +186,48 @@ pub record HasLongLine (lines : List PlacedLine) (place : LinePosition) : Type 0
   pub at : line.place ≡ place
   pub long : is_long line.bytes ≡ true
 
--- the first line says no job, as the first line of a session does, for this error
-pub record HasBadHead (lines : List PlacedLine) (place : LinePosition) (error : AnswerError) : Type 0 where
+-- no file begins with a job, and the first line is at this place, and no job for this error
+pub record HasNoHead (lines : List PlacedLine) (place : LinePosition) (error : AnswerError) : Type 0 where
   pub first : PlacedLine
-  pub others : List PlacedLine
-  pub whole : lines ≡ first ∷ others
+  pub later : List PlacedLine
+  pub whole : lines ≡ first ∷ later
   pub at : first.place ≡ place
   pub says : IsNoJob first.bytes error
 
--- the first line says a job, and a further one no call
-pub record HasBadCall (lines : List PlacedLine) (place : LinePosition) (why : DecodeRefusal) : Type 0 where
-  pub first : PlacedLine
+-- what is wrong with job lines: there are none, or one says no job
+abbrev pub IsNoHead : List PlacedLine → List PlacedLine → LinePosition → AnswerError → Type 0
+IsNoHead lines jobs place error = ((jobs ≡ []) × HasNoHead lines place error) ⊎ IsBadJob jobs place error
+
+-- no job is said, for this error
+pub record HasBadHead (lines : List PlacedLine) (place : LinePosition) (error : AnswerError) : Type 0 where
+  pub jobs : List PlacedLine
   pub others : List PlacedLine
-  pub whole : lines ≡ first ∷ others
+  pub parted : AreParted None lines jobs others
+  pub none : IsNoHead lines jobs place error
+
+-- two job lines say different jobs
+pub record HasOtherJobs (lines : List PlacedLine) (first second : LinePosition) : Type 0 where
+  pub jobs : List PlacedLine
+  pub others : List PlacedLine
+  pub parted : AreParted None lines jobs others
+  pub differ : AreOtherJobs jobs first second
+
+-- the job lines say one job, and another line no call
+pub record HasBadCall (lines : List PlacedLine) (place : LinePosition) (why : DecodeRefusal) : Type 0 where
+  pub jobs : List PlacedLine
+  pub others : List PlacedLine
+  pub parted : AreParted None lines jobs others
+  pub some : jobs ≡ [] → ⊥
   pub job : Job
-  pub says : SaysJob first.bytes job
+  pub same : AreOfJob jobs job
   pub bad : IsBadLine others place why
 
--- why no log was read: the first line that is too long, or else the first line that counts and is not what it has to be, or memory ran out
+-- why no log was read: the first line that is too long, or else what is wrong with its job lines, or else the first other line that counts
+-- and says no call, or memory ran out
 abbrev pub IsUnread : List PlacedLine → LogError → Type 0
 IsUnread lines unread.Empty = AreShort lines × (counted lines ≡ [])
 IsUnread lines (unread.LongLine place) = HasLongLine lines place
 IsUnread lines (unread.NoJob place faults) = AreShort lines × HasBadHead (counted lines) place (fault.Input faults)
+IsUnread lines (unread.OtherJob first second) = AreShort lines × HasOtherJobs (counted lines) first second
 IsUnread lines (unread.BadLine place why mend) = AreShort lines × HasBadCall (counted lines) place why
 IsUnread lines unread.Memory = ⊤

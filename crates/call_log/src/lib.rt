@@ -6,6 +6,7 @@ mod callers;
 mod entry;
 mod finding;
 mod hint;
+mod job_lines;
 mod judging;
 mod key_member;
 mod late;

@@ -20,20 +20,27 @@ pub struct Log {
     pub torn: Vec<LinePosition>,
 }
 
-/// Why a log cannot be read: its first line that is too long, or else its first line that is not
-/// valid.
+/// Why a log cannot be read: its first line that is too long, or else what is wrong with its job
+/// lines, or else its first other line that is not a call.
 #[derive(Debug, Drop)]
 pub enum LogError {
     /// There are no lines that count.
     Empty,
     /// A line is longer than [`program_io::MOST_LINE_BYTES`].
     LongLine(LinePosition),
-    /// The first line is not a job.
+    /// A job line is not valid, or there is none; `place` is then that of the first line.
     NoJob {
         place: LinePosition,
         faults: Vec<ScriptFault>,
     },
-    /// A later line is not a call.
+    /// Two job lines have different jobs.
+    OtherJob {
+        /// The position of the first job line.
+        first: LinePosition,
+        /// The position of the first one whose job differs from its.
+        second: LinePosition,
+    },
+    /// A line that is not a job line is not a call.
     BadLine {
         place: LinePosition,
         why: DecodeRefusal,

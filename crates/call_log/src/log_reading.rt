@@ -1,35 +1,18 @@
 //! Reading a log from the bytes of its files.
 
 ghost use Rattle.std.specs.Prelude.{◌≡◌, map, IfErr, IfOk};
-ghost use Rattle.diagnosis.specs.JobLines.{SaysJob};
 ghost use Rattle.call_log.specs.Files.{AreSaid, AreShort, IsLog, IsUnread, counted, lines_from};
-ghost use Rattle.call_log.specs.internals.Reading.{IsNoJobFor, IsNotCounted, IsNotRead};
+ghost use Rattle.call_log.specs.internals.Reading.{IsNotCounted, IsNotRead};
 ghost use Rattle.call_log.specs.internals.Shown.{shown};
 
 use crate::entry::{LinePosition, LogEntry};
+use crate::job_lines::{job_of, parted};
 use crate::lines::{LineBytes, lines_of};
 use crate::log::{Log, LogError};
 use crate::progress::Progress;
 use crate::reading::{NoLine, line_said};
-use cluster::Job;
-use diagnosis::job_said;
-use program_io::{Fault, is_blank, is_long};
+use program_io::{is_blank, is_long};
 use std::alloc::Global;
-
-// Parses the first line, which is the job.
-fn head_of(alloc: Global, line: &LineBytes) -> Result<Job, LogError>
-    ensures ok { IfOk result (SaysJob line.now.bytes.now) }
-    ensures err { IfErr result (IsNoJobFor (shown line.now)) }
-{
-    match job_said(alloc, line.bytes) {
-        Ok(job) => Ok(job),
-        Err(Fault::Input(faults)) => {
-            let place = line.place;
-            Err(LogError::NoJob { place, faults })
-        }
-        Err(_) => Err(LogError::Memory),
-    }
-}
 
 // The calls on lines, and the positions of the lines that were left out.
 #[derive(Debug, Drop)]
@@ -87,13 +70,15 @@ fn counted<'a>(alloc: Global, lines: &[LineBytes<'a>]) -> Result<Vec<LineBytes<'
     Ok(those)
 }
 
-/// Reads a log: the first line is a job, and each later line a call.
+/// Reads a log: the first line of one file or several is the job line, and each other line a call.
 ///
 /// Blank lines do not count. A last line of a file without its end counts if it is a call, and is
 /// left out if it is not.
 ///
 /// An error names the first line that is longer than [`program_io::MOST_LINE_BYTES`], or else the
-/// first one that is not valid, or says that memory ran out.
+/// first job line that is not valid, or has another job than those before it, or else the first
+/// other line that is not a call, or says that memory ran out. If there is no job line, the error
+/// names the first line.
 pub fn read_log<P: Progress>(
     alloc: Global,
     files: &[&[u8]],
@@ -104,10 +89,11 @@ pub fn read_log<P: Progress>(
 {
     let lines = lines_of(alloc, files)?;
     let lines = counted(alloc, lines.as_slice())?;
-    let [first, others @ ..] = lines.as_slice() else {
+    let [first, ..] = lines.as_slice() else {
         return Err(LogError::Empty);
     };
-    let job = head_of(alloc, first)?;
-    let Calls { entries, torn } = calls_of(alloc, others, progress)?;
+    let parts = parted(alloc, lines.as_slice())?;
+    let job = job_of(alloc, parts.jobs.as_slice(), first)?;
+    let Calls { entries, torn } = calls_of(alloc, parts.others.as_slice(), progress)?;
     Ok(Log { job, entries, torn })
 }

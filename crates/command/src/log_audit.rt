@@ -292,6 +292,22 @@ fn say_torn<E: Write>(errors: &mut E, names: &[&str], torn: &[LinePosition]) {
     }
 }
 
+// Reports that two job lines have different jobs.
+fn say_other_job<E: Write>(
+    errors: &mut E,
+    names: &[&str],
+    first: LinePosition,
+    second: LinePosition,
+) {
+    let name = told_name(names, second.file);
+    let other = told_name(names, first.file);
+    let _ = writeln!(
+        errors,
+        "hourstable: {name}:{}: the job differs from the one at {other}:{}",
+        second.line, first.line
+    );
+}
+
 /// Reports why logs are not audited.
 pub fn say_error<E: Write>(errors: &mut E, names: &[&str], error: &AuditError) {
     match error {
@@ -307,6 +323,9 @@ pub fn say_error<E: Write>(errors: &mut E, names: &[&str], error: &AuditError) {
                 let name = told_name(names, place.file);
                 let _ = writeln!(errors, "hourstable: {name}:{}: {fault}", place.line);
             }
+        }
+        AuditError::Refused(LogError::OtherJob { first, second }) => {
+            say_other_job(errors, names, *first, *second);
         }
         AuditError::Refused(LogError::LongLine(place)) => {
             say_line(errors, names, *place, LONG_WORDS);
