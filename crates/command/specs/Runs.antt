@@ -38,7 +38,8 @@ pub record IsShownNumbered (script : Script) (text : List ℕ) : Type 0 where
   pub output : IsOutput script plain
   pub lines : text ≡ numbered_text script.steps output.replies output.timely
 
--- what is written of a script: the text with numbers or without, or with reasons, with numbers or without; of a picture only the stretches are said, where they are found
+-- what is written of a script: the text with numbers or without, or with reasons, with numbers or without;
+-- of a picture only the stretches are said, where they are found
 abbrev pub IsShown : ScriptText → Script → List ℕ → Type 0
 IsShown show.Lines script text = IsOutput script text
 IsShown show.Numbered script text = IsShownNumbered script text

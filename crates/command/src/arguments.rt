@@ -4,7 +4,8 @@ ghost use Rattle.std.specs.Prelude.{◌≡◌, [], IfOk, codes, if◌then◌else
 ghost use Rattle.clap.specs.Kinds.{FailsBy};
 ghost use Rattle.clap.specs.Matches.{found_of};
 ghost use Rattle.clap.specs.Walk.{first_of, rows_of};
-ghost use Rattle.command.specs.Words.{Asks, AsksAudit, AsksExplain, AsksRun, AsksSession, AsksStore, AsksTimeline, IsActionNamed, IsHeldOver, IsRequest, IsSource};
+ghost use Rattle.command.specs.Words.{Asks, AsksAudit, AsksExplain, AsksRun, AsksSession, AsksStore, AsksTimeline};
+ghost use Rattle.command.specs.Words.{IsActionNamed, IsHeldOver, IsRequest, IsSource};
 ghost use Rattle.command.specs.Words.{audit_words, explain_words, run_words, session_options, session_words, store_words, timeline_words};
 ghost use Rattle.command.specs.Words.{IsArgument, IsReadAs, WordsAsk, action, bare_hourstable, file, flag, hourstable, leaf, logs, option, stored_file, word_faults};
 ghost use Rattle.command.specs.declared.arguments.ScriptText.TheVariants as show;
