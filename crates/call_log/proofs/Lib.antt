@@ -11,3 +11,9 @@ pub mod Restoring
 pub mod Hinting
 pub mod Naming
 pub mod Counting
+pub mod Extending
+pub mod Alike
+pub mod Compared
+pub mod GoingOn
+pub mod Lasting
+pub mod Passing

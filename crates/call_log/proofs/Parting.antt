@@ -2,15 +2,12 @@
 use Rattle.std.proofs.Common.{◌≡◌, ℕ, zero, suc, ◌+◌, ◌<◌, ◌≤◌, Bool, true, false, inl, inr, List, [], ◌∷◌, ◌++◌, map, length, get_or, take, drop, refl, sym, ap, ◌∙◌, subst, arith, Ok, Err}
 use Rattle.std.specs.Prelude.{Option, Some, None}
 use Rattle.std.proofs.lemmas.List.{map-append}
-use Rattle.serde_json.specs.Data.{Data}
-use Rattle.serde_json.specs.Read.{read}
 use Rattle.cluster.specs.Jobs.{Job}
 use Rattle.program_io.specs.declared.fault.Fault.TheVariants as fault
-use Rattle.program_io.specs.Json.{HasRepeatedMember, IsNoJson, IsStrictJson}
 use Rattle.program_io.specs.Members.{wrong}
 use Rattle.service.specs.Jobs.{job_member}
 use Rattle.diagnosis.specs.Faults.{AnswerError}
-use Rattle.diagnosis.specs.JobLines.{SaysJob, IsNoJob, HasNoJob}
+use Rattle.diagnosis.specs.JobLines.{SaysJob, IsNoJob}
 use Rattle.call_log.specs.declared.entry.LinePosition.{LinePosition}
 use Rattle.call_log.specs.declared.lines.LineBytes.{LineBytes}
 use Rattle.call_log.specs.declared.log.Log.{Log}

@@ -1,5 +1,5 @@
 -- Calls of a log that are played one after another.
-use Rattle.std.proofs.Common.{◌≡◌, ℕ, ◌+◌, ◌<◌, false, List, [], ◌∷◌, ◌++◌, map, length, get_or, take, reverse, refl, sym, ◌∙◌, ap, subst}
+use Rattle.std.proofs.Common.{◌≡◌, ℕ, ◌+◌, ◌<◌, false, List, [], ◌∷◌, ◌++◌, map, length, get_or, take, reverse, sym, ◌∙◌, ap, subst}
 use Rattle.std.specs.Prelude.{Option, Some, None}
 use Rattle.std.specs.List.{AllByRecursion}
 use Rattle.std.proofs.lemmas.List.{take_more, reverse-append}
@@ -13,6 +13,7 @@ use Rattle.cluster.specs.Timing.{IsNear, IsTimely}
 use Rattle.cluster.specs.Runs.{IsRun}
 use Rattle.cluster.specs.Clusters.{LeadsTo}
 use Rattle.call_log.specs.declared.told.CallerReply.{CallerReply}
+use Rattle.call_log.specs.declared.cause.Cause.{Cause}
 use Rattle.call_log.specs.declared.entry.LogEntry.{LogEntry}
 use Rattle.call_log.specs.declared.late.Late.{Late}
 use Rattle.call_log.specs.declared.line.LoggedCall.{LoggedCall}
@@ -21,10 +22,11 @@ use Rattle.call_log.specs.declared.finding.HeldLeases.{HeldLeases}
 use Rattle.call_log.specs.declared.restored.KeptNumbers.{KeptNumbers}
 use Rattle.call_log.specs.declared.restored.RestoreFault.{RestoreFault}
 use Rattle.call_log.specs.Calls.{held_by_asked, reading_in}
-use Rattle.call_log.specs.Late.{readings_of, AreWatched}
+use Rattle.call_log.specs.Late.{AreWatched}
 use Rattle.call_log.specs.Restores.{IsTaken, grant_to_nobody}
 use Rattle.call_log.specs.Told.{is_worded}
-use Rattle.call_log.specs.Audited.{StandsFor, IsPastOf, Tells, IsOneRun, IsBreak}
+use Rattle.call_log.specs.Audited.{StandsFor, IsPastOf, Tells, IsOneRun, IsBreak, IsCausedBreak}
+use Rattle.call_log.specs.Causes.{IsCauseOf}
 use Rattle.call_log.specs.internals.Answers.{IsAnswered}
 use Rattle.call_log.proofs.Watching.{free_of_clock, free_of_table}
 
@@ -35,7 +37,7 @@ pub record IsPlayedTo (job : Job) (entries : List LogEntry) (cluster : Cluster) 
   pub leads : LeadsTo job past cluster
 
 module _ (entries : List LogEntry) (i : ℕ) (entry : LogEntry) (low : i < length entries) (here : entry ≡ get_or entries i entry) where
-  one_more : reverse (take (i + 1) entries) ≡ entry ∷ reverse (take i entries)
+  pub one_more : reverse (take (i + 1) entries) ≡ entry ∷ reverse (take i entries)
   one_more =
       ap reverse (take_more entries i entry low ∙ ap (λ (e : LogEntry). take i entries ++ e ∷ []) (sym here))
       ∙ reverse-append (take i entries) (entry ∷ [])
@@ -67,6 +69,17 @@ module _ (entries : List LogEntry) (i : ℕ) (entry : LogEntry) (low : i < lengt
         other = subst (λ (t : CallerReply). is_worded entry.line.reply t ≡ false) is answered.compared.1;
         leases = leases;
       }
+
+  -- the same, with the cause
+  pub caused_here : (job : Job) (past : Past) (next : Cluster) (wanted : CallerReply) (held : Option HeldLeases) (cause : Option Cause)
+      → IsPastOf job (reverse (take i entries)) past → (answered : IsAnswered job past entry.line (Some wanted) next) → IsRun job answered.played.after
+      → held ≡ held_by_asked job answered.played.after entry.line.call → IsCauseOf answered.played.after entries i entry.line.call wanted cause
+      → IsCausedBreak job entries i wanted held cause
+  unfolding breaks_here
+  caused_here job past next wanted held cause told answered run leases because = record {
+    fault = breaks_here job past next wanted held told answered run leases;
+    because = because;
+  }
 
 -- READINGS: where those of the lines are timely, so are those of the calls that the lines stand for
 
@@ -104,7 +117,7 @@ module _ (skew : ℕ) where
       let rest : List Reading = readings (ahead ++ before) in
       (subst (λ (r : Reading). AreNear r rest) (sym (ap reading nobody.0)) (free_of_table skew at rest), timely_ahead at ahead before nobody.1 timely)
 
-  timely_taken : (fault : Option RestoreFault) (granted : ℕ) (numbers : KeptNumbers) (before after : Past) → IsTaken fault granted numbers before after
+  pub timely_taken : (fault : Option RestoreFault) (granted : ℕ) (numbers : KeptNumbers) (before after : Past) → IsTaken fault granted numbers before after
       → IsTimely skew (readings before) → IsTimely skew (readings after)
   timely_taken None granted numbers before after taken timely =
       subst (λ (p : Past). IsTimely skew (readings p)) (sym taken.events)

@@ -3,16 +3,18 @@ use Rattle.std.proofs.Common.{◌≡◌, ◌∙◌, ℕ, List, ap}
 use Rattle.std.specs.Prelude.{Option, Some, Result, Ok, Err, IfOk}
 use Rattle.cluster.specs.declared.timing.Reading.{Reading}
 use Rattle.call_log.specs.declared.told.CallerReply.{CallerReply}
+use Rattle.call_log.specs.declared.cause.Cause.{Cause}
 use Rattle.call_log.specs.declared.entry.LogEntry.{LogEntry}
 use Rattle.call_log.specs.declared.finding.HeldLeases.{HeldLeases}
 use Rattle.call_log.specs.Calls.{reading_in}
-use Rattle.call_log.specs.Reports.{standing_at, told_text, IsOtherOf}
+use Rattle.call_log.specs.Reports.{cause_text, standing_at, told_text, IsOtherOf}
 
 -- the words that were told are those that are written
 pub other_told : {T E : Type 0} (bytes : T → List ℕ) (result : Result T E) (names : List (List ℕ)) (entries : List LogEntry) (index : ℕ) (wanted : CallerReply) (held : Option HeldLeases)
+    (cause : Option Cause)
     (found : Option LogEntry) (entry : LogEntry) (told : List ℕ) (reading : Reading) → found ≡ Some entry → told ≡ entry.line.reply → reading ≡ reading_in entry.line.call
-    → IfOk result (λ text. bytes text ≡ told_text (standing_at names entries index) told wanted reading held) → IfOk result (λ text. IsOtherOf names entries index wanted held found (bytes text))
-other_told bytes (Ok text) names entries index wanted held found entry told reading is same read written =
-    rw is (written ∙ ap (λ (t : List ℕ). told_text (standing_at names entries index) t wanted reading held) same
-    ∙ ap (λ (r : Reading). told_text (standing_at names entries index) entry.line.reply wanted r held) read)
-other_told bytes (Err why) names entries index wanted held found entry told reading is same read written = tt
+    → IfOk result (λ text. bytes text ≡ told_text (standing_at names entries index) told wanted reading held (cause_text names entries cause)) → IfOk result (λ text. IsOtherOf names entries index wanted held cause found (bytes text))
+other_told bytes (Ok text) names entries index wanted held cause found entry told reading is same read written =
+    rw is (written ∙ ap (λ (t : List ℕ). told_text (standing_at names entries index) t wanted reading held (cause_text names entries cause)) same
+    ∙ ap (λ (r : Reading). told_text (standing_at names entries index) entry.line.reply wanted r held (cause_text names entries cause)) read)
+other_told bytes (Err why) names entries index wanted held cause found entry told reading is same read written = tt

@@ -1,6 +1,6 @@
 -- What a line stands for once it was played.
-use Rattle.std.proofs.Common.{◌≡◌, ◌∙◌, ℕ, ◌+◌, ◌-◌, ◌≤◌, ◌<◌, ◌++◌, ◌∷◌, length, refl, sym, ap, subst, arith, inl, inr}
-use Rattle.std.specs.Prelude.{Option, Some, None, Result, Ok, Err, IfOk}
+use Rattle.std.proofs.Common.{◌≡◌, ℕ, ◌+◌, ◌-◌, ◌≤◌, ◌<◌, ◌++◌, ◌∷◌, refl, sym, ap, subst, arith, inl, inr}
+use Rattle.std.specs.Prelude.{Some, None}
 use Rattle.lease_table.specs.declared.call.TableCall.TheVariants as table_call
 use Rattle.lease_table.specs.declared.kept.Kept.{Kept}
 use Rattle.lease_table.specs.KeptValues.{kept_of, Covers}

@@ -8,6 +8,7 @@ use Rattle.cluster.specs.Timing.{IsTimely}
 use Rattle.cluster.specs.Runs.{IsRun}
 use Rattle.call_log.specs.declared.told.CallerReply.{CallerReply}
 use Rattle.audit.specs.OneRun.{Rises}
+use Rattle.call_log.specs.declared.cause.Cause.{Cause}
 use Rattle.call_log.specs.declared.entry.LogEntry.{LogEntry}
 use Rattle.call_log.specs.declared.line.LoggedCall.{LoggedCall}
 use Rattle.call_log.specs.declared.line.LoggedCall.TheVariants.{Whole, HearBare, Restore}
@@ -16,6 +17,7 @@ use Rattle.call_log.specs.declared.finding.HeldLeases.{HeldLeases}
 use Rattle.call_log.specs.declared.finding.Finding.{Finding}
 use Rattle.call_log.specs.declared.finding.Finding.TheVariants.{One, Double, Other}
 use Rattle.call_log.specs.Calls.{call_after, held_by_asked}
+use Rattle.call_log.specs.Causes.{IsCauseOf}
 use Rattle.call_log.specs.Late.{IsLate}
 use Rattle.call_log.specs.Restores.{IsRestored}
 use Rattle.call_log.specs.Told.{is_worded, told_after}
@@ -69,6 +71,11 @@ pub record IsBreak (job : Job) (entries : List LogEntry) (index : ℕ) (wanted :
   pub other : is_worded entry.line.reply wanted ≡ false
   pub leases : held ≡ held_by_asked job after entry.line.call
 
+-- the same, and why nothing sent before what the call delivers
+pub record IsCausedBreak (job : Job) (entries : List LogEntry) (index : ℕ) (wanted : CallerReply) (held : Option HeldLeases) (cause : Option Cause) : Type 0 where
+  pub fault : IsBreak job entries index wanted held
+  pub because : IsCauseOf fault.after entries index fault.entry.line.call wanted cause
+
 -- the entries at these places, one after the other, have one ticket, and the tickets before them rise
 pub record IsDouble (entries : List LogEntry) (first second : ℕ) : Type 0 where
   pub next : second ≡ first + 1
@@ -83,13 +90,13 @@ pub record IsDouble (entries : List LogEntry) (first second : ℕ) : Type 0 wher
 abbrev pub IsReplayed : Job → List LogEntry → Finding → Type 0
 IsReplayed job entries (One steps late) = IsOneRun job entries steps late
 IsReplayed job entries (Double first second) = IsDouble entries first second
-IsReplayed job entries (Other index wanted held) = IsBreak job entries index wanted held
+IsReplayed job entries (Other index wanted held cause) = IsCausedBreak job entries index wanted held cause
 
 -- the tickets rise where no two are the same
 abbrev pub IsFound : Job → List LogEntry → Finding → Type 0
 IsFound job entries (One steps late) = TicketsRise entries × IsOneRun job entries steps late
 IsFound job entries (Double first second) = IsDouble entries first second
-IsFound job entries (Other index wanted held) = TicketsRise entries × IsBreak job entries index wanted held
+IsFound job entries (Other index wanted held cause) = TicketsRise entries × IsCausedBreak job entries index wanted held cause
 
 -- whether the calls are one run with timely clocks
 abbrev pub is_timely : Finding → Bool

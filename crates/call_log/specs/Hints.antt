@@ -14,6 +14,12 @@ use Rattle.call_log.specs.declared.hint.Hint.{Hint}
 use Rattle.call_log.specs.declared.line.LoggedCall.{LoggedCall}
 use Rattle.call_log.specs.declared.line.LoggedCall.TheVariants.{Whole, HearBare}
 use Rattle.call_log.specs.declared.told.CallerReply.{CallerReply}
+use Rattle.call_log.specs.declared.told.CallerReply.TheVariants.{Scripted}
+use Rattle.lease_rule.specs.declared.answer.Ground.TheVariants.{Down}
+use Rattle.lease_rule.specs.declared.answer.Verdict.TheVariants.{Deny}
+use Rattle.slicelet.specs.declared.error.SliceletError.TheVariants.{NotStarted}
+use Rattle.world.specs.declared.reply.Refusal.TheVariants.{Slicelet}
+use Rattle.world.specs.declared.reply.Reply.TheVariants as reply
 use Rattle.call_log.specs.Audited.{IsPastOf, IsBreak}
 
 -- the task that makes a call, or whose note the call frees
@@ -102,7 +108,22 @@ IsHintFor job entries index (Some task) hint = IsHintOf job entries task (last_s
 
 -- the hint for what was found: where a caller was told something else in a call of a task, it is for the entries up to that call
 abbrev pub IsHinted : Job → List LogEntry → Finding → Option Hint → Type 0
-IsHinted job entries (Other index wanted held) hint =
+IsHinted job entries (Other index wanted held cause) hint =
     IsHintFor job (take (index + 1) entries) index (option_and_then (λ (e : LogEntry). task_of e.line.call) (slice_get entries index)) hint
 IsHinted job entries (One steps late) hint = hint ≡ None
 IsHinted job entries (Double first second) hint = hint ≡ None
+
+-- the right reply is that the task was not started
+abbrev pub is_down : CallerReply → Bool
+is_down (Scripted (reply.Verdict (Deny Down))) = true
+is_down (Scripted (reply.Refused (Slicelet NotStarted))) = true
+is_down _ = false
+
+-- the task whose start a log may lack, where that is the right reply to its call
+abbrev pub task_down : Option LogEntry → CallerReply → Option ℕ
+task_down (Some entry) wanted = if is_down wanted then task_of entry.line.call else None
+task_down None wanted = None
+
+abbrev pub unstarted : List LogEntry → Finding → Option ℕ
+unstarted entries (Other index wanted held cause) = task_down (slice_get entries index) wanted
+unstarted entries finding = None

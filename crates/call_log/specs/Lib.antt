@@ -1,4 +1,5 @@
 -- What the lines of a log say.
+pub mod Extensions
 pub mod Keys
 pub mod OwnCalls
 pub mod MessageCalls
@@ -10,9 +11,14 @@ pub mod Told
 pub mod Restores
 pub mod Calls
 pub mod Late
+pub mod Sent
+pub mod Causes
 pub mod Audited
+pub mod Days
+pub mod WrongReplies
 pub mod Hints
 pub mod Callers
+pub mod Coarse
 pub mod Reports
 pub mod Audits
 pub mod internals

@@ -12,6 +12,7 @@ use Rattle.call_log.specs.declared.reading.NoLine.{NoLine}
 use Rattle.call_log.specs.declared.reading.NoLine.TheVariants as none
 use Rattle.call_log.specs.declared.line.LoggedCall.{LoggedCall}
 use Rattle.call_log.specs.declared.line.LoggedLine.{LoggedLine}
+use Rattle.call_log.specs.Extensions.{without_extensions}
 use Rattle.call_log.specs.MessageCalls.{table_kinds, task_kinds, clerk_kinds}
 use Rattle.call_log.specs.OwnCalls.{own_kinds}
 
@@ -29,17 +30,17 @@ line_of d = do
   call ← call_in d
   Ok (record { ticket = ticket; call = call; reply = reply })
 
--- the bytes are a text of this line
+-- the bytes are a text of this line, whose extensions are passed over
 pub record SaysLine (bytes : List ℕ) (line : LoggedLine) : Type 0 where
   pub value : Data
   pub json : IsStrictJson bytes value
-  pub says : line_of value ≡ Ok line
+  pub says : line_of (without_extensions value) ≡ Ok line
 
 -- the bytes are a text of a JSON value that is no line, for this reason
 pub record HasNoLine (bytes : List ℕ) (why : DecodeRefusal) : Type 0 where
   pub value : Data
   pub json : IsStrictJson bytes value
-  pub says : line_of value ≡ Err why
+  pub says : line_of (without_extensions value) ≡ Err why
 
 -- the bytes are no line, for this reason
 abbrev pub SaysNoLine : List ℕ → DecodeRefusal → Type 0

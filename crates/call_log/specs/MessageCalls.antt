@@ -1,5 +1,5 @@
 -- Calls that a line of a log has as messages have them, beside its ticket, its reply and its actor.
-use Rattle.std.specs.Prelude.{ℕ, List, [], ◌∷◌, ◌++◌, codes, map, Result, Ok}
+use Rattle.std.specs.Prelude.{ℕ, List, [], ◌∷◌, codes, map, Result, Ok}
 use Rattle.serde_json.specs.Data.{Data}
 use Rattle.lease_table.specs.declared.call.TableCall.{TableCall}
 use Rattle.slicelet.specs.declared.call.SliceletCall.{SliceletCall}

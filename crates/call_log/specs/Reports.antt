@@ -1,16 +1,26 @@
 -- What is written of a log.
-use Rattle.std.specs.Prelude.{◌≡◌, ℕ, nat_lt, List, [], ◌++◌, codes, decimal, Option, Some, None, slice_get, if◌then◌else◌}
+use Rattle.std.specs.Prelude.{◌≡◌, ℕ, ◌-◌, ◌==◌, ◌||◌, nat_lt, is_some, List, [], ◌++◌, codes, decimal, length, Option, Some, None, slice_get, if◌then◌else◌}
+use Rattle.std.specs.List.{flat_map}
 use Rattle.diagnosis.specs.Quoted.{escaped}
 use Rattle.slicelet.specs.declared.heard.HeldLease.{HeldLease}
 use Rattle.lease_rule.specs.declared.answer.Verdict.TheVariants.{Deny}
-use Rattle.lease_rule.specs.declared.answer.Ground.TheVariants.{Ended}
+use Rattle.lease_rule.specs.declared.answer.Ground.TheVariants.{Ended, NotOwned, NoLease}
+use Rattle.wire.specs.LeaseMembers.{kind_word}
 use Rattle.cluster.specs.Jobs.{Job}
 use Rattle.cluster.specs.declared.timing.Reading.{Reading}
 use Rattle.cluster.specs.declared.timing.Reading.TheVariants.{TaskClock}
 use Rattle.call_log.specs.declared.told.CallerReply.{CallerReply}
 use Rattle.call_log.specs.declared.told.CallerReply.TheVariants.{Scripted}
 use Rattle.world.specs.declared.reply.Reply.TheVariants as reply
+use Rattle.call_log.specs.declared.cause.Cause.{Cause}
+use Rattle.call_log.specs.declared.cause.Cause.TheVariants as because
+use Rattle.call_log.specs.declared.cause.Change.{Change}
+use Rattle.call_log.specs.declared.cause.Change.TheVariants as change
+use Rattle.call_log.specs.declared.cause.Member.{Member}
+use Rattle.call_log.specs.declared.cause.Member.TheVariants as member
 use Rattle.call_log.specs.declared.entry.LogEntry.{LogEntry}
+use Rattle.call_log.specs.declared.comparing.WrongReply.{WrongReply}
+use Rattle.call_log.specs.declared.comparing.TheConstants.{MOST_WRONG_REPLIES}
 use Rattle.call_log.specs.declared.finding.Finding.{Finding}
 use Rattle.call_log.specs.declared.finding.Finding.TheVariants.{One, Double, Other}
 use Rattle.call_log.specs.declared.finding.HeldLeases.{HeldLeases}
@@ -18,6 +28,8 @@ use Rattle.call_log.specs.declared.hint.Hint.{Hint}
 use Rattle.call_log.specs.declared.late.Late.{Late}
 use Rattle.call_log.specs.Callers.{calls_line, silent_line}
 use Rattle.call_log.specs.Calls.{reading_in}
+use Rattle.call_log.specs.Coarse.{coarse_line}
+use Rattle.call_log.specs.Hints.{unstarted}
 use Rattle.call_log.specs.Told.{plain_text}
 
 -- where an entry stands: the name of its file, with escapes, and the number of its line
@@ -31,6 +43,11 @@ standing_text names None = []
 
 abbrev pub standing_at : List (List ℕ) → List LogEntry → ℕ → List ℕ
 standing_at names entries index = standing_text names (slice_get entries index)
+
+-- the ticket of an entry
+abbrev pub ticket_of : Option LogEntry → ℕ
+ticket_of (Some entry) = entry.line.ticket
+ticket_of None = 0
 
 -- whether the clocks were timely, and else the two readings
 abbrev pub clocks_text : ℕ → List (List ℕ) → List LogEntry → Option Late → List ℕ
@@ -48,18 +65,56 @@ abbrev pub ended_text : List ℕ → Option HeldLease → ℕ → List ℕ
 ended_text word None at = []
 ended_text word (Some lease) at = if nat_lt at lease.ends then [] else ended_words word lease
 
--- why a key should have been denied, where leases have ended
-abbrev pub reason_at : ℕ → HeldLeases → List ℕ
-reason_at at held = codes ": " ++ (ended_text (codes "guard") held.guard at ++ (ended_text (codes "bridge") held.bridge at ++ (codes "read at " ++ decimal at)))
+-- where leases that cover the key have ended
+abbrev pub ended_reason : ℕ → HeldLeases → List ℕ
+ended_reason at held = codes ": " ++ (ended_text (codes "guard") held.guard at ++ (ended_text (codes "bridge") held.bridge at ++ (codes "read at " ++ decimal at)))
 
+-- a held lease, and when it ends or has ended
+abbrev pub until_word : ℕ → HeldLease → List ℕ
+until_word at lease = if nat_lt at lease.ends then codes " until " else codes " ended at "
+
+abbrev pub lease_text : List ℕ → Option HeldLease → ℕ → List ℕ
+lease_text word None at = []
+lease_text word (Some lease) at = word ++ (codes " " ++ (decimal lease.number ++ (until_word at lease ++ (decimal lease.ends ++ codes ", "))))
+
+-- where no held lease covers the key: those that are held, if there are any
+abbrev pub held_reason : ℕ → HeldLeases → List ℕ
+held_reason at held = if is_some held.guard || is_some held.bridge
+    then codes ": " ++ (lease_text (codes "guard") held.guard at ++ (lease_text (codes "bridge") held.bridge at ++ (codes "read at " ++ decimal at)))
+    else []
+
+-- why a key should have been denied, by the leases of the task
 abbrev pub reason_text : CallerReply → Reading → Option HeldLeases → List ℕ
-reason_text (Scripted (reply.Verdict (Deny Ended))) (TaskClock at) (Some held) = reason_at at held
+reason_text (Scripted (reply.Verdict (Deny Ended))) (TaskClock at) (Some held) = ended_reason at held
+reason_text (Scripted (reply.Verdict (Deny (NotOwned generation)))) (TaskClock at) (Some held) = held_reason at held
+reason_text (Scripted (reply.Verdict (Deny NoLease))) (TaskClock at) (Some held) = held_reason at held
 reason_text _ _ _ = []
 
--- the ticket of an entry
-abbrev pub ticket_of : Option LogEntry → ℕ
-ticket_of (Some entry) = entry.line.ticket
-ticket_of None = 0
+-- the name of a member
+abbrev pub member_word : Member → List ℕ
+member_word member.Task = codes "task"
+member_word member.Life = codes "life"
+member_word member.Generation = codes "generation"
+member_word member.Ends = codes "ends"
+member_word member.Until = codes "until"
+member_word member.SliceKey = codes "slice_key"
+
+-- a member that differs from what was sent
+abbrev pub change_text : List ℕ → Change → List ℕ
+change_text there (change.Number m here other) =
+    codes "\"" ++ (member_word m ++ (codes "\" is " ++ (decimal here ++ (codes " here, " ++ (decimal other ++ (codes " at " ++ there))))))
+change_text there (change.Kind here other) =
+    codes "\"kind\" is \"" ++ (kind_word here ++ (codes "\" here, \"" ++ (kind_word other ++ (codes "\" at " ++ there))))
+change_text there change.Ranges = codes "\"ranges\" are not those of " ++ there
+change_text there change.Slices = codes "\"slices\" are not those of " ++ there
+
+-- why nothing sent before what a call delivers
+abbrev pub cause_text : List (List ℕ) → List LogEntry → Option Cause → List ℕ
+cause_text names entries None = []
+cause_text names entries (Some (because.Later place)) =
+    codes ": it is sent later, at " ++ (standing_at names entries place ++ (codes ", ticket " ++ decimal (ticket_of (slice_get entries place))))
+cause_text names entries (Some (because.Other changed)) = codes ": " ++ change_text (standing_at names entries changed.place) changed.change
+cause_text names entries (Some because.Nothing) = codes ": no line of the logs sends it"
 
 -- two entries of one ticket, the later one first
 abbrev pub double_text : List (List ℕ) → List LogEntry → ℕ → ℕ → List ℕ
@@ -68,16 +123,32 @@ double_text names entries first second =
     ++ (codes " is also at " ++ (standing_at names entries first ++ codes "\n"))))
 
 -- a call whose caller was told otherwise: where it stands, what was told, with escapes, and what should have been
-abbrev pub told_text : List ℕ → List ℕ → CallerReply → Reading → Option HeldLeases → List ℕ
-told_text standing told wanted reading held =
+abbrev pub told_text : List ℕ → List ℕ → CallerReply → Reading → Option HeldLeases → List ℕ → List ℕ
+told_text standing told wanted reading held why =
     standing ++ (codes ": told \"" ++ (escaped told ++ (codes "\"; should be \"" ++ (plain_text wanted
-    ++ (codes "\"" ++ (reason_text wanted reading held ++ codes "\n"))))))
+    ++ (codes "\"" ++ (reason_text wanted reading held ++ (why ++ codes "\n")))))))
 
 -- it names the words that the line says were told
-abbrev pub IsOtherOf : List (List ℕ) → List LogEntry → ℕ → CallerReply → Option HeldLeases → Option LogEntry → List ℕ → Type 0
-IsOtherOf names entries index wanted held (Some entry) text =
-    text ≡ told_text (standing_at names entries index) entry.line.reply wanted (reading_in entry.line.call) held
-IsOtherOf names entries index wanted held None text = text ≡ []
+abbrev pub IsOtherOf : List (List ℕ) → List LogEntry → ℕ → CallerReply → Option HeldLeases → Option Cause → Option LogEntry → List ℕ → Type 0
+IsOtherOf names entries index wanted held cause (Some entry) text =
+    text ≡ told_text (standing_at names entries index) entry.line.reply wanted (reading_in entry.line.call) held (cause_text names entries cause)
+IsOtherOf names entries index wanted held cause None text = text ≡ []
+
+-- a later call whose caller was told otherwise
+abbrev pub wrong_line : List ℕ → Option LogEntry → WrongReply → List ℕ
+wrong_line standing (Some entry) wrong = told_text standing entry.line.reply wrong.wanted (reading_in entry.line.call) wrong.held []
+wrong_line standing None wrong = []
+
+abbrev pub wrong_text : List (List ℕ) → List LogEntry → WrongReply → List ℕ
+wrong_text names entries wrong = wrong_line (standing_at names entries wrong.index) (slice_get entries wrong.index) wrong
+
+-- where no more wrong replies are told, the calls after the last of them were not judged
+abbrev pub cut_text : ℕ → List ℕ
+cut_text count = if count == MOST_WRONG_REPLIES - 1 then codes "the calls after this one were not judged\n" else []
+
+-- the wrong replies after the first one
+abbrev pub later_text : List (List ℕ) → List LogEntry → List WrongReply → List ℕ
+later_text names entries later = flat_map (wrong_text names entries) later ++ cut_text (length later)
 
 -- a line that the log may lack
 abbrev pub hint_text : List (List ℕ) → List LogEntry → Option Hint → List ℕ
@@ -86,19 +157,26 @@ hint_text names entries (Some hint) =
     codes "hint: an open line of task " ++ (decimal hint.task ++ (codes " with life " ++ (decimal hint.life ++ (codes " before "
     ++ (standing_at names entries hint.index ++ codes " would make the calls up to this one a run\n")))))
 
--- the lines for calls that are one run: how many there are, of which actors, whose calls the log may lack, and whether the clocks were timely
+-- a start that the log may lack
+abbrev pub start_text : Option ℕ → List ℕ
+start_text None = []
+start_text (Some task) = codes "hint: a start line of task " ++ (decimal task ++ codes " may be missing before this call\n")
+
+-- the lines for calls that are one run: how many there are, of which actors, how many replies were judged by one word, whose calls the log may
+-- lack, and whether the clocks were timely
 abbrev pub one_text : Job → List (List ℕ) → List LogEntry → ℕ → Option Late → List ℕ
 one_text job names entries steps late =
-    codes "audit one\nsteps " ++ (decimal steps ++ (codes "\n" ++ (calls_line job entries ++ (silent_line job entries
-    ++ clocks_text job.policy.skew names entries late))))
+    codes "audit one\nsteps " ++ (decimal steps ++ (codes "\n" ++ (calls_line job entries ++ (coarse_line entries
+    ++ (silent_line job entries ++ clocks_text job.policy.skew names entries late)))))
 
 -- the lines for what was found
 abbrev pub IsReport : Job → List (List ℕ) → List LogEntry → Finding → List ℕ → Type 0
 IsReport job names entries (One steps late) text = text ≡ one_text job names entries steps late
 IsReport job names entries (Double first second) text = text ≡ double_text names entries first second
-IsReport job names entries (Other index wanted held) text = IsOtherOf names entries index wanted held (slice_get entries index) text
+IsReport job names entries (Other index wanted held cause) text = IsOtherOf names entries index wanted held cause (slice_get entries index) text
 
--- these lines, and a hint if there is one
-abbrev pub IsHintedReport : Job → List (List ℕ) → List LogEntry → Finding → Option Hint → List ℕ → Type 0
-IsHintedReport job names entries finding hint text =
-    (lines : List ℕ) × IsReport job names entries finding lines × (text ≡ lines ++ hint_text names entries hint)
+-- these lines, hints if there are any, and the later wrong replies if there are any
+abbrev pub IsWholeReport : Job → List (List ℕ) → List LogEntry → Finding → Option Hint → List WrongReply → List ℕ → Type 0
+IsWholeReport job names entries finding hint later text =
+    (lines : List ℕ) × IsReport job names entries finding lines × (text ≡ lines ++ (hint_text names entries hint
+    ++ (start_text (unstarted entries finding) ++ later_text names entries later)))

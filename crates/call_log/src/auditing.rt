@@ -1,10 +1,11 @@
 //! Audits of logs: the bytes of files in, the lines of a report out.
 
-ghost use Rattle.std.specs.Prelude.{◌≡◌, IfErr, IfOk, map, string_bytes};
+ghost use Rattle.std.specs.Prelude.{◌≡◌, IfErr, IfOk, map};
 ghost use Rattle.call_log.specs.Audited.{is_one, is_timely};
 ghost use Rattle.call_log.specs.Audits.{IsAudited};
 ghost use Rattle.call_log.specs.Files.{IsUnread, lines_from};
 
+use crate::comparing::later_wrong_replies;
 use crate::entry::LinePosition;
 use crate::finding::Finding;
 use crate::hint::hint_for;
@@ -42,15 +43,17 @@ fn is_timely(finding: &Finding) -> bool
 
 /// Reads the log in the files, and judges its calls in the order of their tickets.
 ///
-/// `names` are the names of the files. Errors are those of [`read_log`].
+/// `names` are the names of the files. With `all`, the report tells later wrong replies too,
+/// up to [`crate::MOST_WRONG_REPLIES`] in all. Errors are those of [`read_log`].
 pub fn audit_logs<P: Progress>(
     alloc: Global,
     names: &[&str],
     files: &[&[u8]],
+    all: bool,
     progress: &mut P,
 ) -> Result<LogReport, LogError>
     ensures ok { IfOk result (λ report.
-        IsAudited (map (λ n. n.now) names.now) (map (λ f. f.now) files.now) report.is_one report.is_timely (string_bytes report.text) report.torn.items) }
+        IsAudited (map (λ n. n.now) names.now) (map (λ f. f.now) files.now) all report) }
     ensures err { IfErr result (IsUnread (lines_from 0 (map (λ f. f.now) files.now))) }
 {
     let mut log = read_log(alloc, files, progress)?;
@@ -58,7 +61,8 @@ pub fn audit_logs<P: Progress>(
     let entries = log.entries.as_slice();
     let named = NamedEntries { names, entries };
     let hint = hint_for(alloc, log.job, entries, &finding)?;
-    let text = report_of(alloc, log.job, named, &finding, hint)?;
+    let later = later_wrong_replies(alloc, log.job, entries, all, &finding)?;
+    let text = report_of(alloc, log.job, named, &finding, hint, later.as_slice())?;
     Ok(LogReport {
         is_one: is_one(&finding),
         is_timely: is_timely(&finding),

@@ -1,5 +1,6 @@
 //! What an audit finds.
 
+use crate::cause::Cause;
 use crate::late::Late;
 use crate::told::CallerReply;
 use slicelet::HeldLease;
@@ -37,5 +38,8 @@ pub enum Finding {
         /// The leases of the task that the call asks for a key; `None` for other calls, or if the
         /// job has no such task.
         held: Option<HeldLeases>,
+        /// Why nothing sent before what the call delivers; `None` if it is not refused for that, or
+        /// if it delivers a handle and the log does not say which handles on its key were given.
+        cause: Option<Cause>,
     },
 }

@@ -1,17 +1,21 @@
 //! What a log may lack where its calls are not one run.
 
 ghost use Rattle.std.specs.Prelude.{◌≡◌, ◌<◌, ◌≤◌, if◌then◌else◌, max, Some, IfOk, IfSome, length};
-ghost use Rattle.call_log.specs.Hints.{IsHintOf, IsHinted, IsJudgedSo, IsTried, begun_life, greatest_life, is_start, last_start, open_entry, task_of, with_open};
+ghost use Rattle.call_log.specs.Hints.{IsHintOf, IsHinted, IsJudgedSo, IsTried, begun_life, greatest_life, is_down, is_start, last_start, open_entry, task_of};
+ghost use Rattle.call_log.specs.Hints.{unstarted, with_open};
 ghost use Rattle.call_log.specs.internals.Opening.{IsEntryAt};
 
 use crate::entry::{LinePosition, LogEntry};
 use crate::finding::Finding;
 use crate::line::{LoggedCall, LoggedLine, Words};
 use crate::playing::answer;
+use crate::told::CallerReply;
 use cluster::{Cluster, ClusterCall, Job};
+use lease_rule::{Ground, Verdict};
 use lease_table::TableCall;
-use slicelet::SliceletCall;
+use slicelet::{SliceletCall, SliceletError};
 use std::alloc::{AllocError, Global};
+use world::{Refusal, Reply};
 
 /// An `open` line that a log may lack: a process of the task began there.
 #[derive(Clone, Copy, Debug, PartialEq, Eq)]
@@ -260,4 +264,36 @@ pub fn hint_for(
         return Ok(None);
     };
     hint_of(alloc, job, &entries[..*index + 1], task, *index)
+}
+
+// Whether the right reply is that the task was not started.
+fn is_down(wanted: &CallerReply) -> bool
+    ensures { result ≡ is_down wanted.now }
+{
+    let CallerReply::Scripted(reply) = wanted else {
+        return false;
+    };
+    match reply {
+        Reply::Verdict(verdict) => matches!(verdict, Verdict::Deny(Ground::Down)),
+        Reply::Refused(refusal) => {
+            matches!(refusal, Refusal::Slicelet(SliceletError::NotStarted))
+        }
+        _ => false,
+    }
+}
+
+/// Returns the task whose start the log may lack: that of the finding's call, if the right reply is
+/// that the task was not started.
+pub fn unstarted(entries: &[LogEntry], finding: &Finding) -> Option<u64>
+    ensures { result ≡ unstarted entries.now finding.now }
+{
+    let Finding::Other { index, wanted, .. } = finding else {
+        return None;
+    };
+    let entry = entries.get(*index)?;
+    if is_down(wanted) {
+        task_of(&entry.line.call)
+    } else {
+        None
+    }
 }

@@ -65,7 +65,7 @@ pub fn parted<'a>(alloc: Global, lines: &[LineBytes<'a>]) -> Result<PartedLines<
         (map shown parts.jobs.items) (map shown parts.others.items)) }
 {
     let mut jobs = Vec::new(alloc);
-    let mut others = Vec::new(alloc);
+    let mut others = Vec::with_capacity(alloc, lines.len())?;
     let mut before = None;
     for line in lines {
         if is_job_line(alloc, before, line)? {

@@ -6,6 +6,7 @@ ghost use Rattle.std.specs.List.Sorted.{IsPermutation, IsNonDecreasingBy, IsStab
 ghost use Rattle.cluster.specs.Jobs.{Job};
 ghost use Rattle.call_log.specs.Audited.{IsDouble, IsFound, IsReplayed, TicketsRise};
 
+use crate::causes::cause_of;
 use crate::entry::LogEntry;
 use crate::finding::Finding;
 use crate::late::late_reading;
@@ -55,10 +56,12 @@ fn replay<P: Progress>(
         if let Some(wanted) = other {
             cluster.run_law();
             let held = held_by_asked(&cluster, &entry.line.call);
+            let cause = cause_of(alloc, &cluster, entries, index, &entry.line.call, &wanted)?;
             return Ok(Finding::Other {
                 index,
                 wanted,
                 held,
+                cause,
             });
         }
         progress.calls_judged(index as u64 + 1);

@@ -31,7 +31,7 @@ fn calls_of<P: Progress>(
     ensures ok { IfOk result (λ calls. AreSaid (map shown lines.now) calls.entries.items calls.torn.items) }
     ensures err { IfErr result (IsNotRead (map shown lines.now)) }
 {
-    let mut entries = Vec::new(alloc);
+    let mut entries = Vec::with_capacity(alloc, lines.len())?;
     let mut torn = Vec::new(alloc);
     for line in lines {
         let place = line.place;
@@ -52,13 +52,13 @@ fn calls_of<P: Progress>(
     Ok(Calls { entries, torn })
 }
 
-// Returns the lines that are not blank. Fails at the first that is too long.
-fn counted<'a>(alloc: Global, lines: &[LineBytes<'a>]) -> Result<Vec<LineBytes<'a>>, LogError>
+/// Returns the lines that are not blank. Fails at the first that is too long.
+pub fn counted<'a>(alloc: Global, lines: &[LineBytes<'a>]) -> Result<Vec<LineBytes<'a>>, LogError>
     ensures ok { IfOk result (λ those.
         (map shown those.items ≡ counted (map shown lines.now)) × AreShort (map shown lines.now)) }
     ensures err { IfErr result (IsNotCounted (map shown lines.now)) }
 {
-    let mut those = Vec::new(alloc);
+    let mut those = Vec::with_capacity(alloc, lines.len())?;
     for line in lines {
         if is_long(line.bytes) {
             return Err(LogError::LongLine(line.place));
@@ -87,13 +87,16 @@ pub fn read_log<P: Progress>(
     ensures ok { IfOk result (IsLog (lines_from 0 (map (λ f. f.now) files.now))) }
     ensures err { IfErr result (IsUnread (lines_from 0 (map (λ f. f.now) files.now))) }
 {
-    let lines = lines_of(alloc, files)?;
-    let lines = counted(alloc, lines.as_slice())?;
+    let all = lines_of(alloc, files)?;
+    let lines = counted(alloc, all.as_slice())?;
+    drop(all);
     let [first, ..] = lines.as_slice() else {
         return Err(LogError::Empty);
     };
+    let first = *first;
     let parts = parted(alloc, lines.as_slice())?;
-    let job = job_of(alloc, parts.jobs.as_slice(), first)?;
+    drop(lines);
+    let job = job_of(alloc, parts.jobs.as_slice(), &first)?;
     let Calls { entries, torn } = calls_of(alloc, parts.others.as_slice(), progress)?;
     Ok(Log { job, entries, torn })
 }

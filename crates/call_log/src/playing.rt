@@ -6,7 +6,7 @@ ghost use Rattle.cluster.specs.Jobs.{Job};
 ghost use Rattle.cluster.specs.Pasts.{Past, event};
 ghost use Rattle.cluster.specs.Clusters.{LeadsTo};
 ghost use Rattle.call_log.specs.declared.line.LoggedCall.TheVariants.{Restore};
-ghost use Rattle.call_log.specs.Calls.{asked_task, call_after, held_by_asked, reading_in, whole_grant};
+ghost use Rattle.call_log.specs.Calls.{asked_task, call_after, held_by_asked, reading_in, whole_grant, with_ranges};
 ghost use Rattle.call_log.specs.Restores.{grant_to_nobody};
 ghost use Rattle.call_log.specs.internals.Answers.{HasGranted, IsAnswered, IsMade, IsPlayed};
 
@@ -36,16 +36,11 @@ impl LoggedCall {
     }
 }
 
-// Returns the grant with the ranges that the table sent with its number.
-fn whole_grant(alloc: Global, cluster: &Cluster, grant: &BareGrant) -> Result<Grant, AllocError>
-    ensures { (job : Job) (past : Past) → LeadsTo job past cluster.now
-        → IfOk result (λ whole. whole ≡ whole_grant past grant.now) }
+/// Returns a grant with these ranges.
+pub fn with_ranges(grant: BareGrant, ranges: Ranges) -> Grant
+    ensures { result ≡ with_ranges grant ranges }
 {
-    let ranges = match cluster.grant(grant.number) {
-        Some(sent) => sent.lease.ranges.copy()?,
-        None => Ranges::empty(alloc),
-    };
-    Ok(Grant {
+    Grant {
         number: grant.number,
         task: grant.task,
         life: grant.life,
@@ -56,7 +51,19 @@ fn whole_grant(alloc: Global, cluster: &Cluster, grant: &BareGrant) -> Result<Gr
             ends: grant.ends,
         },
         table_ends: grant.table_ends,
-    })
+    }
+}
+
+// Returns the grant with the ranges that the table sent with its number.
+fn whole_grant(alloc: Global, cluster: &Cluster, grant: &BareGrant) -> Result<Grant, AllocError>
+    ensures { (job : Job) (past : Past) → LeadsTo job past cluster.now
+        → IfOk result (λ whole. whole ≡ whole_grant past grant.now) }
+{
+    let ranges = match cluster.grant(grant.number) {
+        Some(sent) => sent.lease.ranges.copy()?,
+        None => Ranges::empty(alloc),
+    };
+    Ok(with_ranges(*grant, ranges))
 }
 
 // Plays a logged call, and returns the machines' reply.

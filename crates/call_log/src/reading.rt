@@ -6,6 +6,7 @@ ghost use Rattle.wire.specs.Refusals.{Gives};
 ghost use Rattle.call_log.specs.declared.reading.NoLine.TheVariants as none;
 ghost use Rattle.call_log.specs.Lines.{IsNoLine, SaysLine, call_in, line_of};
 
+use crate::extensions::without_extensions;
 use crate::line::{LoggedCall, LoggedLine, Words};
 use crate::mend::call_mend;
 use crate::message_calls::{clerk_line_named, table_line_named, task_line_named};
@@ -73,13 +74,13 @@ pub fn line_of(alloc: Global, line: &Value) -> Result<LoggedLine, DecodeError>
     })
 }
 
-/// Parses the bytes of a line.
+/// Parses the bytes of a line, and passes over its members whose names begin with `_`.
 pub fn line_said(alloc: Global, bytes: &[u8]) -> Result<LoggedLine, NoLine>
     ensures ok { IfOk result (SaysLine bytes.now) }
     ensures err { IfErr result (IsNoLine bytes.now) }
 {
     let value = match strict_value_of(alloc, bytes) {
-        Ok(value) => value,
+        Ok(value) => without_extensions(value),
         Err(JsonError::Memory) => return Err(NoLine::Memory),
         Err(JsonError::NotJson(error)) => {
             let words = line_mend(alloc, &error)?;

@@ -1,12 +1,17 @@
 //! The report of an audit.
 
 ghost use Rattle.std.specs.Prelude.{◌≡◌, IfOk, Some, map, slice_get, string_bytes};
-ghost use Rattle.call_log.specs.Reports.{IsHintedReport, IsOtherOf, IsReport, clocks_text, double_text, ended_text, hint_text, name_text, one_text, reason_text, standing_at, ticket_of, told_text};
+ghost use Rattle.call_log.specs.Reports.{IsOtherOf, IsReport, IsWholeReport, cause_text, clocks_text, cut_text, double_text, ended_reason, ended_text, wrong_text};
+ghost use Rattle.call_log.specs.Reports.{held_reason, hint_text, later_text, lease_text, name_text, one_text, reason_text, standing_at, start_text, ticket_of, told_text};
 
 use crate::callers::{calls_line, silent_line};
+use crate::cause::Cause;
+use crate::cause_text::CauseText;
+use crate::coarse::coarse_line;
+use crate::comparing::{MOST_WRONG_REPLIES, WrongReply};
 use crate::entry::LogEntry;
 use crate::finding::{Finding, HeldLeases};
-use crate::hint::Hint;
+use crate::hint::{Hint, unstarted};
 use crate::late::Late;
 use crate::told::{CallerReply, PlainLine};
 use cluster::{Job, Reading};
@@ -38,9 +43,11 @@ fn name_of<'a>(names: &'a [&'a str], file: usize) -> &'a str
 
 /// Displays the position of an entry: the name of its file, a colon and the number of its line.
 #[derive(Clone, Copy)]
-struct Standing<'a> {
-    log: NamedEntries<'a>,
-    index: usize,
+pub struct Standing<'a> {
+    /// The log.
+    pub log: NamedEntries<'a>,
+    /// The index of the entry.
+    pub index: usize,
 }
 
 impl fmt::Display for Standing<'_> {
@@ -81,7 +88,83 @@ impl fmt::Display for EndedText {
     }
 }
 
-/// Displays why a key should have been denied, if its leases have ended.
+/// Displays a held lease, and when it ends or has ended.
+#[derive(Clone, Copy)]
+struct LeaseText {
+    word: &'static str,
+    lease: Option<HeldLease>,
+    at: u64,
+}
+
+impl fmt::Display for LeaseText {
+    ghost output = { λ l. Some (lease_text l.word.now l.lease l.at) };
+
+    fn fmt<W: fmt::Write>(&self, f: &mut fmt::Formatter<W>) -> fmt::Result {
+        let Some(lease) = self.lease else {
+            return Ok(());
+        };
+        let has_ended = lease.ends <= self.at;
+        let until = if has_ended { "ended at" } else { "until" };
+        write!(f, "{} {} {until} {}, ", self.word, lease.number, lease.ends)
+    }
+}
+
+/// Displays leases that cover a key and have ended at a reading.
+#[derive(Clone, Copy)]
+struct EndedReason {
+    held: HeldLeases,
+    at: u64,
+}
+
+impl fmt::Display for EndedReason {
+    ghost output = { λ r. Some (ended_reason r.at r.held) };
+
+    fn fmt<W: fmt::Write>(&self, f: &mut fmt::Formatter<W>) -> fmt::Result {
+        let at = self.at;
+        let guard = EndedText {
+            word: "guard",
+            lease: self.held.guard,
+            at,
+        };
+        let bridge = EndedText {
+            word: "bridge",
+            lease: self.held.bridge,
+            at,
+        };
+        write!(f, ": {guard}{bridge}read at {at}")
+    }
+}
+
+/// Displays the leases of a task of which none covers a key, if it holds any.
+#[derive(Clone, Copy)]
+struct HeldReason {
+    held: HeldLeases,
+    at: u64,
+}
+
+impl fmt::Display for HeldReason {
+    ghost output = { λ r. Some (held_reason r.at r.held) };
+
+    fn fmt<W: fmt::Write>(&self, f: &mut fmt::Formatter<W>) -> fmt::Result {
+        if self.held.guard.is_none() && self.held.bridge.is_none() {
+            return Ok(());
+        }
+        let at = self.at;
+        let guard = LeaseText {
+            word: "guard",
+            lease: self.held.guard,
+            at,
+        };
+        let bridge = LeaseText {
+            word: "bridge",
+            lease: self.held.bridge,
+            at,
+        };
+        write!(f, ": {guard}{bridge}read at {at}")
+    }
+}
+
+/// Displays why a key should have been denied, by the leases of the task.
 #[derive(Clone, Copy)]
 struct Reason<'a> {
     wanted: &'a CallerReply,
@@ -93,7 +176,7 @@ impl fmt::Display for Reason<'_> {
     ghost output = { λ r. Some (reason_text r.wanted.now r.reading r.held) };
 
     fn fmt<W: fmt::Write>(&self, f: &mut fmt::Formatter<W>) -> fmt::Result {
-        let CallerReply::Scripted(Reply::Verdict(Verdict::Deny(Ground::Ended))) = self.wanted else {
+        let CallerReply::Scripted(Reply::Verdict(Verdict::Deny(ground))) = self.wanted else {
             return Ok(());
         };
         let Reading::TaskClock(at) = self.reading else {
@@ -102,17 +185,11 @@ impl fmt::Display for Reason<'_> {
         let Some(held) = self.held else {
             return Ok(());
         };
-        let guard = EndedText {
-            word: "guard",
-            lease: held.guard,
-            at,
-        };
-        let bridge = EndedText {
-            word: "bridge",
-            lease: held.bridge,
-            at,
-        };
-        write!(f, ": {guard}{bridge}read at {at}")
+        match ground {
+            Ground::Ended => write!(f, "{}", EndedReason { held, at }),
+            Ground::NotOwned { .. } | Ground::NoLease => write!(f, "{}", HeldReason { held, at }),
+            Ground::Down | Ground::ClockBack => Ok(()),
+        }
     }
 }
 
@@ -144,8 +221,8 @@ fn clocks_text(
     )
 }
 
-// Returns the ticket of an entry, 0 if there is none.
-fn ticket_at(entries: &[LogEntry], index: usize) -> u64
+/// Returns the ticket of an entry, 0 if there is none.
+pub fn ticket_at(entries: &[LogEntry], index: usize) -> u64
     ensures { result ≡ ticket_of (slice_get entries.now index) }
 {
     match entries.get(index) {
@@ -177,14 +254,16 @@ fn told_text(
     standing: Standing,
     told: &str,
     reason: Reason,
+    cause: CauseText,
 ) -> Result<String, AllocError>
     ensures { IfOk result (λ text. string_bytes text ≡ told_text
         (standing_at (map (λ n. n.now) standing.entry.log.names.now) standing.entry.log.entries.now standing.entry.index)
-        told.now reason.entry.wanted.now reason.entry.reading reason.entry.held) }
+        told.now reason.entry.wanted.now reason.entry.reading reason.entry.held
+        (cause_text (map (λ n. n.now) cause.entry.log.names.now) cause.entry.log.entries.now cause.entry.cause)) }
 {
     let told = Escaped(told);
     let words = PlainLine(reason.wanted);
-    format!(in alloc; "{standing}: told \"{told}\"; should be \"{words}\"{reason}\n")
+    format!(in alloc; "{standing}: told \"{told}\"; should be \"{words}\"{reason}{cause}\n")
 }
 
 // Returns the line for a call whose caller got a wrong reply.
@@ -194,9 +273,10 @@ fn other_text(
     index: usize,
     wanted: &CallerReply,
     held: Option<HeldLeases>,
+    cause: Option<Cause>,
 ) -> Result<String, AllocError>
     ensures { IfOk result (λ text.
-        IsOtherOf (map (λ n. n.now) log.entry.names.now) log.entry.entries.now index wanted.now held
+        IsOtherOf (map (λ n. n.now) log.entry.names.now) log.entry.entries.now index wanted.now held cause
         (slice_get log.entry.entries.now index) (string_bytes text)) }
 {
     let Some(entry) = log.entries.get(index) else {
@@ -208,7 +288,56 @@ fn other_text(
         reading: entry.line.call.reading(),
         held,
     };
-    told_text(alloc, Standing { log, index }, told, reason)
+    let cause = CauseText { log, cause };
+    told_text(alloc, Standing { log, index }, told, reason, cause)
+}
+
+// Returns the line for a later call whose caller got a wrong reply.
+fn wrong_text(alloc: Global, log: NamedEntries, wrong: &WrongReply) -> Result<String, AllocError>
+    ensures { IfOk result (λ text. string_bytes text
+        ≡ wrong_text (map (λ n. n.now) log.entry.names.now) log.entry.entries.now wrong.now) }
+{
+    let Some(entry) = log.entries.get(wrong.index) else {
+        return Ok(String::new(alloc));
+    };
+    let reason = Reason {
+        wanted: &wrong.wanted,
+        reading: entry.line.call.reading(),
+        held: wrong.held,
+    };
+    let index = wrong.index;
+    told_text(
+        alloc,
+        Standing { log, index },
+        entry.line.reply.as_str(),
+        reason,
+        CauseText { log, cause: None },
+    )
+}
+
+// Returns the line that says that the calls after a last wrong reply were not judged, or nothing.
+fn cut_text(count: usize) -> &'static str
+    ensures { result.now ≡ cut_text count }
+{
+    if count == MOST_WRONG_REPLIES - 1 {
+        "the calls after this one were not judged\n"
+    } else {
+        ""
+    }
+}
+
+// Returns the lines for the wrong replies after the first one.
+fn later_text(alloc: Global, log: NamedEntries, later: &[WrongReply]) -> Result<String, AllocError>
+    ensures { IfOk result (λ text. string_bytes text
+        ≡ later_text (map (λ n. n.now) log.entry.names.now) log.entry.entries.now later.now) }
+{
+    let mut text = String::new(alloc);
+    for wrong in later {
+        let line = wrong_text(alloc, log, wrong)?;
+        text.push_str(line.as_str())?;
+    }
+    text.push_str(cut_text(later.len()))?;
+    Ok(text)
 }
 
 // Returns the line for an `open` that the log may lack, or nothing.
@@ -230,6 +359,18 @@ fn hint_text(alloc: Global, log: NamedEntries, hint: Option<Hint>) -> Result<Str
     )
 }
 
+// Returns the line for a start that the log may lack, or nothing.
+fn start_text(alloc: Global, task: Option<u64>) -> Result<String, AllocError>
+    ensures { IfOk result (λ text. string_bytes text ≡ start_text task) }
+{
+    match task {
+        Some(task) => {
+            format!(in alloc; "hint: a start line of task {task} may be missing before this call\n")
+        }
+        None => Ok(String::new(alloc)),
+    }
+}
+
 // The numbers of a report on calls that are one run.
 #[derive(Clone, Copy)]
 struct Run {
@@ -244,9 +385,10 @@ fn one_text(alloc: Global, job: Job, log: NamedEntries, run: Run) -> Result<Stri
 {
     let steps = run.steps;
     let calls = calls_line(alloc, job, log.entries)?;
+    let coarse = coarse_line(alloc, log.entries)?;
     let silent = silent_line(alloc, job, log.entries)?;
     let clocks = clocks_text(alloc, job.policy().skew(), log, run.late)?;
-    format!(in alloc; "audit one\nsteps {steps}\n{calls}{silent}{clocks}")
+    format!(in alloc; "audit one\nsteps {steps}\n{calls}{coarse}{silent}{clocks}")
 }
 
 // Returns the lines for what an audit found.
@@ -272,23 +414,27 @@ fn finding_text(
             index,
             wanted,
             held,
-        } => other_text(alloc, log, *index, wanted, *held),
+            cause,
+        } => other_text(alloc, log, *index, wanted, *held, *cause),
     }
 }
 
 /// Returns the report on what an audit found of calls of the job, with the `open` line that the log
-/// may lack.
+/// may lack, and the wrong replies after the first one that are told.
 pub fn report_of(
     alloc: Global,
     job: Job,
     log: NamedEntries,
     finding: &Finding,
     hint: Option<Hint>,
+    later: &[WrongReply],
 ) -> Result<String, AllocError>
     ensures { IfOk result (λ text.
-        IsHintedReport job (map (λ n. n.now) log.entry.names.now) log.entry.entries.now finding.now hint (string_bytes text)) }
+        IsWholeReport job (map (λ n. n.now) log.entry.names.now) log.entry.entries.now finding.now hint later.now (string_bytes text)) }
 {
     let lines = finding_text(alloc, job, log, finding)?;
     let line = hint_text(alloc, log, hint)?;
-    format!(in alloc; "{lines}{line}")
+    let start = start_text(alloc, unstarted(log.entries, finding))?;
+    let more = later_text(alloc, log, later)?;
+    format!(in alloc; "{lines}{line}{start}{more}")
 }

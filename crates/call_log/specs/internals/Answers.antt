@@ -6,9 +6,12 @@ use Rattle.cluster.specs.declared.cluster.Cluster.{Cluster}
 use Rattle.cluster.specs.Pasts.{Past}
 use Rattle.cluster.specs.Clusters.{LeadsTo}
 use Rattle.call_log.specs.declared.told.CallerReply.{CallerReply}
+use Rattle.call_log.specs.declared.entry.LogEntry.{LogEntry}
+use Rattle.call_log.specs.declared.comparing.WrongReply.{WrongReply}
 use Rattle.call_log.specs.declared.line.LoggedCall.{LoggedCall}
 use Rattle.call_log.specs.declared.line.LoggedLine.{LoggedLine}
 use Rattle.call_log.specs.Audited.{IsCalled, StandsFor}
+use Rattle.call_log.specs.WrongReplies.{IsWrongReply}
 use Rattle.call_log.specs.Restores.{grant_to_nobody}
 use Rattle.call_log.specs.Told.{is_worded}
 
@@ -41,3 +44,14 @@ pub record IsAnswered (job : Job) (past : Past) (line : LoggedLine) (other : Opt
   pub told : CallerReply
   pub played : IsPlayed job past line.call told cluster
   pub compared : Compares line told other
+
+-- the caller of an entry's call was told the right words, or this is the wrong reply
+abbrev pub IsWrongReplyOf : Job → LogEntry → ℕ → CallerReply → Past → Option WrongReply → Type 0
+IsWrongReplyOf job entry index told after None = is_worded entry.line.reply told ≡ true
+IsWrongReplyOf job entry index told after (Some wrong) = (wrong.index ≡ index) × IsWrongReply job entry told after wrong
+
+-- an entry was played, and what its caller is told was compared with its words
+pub record FindsWrongReply (job : Job) (past : Past) (entry : LogEntry) (index : ℕ) (wrong : Option WrongReply) (cluster : Cluster) : Type 0 where
+  pub told : CallerReply
+  pub played : IsPlayed job past entry.line.call told cluster
+  pub found : IsWrongReplyOf job entry index told played.after wrong

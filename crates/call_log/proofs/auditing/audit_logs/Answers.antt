@@ -11,9 +11,11 @@ returns-clause-ok g c = record {
   stable = c.audit_calls.ensures.stable;
   finding = c.in_ok-finding.finding;
   found = c.in_ok-finding.ensures.found;
-  told = c.is_one.ensures;
-  clocks = c.is_timely.ensures;
+  one = c.is_one.ensures;
+  timely = c.is_timely.ensures;
   hint = c.in_ok-hint.hint;
   hinted = rw (← c.as_slice-entries.ensures.value) c.in_ok-hint.ensures;
-  report = rw (← c.as_slice-entries.ensures.value) c.in_ok-text.ensures;
+  later = c.in_ok-later.later.items;
+  more = rw (← c.as_slice-entries.ensures.value) c.in_ok-later.ensures;
+  told = rw (← c.as_slice-entries.ensures.value, ← c.as_slice.ensures.value) c.in_ok-text.ensures;
 }

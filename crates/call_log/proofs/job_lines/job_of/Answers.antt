@@ -1,4 +1,4 @@
-use Rattle.std.proofs.Common.{rules, ◌<◌, ◌≡◌, length, refl, sym, subst, arith}
+use Rattle.std.proofs.Common.{rules, ◌<◌, ◌≡◌, length, refl, arith}
 use Rattle.std.proofs.lemmas.Result.{err_from_is_err_and}
 use Rattle.call_log.specs.internals.Shown.{shown}
 use Rattle.call_log.proofs.Parting.{no_job_here, one_job, other_job_here, same_more}

@@ -3,7 +3,7 @@ use Rattle.std.proofs.lemmas.List.{take_all}
 use Rattle.call_log.specs.declared.entry.LogEntry.{LogEntry}
 use Rattle.lease_table.specs.Policies.{Terms}
 use Rattle.call_log.specs.Late.{AreWatched}
-use Rattle.call_log.proofs.Replaying.{IsPlayedTo, played_more, breaks_here, one_run}
+use Rattle.call_log.proofs.Replaying.{IsPlayedTo, caused_here, one_run, played_more}
 use Rattle.call_log.proofs.judging.replay.Goals as goal
 
 pub loop-index-init : goal.loop-index-init
@@ -13,8 +13,10 @@ pub returns-in-Some : goal.returns-in-Some
 returns-in-Some g c =
     let known = c.loop-index.invariant in
     let answered = rw c.in-Some.is at (c.in_ok-other.ensures c.args.job known.past known.leads) in
-    breaks_here c.args.entries.now c.loop-index.index c.index-entries-index.result c.loop-index-test.true c.index-entries-index.is
-    c.args.job known.past c.answer.new.cluster c.in-Some.wanted c.held_by_asked-held.result known.told answered (c.run_law.ensures.run c.args.job _ answered.played.leads) (c.held_by_asked-held.ensures c.args.job _ answered.played.leads)
+    caused_here c.args.entries.now c.loop-index.index c.index-entries-index.result c.loop-index-test.true c.index-entries-index.is
+    c.args.job known.past c.answer.new.cluster c.in-Some.wanted c.held_by_asked-held.result c.in_ok-cause.cause known.told answered
+    (c.run_law.ensures.run c.args.job _ answered.played.leads) (c.held_by_asked-held.ensures c.args.job _ answered.played.leads)
+    (c.in_ok-cause.ensures c.args.job _ answered.played.leads)
 
 pub loop-index-preserved : goal.loop-index-preserved
 loop-index-preserved g c =

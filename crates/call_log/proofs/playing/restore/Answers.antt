@@ -1,10 +1,7 @@
-use Rattle.std.proofs.Common.{◌≡◌, ◌∙◌, ℕ, ◌+◌, ◌-◌, ap, arith, inl, inr}
-use Rattle.std.specs.Prelude.{Option, Some, None}
-use Rattle.lease_table.specs.declared.kept.Kept.{Kept}
-use Rattle.lease_table.specs.KeptValues.{kept_of, Covers}
+use Rattle.std.proofs.Common.{◌≡◌, ◌∙◌, ℕ, ◌+◌, ◌-◌, ap}
+use Rattle.std.specs.Prelude.{None}
+use Rattle.lease_table.specs.KeptValues.{kept_of}
 use Rattle.cluster.specs.Pasts.{standing}
-use Rattle.call_log.specs.declared.restored.RestoreFault.{RestoreFault}
-use Rattle.call_log.specs.declared.told.CallerReply.{CallerReply}
 use Rattle.call_log.specs.declared.told.CallerReply.TheVariants.{NotRestored, Restored}
 use Rattle.call_log.specs.Restores.{IsChecked}
 use Rattle.call_log.proofs.Restoring.{not_restored, restored, not_fewer}

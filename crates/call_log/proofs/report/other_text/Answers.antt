@@ -9,5 +9,5 @@ pub returns : goal.returns
 returns c =
     let entries = c.args.log.entries.now in
     let here = at_place entries c.args.index c.in-Some.entry.now c.in-Some.ensures.lookup.3.0 c.in-Some.ensures.lookup.1 in
-    other_told string_bytes c.told_text.result (map (λ (n : Bor (List ℕ)). n.now) c.args.log.names.now) entries c.args.index c.args.wanted.now c.args.held (slice_get entries c.args.index)
+    other_told string_bytes c.told_text.result (map (λ (n : Bor (List ℕ)). n.now) c.args.log.names.now) entries c.args.index c.args.wanted.now c.args.held c.args.cause (slice_get entries c.args.index)
     c.in-Some.entry.now c.as_str-told.result.now c.reading.result here c.as_str-told.ensures c.reading.ensures c.told_text.ensures

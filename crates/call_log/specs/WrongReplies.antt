@@ -1,0 +1,43 @@
+-- The calls of a log whose callers got a wrong reply, where the machines make all of its calls.
+use Rattle.std.specs.Prelude.{◌≡◌, ◌⊎◌, ℕ, Bool, true, false, List, [], ◌∷◌, length, reverse, take, drop}
+use Rattle.cluster.specs.Jobs.{Job}
+use Rattle.cluster.specs.Pasts.{Past}
+use Rattle.cluster.specs.Runs.{IsRun}
+use Rattle.call_log.specs.declared.entry.LogEntry.{LogEntry}
+use Rattle.call_log.specs.declared.comparing.WrongReply.{WrongReply}
+use Rattle.call_log.specs.declared.comparing.TheConstants.{MOST_WRONG_REPLIES}
+use Rattle.call_log.specs.declared.finding.Finding.{Finding}
+use Rattle.call_log.specs.declared.finding.Finding.TheVariants.{Other}
+use Rattle.call_log.specs.declared.told.CallerReply.{CallerReply}
+use Rattle.call_log.specs.Audited.{StandsFor}
+use Rattle.call_log.specs.Calls.{held_by_asked}
+use Rattle.call_log.specs.Told.{is_worded}
+
+-- the caller of an entry's call should have been told this and was told something else, and these are the leases of the task that it asked
+pub record IsWrongReply (job : Job) (entry : LogEntry) (told : CallerReply) (after : Past) (wrong : WrongReply) : Type 0 where
+  pub wanted : wrong.wanted ≡ told
+  pub other : is_worded entry.line.reply told ≡ false
+  pub leases : wrong.held ≡ held_by_asked job after entry.line.call
+
+-- the calls of a past are those that these entries stand for, and these are the wrong replies to them, each with the place of its entry; all
+-- are newest first
+abbrev pub AreWrongReplies : Job → List LogEntry → Past → List WrongReply → Type 0
+AreWrongReplies job [] past replies = (past ≡ []) × (replies ≡ [])
+AreWrongReplies job (entry ∷ entries) past replies =
+    (before : Past) × (told : CallerReply) × StandsFor job before entry.line.call told past
+    × (((is_worded entry.line.reply told ≡ true) × AreWrongReplies job entries before replies)
+    ⊎ ((wrong : WrongReply) × (earlier : List WrongReply) × (replies ≡ wrong ∷ earlier) × (wrong.index ≡ length entries)
+    × IsWrongReply job entry told past wrong × AreWrongReplies job entries before earlier))
+
+-- the wrong replies to entries, or the first of them: as many as are told at most
+pub record AreFirstWrongReplies (job : Job) (entries : List LogEntry) (replies : List WrongReply) : Type 0 where
+  pub judged : ℕ
+  pub past : Past
+  pub are : AreWrongReplies job (reverse (take judged entries)) past (reverse replies)
+  pub answered : IsRun job past
+  pub enough : (judged ≡ length entries) ⊎ (length replies ≡ MOST_WRONG_REPLIES)
+
+-- the wrong replies that are told after the first one, if all are wanted
+abbrev pub AreLater : Job → List LogEntry → Bool → Finding → List WrongReply → Type 0
+AreLater job entries true (Other index wanted held cause) later = (replies : List WrongReply) × AreFirstWrongReplies job entries replies × (later ≡ drop 1 replies)
+AreLater job entries all finding later = later ≡ []

@@ -1,0 +1,101 @@
+//! The calls of a log whose callers got a wrong reply.
+
+ghost use Rattle.std.specs.Prelude.{◌≡◌, IfOk, drop};
+ghost use Rattle.cluster.specs.Jobs.{Job};
+ghost use Rattle.cluster.specs.Pasts.{Past};
+ghost use Rattle.cluster.specs.Clusters.{LeadsTo};
+ghost use Rattle.call_log.specs.WrongReplies.{AreFirstWrongReplies, AreLater};
+ghost use Rattle.call_log.specs.internals.Answers.{FindsWrongReply};
+
+use crate::entry::LogEntry;
+use crate::finding::{Finding, HeldLeases};
+use crate::playing::{answer, held_by_asked};
+use crate::told::CallerReply;
+use cluster::{Cluster, Job};
+use std::alloc::{AllocError, Global};
+
+/// How many wrong replies of a log are told at most.
+pub const MOST_WRONG_REPLIES: usize = 20;
+
+/// A call whose caller got a wrong reply.
+#[derive(Debug, Drop)]
+pub struct WrongReply {
+    /// The index of its entry, in the order of the tickets.
+    pub index: usize,
+    /// The reply that the caller should have got.
+    pub wanted: CallerReply,
+    /// The leases of the task that the call asks for a key; `None` for other calls, or if the job
+    /// has no such task.
+    pub held: Option<HeldLeases>,
+}
+
+// Plays the entry at this index, and returns what its caller got wrong, if it did.
+fn wrong_reply_at(
+    alloc: Global,
+    cluster: &mut Cluster,
+    entry: &LogEntry,
+    index: usize,
+) -> Result<Option<WrongReply>, AllocError>
+    ensures { (job : Job) (past : Past) → LeadsTo job past cluster.old
+        → IfOk result (λ wrong. FindsWrongReply job past entry.now index wrong cluster.new) }
+{
+    let Some(wanted) = answer(alloc, cluster, &entry.line)? else {
+        return Ok(None);
+    };
+    let held = held_by_asked(cluster, &entry.line.call);
+    Ok(Some(WrongReply {
+        index,
+        wanted,
+        held,
+    }))
+}
+
+/// Returns the calls whose callers got a wrong reply, in the order of the tickets: all of them, or
+/// the first [`MOST_WRONG_REPLIES`].
+///
+/// The machines make each call, also after a wrong reply, and go on with what they answered.
+pub fn wrong_replies(
+    alloc: Global,
+    job: Job,
+    entries: &[LogEntry],
+) -> Result<Vec<WrongReply>, AllocError>
+    ensures { IfOk result (λ replies. AreFirstWrongReplies job entries.now replies.items) }
+{
+    let mut cluster = Cluster::new(alloc, job)?;
+    let mut replies = Vec::new(alloc);
+    for index in 0..entries.len() {
+        let entry = &entries[index];
+        if let Some(wrong) = wrong_reply_at(alloc, &mut cluster, entry, index)? {
+            replies.push(wrong)?;
+            if replies.len() == MOST_WRONG_REPLIES {
+                cluster.run_law();
+                return Ok(replies);
+            }
+        }
+    }
+    cluster.run_law();
+    Ok(replies)
+}
+
+/// Returns the wrong replies that are told after the first one, if all are wanted.
+pub fn later_wrong_replies(
+    alloc: Global,
+    job: Job,
+    entries: &[LogEntry],
+    all: bool,
+    finding: &Finding,
+) -> Result<Vec<WrongReply>, AllocError>
+    ensures { IfOk result (λ later. AreLater job entries.now all finding.now later.items) }
+{
+    if !all {
+        return Ok(Vec::new(alloc));
+    }
+    let Finding::Other { .. } = finding else {
+        return Ok(Vec::new(alloc));
+    };
+    let mut replies = wrong_replies(alloc, job, entries)?;
+    if !replies.is_empty() {
+        drop(replies.remove(0));
+    }
+    Ok(replies)
+}
