@@ -4,3 +4,5 @@ pub mod Lists
 pub mod Tasks
 pub mod Playing
 pub mod Parts
+pub mod Rows
+pub mod Nobody

@@ -3,6 +3,7 @@ use Rattle.std.proofs.Common.{◌≡◌, ◌∙◌, ℕ, suc, ◌+◌, ◌<◌, 
 use Rattle.std.proofs.Common.{length, take, map, get_or, refl, sym, ap, ap₂, subst, arith, append_assoc, append-nil, inl, inr, Result, IfOk, OnOk}
 use Rattle.std.proofs.lemmas.List.{take_more, map-append}
 use Rattle.std.proofs.lemmas.Result.{IfOk-weaker, on_ok_weaker}
+use Rattle.timeline.specs.declared.alarm.Alarm.{Alarm}
 use Rattle.timeline.specs.declared.lane.Actor.{Actor}
 use Rattle.timeline.specs.declared.lane.Lane.{Lane}
 use Rattle.timeline.specs.declared.stretch.Stretch.{Stretch}
@@ -51,22 +52,22 @@ text_more is lanes k lane within lane_is text part new so_far one added =
     (parts_more is (map (λ l. l.actor) (take k lanes)) text lane.actor part so_far one))
 
 -- a part for an actor that is drawn
-pub if_drawn : {T E : Type 0} (bytes : T → List ℕ) (r : Result T E) (is : Actor → List Stretch → List ℕ → Type 0) (tasks : List (List Stretch))
+pub if_drawn : {T E : Type 0} (bytes : T → List ℕ) (r : Result T E) (is : Actor → List Stretch → List ℕ → Type 0) (tasks : List (List Stretch)) (alarms : List Alarm)
     (actor : Actor) (stretches : List Stretch) → stretches ≡ stretches_of tasks actor → IfOk r (λ t. is actor stretches (bytes t))
-    → IfOk r (λ t. IsOrQuiet is tasks actor (bytes t))
-if_drawn bytes r is tasks actor stretches own made =
+    → IfOk r (λ t. IsOrQuiet is tasks alarms actor (bytes t))
+if_drawn bytes r is tasks alarms actor stretches own made =
     IfOk-weaker r _ _ (λ t h. inl (subst (λ (ss : List Stretch). is actor ss (bytes t)) own h)) made
 
-pub on_drawn : {T E : Type 0} (r : Result T E) (old new : List ℕ) (is : Actor → List Stretch → List ℕ → Type 0) (tasks : List (List Stretch))
+pub on_drawn : {T E : Type 0} (r : Result T E) (old new : List ℕ) (is : Actor → List Stretch → List ℕ → Type 0) (tasks : List (List Stretch)) (alarms : List Alarm)
     (actor : Actor) (stretches : List Stretch) → stretches ≡ stretches_of tasks actor → OnOk r (Adds (is actor stretches) old new)
-    → OnOk r (Adds (IsOrQuiet is tasks actor) old new)
-on_drawn r old new is tasks actor stretches own made = on_ok_weaker r (λ a. record {
+    → OnOk r (Adds (IsOrQuiet is tasks alarms actor) old new)
+on_drawn r old new is tasks alarms actor stretches own made = on_ok_weaker r (λ a. record {
   added = a.added;
   is_added = inl (subst (λ (ss : List Stretch). is actor ss a.added) own a.is_added);
   new_is = a.new_is;
 }) made
 
 -- nothing is added for one that is left out
-pub none_added : (old : List ℕ) (is : Actor → List Stretch → List ℕ → Type 0) (tasks : List (List Stretch)) (actor : Actor)
-    → IsQuiet actor (stretches_of tasks actor) → Adds (IsOrQuiet is tasks actor) old old
-none_added old is tasks actor quiet = record { added = []; is_added = inr (quiet, refl); new_is = sym (append-nil old) }
+pub none_added : (old : List ℕ) (is : Actor → List Stretch → List ℕ → Type 0) (tasks : List (List Stretch)) (alarms : List Alarm) (actor : Actor)
+    → IsQuiet alarms actor (stretches_of tasks actor) → Adds (IsOrQuiet is tasks alarms actor) old old
+none_added old is tasks alarms actor quiet = record { added = []; is_added = inr (quiet, refl); new_is = sym (append-nil old) }

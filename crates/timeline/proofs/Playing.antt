@@ -1,6 +1,7 @@
 -- One more step of a script.
-use Rattle.std.proofs.Common.{◌≡◌, false, List, [], ◌∷◌, length, slice_index_or, refl, sym, subst, ap, inl, inr, arith}
-use Rattle.std.specs.Prelude.{Result, Ok, Err}
+use Rattle.std.proofs.Common.{◌≡◌, ◌∙◌, ℕ, ◌+◌, ◌<◌, false, List, [], ◌∷◌, length, get_or, take, slice_index_or, refl, sym, subst, ap, inl, inr, arith}
+use Rattle.std.specs.Prelude.{Result, Ok, Err, reverse}
+use Rattle.std.proofs.lemmas.List.{take_more, reverse-append}
 use Rattle.world.specs.Jobs.{Job}
 use Rattle.world.specs.declared.step.Step.{Step}
 use Rattle.world.specs.declared.reply.Reply.{Reply}
@@ -41,3 +42,10 @@ pub one_step : (job : Job) (past : Past) (steps : List Step) (step : Step) (repl
 one_step job past steps step replies r world one first leads =
     subst (λ (rs : List Reply). LeadsTo job (past_after past (step ∷ []) rs) world) first
     (subst (λ (ss : List Step). LeadsTo job (past_after past ss replies) world) one leads)
+
+-- the steps up to one more, the last one first
+pub one_more : (steps : List Step) (i : ℕ) (step : Step) → i < length steps → step ≡ get_or steps i step
+    → step ∷ reverse (take i steps) ≡ reverse (take (i + 1) steps)
+one_more steps i step inside is =
+    ap (λ (s : Step). s ∷ reverse (take i steps)) is ∙ sym (reverse-append (take i steps) (get_or steps i step ∷ []))
+    ∙ ap (λ (xs : List Step). reverse xs) (sym (take_more steps i step inside))

@@ -1,5 +1,5 @@
 -- The actors of a job, each of which has a lane in a picture.
-use Rattle.std.specs.Prelude.{◌≡◌, ℕ, zero, suc, Bool, List, [], ◌∷◌, ◌++◌, map, codes, decimal, if◌then◌else◌}
+use Rattle.std.specs.Prelude.{◌≡◌, ◌==◌, ℕ, zero, suc, Bool, false, List, [], ◌∷◌, ◌++◌, map, codes, decimal, if◌then◌else◌}
 use Rattle.world.specs.Jobs.{Job}
 use Rattle.timeline.specs.declared.lane.Actor.{Actor}
 use Rattle.timeline.specs.declared.lane.Actor.TheVariants.{Table, Task, Clerk}
@@ -10,6 +10,11 @@ abbrev pub actor_name : Actor → List ℕ
 actor_name Table = codes "table"
 actor_name (Task number) = codes "task " ++ decimal number
 actor_name (Clerk number) = codes "clerk " ++ decimal number
+
+-- an actor is the task with a number
+abbrev pub is_of : Actor → ℕ → Bool
+is_of (Task number) task = number == task
+is_of _ task = false
 
 -- the actors of numbers 1 to n, in order
 abbrev pub numbered : (ℕ → Actor) → ℕ → List Actor

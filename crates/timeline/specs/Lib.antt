@@ -3,5 +3,8 @@ pub mod Tasks
 pub mod Scripts
 pub mod Escapes
 pub mod Actors
+pub mod Grids
+pub mod Levels
+pub mod Alarms
 pub mod Pictures
 pub mod internals

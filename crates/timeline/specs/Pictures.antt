@@ -1,14 +1,20 @@
 -- What a picture of a script has of each actor: its lane, and what is told of it.
-use Rattle.std.specs.Prelude.{◌≡◌, ◌≢◌, ◌⊎◌, ℕ, ◌-◌, ◌==◌, max, Bool, List, [], ◌∷◌, ◌++◌, codes, decimal, Option, MatchOption, unwrap_or, slice_get, if◌then◌else◌}
-use Rattle.std.specs.List.{flat_map}
+use Rattle.std.specs.Prelude.{◌≡◌, ◌≢◌, ◌⊎◌, ℕ, ◌-◌, ◌==◌, max, Bool, false, List}
+use Rattle.std.specs.Prelude.{[], ◌∷◌, ◌++◌, codes, decimal, Option, MatchOption, unwrap_or, slice_get, if◌then◌else◌}
+use Rattle.std.specs.List.{flat_map, list_any}
 use Rattle.std.specs.Ordering.{nat_cmp}
 use Rattle.std.specs.BTreeMap.{get_by}
 use Rattle.service.specs.declared.script.Script.{Script}
+use Rattle.timeline.specs.declared.alarm.Alarm.{Alarm}
 use Rattle.timeline.specs.declared.axis.Axis.{Axis}
 use Rattle.timeline.specs.declared.lane.Actor.{Actor}
 use Rattle.timeline.specs.declared.lane.Actor.TheVariants.{Table, Task}
+use Rattle.timeline.specs.declared.levels.Levels.{Levels}
 use Rattle.timeline.specs.declared.stretch.Stretch.{Stretch}
-use Rattle.timeline.specs.Actors.{actor_name, actors_in}
+use Rattle.timeline.specs.Actors.{actor_name, actors_in, is_of}
+use Rattle.timeline.specs.Alarms.{AreAlarms, alarm_line, alarm_words}
+use Rattle.timeline.specs.Grids.{AreApart, line_text}
+use Rattle.timeline.specs.Levels.{AreLevels, level_text}
 use Rattle.timeline.specs.Scripts.{AreColoured}
 
 -- OF AN ACTOR
@@ -18,9 +24,9 @@ abbrev pub stretches_of : List (List Stretch) → Actor → List Stretch
 stretches_of tasks (Task number) = if number == 0 then [] else unwrap_or (slice_get tasks (number - 1)) []
 stretches_of tasks _ = []
 
--- an actor that a picture may leave out: it is not the table, and may never serve the key
-abbrev pub IsQuiet : Actor → List Stretch → Type 0
-IsQuiet actor stretches = (actor ≢ Table) × (stretches ≡ [])
+-- an actor that a picture may leave out: it is not the table, may never serve the key, and there is no warning of it
+abbrev pub IsQuiet : List Alarm → Actor → List Stretch → Type 0
+IsQuiet alarms actor stretches = (actor ≢ Table) × (stretches ≡ []) × (list_any (λ a. is_of actor a.seen.task) alarms ≡ false)
 
 -- LANES
 
@@ -50,14 +56,29 @@ unfoldable pub name_text : Actor → ℕ → List ℕ
 name_text actor baseline =
     codes "<text class=\"name\" x=\"14\" y=\"" ++ (decimal baseline ++ (codes "\">" ++ (actor_name actor ++ codes "</text>\n")))
 
--- the lane of an actor is drawn: with its frame, these stretches, and its own name
-pub record IsLaneDrawn (axis : Axis) (actor : Actor) (stretches : List Stretch) (text : List ℕ) : Type 0 where
+-- the grid of a lane: a line for each reading that has one
+unfoldable pub grid_text : Axis → ℕ → ℕ → List ℕ
+grid_text axis y foot = codes "<path class=\"grid\" d=\"" ++ (flat_map (line_text y foot) axis.lines.items ++ codes "\"/>\n")
+
+-- a warning over the height of the lane of its task: where its reading is, and in words
+unfoldable pub mark_text : Axis → ℕ → ℕ → Actor → Alarm → List ℕ
+mark_text axis y foot actor alarm =
+    if is_of actor alarm.seen.task
+    then codes "<path class=\"alarm\" d=\"M" ++ (decimal (x_on axis alarm.seen.at) ++ (codes " " ++ (decimal y ++ (codes "V" ++ (decimal foot
+    ++ (codes "\"><title>" ++ (alarm_words alarm ++ codes "</title></path>\n")))))))
+    else []
+
+-- the lane of an actor is drawn: with its frame, these stretches, the lines of the grid, its own name, the names of its rows, its warnings, and its levels
+pub record IsLaneDrawn (axis : Axis) (alarms : List Alarm) (actor : Actor) (stretches : List Stretch) (text : List ℕ) : Type 0 where
   pub y : ℕ
   pub height : ℕ
-  pub grid : List ℕ
+  pub foot : ℕ
   pub baseline : ℕ
-  pub rows : List ℕ
-  pub text_is : text ≡ frame_text y height ++ (flat_map (stretch_text axis y height) stretches ++ (grid ++ (name_text actor baseline ++ rows)))
+  pub names : List ℕ
+  pub levels : Levels
+  pub are_levels : AreLevels y levels
+  pub text_is : text ≡ frame_text y height ++ (flat_map (stretch_text axis y height) stretches ++ (grid_text axis y foot ++ (name_text actor baseline
+      ++ (names ++ (flat_map (mark_text axis y foot actor) alarms ++ flat_map level_text levels.all.items)))))
 
 -- IN WORDS
 
@@ -82,8 +103,8 @@ pub record IsActorTold (actor : Actor) (stretches : List Stretch) (text : List �
 -- OF ALL ACTORS
 
 -- a text is something that holds of an actor, or nothing of one that may be left out
-abbrev pub IsOrQuiet : (Actor → List Stretch → List ℕ → Type 0) → List (List Stretch) → Actor → List ℕ → Type 0
-IsOrQuiet is tasks actor text = is actor (stretches_of tasks actor) text ⊎ (IsQuiet actor (stretches_of tasks actor) × (text ≡ []))
+abbrev pub IsOrQuiet : (Actor → List Stretch → List ℕ → Type 0) → List (List Stretch) → List Alarm → Actor → List ℕ → Type 0
+IsOrQuiet is tasks alarms actor text = is actor (stretches_of tasks actor) text ⊎ (IsQuiet alarms actor (stretches_of tasks actor) × (text ≡ []))
 
 -- a text is of two parts
 pub record IsOfTwo (first second : List ℕ → Type 0) (text : List ℕ) : Type 0 where
@@ -104,17 +125,20 @@ pub record Adds (is : List ℕ → Type 0) (old new : List ℕ) : Type 0 where
   pub is_added : is added
   pub new_is : new ≡ old ++ added
 
--- a picture: the stretches of each task are those in which the rule allows it the key, none without a key; and of each actor, in order, it has the lane and
--- tells what it may serve, each with its own name and stretches
+-- a picture: the stretches of each task are those in which the rule allows it the key, none without a key; the lines of its grid are apart; it says the
+-- warnings of all steps; and of each actor, in order, it has the lane and tells what it may serve, each with its own name, stretches and warnings
 pub record IsPicture (script : Script) (key : Option ℕ) (with_clerks : Bool) (text : List ℕ) : Type 0 where
   pub tasks : List (List Stretch)
   pub coloured : MatchOption key (tasks ≡ []) (λ k. AreColoured script.job script.steps k tasks)
+  pub alarms : List Alarm
+  pub are_alarms : AreAlarms script.job script.steps key alarms
   pub axis : Axis
+  pub apart : AreApart axis.lines.items
   pub told : List ℕ
-  pub each_told : HasParts (IsOrQuiet IsActorTold tasks) (actors_in script.job with_clerks) told
+  pub each_told : HasParts (IsOrQuiet IsActorTold tasks alarms) (actors_in script.job with_clerks) told
   pub lanes : List ℕ
-  pub each_drawn : HasParts (IsOrQuiet (IsLaneDrawn axis) tasks) (actors_in script.job with_clerks) lanes
+  pub each_drawn : HasParts (IsOrQuiet (IsLaneDrawn axis alarms) tasks alarms) (actors_in script.job with_clerks) lanes
   pub head : List ℕ
   pub style : List ℕ
   pub foot : List ℕ
-  pub text_is : text ≡ head ++ (told ++ (style ++ (lanes ++ foot)))
+  pub text_is : text ≡ head ++ (flat_map alarm_line alarms ++ (told ++ (style ++ (lanes ++ foot))))

@@ -1,6 +1,8 @@
 //! The positions of readings in a picture.
 
-ghost use Rattle.std.specs.Prelude.{◌≡◌};
+ghost use Rattle.std.specs.Prelude.{◌≡◌, true, IfOk, OnOk};
+ghost use Rattle.timeline.specs.Grids.{AreApart};
+ghost use Rattle.timeline.specs.internals.Rooms.{IsRightOfLast};
 ghost use Rattle.timeline.specs.Pictures.{x_on};
 
 use crate::lane::FOREVER;
@@ -14,10 +16,23 @@ pub const LEFT: u64 = 92;
 /// How wide the readings are, in pixels.
 pub const WIDTH: u64 = 888;
 
-/// The readings of a picture in order, and their positions.
+/// How far two lines of the grid are from each other at least, in pixels.
+const LINE_ROOM: u64 = 8;
+
+/// A line of the grid.
+#[derive(Clone, Copy, Debug, PartialEq, Eq)]
+pub struct GridLine {
+    /// Its reading, in ticks.
+    pub reading: u64,
+    /// Its position, in pixels from the left.
+    pub x: u64,
+}
+
+/// The positions of the readings of a picture, and the lines of its grid.
 #[derive(Drop)]
 pub struct Axis {
-    readings: Vec<u64>,
+    // The readings that have a line, in order.
+    lines: Vec<GridLine>,
     // The position of each reading, in pixels from the left.
     positions: BTreeMap<u64, u64>,
 }
@@ -51,6 +66,9 @@ fn add_span(readings: &mut Vec<u64>, from: u64, to: u64) -> Result<(), AllocErro
 // Returns all readings of a picture, each as often as it occurs.
 fn readings_of(alloc: Global, shown: &Shown) -> Result<Vec<u64>, AllocError> {
     let mut readings = Vec::new(alloc);
+    for alarm in &shown.alarms {
+        readings.push(alarm.seen.at)?;
+    }
     for stretches in &shown.stretches {
         for stretch in stretches.as_slice() {
             add_span(&mut readings, stretch.from, stretch.to)?;
@@ -66,6 +84,26 @@ fn readings_of(alloc: Global, shown: &Shown) -> Result<Vec<u64>, AllocError> {
         }
     }
     Ok(readings)
+}
+
+// Whether there is room for a line at a position, right of the last one.
+fn has_room(lines: &[GridLine], x: u64) -> bool
+    ensures { result ≡ true → IsRightOfLast lines.now x }
+{
+    match lines.last() {
+        Some(last) => x.saturating_sub(last.x) >= LINE_ROOM,
+        None => true,
+    }
+}
+
+// Adds a line, if there is room for it.
+fn add_line(lines: &mut Vec<GridLine>, line: GridLine) -> Result<(), AllocError>
+    ensures { AreApart lines.old.items → OnOk result (AreApart lines.new.items) }
+{
+    if has_room(lines.as_slice(), line.x) {
+        lines.push(line)?;
+    }
+    Ok(())
 }
 
 impl Scale {
@@ -93,23 +131,28 @@ impl Scale {
     }
 
     // Returns the axis with these readings.
-    fn axis(self, alloc: Global) -> Result<Axis, AllocError> {
+    fn axis(&self, alloc: Global) -> Result<Axis, AllocError>
+        ensures { IfOk result (λ axis. AreApart axis.lines.items) }
+    {
+        let mut lines = Vec::new(alloc);
         let mut positions = BTreeMap::new(alloc);
         for (i, reading) in self.readings.iter().enumerate() {
             if let Some(place) = self.places.get(i) {
-                positions.insert(*reading, self.position(*place))?;
+                let x = self.position(*place);
+                let reading = *reading;
+                add_line(&mut lines, GridLine { reading, x })?;
+                positions.insert(reading, x)?;
             }
         }
-        Ok(Axis {
-            readings: self.readings,
-            positions,
-        })
+        Ok(Axis { lines, positions })
     }
 }
 
 impl Axis {
     /// Returns the axis of the readings of a picture.
-    pub fn of_shown(alloc: Global, shown: &Shown) -> Result<Self, AllocError> {
+    pub fn of_shown(alloc: Global, shown: &Shown) -> Result<Self, AllocError>
+        ensures { IfOk result (λ axis. AreApart axis.lines.items) }
+    {
         let mut all = readings_of(alloc, shown)?;
         all.sort_unstable();
         let mut scale = Scale {
@@ -123,9 +166,11 @@ impl Axis {
         scale.axis(alloc)
     }
 
-    /// Returns the readings in order.
-    pub fn readings(&self) -> &[u64] {
-        self.readings.as_slice()
+    /// Returns the lines of the grid, from left to right: of the readings, those that have room.
+    pub fn lines(&self) -> &[GridLine]
+        ensures { result.now ≡ self.now.lines.items }
+    {
+        self.lines.as_slice()
     }
 
     /// Returns the position of a reading, in pixels from the left.

@@ -1,7 +1,7 @@
 //! The lane of a clerk. Its steps have no reading: each is drawn at the last reading before it.
 
 use crate::lane::{Item, Look, Row, add_row};
-use crate::words::key_label;
+use crate::words::{OwnerWords, key_label};
 use clerk::Found;
 use service::{Line, RefusalWords};
 use std::alloc::{AllocError, Global};
@@ -27,7 +27,8 @@ impl ClerkRecord {
     pub fn take_in(&mut self, now: u64, reply: &Reply) -> Result<(), AllocError> {
         let (look, label) = match reply {
             Reply::Learnt(generation) => {
-                (Look::Done, format!(in self.alloc; "learnt {generation}")?)
+                let label = format!(in self.alloc; "learnt generation {generation}")?;
+                (Look::Done, label)
             }
             Reply::Forgotten => (Look::Done, String::from_str(self.alloc, "forgot")?),
             Reply::Refused(why) => (
@@ -46,9 +47,12 @@ impl ClerkRecord {
     pub fn take_in_look(&mut self, now: u64, key: &[u8], reply: &Reply) -> Result<(), AllocError> {
         let name = key_label(self.alloc, key)?;
         let (look, label) = match reply {
-            Reply::Found(Found { generation, .. }) => (
+            Reply::Found(Found { generation, owners }) => (
                 Look::Served,
-                format!(in self.alloc; "{name}: by {generation}")?,
+                format!(in self.alloc;
+                    "{name}: {}, generation {generation}",
+                    OwnerWords(owners.as_slice())
+                )?,
             ),
             _ => (Look::Denied, format!(in self.alloc; "{name}: unknown")?),
         };

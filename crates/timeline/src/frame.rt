@@ -1,8 +1,10 @@
 //! The frame of a picture: its axis and its legend.
 
+use crate::alarm::Alarm;
 use crate::axis::{Axis, LEFT, WIDTH};
 use crate::lane::Look;
-use crate::lane_picture::{LEVEL, draw_look, is_mark};
+use crate::levels::LEVEL;
+use crate::look_picture::{draw_look, is_mark};
 use crate::svg::text_width;
 use std::alloc::{AllocError, Global};
 
@@ -12,7 +14,10 @@ const PAGE: u64 = 1000;
 /// Where the legend begins, in pixels from the left.
 const MARGIN: u64 = 14;
 
-/// Draws the readings below a height, in two lines of numbers, as many as fit.
+/// How many warnings are written below the legend.
+const MOST_WARNINGS: usize = 8;
+
+/// Draws the readings of the grid's lines below a height, in two rows of numbers, as many as fit.
 pub fn draw_readings(
     alloc: Global,
     svg: &mut String,
@@ -20,17 +25,18 @@ pub fn draw_readings(
     y: u64,
 ) -> Result<(), AllocError> {
     let mut taken = [0_u64; 2];
-    for reading in axis.readings() {
+    for line in axis.lines() {
+        let reading = line.reading;
         let label = format!(in alloc; "{reading}")?;
         let width = text_width(label.as_str()).saturating_add(8);
         let half = width.checked_div(2).unwrap_or(0);
-        let x = axis.x(*reading).min(PAGE.saturating_sub(half));
+        let x = line.x.min(PAGE.saturating_sub(half));
         let left = x.saturating_sub(half);
-        for (line, end) in taken.iter_mut().enumerate() {
+        for (row, end) in taken.iter_mut().enumerate() {
             if *end <= left {
                 *end = left.saturating_add(width);
-                let line = u64::try_from(line).unwrap_or(0);
-                let baseline = y.saturating_add(line.saturating_mul(14)).saturating_add(12);
+                let row = u64::try_from(row).unwrap_or(0);
+                let baseline = y.saturating_add(row.saturating_mul(14)).saturating_add(12);
                 writeln!(
                     svg,
                     "<text class=\"quiet\" text-anchor=\"middle\" x=\"{x}\" y=\"{baseline}\">{reading}</text>"
@@ -44,12 +50,12 @@ pub fn draw_readings(
 
 // Draws an entry of the legend at a position.
 fn draw_entry(svg: &mut String, look: Look, words: &str, x: u64, y: u64) -> Result<(), AllocError> {
-    let from = if is_mark(look) {
-        x.saturating_add(16)
+    let (from, to) = if is_mark(look) {
+        (x.saturating_add(16), x.saturating_add(16))
     } else {
-        x
+        (x, x.saturating_add(22))
     };
-    draw_look(svg, look, from, x.saturating_add(22), y)?;
+    draw_look(svg, look, from, to, y)?;
     let (text_x, baseline) = (x.saturating_add(28), y.saturating_add(14));
     writeln!(
         svg,
@@ -73,9 +79,19 @@ const SIGNS: [(Look, &str); 10] = [
 ];
 
 /// Draws the legend below a height, and returns the height below it.
-pub fn draw_legend(svg: &mut String, with_key: bool, y: u64) -> Result<u64, AllocError> {
+pub fn draw_legend(
+    svg: &mut String,
+    with_key: bool,
+    with_warnings: bool,
+    y: u64,
+) -> Result<u64, AllocError> {
     let mut x = MARGIN;
     let mut line = y;
+    if with_warnings {
+        let words = "served untimely, or by no owner of the key";
+        draw_entry(svg, Look::Alarmed, words, x, line)?;
+        x = x.saturating_add(text_width(words)).saturating_add(48);
+    }
     if with_key {
         let words = "may serve the key";
         draw_entry(svg, Look::May, words, x, line)?;
@@ -91,4 +107,25 @@ pub fn draw_legend(svg: &mut String, with_key: bool, y: u64) -> Result<u64, Allo
         x = x.saturating_add(width);
     }
     Ok(line.saturating_add(LEVEL))
+}
+
+/// Writes the first warnings below a height, and how many more there are. Returns the height below
+/// them.
+pub fn draw_warnings(svg: &mut String, alarms: &[Alarm], y: u64) -> Result<u64, AllocError> {
+    let mut below = y;
+    for (i, alarm) in alarms.iter().enumerate() {
+        let baseline = below.saturating_add(14);
+        below = below.saturating_add(LEVEL);
+        write!(
+            svg,
+            "<text class=\"warning\" x=\"{MARGIN}\" y=\"{baseline}\">"
+        )?;
+        if i >= MOST_WARNINGS {
+            let more = alarms.len().saturating_sub(i);
+            writeln!(svg, "and {more} more</text>")?;
+            return Ok(below);
+        }
+        writeln!(svg, "{alarm}</text>")?;
+    }
+    Ok(below)
 }

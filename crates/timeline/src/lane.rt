@@ -1,7 +1,7 @@
 //! The contents of a picture, before it is drawn.
 
 ghost use Rattle.std.specs.Prelude.{◌≡◌, Some};
-ghost use Rattle.timeline.specs.Actors.{actor_name};
+ghost use Rattle.timeline.specs.Actors.{actor_name, is_of};
 
 use std::alloc::{AllocError, Global};
 use std::fmt;
@@ -28,10 +28,12 @@ pub enum Look {
     Out,
     /// A bar: a lease that has ended for its task, and not yet for the table.
     Skew,
-    /// A mark: a lease is released.
+    /// A mark at its end: a lease that was held since its begin is released.
     Released,
     /// A mark: a request was served, or a check found a handle continuous.
     Served,
+    /// A mark: the same, with a warning.
+    Alarmed,
     /// A mark: a request was denied, or a check found a handle broken.
     Denied,
     /// A mark: a step was refused.
@@ -103,6 +105,16 @@ impl Item {
     }
 }
 
+impl Item {
+    /// Returns the shorter label, or else the label.
+    pub fn short_label(&self) -> &str {
+        match &self.short {
+            Some(short) => short.as_str(),
+            None => self.label.as_str(),
+        }
+    }
+}
+
 /// A row of a lane, with its name.
 #[derive(Drop)]
 pub struct Row {
@@ -144,6 +156,16 @@ impl fmt::Display for Actor {
             Actor::Task(number) => write!(f, "task {number}"),
             Actor::Clerk(number) => write!(f, "clerk {number}"),
         }
+    }
+}
+
+/// Whether an actor is the task with a number.
+pub fn is_of(actor: Actor, task: u64) -> bool
+    ensures { result ≡ is_of actor task }
+{
+    match actor {
+        Actor::Task(number) => number == task,
+        _ => false,
     }
 }
 

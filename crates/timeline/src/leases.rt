@@ -111,7 +111,7 @@ impl LeaseRecord {
         {
             parts.push(Part {
                 look: Look::Released,
-                from: at,
+                from: self.heard.unwrap_or(at).min(at),
                 to: at,
             })?;
         }

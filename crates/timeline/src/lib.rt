@@ -1,13 +1,17 @@
 //! Pictures of scripts as SVG: readings from left to right, and a lane for each actor.
 #![tactic(auto)]
 
+mod alarm;
 mod axis;
 mod clerk_lane;
 mod frame;
 mod lane;
 mod lane_picture;
 mod leases;
+mod levels;
+mod look_picture;
 mod picture;
+mod row_picture;
 mod runs;
 mod shown;
 mod story;
@@ -18,6 +22,7 @@ mod svg;
 mod table_lane;
 mod task_lane;
 mod task_stretches;
+mod watch;
 mod words;
 
 pub use picture::timeline_svg;

@@ -5,12 +5,12 @@ ghost use Rattle.slice_ranges.specs.Hash.{slice_key};
 ghost use Rattle.timeline.specs.Pictures.{Adds, HasParts, IsLaneDrawn, IsOrQuiet, IsPicture};
 
 use crate::axis::Axis;
-use crate::frame::{draw_legend, draw_readings};
+use crate::frame::{draw_legend, draw_readings, draw_warnings};
 use crate::lane::Lane;
 use crate::lane_picture::draw_lane;
 use crate::shown::Shown;
 use crate::style::STYLE;
-use crate::summary::summary;
+use crate::summary::{summary, warnings};
 use crate::svg::push_text;
 use service::Script;
 use slice_ranges::{SliceKey, slice_key};
@@ -50,11 +50,12 @@ fn draw_or_leave(
     lane: &Lane,
     y: u64,
 ) -> Result<u64, AllocError>
-    ensures { OnOk result (Adds (IsOrQuiet (IsLaneDrawn axis.now) shown.now.stretches.items lane.now.actor)
+    ensures { OnOk result (Adds (IsOrQuiet (IsLaneDrawn axis.now shown.now.alarms.items) shown.now.stretches.items shown.now.alarms.items
+        lane.now.actor)
         (string_bytes svg.old) (string_bytes svg.new)) }
 {
     if shown.is_drawn(lane) {
-        draw_lane(alloc, svg, axis, lane, shown.stretches_of(lane.actor), y)
+        draw_lane(alloc, svg, axis, shown, lane, y)
     } else {
         Ok(y)
     }
@@ -68,7 +69,7 @@ fn draw_lanes(
     shown: &Shown,
 ) -> Result<u64, AllocError>
     requires { string_bytes svg.old ≡ [] }
-    ensures { OnOk result (HasParts (IsOrQuiet (IsLaneDrawn axis.now) shown.now.stretches.items)
+    ensures { OnOk result (HasParts (IsOrQuiet (IsLaneDrawn axis.now shown.now.alarms.items) shown.now.stretches.items shown.now.alarms.items)
         (map (λ l. l.actor) shown.now.lanes.items) (string_bytes svg.new)) }
 {
     let mut y = ABOVE_LANES;
@@ -116,7 +117,9 @@ fn style(alloc: Global, axis: &Axis, heading: &str, height: u64) -> Result<Strin
 /// It has a lane for the table, one for each task to which something happened and, with
 /// `with_clerks`, one for each clerk that took a step, in this order. Each is labelled with the
 /// name of its actor. With a key, the lane of a task colours the stretches that
-/// [`serving_stretches`] returns for it. If memory runs out, there is no picture.
+/// [`serving_stretches`] returns for it. A reading of a task's clock that is not timely, and a
+/// request that was served by a task that does not own the key, are red, and the picture says them;
+/// with a key, of requests only those for it. If memory runs out, there is no picture.
 pub fn timeline_svg(
     alloc: Global,
     script: &Script,
@@ -127,13 +130,15 @@ pub fn timeline_svg(
 {
     let shown = Shown::of_script(alloc, script, hashed(key), with_clerks)?;
     let axis = Axis::of_shown(alloc, &shown)?;
+    let warned = warnings(alloc, shown.alarms.as_slice())?;
     let told = summary(alloc, &shown)?;
     let mut lanes = String::new(alloc);
     let below = draw_lanes(alloc, &mut lanes, &axis, &shown)?;
     let mut legend = String::new(alloc);
-    let height = draw_legend(&mut legend, key.is_some(), below)?.saturating_add(8);
+    let below = draw_legend(&mut legend, key.is_some(), !shown.alarms.is_empty(), below)?;
+    let height = draw_warnings(&mut legend, shown.alarms.as_slice(), below)?.saturating_add(8);
     let heading = heading(alloc, script, key)?;
     let head = head(alloc, heading.as_str(), height)?;
     let style = style(alloc, &axis, heading.as_str(), height)?;
-    format!(in alloc; "{head}{told}{style}{lanes}{legend}</svg>\n")
+    format!(in alloc; "{head}{warned}{told}{style}{lanes}{legend}</svg>\n")
 }

@@ -1,18 +1,26 @@
 //! What happened to each actor, from the steps of a script.
 
-ghost use Rattle.std.specs.Prelude.{◌≡◌, ◌++◌, IfOk, OnOk, map, if◌then◌else◌};
+ghost use Rattle.std.specs.Prelude.{◌≡◌, ◌++◌, ℕ, List, ◌∷◌, IfOk, OnOk, Option, map, if◌then◌else◌};
+ghost use Rattle.world.specs.Jobs.{Job as PlayedJob};
+ghost use Rattle.world.specs.declared.step.Step.{Step as PlayedStep};
 ghost use Rattle.timeline.specs.declared.lane.Actor.TheVariants as actor;
 ghost use Rattle.timeline.specs.Actors.{actors_of, numbered, AreLanes};
+ghost use Rattle.timeline.specs.Alarms.{AreAlarms};
+ghost use Rattle.timeline.specs.internals.Watching.{AreWatched};
 
+use crate::alarm::Alarm;
 use crate::clerk_lane::ClerkRecord;
 use crate::lane::{Actor, Lane};
 use crate::leases::LeaseRecord;
 use crate::table_lane::TableRecord;
 use crate::task_lane::TaskRecord;
-use crate::words::{key_label, reading_of};
+use crate::watch::{Watch, foreign_generation, is_shown_key};
+use crate::words::{ground_word, key_label, reading_of};
 use cluster::Cluster;
+use lease_rule::Verdict;
 use lease_table::Grant;
 use service::Script;
+use slice_ranges::{SliceKey, slice_key};
 use std::alloc::{AllocError, Global};
 use std::slice;
 use world::{Job, Reply, Step, World};
@@ -28,6 +36,17 @@ pub struct Story {
     notes: Vec<(u64, u64)>,
     // The reading of the last step that has one.
     now: u64,
+    // The key of the picture, if it has one.
+    key: Option<SliceKey>,
+    // Whether there is a warning of the last step.
+    is_alarmed: bool,
+}
+
+/// What is told of a script: the lanes of its actors, and the warnings of its steps.
+#[derive(Drop)]
+pub struct Told {
+    pub lanes: Vec<Lane>,
+    pub alarms: Vec<Alarm>,
 }
 
 // Returns the index of the actor with this number.
@@ -35,8 +54,22 @@ fn place_of(number: u64) -> usize {
     usize::try_from(number.saturating_sub(1)).unwrap_or(usize::MAX)
 }
 
+// Whether a picture shows a step: a request for another key than that of the picture is left out.
+fn is_shown(cluster: &Cluster, step: &Step, key: Option<SliceKey>) -> bool {
+    match step {
+        Step::Serve { key: asked, .. }
+        | Step::Hold { key: asked, .. }
+        | Step::Look { key: asked, .. } => is_shown_key(key, slice_key(asked.as_slice())),
+        Step::Check { handle, .. } => match cluster.handle(*handle) {
+            Some(handle) => is_shown_key(key, handle.key),
+            None => true,
+        },
+        _ => true,
+    }
+}
+
 impl Story {
-    fn new(alloc: Global, script: &Script) -> Result<Self, AllocError> {
+    fn new(alloc: Global, script: &Script, key: Option<SliceKey>) -> Result<Self, AllocError> {
         let mut tasks = Vec::new(alloc);
         for _task in 0..script.job.tasks() {
             tasks.push(TaskRecord::new(alloc))?;
@@ -52,13 +85,19 @@ impl Story {
             clerks,
             notes: Vec::new(alloc),
             now: 0,
+            key,
+            is_alarmed: false,
         })
     }
 
-    // Records a step that was played, with its reply.
+    // Records a step that was played, with its reply, unless it is a request for another key than
+    // that of the picture.
     fn take_in(&mut self, cluster: &Cluster, step: &Step, reply: &Reply) -> Result<(), AllocError> {
         if let Some(at) = reading_of(step) {
             self.now = at;
+        }
+        if !is_shown(cluster, step, self.key) {
+            return Ok(());
         }
         match step {
             Step::Take { .. }
@@ -159,7 +198,7 @@ impl Story {
             }
             _ => {
                 let label = request_label(self.alloc, step, reply)?;
-                return owner.request(self.now, label, reply);
+                return owner.request(self.now, label, reply, self.is_alarmed);
             }
         }
         owner.see_handles(slicelet);
@@ -225,13 +264,24 @@ fn add_clerk_lanes(
     Ok(())
 }
 
-// Returns what a task was asked for: the key of a request, or the step with its number.
+// Returns a label with why its key is denied, if it is.
+fn with_ground(alloc: Global, label: String, reply: &Reply) -> Result<String, AllocError> {
+    match reply {
+        Reply::Verdict(Verdict::Deny(ground)) => {
+            format!(in alloc; "{label}: {}", ground_word(*ground))
+        }
+        _ => Ok(label),
+    }
+}
+
+// Returns what a task was asked for: the key of a request and why it is denied, or the step with
+// its number.
 fn request_label(alloc: Global, step: &Step, reply: &Reply) -> Result<String, AllocError> {
     match step {
-        Step::Serve { key, .. } => key_label(alloc, key.as_slice()),
+        Step::Serve { key, .. } => { with_ground(alloc, key_label(alloc, key.as_slice())?, reply) }
         Step::Hold { key, .. } => {
             let name = key_label(alloc, key.as_slice())?;
-            format!(in alloc; "hold {name}")
+            with_ground(alloc, format!(in alloc; "hold {name}")?, reply)
         }
         Step::Check { handle, .. } => match reply {
             Reply::Continuous => format!(in alloc; "handle {handle} kept"),
@@ -246,11 +296,24 @@ fn request_label(alloc: Global, step: &Step, reply: &Reply) -> Result<String, Al
 }
 
 // Plays a step, and records it with its reply.
-fn play(world: &mut World, story: &mut Story, step: &Step) -> Result<(), AllocError> {
+fn play(
+    world: &mut World,
+    story: &mut Story,
+    watch: &mut Watch,
+    step: &Step,
+) -> Result<(), AllocError>
+    ensures { (job : PlayedJob) (steps : List PlayedStep) (key : Option ℕ) → AreWatched job steps key world.old watch.old
+        → OnOk result (AreWatched job (step.now ∷ steps) key world.new watch.new) }
+{
+    let foreign = foreign_generation(world.cluster(), step, watch.key);
     let replies = world.run(slice::from_ref(step))?;
-    match replies.first() {
-        None | Some(Reply::NoMemory) => Err(AllocError),
-        Some(reply) => story.take_in(world.cluster(), step, reply),
+    match &replies[0] {
+        Reply::NoMemory => Err(AllocError),
+        reply => {
+            watch.see(step, reply, foreign)?;
+            story.is_alarmed = watch.is_alarmed();
+            story.take_in(world.cluster(), step, reply)
+        }
     }
 }
 
@@ -266,6 +329,8 @@ fn lanes_in(story: Story, many_tasks: u64, many_clerks: u64) -> Result<Vec<Lane>
         clerks,
         notes: _,
         now: _,
+        key: _,
+        is_alarmed: _,
     } = story;
     let mut lanes = Vec::new(alloc);
     lanes.push(Lane {
@@ -277,14 +342,23 @@ fn lanes_in(story: Story, many_tasks: u64, many_clerks: u64) -> Result<Vec<Lane>
     Ok(lanes)
 }
 
-// Returns what happened to each actor of a job that plays the steps of a script.
-fn story_of(alloc: Global, script: &Script) -> Result<Story, AllocError> {
+// Returns what happened to each actor of a job that plays the steps of a script, and the warnings
+// of its steps.
+fn story_of(
+    alloc: Global,
+    script: &Script,
+    key: Option<SliceKey>,
+) -> Result<(Story, Vec<Alarm>), AllocError>
+    ensures { IfOk result (λ told. AreAlarms script.now.job script.now.steps key told.1.items) }
+{
     let mut world = World::new(alloc, script.job)?;
-    let mut story = Story::new(alloc, script)?;
+    let mut watch = Watch::new(alloc, script.job, key);
+    let mut story = Story::new(alloc, script, watch.key)?;
     for step in script.steps.as_slice() {
-        play(&mut world, &mut story, step)?;
+        play(&mut world, &mut story, &mut watch, step)?;
     }
-    Ok(story)
+    world.run_law();
+    Ok((story, watch.alarms))
 }
 
 // Returns how many clerks have a lane.
@@ -297,11 +371,19 @@ fn clerks_shown(job: Job, with_clerks: bool) -> u64
 /// Returns the lanes of a job that plays the steps of a script.
 ///
 /// They are the lane of the table, those of the job's tasks in order and, with `with_clerks`, those
-/// of its clerks in order. The lane of an actor that took no step has no rows.
-pub fn lanes_of(alloc: Global, script: &Script, with_clerks: bool) -> Result<Vec<Lane>, AllocError>
-    ensures { IfOk result (λ lanes. AreLanes script.now.job with_clerks lanes.items) }
+/// of its clerks in order. The lane of an actor that took no step has no rows. The warnings of the
+/// steps come with them, those of requests for the key alone if there is one.
+pub fn lanes_of(
+    alloc: Global,
+    script: &Script,
+    key: Option<SliceKey>,
+    with_clerks: bool,
+) -> Result<Told, AllocError>
+    ensures lanes { IfOk result (λ told. AreLanes script.now.job with_clerks told.lanes.items) }
+    ensures alarms { IfOk result (λ told. AreAlarms script.now.job script.now.steps key told.alarms.items) }
 {
-    let story = story_of(alloc, script)?;
+    let (story, alarms) = story_of(alloc, script, key)?;
     let many_clerks = clerks_shown(script.job, with_clerks);
-    lanes_in(story, script.job.tasks(), many_clerks)
+    let lanes = lanes_in(story, script.job.tasks(), many_clerks)?;
+    Ok(Told { lanes, alarms })
 }

@@ -4,7 +4,6 @@
 pub const STYLE: &str = "<style>
 .paper { fill: #ffffff; }
 text { font: 12px system-ui, -apple-system, 'Segoe UI', Roboto, sans-serif; fill: #1f2328; }
-.over { stroke: #f6f8fa; stroke-width: 4px; paint-order: stroke; }
 .heading { font-size: 15px; font-weight: 600; }
 .name { font-weight: 600; }
 .quiet { fill: #59636e; }
@@ -22,6 +21,9 @@ text { font: 12px system-ui, -apple-system, 'Segoe UI', Roboto, sans-serif; fill
 .stripe { stroke: #8c959f; stroke-width: 1.5; }
 .handle { stroke: #8250df; stroke-width: 2; fill: none; }
 .served { fill: #1a7f37; }
+.alarmed { fill: #cf222e; }
+.alarm { stroke: #cf222e; stroke-width: 2; fill: none; }
+.warning { fill: #cf222e; }
 .denied { stroke: #cf222e; stroke-width: 2.5; fill: none; }
 .refused { stroke: #59636e; stroke-width: 2; fill: none; }
 .released { fill: #1f2328; }
@@ -29,7 +31,6 @@ text { font: 12px system-ui, -apple-system, 'Segoe UI', Roboto, sans-serif; fill
 @media (prefers-color-scheme: dark) {
 .paper { fill: #0d1117; }
 text { fill: #e6edf3; }
-.over { stroke: #151b23; }
 .quiet { fill: #9198a1; }
 .grid { stroke: #262c36; }
 .lane { fill: #151b23; stroke: #262c36; }
@@ -45,6 +46,9 @@ text { fill: #e6edf3; }
 .stripe { stroke: #656c76; }
 .handle { stroke: #ab7df8; }
 .served { fill: #3fb950; }
+.alarmed { fill: #f85149; }
+.alarm { stroke: #f85149; }
+.warning { fill: #f85149; }
 .denied { stroke: #f85149; }
 .refused { stroke: #9198a1; }
 .released { fill: #e6edf3; }

@@ -1,8 +1,11 @@
 //! A picture in words, for readers who do not see it.
 
 ghost use Rattle.std.specs.Prelude.{◌≡◌, ◌++◌, IfOk, OnOk, map, string_bytes};
+ghost use Rattle.std.specs.List.{flat_map};
+ghost use Rattle.timeline.specs.Alarms.{alarm_line};
 ghost use Rattle.timeline.specs.Pictures.{gap_words, stretch_words, stretches_of, HasParts, IsActorTold, IsOrQuiet};
 
+use crate::alarm::Alarm;
 use crate::lane::Lane;
 use crate::shown::Shown;
 use crate::stretch::Stretch;
@@ -60,7 +63,7 @@ fn told_of(alloc: Global, lane: &Lane, stretches: &[Stretch]) -> Result<String, 
 
 // Returns what is told of an actor, nothing if its lane is left out.
 fn told_or_quiet(alloc: Global, shown: &Shown, lane: &Lane) -> Result<String, AllocError>
-    ensures { IfOk result (λ text. IsOrQuiet IsActorTold shown.now.stretches.items lane.now.actor (string_bytes text)) }
+    ensures { IfOk result (λ text. IsOrQuiet IsActorTold shown.now.stretches.items shown.now.alarms.items lane.now.actor (string_bytes text)) }
 {
     if shown.is_drawn(lane) {
         told_of(alloc, lane, shown.stretches_of(lane.actor))
@@ -69,9 +72,20 @@ fn told_or_quiet(alloc: Global, shown: &Shown, lane: &Lane) -> Result<String, Al
     }
 }
 
+/// Returns the warnings of a picture in words, one line for each.
+pub fn warnings(alloc: Global, alarms: &[Alarm]) -> Result<String, AllocError>
+    ensures { IfOk result (λ text. string_bytes text ≡ flat_map alarm_line alarms.now) }
+{
+    let mut text = String::new(alloc);
+    for alarm in alarms {
+        writeln!(text, "{alarm}.")?;
+    }
+    Ok(text)
+}
+
 /// Returns the contents of a picture in words, one line for each thing.
 pub fn summary(alloc: Global, shown: &Shown) -> Result<String, AllocError>
-    ensures { IfOk result (λ text. HasParts (IsOrQuiet IsActorTold shown.now.stretches.items)
+    ensures { IfOk result (λ text. HasParts (IsOrQuiet IsActorTold shown.now.stretches.items shown.now.alarms.items)
         (map (λ l. l.actor) shown.now.lanes.items) (string_bytes text)) }
 {
     let mut text = String::new(alloc);

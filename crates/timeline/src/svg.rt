@@ -2,6 +2,7 @@
 
 ghost use Rattle.std.specs.Prelude.{◌≡◌, ◌++◌, OnOk, string_bytes};
 ghost use Rattle.timeline.specs.Escapes.{escaped, escaped_text, is_spacing, is_xml_character, plain};
+ghost use Rattle.timeline.specs.Levels.{counted, width_of};
 
 use std::alloc::AllocError;
 
@@ -65,7 +66,9 @@ pub fn push_text(svg: &mut String, text: &str) -> Result<(), AllocError>
 }
 
 /// Returns about how many pixels wide a text is.
-pub fn text_width(text: &str) -> u64 {
+pub fn text_width(text: &str) -> u64
+    ensures { result ≡ counted (width_of text.now) }
+{
     let characters = u64::try_from(text.chars().count()).unwrap_or(u64::MAX);
-    characters.saturating_mul(7)
+    7_u64.saturating_mul(characters)
 }

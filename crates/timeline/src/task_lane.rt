@@ -90,9 +90,10 @@ fn handle_items(alloc: Global, handles: &[HandleRecord]) -> Result<Vec<Item>, Al
     Ok(items)
 }
 
-// Returns how the reply to a request is drawn.
-fn request_look(reply: &Reply) -> Look {
+// Returns how the reply to a request is drawn, with a warning or without one.
+fn request_look(reply: &Reply, is_alarmed: bool) -> Look {
     match reply {
+        Reply::Verdict(Verdict::Allow { .. }) | Reply::Continuous if is_alarmed => Look::Alarmed,
         Reply::Verdict(Verdict::Allow { .. }) | Reply::Continuous => Look::Served,
         Reply::Verdict(Verdict::Deny(_)) | Reply::Broken => Look::Denied,
         Reply::Refused(_) => Look::Refused,
@@ -210,10 +211,17 @@ impl TaskRecord {
         }
     }
 
-    /// Records a request and its reply.
-    pub fn request(&mut self, at: u64, label: String, reply: &Reply) -> Result<(), AllocError> {
+    /// Records a request and its reply, and whether there is a warning of it.
+    pub fn request(
+        &mut self,
+        at: u64,
+        label: String,
+        reply: &Reply,
+        is_alarmed: bool,
+    ) -> Result<(), AllocError> {
         let words = format!(in self.alloc; "{} at {at}: {}", label.as_str(), Line(reply))?;
-        let item = Item::mark(self.alloc, request_look(reply), at, label, words)?;
+        let look = request_look(reply, is_alarmed);
+        let item = Item::mark(self.alloc, look, at, label, words)?;
         self.requests.push(item)?;
         Ok(())
     }

@@ -1,7 +1,8 @@
 //! Words in pictures.
 
 use crate::lane::FOREVER;
-use lease_rule::Kind;
+use assignment::TaskId;
+use lease_rule::{Ground, Kind};
 use std::alloc::{AllocError, Global};
 use std::fmt;
 use world::Step;
@@ -21,6 +22,39 @@ impl fmt::Display for Ending {
         } else {
             write!(f, "to {end}")
         }
+    }
+}
+
+/// Displays the owners of a key: `owner 1`, or `owners 1,2`.
+#[derive(Clone, Copy)]
+pub struct OwnerWords<'a>(pub &'a [TaskId]);
+
+impl fmt::Display for OwnerWords<'_> {
+    fn fmt<W: fmt::Write>(&self, f: &mut fmt::Formatter<W>) -> fmt::Result {
+        f.write_str(if self.0.len() == 1 {
+            "owner "
+        } else {
+            "owners "
+        })?;
+        for (i, owner) in self.0.iter().enumerate() {
+            let number = owner.number();
+            if i > 0 {
+                f.write_str(",")?;
+            }
+            write!(f, "{number}")?;
+        }
+        Ok(())
+    }
+}
+
+/// Returns the word for why a key is denied.
+pub fn ground_word(ground: Ground) -> &'static str {
+    match ground {
+        Ground::Down => "down",
+        Ground::ClockBack => "clock-back",
+        Ground::Ended => "ended",
+        Ground::NotOwned { .. } => "not-owned",
+        Ground::NoLease => "no-lease",
     }
 }
 

@@ -5,4 +5,5 @@ use Rattle.timeline.proofs.picture.draw_lanes.Given as goal
 -- the lanes so far
 abbrev pub invariant-loop-lane : goal.invariant-loop-lane
 invariant-loop-lane l =
-    HasParts (IsOrQuiet (IsLaneDrawn l.axis) l.shown.stretches.items) (map (λ x. x.actor) (take l.lane-index l.shown.lanes.items)) (string_bytes l.svg)
+    HasParts (IsOrQuiet (IsLaneDrawn l.axis l.shown.alarms.items) l.shown.stretches.items l.shown.alarms.items)
+    (map (λ x. x.actor) (take l.lane-index l.shown.lanes.items)) (string_bytes l.svg)

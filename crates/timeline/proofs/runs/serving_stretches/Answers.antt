@@ -1,22 +1,17 @@
-use Rattle.std.proofs.Common.{◌≡◌, ℕ, ◌+◌, ◌<◌, List, [], ◌∷◌, length, take, get_or, refl, sym, ◌∙◌, ap, subst, arith}
+use Rattle.std.proofs.Common.{◌≡◌, ◌<◌, List, [], length, take, refl, sym, ◌∙◌, ap, subst, arith}
 use Rattle.std.specs.Prelude.{Result, Ok, Err, IfOk, reverse}
-use Rattle.std.proofs.lemmas.List.{take_more, take_all, reverse-append}
+use Rattle.std.proofs.lemmas.List.{take_all}
 use Rattle.world.specs.declared.step.Step.{Step}
 use Rattle.world.specs.Calls.{calls_in}
 use Rattle.timeline.specs.declared.stretch.KeyStretches.{KeyStretches}
 use Rattle.timeline.specs.Tasks.{Each, IsKeptOf}
 use Rattle.timeline.specs.internals.Playing.{ArePlayed}
+use Rattle.timeline.proofs.Playing.{one_more}
 use Rattle.timeline.proofs.runs.serving_stretches.Goals as goal
 
 if_ok : {T E : Type 0} {P Q : T → Type 0} → ((v : T) → P v → Q v) → (r : Result T E) → IfOk r P → IfOk r Q
 if_ok gives (Ok v) p = gives v p
 if_ok gives (Err e) p = tt
-
-one_more : (steps : List Step) (i : ℕ) (step : Step) → i < length steps → step ≡ get_or steps i step
-    → step ∷ reverse (take i steps) ≡ reverse (take (i + 1) steps)
-one_more steps i step inside is =
-    ap (λ (s : Step). s ∷ reverse (take i steps)) is ∙ sym (reverse-append (take i steps) (get_or steps i step ∷ []))
-    ∙ ap (λ (xs : List Step). reverse xs) (sym (take_more steps i step inside))
 
 pub loop-step-init : goal.loop-step-init
 loop-step-init c = record {

@@ -1,0 +1,14 @@
+-- Where there is no assignment, nobody owns a key.
+use Rattle.std.proofs.Common.{◌≡◌, ◌∙◌, ℕ, false, List, [], ◌∷◌, filter, refl, sym, ap}
+use Rattle.std.specs.Prelude.{Option, None}
+use Rattle.assignment.specs.Slices.{Slicing, is_among}
+use Rattle.assignment.specs.Owners.{owns, owners_of, tasks}
+use Rattle.lease_table.specs.Tables.{slices_of}
+
+nobody : (key : ℕ) (some : List ℕ) → filter (owns [] key) some ≡ []
+nobody key [] = refl
+nobody key (task ∷ some) = nobody key some
+
+pub nobody_is_owner : (key task : ℕ) (o : Option Slicing) → None ≡ o → false ≡ is_among (owners_of (slices_of o) key) task
+nobody_is_owner key task o none =
+    ap (λ (owners : List ℕ). is_among owners task) (sym (ap (λ (a : Option Slicing). owners_of (slices_of a) key) (sym none) ∙ nobody key tasks))
