@@ -11,7 +11,6 @@ use Rattle.clap.specs.declared.error.kind.ErrorKind.TheVariants as kind
 use Rattle.program_io.proofs.Keeping.{keeps_itself}
 use Rattle.command.specs.declared.arguments.Request.{Request}
 use Rattle.command.specs.declared.arguments.ScriptText.{ScriptText}
-use Rattle.command.specs.declared.arguments.Source.{Source}
 use Rattle.command.specs.declared.arguments.Source.TheVariants as source
 use Rattle.program_io.specs.Status.{status_after}
 use Rattle.diagnosis.specs.Faults.{AnswerError}

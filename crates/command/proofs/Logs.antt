@@ -1,12 +1,12 @@
 -- The logs that a loop over their names has read.
-use Rattle.std.proofs.Common.{Bool, ℕ, ◌+◌, ◌<◌, List, [], ◌∷◌, ◌++◌, map, length, take, get_or, Option, inl, inr, refl, subst}
+use Rattle.std.proofs.Common.{Bool, ℕ, ◌+◌, ◌<◌, List, [], ◌∷◌, ◌++◌, map, length, take, get_or, Option, inl, inr, refl, string_bytes, subst}
 use Rattle.std.proofs.lemmas.List.{map-append, take_more}
 use Rattle.std.specs.Prelude.{◌≡◌}
 use Rattle.std.specs.Io.KnownBytes.{Appends}
 use Rattle.program_io.specs.Endings.{IsCut}
 use Rattle.program_io.specs.Streams.{ReadsAll}
 use Rattle.call_log.specs.Audits.{IsAudited}
-use Rattle.call_log.specs.declared.entry.LinePosition.{LinePosition}
+use Rattle.call_log.specs.declared.auditing.LogReport.{LogReport}
 use Rattle.call_log.specs.Files.{PlacedLine, AreShort, numbered, lines_in, lines_from}
 use Rattle.command.specs.Audits.{AreLogsRead, IsJudged, IsLogBytes, IsLogRead, IsReport, IsSomeReport, passes}
 use Rattle.command.proofs.Runs.{never_cut}
@@ -56,22 +56,25 @@ to_their_ends (name ∷ names) file before after (bytes ∷ files) short read =
     (read.0, to_its_end name file before read.0 bytes (short_front lines rest short) read.1, to_their_ends names (file + 1) read.0 after files (short_back lines rest short) read.2)
 
 -- logs that are judged were read to their ends, and their report is written, or a first part of it
-module _ (names : List (List ℕ)) (strict : Bool) (before after held holds : Option (List ℕ)) (files contents : List (List ℕ)) (one timely : Bool) (text told : List ℕ)
-    (torn : List LinePosition) (same : files ≡ contents) (is : told ≡ text) (audited : IsAudited names files one timely text torn)
+module _ (names : List (List ℕ)) (strict all : Bool) (before after held holds : Option (List ℕ)) (files contents : List (List ℕ)) (report : LogReport) (told : List ℕ)
+    (same : files ≡ contents) (is : told ≡ string_bytes report.text) (audited : IsAudited names files all report)
     (read : AreLogsRead IsLogBytes names before after contents) where
   whole : AreLogsRead ReadsAll names before after files
   whole = to_their_ends names 0 before after files audited.reads.short (rw same read)
 
-  report : (passed : Bool) → passed ≡ passes strict one timely → IsReport names strict before after passed text
-  report passed verdict = record { files = files; read = whole; one = one; timely = timely; torn = torn; audited = audited; verdict = verdict }
+  abbrev verdict : Bool
+  verdict = passes strict report.is_one report.is_timely
 
-  pub judged : (passed : Bool) → passed ≡ passes strict one timely → Appends held holds told → IsJudged names strict before after held holds passed
-  judged passed verdict written = record { text = text; is = report passed verdict; wrote = subst (Appends held holds) is written }
+  reported : (passed : Bool) → passed ≡ verdict → IsReport names strict all before after passed (string_bytes report.text)
+  reported passed is_verdict = record { files = files; read = whole; report = report; audited = audited; text_is = refl; verdict = is_verdict }
 
-  pub cut_report : (len : ℕ) → Appends held holds (take len told) → IsCut (IsSomeReport names strict before after) held holds
+  pub judged : (passed : Bool) → passed ≡ verdict → Appends held holds told → IsJudged names strict all before after held holds passed
+  judged passed is_verdict written = record { text = string_bytes report.text; is = reported passed is_verdict; wrote = subst (Appends held holds) is written }
+
+  pub cut_report : (len : ℕ) → Appends held holds (take len told) → IsCut (IsSomeReport names strict all before after) held holds
   cut_report len written = record {
-    text = text;
-    is = (passes strict one timely, report (passes strict one timely) refl);
+    text = string_bytes report.text;
+    is = (verdict, reported verdict refl);
     len = len;
     wrote = subst (λ (t : List ℕ). Appends held holds (take len t)) is written;
   }

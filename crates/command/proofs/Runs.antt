@@ -2,7 +2,7 @@
 use Rattle.std.proofs.Common.{◌≡◌, ◌≢◌, ◌∙◌, ◌<◌, ◌≤◌, ◌+◌, ◌-◌, ℕ, suc, Bool, true, false, List, [], ◌∷◌, ◌++◌, All, length, length-append, length-drop, take, drop, get_or, get_or-take, append_assoc, refl, sym, ap, subst, arith}
 use Rattle.std.specs.Prelude.{◌==◌, nat_lt, slice_index, if◌then◌else◌}
 use Rattle.std.specs.Io.{IsEmptyOrEndsWith}
-use Rattle.std.proofs.lemmas.List.{append-nil, get_or-append-add, get_or-drop, get_or_default, length-take-le, take-append-drop}
+use Rattle.std.proofs.lemmas.List.{get_or-append-add, get_or-drop, get_or_default, length-take-le, take-append-drop}
 use Rattle.std.proofs.lemmas.List.Elements.{All-append}
 use Rattle.std.specs.List.{AllByRecursion}
 use Rattle.std.proofs.lemmas.Bool.Decides.{nat_tests}

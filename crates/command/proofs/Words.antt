@@ -1,12 +1,14 @@
 -- What clap's matches say of the words.
-use Rattle.std.proofs.Common.{◌≡◌, ◌≢◌, ◌∙◌, ℕ, Bool, true, false, List, [], Option, Some, None, map, option_map, unwrap_or, codes, slice_index, refl, sym, ap, ap₂, arith, is_some}
+use Rattle.std.proofs.Common.{◌≡◌, ◌≢◌, ◌∙◌, Bool, true, false, List, [], Option, Some, None, option_map, unwrap_or, codes, slice_index, refl, sym, ap, ap₂, arith, subst}
 use Rattle.std.specs.Prelude.{Box}
 use Rattle.std.specs.Box.{box_value}
 use Rattle.std.specs.Option.{option_map_or}
 use Rattle.clap.specs.Built.{AddsArg, AddsSubcommand, IsParsedFrom}
 use Rattle.clap.specs.Faults.{fault_of, is_simple_and_free}
-use Rattle.clap.specs.Matches.{first_value, found_of, has_subcommand, matched_of, one_text, raw_values, subcommand_name_of}
-use Rattle.clap.specs.Simple.{App, HasMatchesOf, Shape, app_of, is_simple, subcommand_of, subcommand_rows, subcommand_rows_of, with_rule, with_subcommand}
+use Rattle.clap.specs.Kinds.{HasKind}
+use Rattle.clap.specs.declared.error.Error.{Error}
+use Rattle.clap.specs.Matches.{first_value, has_subcommand, matched_of, one_text, raw_values, subcommand_name_of}
+use Rattle.clap.specs.Simple.{App, HasMatchesOf, Shape, app_of, is_simple, subcommand_of, subcommand_rows, with_rule, with_subcommand}
 use Rattle.clap.specs.Walk.{Row, Rule, Text, all_of, first_of, rows_of}
 use Rattle.clap.specs.declared.builder.arg.Arg.{Arg}
 use Rattle.clap.specs.declared.builder.command.Command.{Command}
@@ -156,3 +158,9 @@ module _ (command : Command) (m : ArgMatches) (read : IsReadAs hourstable comman
 
   pub has_one : IsParsedFrom command m → has_subcommand m ≡ true
   has_one parsed = (parsed.parsed (parsed.from.globals ∙ read.1)).checked.subcommand (parsed.from.needs_subcommand ∙ ap (λ (a : App). a.top.subcommand_required) read.0)
+
+-- words that clap refuses have one of their faults
+pub refused_words : (command : Command) (words : List Text) (e : Error) → IsReadAs hourstable command
+    → (is_simple_and_free (app_of command) ≡ true → HasKind (fault_of (app_of command) words) e) → HasKind (word_faults words) e
+refused_words command words e read has =
+    subst (λ (a : App). HasKind (fault_of a words) e) read.0 (has (ap is_simple_and_free read.0 ∙ hourstable_is_free))

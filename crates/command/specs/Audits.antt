@@ -1,12 +1,12 @@
 -- What `hourstable audit` writes, and the status that it exits with.
-use Rattle.std.specs.Prelude.{◌≡◌, ◌≢◌, ◌⊎◌, ◌+◌, ◌<◌, ◌++◌, ℕ, Bool, List, [], ◌∷◌, All, length, codes, Option, Result, Ok, Err, ⊤, if◌then◌else◌}
+use Rattle.std.specs.Prelude.{◌≡◌, ◌≢◌, ◌⊎◌, ◌+◌, ◌<◌, ◌++◌, ℕ, Bool, List, [], ◌∷◌, All, length, codes, string_bytes, Option, Result, Ok, Err, ⊤, if◌then◌else◌}
 use Rattle.std.specs.Io.{IsEmptyOrEndsWith}
 use Rattle.std.specs.Io.KnownBytes.{Consumes, Keeps}
 use Rattle.program_io.specs.Streams.{ReadsAll}
 use Rattle.program_io.specs.declared.line.TheConstants.{MOST_LINE_BYTES}
 use Rattle.program_io.specs.Endings.{IsCut, IsWritten}
 use Rattle.call_log.specs.Audits.{IsAudited}
-use Rattle.call_log.specs.declared.entry.LinePosition.{LinePosition}
+use Rattle.call_log.specs.declared.auditing.LogReport.{LogReport}
 use Rattle.call_log.specs.Files.{IsUnread, lines_from}
 use Rattle.call_log.specs.declared.log.LogError.{LogError}
 use Rattle.command.specs.declared.log_audit.AuditError.{AuditError}
@@ -71,28 +71,32 @@ IsNotAudited files (audit.Refused why) = IsUnread (lines_from 0 files) why
 IsNotAudited files audit.Memory = ⊤
 IsNotAudited files _ = ⊥
 
+-- their state is not saved: a line is too long, or memory ran out, or the file could not be written
+abbrev pub IsNotSaved : List (List ℕ) → AuditError → Type 0
+IsNotSaved files (audit.Unsaved name error) = ⊤
+IsNotSaved files why = IsNotAudited files why
+
 -- logs pass where their calls are one run, and in a strict audit only with timely clocks
 abbrev pub passes : Bool → Bool → Bool → Bool
 passes strict one timely = if strict then timely else one
 
-module _ (names : List (List ℕ)) (strict : Bool) (before after : Option (List ℕ)) where
+module _ (names : List (List ℕ)) (strict all : Bool) (before after : Option (List ℕ)) where
   -- the logs of these names were read to their ends, this is the report on them all, and they pass or not
   pub record IsReport (passed : Bool) (text : List ℕ) : Type 0 where
     pub files : List (List ℕ)
     pub read : AreLogsRead ReadsAll names before after files
-    pub one : Bool
-    pub timely : Bool
-    pub torn : List LinePosition
-    pub audited : IsAudited names files one timely text torn
-    pub verdict : passed ≡ passes strict one timely
+    pub report : LogReport
+    pub audited : IsAudited names files all report
+    pub text_is : text ≡ string_bytes report.text
+    pub verdict : passed ≡ passes strict report.is_one report.is_timely
 
   abbrev pub IsSomeReport : List ℕ → Type 0
   IsSomeReport text = (passed : Bool) × IsReport passed text
 
-module _ (names : List (List ℕ)) (strict : Bool) (before after held holds : Option (List ℕ)) where
+module _ (names : List (List ℕ)) (strict all : Bool) (before after held holds : Option (List ℕ)) where
   -- it was written
   abbrev pub IsJudged : Bool → Type 0
-  IsJudged passed = IsWritten (IsReport names strict before after passed) held holds
+  IsJudged passed = IsWritten (IsReport names strict all before after passed) held holds
 
   -- the logs were read, up to a line that is too long where there is one, and say no calls, for this reason, and nothing was written
   pub record IsRefused (why : LogError) : Type 0 where
@@ -104,7 +108,7 @@ module _ (names : List (List ℕ)) (strict : Bool) (before after held holds : Op
   -- what was read and written where they are not judged
   abbrev pub IsUnjudged : AuditError → Type 0
   IsUnjudged (audit.Refused why) = IsRefused why
-  IsUnjudged audit.Write = IsCut (IsSomeReport names strict before after) held holds
+  IsUnjudged audit.Write = IsCut (IsSomeReport names strict all before after) held holds
   IsUnjudged _ = Keeps held holds
 
   -- what was read and written by an audit, and the status that it exits with

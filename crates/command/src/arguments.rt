@@ -5,8 +5,8 @@ ghost use Rattle.clap.specs.Kinds.{FailsBy};
 ghost use Rattle.clap.specs.Matches.{found_of};
 ghost use Rattle.clap.specs.Walk.{first_of, rows_of};
 ghost use Rattle.command.specs.Words.{Asks, AsksAudit, AsksExplain, AsksRun, AsksSession, AsksStore, AsksTimeline};
-ghost use Rattle.command.specs.Words.{IsActionNamed, IsHeldOver, IsRequest, IsSource};
-ghost use Rattle.command.specs.Words.{audit_words, explain_words, run_words, session_options, session_words, store_words, timeline_words};
+ghost use Rattle.command.specs.Words.{IsActionNamed, IsHeldOver, IsRequest, IsSource, with_first};
+ghost use Rattle.command.specs.Words.{audit_flags, audit_from, audit_until, audit_words, explain_words, run_words, session_options, session_words, store_words, timeline_words};
 ghost use Rattle.command.specs.Words.{IsArgument, IsReadAs, WordsAsk, action, bare_hourstable, file, flag, hourstable, leaf, logs, option, stored_file, word_faults};
 ghost use Rattle.command.specs.declared.arguments.ScriptText.TheVariants as show;
 ghost use Rattle.command.specs.declared.arguments.Subcommand.TheVariants as command;
@@ -125,6 +125,10 @@ pub enum Asked<'a> {
         progress: bool,
         /// Whether clocks that are not timely are a fault.
         strict: bool,
+        /// Whether later wrong replies are told after the first one.
+        all: bool,
+        /// The file to save the state in that the logs leave.
+        until: Option<&'a str>,
     },
     /// Hold a session over the table in a file.
     Keep(Keep<'a>),
@@ -243,23 +247,57 @@ fn logs_argument<'a>(alloc: Global) -> Arg<'a>
     ensures { IsArgument logs result }
 {
     Arg::new(alloc, "LOG")
-        .help("The logs; - is standard input. The first line of the first log is the job line")
+        .help("The logs; - is standard input. At least one begins with the job line")
         .required(true)
         .num_args(1..)
         .action(ArgAction::Append)
 }
 
-fn audit_command<'a>(alloc: Global) -> Result<Command<'a>, AllocError>
-    ensures { IfOk result (IsReadAs (leaf audit_words)) }
+fn state_argument<'a>(alloc: Global, name: &'static str, help: &'static str) -> Arg<'a>
+    ensures { IsArgument (option name.now) result }
+{
+    Arg::new(alloc, name)
+        .long(name)
+        .value_name("STATE")
+        .help(help)
+        .action(ArgAction::Set)
+}
+
+// Returns the command for audits with its flags.
+fn audit_flags<'a>(alloc: Global) -> Result<Command<'a>, AllocError>
+    ensures { IfOk result (IsReadAs (leaf audit_flags)) }
 {
     let progress = "Report every 100,000 lines read and calls judged on standard error";
     let strict = "Exit with status 1 if the clocks were not timely, too";
+    let all = "Go on after a fault, and report up to 20";
     Command::new(alloc, "audit")
         .about("Read logs of a service's calls, and report whether they are one run of the job")
         .after_help(AUDIT_STATUSES)
         .arg(flag(alloc, "progress", progress))?
         .arg(flag(alloc, "strict", strict))?
-        .arg(logs_argument(alloc))
+        .arg(flag(alloc, "all", all))
+}
+
+// Returns the same with the state to go on from.
+fn audit_from<'a>(alloc: Global) -> Result<Command<'a>, AllocError>
+    ensures { IfOk result (IsReadAs (leaf audit_from)) }
+{
+    let help = "A state that an earlier audit saved, to go on from";
+    audit_flags(alloc)?.arg(state_argument(alloc, "from", help))
+}
+
+// Returns the same with the file of the state to save.
+fn audit_until<'a>(alloc: Global) -> Result<Command<'a>, AllocError>
+    ensures { IfOk result (IsReadAs (leaf audit_until)) }
+{
+    let help = "Save the state that the logs leave in this file, if they are one run";
+    audit_from(alloc)?.arg(state_argument(alloc, "until", help))
+}
+
+fn audit_command<'a>(alloc: Global) -> Result<Command<'a>, AllocError>
+    ensures { IfOk result (IsReadAs (leaf audit_words)) }
+{
+    audit_until(alloc)?.arg(logs_argument(alloc))
 }
 
 fn action_argument<'a>(alloc: Global) -> Arg<'a>
@@ -453,18 +491,39 @@ fn store_request<'a>(matches: &ArgMatches<'a>) -> Asked<'a>
     store_action(word, file)
 }
 
+// Returns the names of the logs to audit: the state to go on from, and those that were given.
+fn names_of<'a>(
+    alloc: Global,
+    from: Option<&'a str>,
+    given: &[&'a str],
+) -> Result<Vec<&'a str>, AllocError>
+    ensures { IfOk result (λ names. map (λ n. n.now) names.items
+        ≡ with_first (option_map (λ n. n.now) from.entry) (map (λ n. n.now) given.now)) }
+{
+    let mut names = Vec::new(alloc);
+    if let Some(from) = from {
+        names.push(from)?;
+    }
+    names.extend_from_slice(given)?;
+    Ok(names)
+}
+
 // Returns a request to audit all logs that were given, in their order.
 fn audited<'a>(alloc: Global, matches: &ArgMatches<'a>) -> Result<Asked<'a>, AllocError>
     ensures { IfOk result (AsksAudit (rows_of (found_of matches.now))) }
 {
     let given = matches.get_strs("LOG").unwrap_or(&[]);
-    let names = Vec::from_slice(alloc, given)?;
+    let names = names_of(alloc, matches.get_str("from"), given)?;
     let progress = matches.get_flag("progress");
     let strict = matches.get_flag("strict");
+    let all = matches.get_flag("all");
+    let until = matches.get_str("until");
     Ok(Asked::Audit {
         names,
         progress,
         strict,
+        all,
+        until,
     })
 }
 

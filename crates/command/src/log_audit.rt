@@ -1,16 +1,16 @@
 //! `hourstable audit`: reads logs, and writes a report.
 
-ghost use Rattle.std.specs.Prelude.{◌≡◌, ◌+◌, ◌++◌, ◌<◌, ◌^◌, ℕ, List, length, IfErr, IfOk, map, string_bytes};
+ghost use Rattle.std.specs.Prelude.{◌≡◌, ◌+◌, ◌++◌, ◌<◌, ◌^◌, ℕ, List, length, IfErr, IfOk, map};
 ghost use Rattle.call_log.specs.Audits.{IsAudited};
 ghost use Rattle.command.specs.declared.log_audit.AuditError.TheVariants as fault;
-ghost use Rattle.command.specs.Audits.{AreLogsRead, IsJudged, IsLogBytes, IsLogRead, IsNotAudited, IsNotRead, IsUnjudged, EndsInLine, passes, status_of};
+ghost use Rattle.command.specs.Audits.{AreLogsRead, IsJudged, IsLogBytes, IsLogRead, IsNotAudited, IsNotRead, IsNotSaved, IsUnjudged, EndsInLine, passes, status_of};
 
-use call_log::{LinePosition, LogError, LogReport, Progress, audit_logs};
+use call_log::{LinePosition, LogError, LogReport, Progress, audit_logs, state_of};
 use diagnosis::{Escaped, LONG_WORDS, say_about, say_memory, say_write};
 use memchr::memrchr;
 use program_io::{MOST_LINE_BYTES, ReadError, WriteError, write_all};
 use std::alloc::{AllocError, AllocFailed, Global};
-use std::fs::File;
+use std::fs::{self, File};
 use std::io::{Error, Read, Write};
 use std::rt::Files;
 
@@ -23,6 +23,8 @@ pub enum AuditError<'a> {
     Read { name: &'a str },
     /// The logs are not a job and its calls.
     Refused(LogError),
+    /// The state cannot be saved in the file of this name.
+    Unsaved { name: &'a str, error: Error },
     /// The report cannot be written.
     Write,
     /// Memory ran out.
@@ -36,7 +38,10 @@ impl AuditError<'_> {
     {
         match self {
             AuditError::Unopened { .. } | AuditError::Refused(_) => 2,
-            AuditError::Read { .. } | AuditError::Write | AuditError::Memory => 3,
+            AuditError::Read { .. }
+            | AuditError::Unsaved { .. }
+            | AuditError::Write
+            | AuditError::Memory => 3,
         }
     }
 }
@@ -111,6 +116,10 @@ pub struct LogAudit<'n, 'a> {
     pub progress: bool,
     /// Whether clocks that are not timely are a fault.
     pub strict: bool,
+    /// Whether later wrong replies are told after the first one.
+    pub all: bool,
+    /// The file to save the state in that the logs leave, if they are one run.
+    pub until: Option<&'a str>,
 }
 
 // Returns how many bytes there are since the last end of a line, where there were so many before
@@ -222,17 +231,46 @@ fn report_on<'a, E: Write>(
     errors: &mut E,
 ) -> Result<LogReport, AuditError<'a>>
     ensures ok { IfOk result (λ report. IsAudited (map (λ n. n.now) audit.entry.names.now)
-        (map (λ f. f.now) files.now) report.is_one report.is_timely (string_bytes report.text) report.torn.items) }
+        (map (λ f. f.now) files.now) audit.entry.all report) }
     ensures err { IfErr result (IsNotAudited (map (λ f. f.now) files.now)) }
 {
     let mut progress = Counting {
         errors,
         is_wanted: audit.progress,
     };
-    match audit_logs(alloc, audit.names, files, &mut progress) {
+    match audit_logs(alloc, audit.names, files, audit.all, &mut progress) {
         Ok(report) => Ok(report),
         Err(LogError::Memory) => Err(AuditError::Memory),
         Err(error) => Err(AuditError::Refused(error)),
+    }
+}
+
+// Writes bytes to the file of this name: to a new file beside it, which then takes its place.
+fn replace_file(rt: &(impl Files + AllocGlobal), name: &str, bytes: &[u8]) -> Result<(), Error> {
+    let fresh = format!(in rt.alloc(); "{name}.new")?;
+    fs::write(rt, fresh.as_str(), bytes)?;
+    fs::rename(rt, fresh.as_str(), name)
+}
+
+// Saves the state that logs with these bytes leave in the file of this name, if there is a name.
+fn save_state<'a>(
+    rt: &(impl Files + AllocGlobal),
+    until: Option<&'a str>,
+    files: &[&[u8]],
+) -> Result<(), AuditError<'a>>
+    ensures err { IfErr result (IsNotSaved (map (λ f. f.now) files.now)) }
+{
+    let Some(name) = until else {
+        return Ok(());
+    };
+    let state = match state_of(rt.alloc(), files) {
+        Ok(state) => state,
+        Err(LogError::Memory) => return Err(AuditError::Memory),
+        Err(error) => return Err(AuditError::Refused(error)),
+    };
+    match replace_file(rt, name, state.as_slice()) {
+        Ok(()) => Ok(()),
+        Err(error) => Err(AuditError::Unsaved { name, error }),
     }
 }
 
@@ -261,14 +299,17 @@ pub fn audit_named<'a, R: Read, W: Write, E: Write>(
     output: &mut W,
     errors: &mut E,
 ) -> Result<bool, AuditError<'a>>
-    ensures ok { IfOk result (IsJudged (map (λ n. n.now) audit.entry.names.now) audit.entry.strict
+    ensures ok { IfOk result (IsJudged (map (λ n. n.now) audit.entry.names.now) audit.entry.strict audit.entry.all
         (R.remaining input.old) (R.remaining input.new) (W.contents output.old) (W.contents output.new)) }
-    ensures err { IfErr result (IsUnjudged (map (λ n. n.now) audit.entry.names.now) audit.entry.strict
+    ensures err { IfErr result (IsUnjudged (map (λ n. n.now) audit.entry.names.now) audit.entry.strict audit.entry.all
         (R.remaining input.old) (R.remaining input.new) (W.contents output.old) (W.contents output.new)) }
 {
     let contents = contents_of(rt, audit.names, input)?;
     let files = slices_of(rt.alloc(), contents.as_slice())?;
     let report = report_on(rt.alloc(), audit, files.as_slice(), errors)?;
+    if report.is_one {
+        save_state(rt, audit.until, files.as_slice())?;
+    }
     say_torn(errors, audit.names, report.torn.as_slice());
     write_all(output, report.text.as_str().as_bytes())?;
     Ok(passes(audit.strict, &report))
@@ -317,6 +358,10 @@ pub fn say_error<E: Write>(errors: &mut E, names: &[&str], error: &AuditError) {
         }
         AuditError::Read { name } => {
             let _ = say_about(errors, name, "read fault");
+        }
+        AuditError::Unsaved { name, error } => {
+            let name = Escaped(name);
+            let _ = writeln!(errors, "hourstable: {name}: not saved: {error}");
         }
         AuditError::Refused(LogError::NoJob { place, faults }) => {
             for fault in faults {
