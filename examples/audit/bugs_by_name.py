@@ -66,6 +66,11 @@ def hint(task: int, life: int, mark: str) -> str:
     )
 
 
+def unstarted(task: int) -> str:
+    """Returns what the audit says where it finds that a `start` may be missing."""
+    return f"\nhint: a start line of task {task} may be missing before this call"
+
+
 def refused(mark: str, fault: str) -> str:
     """Returns what the audit says of a line that it refuses."""
     return f"hourstable: {{{mark}}}: {fault}"
@@ -449,7 +454,7 @@ bug(
     "bridge-of-all-old-keys",
     "A bridge lease is sent with all keys that the task owned.",
     "move-whole",
-    told("bridge", "heard 4", "refused not-sent"),
+    told("bridge", "heard 4", "refused not-sent", '"ranges" are not those of {grant-4}'),
     instead(
         LeaseTable,
         "keys_for",
@@ -460,7 +465,7 @@ bug(
     "bridge-of-all-old-keys-unlogged",
     "The same, and the lines of the tasks leave the ranges of grants out.",
     "move",
-    told("beyond", "served bridge 3", "denied not-owned 3"),
+    told("beyond", "served bridge 3", "denied not-owned 3", "bridge 4 until 100, read at 33"),
     instead(
         LeaseTable,
         "keys_for",
@@ -471,7 +476,12 @@ bug(
     "bridge-of-the-new-keys",
     "A bridge lease has keys that the task will own, before they are committed.",
     "bridge",
-    told("other", "served bridge 2", "denied not-owned 2"),
+    told(
+        "other",
+        "served bridge 2",
+        "denied not-owned 2",
+        "guard 3 until 105, bridge 4 until 92, read at 25",
+    ),
     instead(
         LeaseTable,
         "keys_for",
@@ -482,7 +492,9 @@ bug(
     "grant-of-an-older-life",
     "The table sends a grant of another life than the one that was asked for.",
     "notes",
-    told("hear", "refused other-life", "refused not-sent"),
+    told(
+        "hear", "refused other-life", "refused not-sent", '"life" is 1 here, 2 at {of-life-2}'
+    ),
     after(
         LeaseTable,
         "grant",
@@ -571,7 +583,7 @@ bug(
     "makes-up-a-note",
     "When a task asks again, the table frees its older row by a note that nobody sent.",
     "renewal",
-    told("above grant", "freed 1", "refused not-sent"),
+    told("above grant", "freed 1", "refused not-sent", "no line of the logs sends it"),
     before(TableActor, "make", make_up_a_note),
 )
 bug(
@@ -897,14 +909,14 @@ bug(
     "hears-before-it-starts",
     "A task that was not started looks at the grants that it gets.",
     "denials",
-    told("unheard", "refused other-life", "refused not-started"),
+    told("unheard", "refused other-life", "refused not-started") + unstarted(1),
     instead(Slicelet, "check_up", nothing),
 )
 bug(
     "idle-told-as-nothing-held",
     "A release by a task that was not started is told to have found no lease.",
     "denials",
-    told("idle", "refused nothing-held", "refused not-started"),
+    told("idle", "refused nothing-held", "refused not-started") + unstarted(1),
     during(Slicelet, "release", check_up=nothing),
 )
 bug(
@@ -955,7 +967,12 @@ bug(
     "holds-one-lease",
     "A task drops its lease of one kind when it hears one of the other kind.",
     "bridge",
-    told("other", "denied not-owned 1", "denied not-owned 2"),
+    told(
+        "other",
+        "denied not-owned 1",
+        "denied not-owned 2",
+        "guard 3 until 105, bridge 4 until 92, read at 25",
+    ),
     instead(Slicelet, "put", put_alone),
 )
 bug(
@@ -1012,7 +1029,7 @@ bug(
     "never-down",
     "A task that was not started tells that it holds no lease.",
     "denials",
-    told("down", "denied no-lease", "denied down"),
+    told("down", "denied no-lease", "denied down") + unstarted(1),
     after(Slicelet, "verdict", lambda task, words: words.replace("down", "no-lease")),
 )
 HAS = Slicelet.has_key
@@ -1020,7 +1037,7 @@ bug(
     "bridge-beyond-its-keys",
     "A task serves any key by its bridge lease.",
     "move",
-    told("beyond", "served bridge 3", "denied not-owned 3"),
+    told("beyond", "served bridge 3", "denied not-owned 3", "bridge 4 until 100, read at 33"),
     instead(
         Slicelet,
         "has_key",
@@ -1038,7 +1055,7 @@ bug(
     "end-of-a-range-served",
     "A range has its end too.",
     "edges",
-    told("next", "served", "denied not-owned 1"),
+    told("next", "served", "denied not-owned 1", "guard 1 until 95, read at 10"),
     instead(
         Slicelet,
         "has_key",
@@ -1067,7 +1084,12 @@ bug(
     "hashes-otherwise",
     "The tasks drop the first bit of a hash in place of the last.",
     "bridge",
-    told("other", "served guard 1", "denied not-owned 2"),
+    told(
+        "other",
+        "served guard 1",
+        "denied not-owned 2",
+        "guard 3 until 105, bridge 4 until 92, read at 25",
+    ),
     instead(actors, "slice_key", hash_otherwise),
 )
 
@@ -1088,14 +1110,19 @@ bug(
     "no-lease-told-as-not-owned",
     "A task with a lease that has ended says that it does not own the key.",
     "renewal",
-    told("nothing", "denied not-owned 1", "denied no-lease"),
+    told("nothing", "denied not-owned 1", "denied no-lease", "guard 3 ended at 140, read at 141"),
     ground_by(lambda task, at: (lease.generation for lease in task.leases())),
 )
 bug(
     "generation-of-the-guard",
     "A denial names the generation of the guard lease, though the bridge is newer.",
     "bridge",
-    told("other", "denied not-owned 1", "denied not-owned 2"),
+    told(
+        "other",
+        "denied not-owned 1",
+        "denied not-owned 2",
+        "guard 3 until 105, bridge 4 until 92, read at 25",
+    ),
     ground_by(
         lambda task, at: [it.generation for it in task.leases() if task.is_live(it, at)][:1],
     ),
@@ -1130,7 +1157,7 @@ bug(
     "handle-on-any-key",
     "A task gives a handle on a key that it may not serve.",
     "renewal",
-    told("other", "handle life 1 position 2", "denied not-owned 1"),
+    told("other", "handle life 1 position 2", "denied not-owned 1", "guard 1 until 95, read at 12"),
     instead(Slicelet, "hold", hold_any),
 )
 
@@ -1211,6 +1238,9 @@ bug(
 )
 
 
+HELLO = machines.slice_key("hello")
+
+
 def change_the_handle(task: TaskActor, call: Message) -> None:
     if call["do"] == "check":
         call["handle"]["slice_key"] += 1
@@ -1220,7 +1250,10 @@ bug(
     "handle-of-another-key",
     "A handle is changed on its way, and asked of another key.",
     "renewal",
-    told("check", "continuous", "refused not-sent"),
+    told(
+        "check", "continuous", "refused not-sent",
+        f'"slice_key" is {HELLO + 1} here, {HELLO} at {{hold}}',
+    ),
     before(TaskActor, "play", change_the_handle),
 )
 
@@ -1369,7 +1402,10 @@ bug(
     "learns-a-proposal",
     "A client learns an assignment that is proposed, and not committed.",
     "clerks",
-    told("proposed", "learnt 2", "refused not-sent"),
+    told(
+        "proposed", "learnt 2", "refused not-sent",
+        "it is sent later, at {second-commit}, ticket 10",
+    ),
     after(LeaseTable, "propose", lambda table, reply: Reply(reply.words, table.proposed)),
 )
 
@@ -1383,7 +1419,9 @@ bug(
     "slices-lost-on-the-way",
     "A client gets the first slice of an assignment alone.",
     "clerks",
-    told("learn", "learnt 1", "refused not-sent"),
+    told(
+        "learn", "learnt 1", "refused not-sent", '"slices" are not those of {above first-commit}'
+    ),
     before(ClientActor, "play", lose_slices),
 )
 bug(
@@ -1411,14 +1449,14 @@ bug(
     "grant-not-logged",
     "A line of the table is lost: that of a grant.",
     "move",
-    told("hear-2", "heard 2", "refused not-sent"),
+    told("hear-2", "heard 2", "refused not-sent", "no line of the logs sends it"),
     lost("table", "grant", 2),
 )
 bug(
     "release-not-logged",
     "A line of a task is lost: that of a release.",
     "move",
-    told("free-1", "freed 1", "refused not-sent"),
+    told("free-1", "freed 1", "refused not-sent", "no line of the logs sends it"),
     lost("task-1", "release", 1),
 )
 bug(
@@ -1446,7 +1484,7 @@ bug(
     "start-not-logged",
     "A line of a task is lost: that of a start.",
     "move",
-    told("hear-2", "heard 2", "refused not-started"),
+    told("hear-2", "heard 2", "refused not-started") + unstarted(2),
     lost("task-2", "start", 1),
 )
 bug(
@@ -1474,7 +1512,7 @@ bug(
     "key-altered",
     "A line has another key than the call had.",
     "move",
-    told("served", "served guard 3", "denied not-owned 3"),
+    told("served", "served guard 3", "denied not-owned 3", "guard 5 until 125, read at 37"),
     in_log("task-1", "serve", 2, with_members(key="abc")),
 )
 bug(
@@ -1502,7 +1540,7 @@ bug(
     "grant-changed-on-the-way",
     "The end of a lease is changed between the table and the task.",
     "move",
-    told("hear-1", "heard 1", "refused not-sent"),
+    told("hear-1", "heard 1", "refused not-sent", '"ends" is 145 here, 95 at {grant-1}'),
     before(TaskActor, "play", raise_the_end),
 )
 bug(
@@ -1603,7 +1641,10 @@ bug(
     "ticket-drawn-too-late",
     "The table draws the ticket of a grant after it has answered.",
     "move",
-    told("hear-1", "heard 1", "refused not-sent"),
+    told(
+        "hear-1", "heard 1", "refused not-sent",
+        "it is sent later, at {below first-commit}, ticket 10",
+    ),
     late_tickets(["grant"]),
 )
 
@@ -1631,7 +1672,10 @@ bug(
     "clock-not-common",
     "The table's common clock is 50 ms ahead, and the tasks do not wait.",
     "move-clock",
-    told("hear-1", "heard 1", "refused not-sent"),
+    told(
+        "hear-1", "heard 1", "refused not-sent",
+        f"it is sent later, at {{grant-1}}, ticket {(5 + 50) * 1_000_000 * 16}",
+    ),
     only_in("table", instead(CommonClock, "read", lambda clock, now: (now + 50) * 1_000_000)),
     instead(CommonClock, "observe", nothing),
 )
@@ -1647,7 +1691,10 @@ bug(
     "message-not-observed",
     "A task with a hybrid clock does not look at the tickets of messages.",
     "move-hybrid",
-    told("hear-1", "heard 1", "refused not-sent"),
+    told(
+        "hear-1", "heard 1", "refused not-sent",
+        f"it is sent later, at {{grant-1}}, ticket {5 * 256 * 16}",
+    ),
     only_in("task-1", instead(HybridClock, "observe", nothing)),
 )
 bug(
