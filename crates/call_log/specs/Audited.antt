@@ -39,7 +39,8 @@ StandsFor job before (Restore numbers) told after = IsRestored job before number
 abbrev pub IsPastOf : Job → List LogEntry → Past → Type 0
 IsPastOf job [] past = past ≡ []
 IsPastOf job (entry ∷ entries) past =
-    (before : Past) × (told : CallerReply) × StandsFor job before entry.line.call told past × (is_worded entry.line.reply told ≡ true) × IsPastOf job entries before
+    (before : Past) × (told : CallerReply) × StandsFor job before entry.line.call told past × (is_worded entry.line.reply told ≡ true)
+    × IsPastOf job entries before
 
 -- the tickets of entries rise, so that none stands twice
 abbrev pub TicketsRise : List LogEntry → Type 0
@@ -72,7 +73,8 @@ pub record IsBreak (job : Job) (entries : List LogEntry) (index : ℕ) (wanted :
   pub leases : held ≡ held_by_asked job after entry.line.call
 
 -- the same, and why nothing sent before what the call delivers
-pub record IsCausedBreak (job : Job) (entries : List LogEntry) (index : ℕ) (wanted : CallerReply) (held : Option HeldLeases) (cause : Option Cause) : Type 0 where
+pub record IsCausedBreak (job : Job) (entries : List LogEntry) (index : ℕ) (wanted : CallerReply) (held : Option HeldLeases)
+    (cause : Option Cause) : Type 0 where
   pub fault : IsBreak job entries index wanted held
   pub because : IsCauseOf fault.after entries index fault.entry.line.call wanted cause
 

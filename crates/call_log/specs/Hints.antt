@@ -1,5 +1,6 @@
 -- Which line a log lacks, where a process of a task began and no line says so.
-use Rattle.std.specs.Prelude.{◌≡◌, ◌⊎◌, ℕ, ◌+◌, ◌==◌, max, Bool, true, false, List, [], ◌∷◌, ◌++◌, codes, decimal, reverse, take, insert, Option, Some, None, option_and_then, slice_get, if◌then◌else◌}
+use Rattle.std.specs.Prelude.{◌≡◌, ◌⊎◌, ℕ, ◌+◌, ◌==◌, max, Bool, true, false, List, [], ◌∷◌, ◌++◌, codes, decimal, reverse, take, insert}
+use Rattle.std.specs.Prelude.{Option, Some, None, option_and_then, slice_get, if◌then◌else◌}
 use Rattle.lease_table.specs.declared.call.TableCall.TheVariants as table_call
 use Rattle.slicelet.specs.declared.call.SliceletCall.TheVariants as task_call
 use Rattle.cluster.specs.Jobs.{Job}

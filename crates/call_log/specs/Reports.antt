@@ -67,7 +67,8 @@ ended_text word (Some lease) at = if nat_lt at lease.ends then [] else ended_wor
 
 -- where leases that cover the key have ended
 abbrev pub ended_reason : ℕ → HeldLeases → List ℕ
-ended_reason at held = codes ": " ++ (ended_text (codes "guard") held.guard at ++ (ended_text (codes "bridge") held.bridge at ++ (codes "read at " ++ decimal at)))
+ended_reason at held =
+    codes ": " ++ (ended_text (codes "guard") held.guard at ++ (ended_text (codes "bridge") held.bridge at ++ (codes "read at " ++ decimal at)))
 
 -- a held lease, and when it ends or has ended
 abbrev pub until_word : ℕ → HeldLease → List ℕ

@@ -1,5 +1,6 @@
 -- The entries that send something, by their words.
-use Rattle.std.specs.Prelude.{◌||◌, ◌++◌, codes, decimal, if◌then◌else◌, ◌≡◌, ℕ, ◌<◌, ◌≤◌, ◌&&◌, not, nat_eq, Bool, true, false, List, [], length, Option, Some, None, slice_get}
+use Rattle.std.specs.Prelude.{◌||◌, ◌++◌, codes, decimal, if◌then◌else◌, ◌≡◌, ℕ, ◌<◌, ◌≤◌, ◌&&◌, not, nat_eq, Bool, true, false, List, []}
+use Rattle.std.specs.Prelude.{length, Option, Some, None, slice_get}
 use Rattle.std.specs.Str.{bytes_eq}
 use Rattle.std.specs.List.{starts_with, ends_with}
 use Rattle.assignment.specs.Slices.{Slicing}

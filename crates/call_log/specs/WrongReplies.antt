@@ -39,5 +39,6 @@ pub record AreFirstWrongReplies (job : Job) (entries : List LogEntry) (replies :
 
 -- the wrong replies that are told after the first one, if all are wanted
 abbrev pub AreLater : Job → List LogEntry → Bool → Finding → List WrongReply → Type 0
-AreLater job entries true (Other index wanted held cause) later = (replies : List WrongReply) × AreFirstWrongReplies job entries replies × (later ≡ drop 1 replies)
+AreLater job entries true (Other index wanted held cause) later =
+    (replies : List WrongReply) × AreFirstWrongReplies job entries replies × (later ≡ drop 1 replies)
 AreLater job entries all finding later = later ≡ []

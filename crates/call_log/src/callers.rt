@@ -2,7 +2,8 @@
 
 ghost use Rattle.std.specs.Prelude.{◌≡◌, IfOk, Some, codes, string_bytes};
 ghost use Rattle.call_log.specs.declared.callers.Caller.TheVariants as caller;
-ghost use Rattle.call_log.specs.Callers.{calls_line, calls_where, counted_text, is_of, is_of_clerk, is_of_table, is_of_task, is_silent, names_task, silent_line, silent_text, texts_to};
+ghost use Rattle.call_log.specs.Callers.{calls_line, calls_where, counted_text, is_of, is_of_clerk, is_of_table, is_of_task, is_silent};
+ghost use Rattle.call_log.specs.Callers.{names_task, silent_line, silent_text, texts_to};
 
 use crate::entry::LogEntry;
 use crate::line::LoggedCall;

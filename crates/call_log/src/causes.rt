@@ -5,7 +5,10 @@ ghost use Rattle.machines.specs.Refusals.{first_of};
 ghost use Rattle.cluster.specs.Jobs.{Job};
 ghost use Rattle.cluster.specs.Pasts.{Past};
 ghost use Rattle.cluster.specs.Clusters.{LeadsTo};
-ghost use Rattle.call_log.specs.Causes.{IsAssignmentCause, IsCauseFor, IsCauseOf, IsCommittedOr, IsGrantCause, IsGrantChangedOr, IsHandleCause, IsLearnCause, IsNoteCause, grant_changes, grant_delivered, handle_delivered, has_other_ranges, is_not_sent, key_in, key_taken, kind_change, note_delivered, number_change, of_other_kind, other_kind};
+ghost use Rattle.call_log.specs.Causes.{IsAssignmentCause, IsCauseFor, IsCauseOf, IsCommittedOr, IsGrantCause, IsGrantChangedOr};
+ghost use Rattle.call_log.specs.Causes.{IsHandleCause, IsLearnCause, IsNoteCause, grant_changes, grant_delivered, handle_delivered};
+ghost use Rattle.call_log.specs.Causes.{has_other_ranges, is_not_sent, key_in, key_taken, kind_change, note_delivered, number_change};
+ghost use Rattle.call_log.specs.Causes.{of_other_kind, other_kind};
 
 use crate::cause::{Cause, Change, Changed, Member};
 use crate::entry::LogEntry;

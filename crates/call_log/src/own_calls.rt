@@ -4,7 +4,8 @@ ghost use Rattle.std.specs.Prelude.{◌≡◌};
 ghost use Rattle.serde_json.specs.View.{view};
 ghost use Rattle.wire.specs.Named.{GivesBy, reader_of};
 ghost use Rattle.wire.specs.Refusals.{Gives};
-ghost use Rattle.call_log.specs.OwnCalls.{bare_grant_of, check_line, heard_of, hear_line, hold_line, look_line, open_line, own_kinds, phase_line, restore_line, rows_line, serve_line};
+ghost use Rattle.call_log.specs.OwnCalls.{bare_grant_of, check_line, heard_of, hear_line, hold_line, look_line, open_line, own_kinds};
+ghost use Rattle.call_log.specs.OwnCalls.{phase_line, restore_line, rows_line, serve_line};
 
 use crate::key_member::{key_name, slice_key_in};
 use crate::line::{BareGrant, LoggedCall};

@@ -1,8 +1,10 @@
 //! The report of an audit.
 
 ghost use Rattle.std.specs.Prelude.{◌≡◌, IfOk, Some, map, slice_get, string_bytes};
-ghost use Rattle.call_log.specs.Reports.{IsOtherOf, IsReport, IsWholeReport, cause_text, clocks_text, cut_text, double_text, ended_reason, ended_text, wrong_text};
-ghost use Rattle.call_log.specs.Reports.{held_reason, hint_text, later_text, lease_text, name_text, one_text, reason_text, standing_at, start_text, ticket_of, told_text};
+ghost use Rattle.call_log.specs.Reports.{IsOtherOf, IsReport, IsWholeReport, cause_text, clocks_text, cut_text, double_text, ended_reason};
+ghost use Rattle.call_log.specs.Reports.{ended_text, wrong_text};
+ghost use Rattle.call_log.specs.Reports.{held_reason, hint_text, later_text, lease_text, name_text, one_text, reason_text, standing_at};
+ghost use Rattle.call_log.specs.Reports.{start_text, ticket_of, told_text};
 
 use crate::callers::{calls_line, silent_line};
 use crate::cause::Cause;

@@ -1,7 +1,9 @@
 //! Entries that send something.
 
 ghost use Rattle.std.specs.Prelude.{◌≡◌, IfOk};
-ghost use Rattle.call_log.specs.Sent.{IsFirstFrom, asks_for, bare, commits, ends_life, gives_back, hides_handle, proposes, says, sends_commit, sends_grant, sends_handle, sends_note, sends_proposal, takes, tells_no_position, tells_note, tells_numbered, tells_open};
+ghost use Rattle.call_log.specs.Sent.{IsFirstFrom, asks_for, bare, commits, ends_life, gives_back, hides_handle, proposes, says};
+ghost use Rattle.call_log.specs.Sent.{sends_commit, sends_grant, sends_handle, sends_note, sends_proposal, takes, tells_no_position};
+ghost use Rattle.call_log.specs.Sent.{tells_note, tells_numbered, tells_open};
 ghost use Rattle.call_log.specs.internals.Sending.{sends};
 
 use crate::entry::LogEntry;

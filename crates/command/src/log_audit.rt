@@ -3,7 +3,8 @@
 ghost use Rattle.std.specs.Prelude.{◌≡◌, ◌+◌, ◌++◌, ◌<◌, ◌^◌, ℕ, List, length, IfErr, IfOk, map};
 ghost use Rattle.call_log.specs.Audits.{IsAudited};
 ghost use Rattle.command.specs.declared.log_audit.AuditError.TheVariants as fault;
-ghost use Rattle.command.specs.Audits.{AreLogsRead, IsJudged, IsLogBytes, IsLogRead, IsNotAudited, IsNotRead, IsNotSaved, IsUnjudged, EndsInLine, passes, status_of};
+ghost use Rattle.command.specs.Audits.{AreLogsRead, IsJudged, IsLogBytes, IsLogRead, IsNotAudited, IsNotRead, IsNotSaved, IsUnjudged};
+ghost use Rattle.command.specs.Audits.{EndsInLine, passes, status_of};
 
 use call_log::{LinePosition, LogError, LogReport, Progress, audit_logs, state_of};
 use diagnosis::{Escaped, LONG_WORDS, say_about, say_memory, say_write};
