@@ -12,6 +12,7 @@ import subprocess
 import sys
 import tempfile
 import time
+from collections.abc import Sequence
 from pathlib import Path
 
 from hourstable import logs
@@ -134,6 +135,13 @@ def _audit_words(words: argparse.ArgumentParser) -> None:
     words.add_argument("folder", type=Path, help="the logs of a job, or of all jobs")
     words.add_argument("--hourstable", metavar="PROGRAM",
                        help=f"the program; else that of ${PROGRAM}, else hourstable in PATH")
+    words.add_argument("--strict", action="store_true",
+                       help="clocks that were not timely are a fault, too")
+    words.add_argument("--all", action="store_true", help="tell the first 20 wrong replies")
+    words.add_argument("--from", type=Path, metavar="STATE", dest="begins",
+                       help="go on from the state that earlier logs of the job left")
+    words.add_argument("--until", type=Path, metavar="STATE",
+                       help="save the state that the logs of the job leave, if they are one run")
 
 
 def _control(chosen: argparse.Namespace) -> int:
@@ -293,17 +301,28 @@ def _audit(chosen: argparse.Namespace) -> int:
     )
     if not folders:
         raise ValueError(f"{chosen.folder} has no logs")
-    return max(audit(folder, program, len(folders) > 1) for folder in folders)
+    if len(folders) > 1 and (chosen.begins or chosen.until):
+        raise ValueError("a state is one of a job: name the folder of its logs")
+    options = _audit_options(chosen)
+    return max(audit(folder, program, options, len(folders) > 1) for folder in folders)
 
 
-def audit(folder: Path, program: str, tell: bool) -> int:
-    """Hands the logs of a job to the program, and returns its status."""
+def _audit_options(chosen: argparse.Namespace) -> list[str]:
+    options = [f"--{name}" for name in ("strict", "all") if getattr(chosen, name)]
+    for name, state in (("from", chosen.begins), ("until", chosen.until)):
+        if state:
+            options += [f"--{name}", str(state.absolute())]
+    return options
+
+
+def audit(folder: Path, program: str, options: Sequence[str], tell: bool) -> int:
+    """Hands the logs of a job to the program, with its options, and returns its status."""
     with tempfile.TemporaryDirectory(prefix="hourstable-audit.") as laid:
         paths = logs.lay_out(folder, laid)
         if tell:
             print(f"{folder.name}:", flush=True)
         names = [path.name for path in paths]
-        return subprocess.run([os.path.abspath(program), "audit", *names], cwd=laid).returncode
+        return subprocess.run([os.path.abspath(program), "audit", *options, *names], cwd=laid).returncode
 
 
 if __name__ == "__main__":

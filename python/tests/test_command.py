@@ -175,6 +175,11 @@ def test_an_audit_is_that_of_the_program(
     assert main(["audit", str(tmp_path / "logs")]) == 1
     assert capfd.readouterr().out == told
     assert main(["audit", str(tmp_path / "none")]) == 2
+    options = ["--strict", "--all", "--from", "/old", "--until", "/new"]
+    assert main(["audit", *options, str(folder)]) == 1
+    assert capfd.readouterr().out.startswith(f"audit {' '.join(options)} control-0.2026-01-02.jsonl ")
+    logs.Log(logs.folder_of(tmp_path / "logs", "cart"), "control-0", logs.job_line(POLICY)).close()
+    assert main(["audit", "--until", "/new", str(tmp_path / "logs")]) == 2
     monkeypatch.delenv("HOURSTABLE_PROGRAM")
     monkeypatch.setenv("PATH", "/nonexistent")
     assert main(["audit", str(folder)]) == 2
