@@ -17,3 +17,6 @@ pub mod Compared
 pub mod GoingOn
 pub mod Lasting
 pub mod Passing
+pub mod LineTaking
+pub mod Breaking
+pub mod Telling

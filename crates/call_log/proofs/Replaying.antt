@@ -26,7 +26,7 @@ use Rattle.call_log.specs.Late.{AreWatched}
 use Rattle.call_log.specs.Restores.{IsTaken, grant_to_nobody}
 use Rattle.call_log.specs.Told.{is_worded}
 use Rattle.call_log.specs.Audited.{StandsFor, IsPastOf, Tells, IsOneRun, IsBreak, IsCausedBreak}
-use Rattle.call_log.specs.Causes.{IsCauseOf}
+use Rattle.call_log.specs.Questions.{IsCauseOf}
 use Rattle.call_log.specs.internals.Answers.{IsAnswered}
 use Rattle.call_log.proofs.Watching.{free_of_clock, free_of_table}
 
@@ -73,7 +73,7 @@ module _ (entries : List LogEntry) (i : ℕ) (entry : LogEntry) (low : i < lengt
   -- the same, with the cause
   pub caused_here : (job : Job) (past : Past) (next : Cluster) (wanted : CallerReply) (held : Option HeldLeases) (cause : Option Cause)
       → IsPastOf job (reverse (take i entries)) past → (answered : IsAnswered job past entry.line (Some wanted) next) → IsRun job answered.played.after
-      → held ≡ held_by_asked job answered.played.after entry.line.call → IsCauseOf answered.played.after entries i entry.line.call wanted cause
+      → held ≡ held_by_asked job answered.played.after entry.line.call → IsCauseOf job answered.played.after entries i entry.line.call wanted cause
       → IsCausedBreak job entries i wanted held cause
   unfolding breaks_here
   caused_here job past next wanted held cause told answered run leases because = record {

@@ -2,38 +2,22 @@
 use Rattle.std.specs.Prelude.{◌≡◌, ℕ, ◌+◌, ◌<◌, Bool, true, false, List, [], ◌∷◌, length, reverse, take, Option, Some, None, slice_get}
 use Rattle.std.specs.List.{AllAdjacentBelow}
 use Rattle.cluster.specs.Jobs.{Job}
-use Rattle.cluster.specs.declared.reply.ClusterReply.{ClusterReply}
-use Rattle.cluster.specs.Pasts.{event, Past, readings}
+use Rattle.cluster.specs.Pasts.{Past, readings}
 use Rattle.cluster.specs.Timing.{IsTimely}
 use Rattle.cluster.specs.Runs.{IsRun}
 use Rattle.call_log.specs.declared.told.CallerReply.{CallerReply}
 use Rattle.audit.specs.OneRun.{Rises}
 use Rattle.call_log.specs.declared.cause.Cause.{Cause}
 use Rattle.call_log.specs.declared.entry.LogEntry.{LogEntry}
-use Rattle.call_log.specs.declared.line.LoggedCall.{LoggedCall}
-use Rattle.call_log.specs.declared.line.LoggedCall.TheVariants.{Whole, HearBare, Restore}
 use Rattle.call_log.specs.declared.late.Late.{Late}
 use Rattle.call_log.specs.declared.finding.HeldLeases.{HeldLeases}
 use Rattle.call_log.specs.declared.finding.Finding.{Finding}
 use Rattle.call_log.specs.declared.finding.Finding.TheVariants.{One, Double, Other}
-use Rattle.call_log.specs.Calls.{call_after, held_by_asked}
-use Rattle.call_log.specs.Causes.{IsCauseOf}
+use Rattle.call_log.specs.Calls.{held_by_asked}
+use Rattle.call_log.specs.Questions.{IsCauseOf}
 use Rattle.call_log.specs.Late.{IsLate}
-use Rattle.call_log.specs.Restores.{IsRestored}
-use Rattle.call_log.specs.Told.{is_worded, told_after}
-
--- after these calls a line's call is answered, and its caller is told so
-pub record IsCalled (before : Past) (c : LoggedCall) (told : CallerReply) (after : Past) : Type 0 where
-  pub answer : ClusterReply
-  pub tells : told ≡ told_after before c answer
-  pub made : after ≡ event (call_after before c) answer ∷ before
-
--- what the caller of a line's call is told after these calls, and the calls once those are made that the line stands for: its call, or
--- those of a restored table
-abbrev pub StandsFor : Job → Past → LoggedCall → CallerReply → Past → Type 0
-StandsFor job before (Whole c) told after = IsCalled before (Whole c) told after
-StandsFor job before (HearBare task grant at) told after = IsCalled before (HearBare task grant at) told after
-StandsFor job before (Restore numbers) told after = IsRestored job before numbers told after
+pub use Rattle.call_log.specs.Played.{IsCalled, StandsFor}
+use Rattle.call_log.specs.Told.{is_worded}
 
 -- the calls of a past are those that these entries stand for, both newest first, and each caller was told so, in the words of its line
 abbrev pub IsPastOf : Job → List LogEntry → Past → Type 0
@@ -72,11 +56,11 @@ pub record IsBreak (job : Job) (entries : List LogEntry) (index : ℕ) (wanted :
   pub other : is_worded entry.line.reply wanted ≡ false
   pub leases : held ≡ held_by_asked job after entry.line.call
 
--- the same, and why nothing sent before what the call delivers
+-- the same, and why the caller should have been told this
 pub record IsCausedBreak (job : Job) (entries : List LogEntry) (index : ℕ) (wanted : CallerReply) (held : Option HeldLeases)
     (cause : Option Cause) : Type 0 where
   pub fault : IsBreak job entries index wanted held
-  pub because : IsCauseOf fault.after entries index fault.entry.line.call wanted cause
+  pub because : IsCauseOf job fault.after entries index fault.entry.line.call wanted cause
 
 -- the entries at these places, one after the other, have one ticket, and the tickets before them rise
 pub record IsDouble (entries : List LogEntry) (first second : ℕ) : Type 0 where

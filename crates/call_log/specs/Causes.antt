@@ -15,8 +15,6 @@ use Rattle.clerk.specs.declared.call.ClerkCall.TheVariants.{Learn}
 use Rattle.cluster.specs.declared.call.ClusterCall.TheVariants as call
 use Rattle.cluster.specs.Numbers.{with_number}
 use Rattle.cluster.specs.Pasts.{Past, grants}
-use Rattle.world.specs.declared.reply.Reply.TheVariants as reply
-use Rattle.world.specs.declared.reply.Refusal.TheVariants.{NotSent}
 use Rattle.call_log.specs.declared.cause.Cause.{Cause}
 use Rattle.call_log.specs.declared.cause.Cause.TheVariants.{Later, Other, Nothing}
 use Rattle.call_log.specs.declared.cause.Change.{Change}
@@ -28,8 +26,6 @@ use Rattle.call_log.specs.declared.entry.LogEntry.{LogEntry}
 use Rattle.call_log.specs.declared.line.BareGrant.{BareGrant}
 use Rattle.call_log.specs.declared.line.LoggedCall.{LoggedCall}
 use Rattle.call_log.specs.declared.line.LoggedCall.TheVariants.{Whole, HearBare}
-use Rattle.call_log.specs.declared.told.CallerReply.{CallerReply}
-use Rattle.call_log.specs.declared.told.CallerReply.TheVariants.{Scripted}
 use Rattle.call_log.specs.Sent.{NonePasses, IsFirst, IsFirstFrom, bare, sends_grant, sends_proposal, sends_commit, sends_note, sends_handle, hides_handle}
 
 -- the members of a grant that differ from those of another one, in this order
@@ -79,6 +75,7 @@ abbrev pub IsGrantCause : Past → List LogEntry → ℕ → LoggedCall → Bare
 IsGrantCause past entries index c g (Later place) = IsFirst (sends_grant g) entries (index + 1) place
 IsGrantCause past entries index c g (Other changed) = NoLaterGrant entries index g × IsGrantChangedOr past (take index entries) c g (Some changed)
 IsGrantCause past entries index c g Nothing = NoLaterGrant entries index g × IsGrantChangedOr past (take index entries) c g None
+IsGrantCause past entries index c g _ = ⊥
 
 -- the first commit of an assignment's generation that comes after this place and after an accepted proposal of it
 pub record IsCommitted (entries : List LogEntry) (index : ℕ) (a : Slicing) (place : ℕ) : Type 0 where
@@ -97,6 +94,7 @@ IsAssignmentCause entries index a (Later place) = IsCommittedOr entries index a 
 IsAssignmentCause entries index a (Other changed) =
     IsCommittedOr entries index a None × IsFirst (sends_proposal true a) (take index entries) 0 changed.place × (changed.change ≡ change.Slices)
 IsAssignmentCause entries index a Nothing = IsCommittedOr entries index a None × IsFirstFrom (sends_proposal true a) (take index entries) 0 None
+IsAssignmentCause entries index a _ = ⊥
 
 -- why no task sent a note before: a later entry is the first that does; or none does, and one of the other kind was sent before; or none is
 abbrev pub other_kind : Kind → Kind
@@ -115,11 +113,7 @@ IsNoteCause entries index n (Other changed) =
     NoLaterNote entries index n × IsFirst (sends_note (of_other_kind n)) (take index entries) 0 changed.place
     × (changed.change ≡ change.Kind n.kind (other_kind n.kind))
 IsNoteCause entries index n Nothing = NoLaterNote entries index n × IsFirstFrom (sends_note (of_other_kind n)) (take index entries) 0 None
-
--- a reply refuses what nothing sent before
-abbrev pub is_not_sent : CallerReply → Bool
-is_not_sent (Scripted (reply.Refused NotSent)) = true
-is_not_sent _ = false
+IsNoteCause entries index n _ = ⊥
 
 -- the key of the handle that an entry takes, 0 if it takes none
 abbrev pub key_in : LoggedCall → ℕ
@@ -147,6 +141,7 @@ IsHandleCause entries index h (Some Nothing) =
     NoLaterHandle entries index h × NoOtherHandle entries index h × IsFirstFrom (hides_handle h) entries 0 None
 IsHandleCause entries index h None =
     NoLaterHandle entries index h × NoOtherHandle entries index h × ((place : ℕ) × IsFirst (hides_handle h) entries 0 place)
+IsHandleCause entries index h _ = ⊥
 
 -- the note, or the handle, that a call delivers
 abbrev pub note_delivered : LoggedCall → Option ReleaseNote
@@ -171,11 +166,3 @@ IsCauseBy past entries index c None None None cause = IsLearnCause entries index
 
 abbrev pub IsCauseFor : Past → List LogEntry → ℕ → LoggedCall → Option Cause → Type 0
 IsCauseFor past entries index c cause = IsCauseBy past entries index c (grant_delivered c) (note_delivered c) (handle_delivered c) cause
-
--- why a caller should have been told this
-abbrev pub IsCauseIf : Bool → Past → List LogEntry → ℕ → LoggedCall → Option Cause → Type 0
-IsCauseIf true past entries index c cause = IsCauseFor past entries index c cause
-IsCauseIf false past entries index c cause = cause ≡ None
-
-abbrev pub IsCauseOf : Past → List LogEntry → ℕ → LoggedCall → CallerReply → Option Cause → Type 0
-IsCauseOf past entries index c wanted cause = IsCauseIf (is_not_sent wanted) past entries index c cause

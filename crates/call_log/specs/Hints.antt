@@ -1,6 +1,7 @@
--- Which line a log lacks, where a process of a task began and no line says so.
-use Rattle.std.specs.Prelude.{◌≡◌, ◌⊎◌, ℕ, ◌+◌, ◌==◌, max, Bool, true, false, List, [], ◌∷◌, ◌++◌, codes, decimal, reverse, take, insert}
+-- Which lines a log lacks: where a process of a task began and no line says so, and where the table gave grants that no line tells.
+use Rattle.std.specs.Prelude.{◌≡◌, ◌⊎◌, ℕ, ◌<◌, ◌≤◌, ◌+◌, ◌-◌, ◌^◌, ◌==◌, nat_eq, nat_lt, max, Bool, true, false, List, [], ◌∷◌, ◌++◌, codes, decimal, reverse, take, insert}
 use Rattle.std.specs.Prelude.{Option, Some, None, option_and_then, slice_get, if◌then◌else◌}
+use Rattle.std.specs.List.{starts_with}
 use Rattle.lease_table.specs.declared.call.TableCall.TheVariants as table_call
 use Rattle.slicelet.specs.declared.call.SliceletCall.TheVariants as task_call
 use Rattle.cluster.specs.Jobs.{Job}
@@ -14,6 +15,7 @@ use Rattle.call_log.specs.declared.finding.HeldLeases.{HeldLeases}
 use Rattle.call_log.specs.declared.hint.Hint.{Hint}
 use Rattle.call_log.specs.declared.line.LoggedCall.{LoggedCall}
 use Rattle.call_log.specs.declared.line.LoggedCall.TheVariants.{Whole, HearBare}
+use Rattle.call_log.specs.declared.missing.MissingGrants.{MissingGrants}
 use Rattle.call_log.specs.declared.told.CallerReply.{CallerReply}
 use Rattle.call_log.specs.declared.told.CallerReply.TheVariants.{Scripted}
 use Rattle.lease_rule.specs.declared.answer.Ground.TheVariants.{Down}
@@ -128,3 +130,50 @@ task_down None wanted = None
 abbrev pub unstarted : List LogEntry → Finding → Option ℕ
 unstarted entries (Other index wanted held cause) = task_down (slice_get entries index) wanted
 unstarted entries finding = None
+
+-- words tell the grant of this number: they begin as the reply to a `grant` does
+abbrev pub tells_grant : ℕ → List ℕ → Bool
+tells_grant number words = starts_with nat_eq words (codes "grant " ++ (decimal number ++ codes " "))
+
+-- the number of the grant that words tell, if they tell one with a number below 2 ^ 64
+abbrev pub IsNumberTold : List ℕ → Option ℕ → Type 0
+IsNumberTold words (Some number) = (number < 2 ^ 64) × (tells_grant number words ≡ true)
+IsNumberTold words None = (number : ℕ) → number < 2 ^ 64 → tells_grant number words ≡ false
+
+-- the number of the grant that a caller should have got
+abbrev pub number_wanted : CallerReply → Option ℕ
+number_wanted (Scripted (reply.Granted grant)) = Some grant.number
+number_wanted _ = None
+
+-- the grants from the one that a caller should have got to the last one before that of which it was told
+abbrev pub grants_between : Option ℕ → Option ℕ → Option MissingGrants
+grants_between (Some wanted) (Some told) = if nat_lt wanted told then Some (record { first = wanted; last = told - 1 }) else None
+grants_between _ _ = None
+
+-- words tell one of these grants
+abbrev pub IsOneTold : MissingGrants → List ℕ → Bool → Type 0
+IsOneTold grants words true = (number : ℕ) × (grants.first ≤ number) × (number ≤ grants.last) × (tells_grant number words ≡ true)
+IsOneTold grants words false = (number : ℕ) → grants.first ≤ number → number ≤ grants.last → tells_grant number words ≡ false
+
+-- the words of some entry do
+abbrev pub AreTold : MissingGrants → List LogEntry → Bool → Type 0
+AreTold grants entries true = (place : ℕ) × (entry : LogEntry) × (slice_get entries place ≡ Some entry) × IsOneTold grants entry.line.reply true
+AreTold grants entries false = (place : ℕ) (entry : LogEntry) → slice_get entries place ≡ Some entry → IsOneTold grants entry.line.reply false
+
+-- they are missing if no entry tells one of them
+abbrev pub AreMissing : List LogEntry → Option MissingGrants → Option MissingGrants → Type 0
+AreMissing entries None missing = missing ≡ None
+AreMissing entries (Some grants) None = AreTold grants entries true
+AreMissing entries (Some grants) (Some missing) = (missing ≡ grants) × AreTold grants entries false
+
+-- the words of the reply in an entry
+abbrev pub words_in : Option LogEntry → List ℕ
+words_in (Some entry) = entry.line.reply
+words_in None = []
+
+-- the grants that the logs lack, where a caller was told of a later grant than it should have got
+abbrev pub AreMissingFor : List LogEntry → Finding → Option MissingGrants → Type 0
+AreMissingFor entries (Other index wanted held cause) missing =
+    (told : Option ℕ) × IsNumberTold (words_in (slice_get entries index)) told × AreMissing entries (grants_between (number_wanted wanted) told) missing
+AreMissingFor entries (One steps late) missing = missing ≡ None
+AreMissingFor entries (Double first second) missing = missing ≡ None

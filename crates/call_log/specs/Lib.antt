@@ -10,11 +10,16 @@ pub mod Told
 -- Whether the calls of a log are one run.
 pub mod Restores
 pub mod Calls
+pub mod Played
 pub mod Late
 pub mod Sent
+pub mod Broken
 pub mod Causes
+pub mod Refusals
+pub mod Questions
 pub mod Audited
 pub mod Days
+pub mod Readers
 pub mod WrongReplies
 pub mod Hints
 pub mod Callers

@@ -26,10 +26,11 @@ use Rattle.call_log.specs.declared.finding.Finding.TheVariants.{One, Double, Oth
 use Rattle.call_log.specs.declared.finding.HeldLeases.{HeldLeases}
 use Rattle.call_log.specs.declared.hint.Hint.{Hint}
 use Rattle.call_log.specs.declared.late.Late.{Late}
+use Rattle.call_log.specs.declared.missing.MissingGrants.{MissingGrants}
 use Rattle.call_log.specs.Callers.{calls_line, silent_line}
 use Rattle.call_log.specs.Calls.{reading_in}
 use Rattle.call_log.specs.Coarse.{coarse_line}
-use Rattle.call_log.specs.Hints.{unstarted}
+use Rattle.call_log.specs.Hints.{AreMissingFor, unstarted}
 use Rattle.call_log.specs.Told.{plain_text}
 
 -- where an entry stands: the name of its file, with escapes, and the number of its line
@@ -109,13 +110,22 @@ change_text there (change.Kind here other) =
 change_text there change.Ranges = codes "\"ranges\" are not those of " ++ there
 change_text there change.Slices = codes "\"slices\" are not those of " ++ there
 
--- why nothing sent before what a call delivers
+-- why a caller should have been told something else
 abbrev pub cause_text : List (List ℕ) → List LogEntry → Option Cause → List ℕ
 cause_text names entries None = []
 cause_text names entries (Some (because.Later place)) =
     codes ": it is sent later, at " ++ (standing_at names entries place ++ (codes ", ticket " ++ decimal (ticket_of (slice_get entries place))))
 cause_text names entries (Some (because.Other changed)) = codes ": " ++ change_text (standing_at names entries changed.place) changed.change
 cause_text names entries (Some because.Nothing) = codes ": no line of the logs sends it"
+cause_text names entries (Some (because.TakenAway place)) = codes ": " ++ (standing_at names entries place ++ codes " took its key away")
+cause_text names entries (Some (because.TermEnded term at)) = codes ": term " ++ (decimal term ++ (codes " ended at " ++ decimal at))
+cause_text names entries (Some (because.OtherTerm term)) = codes ": the table's term is " ++ decimal term
+cause_text names entries (Some (because.ReadAt at)) = codes ": read at " ++ decimal at
+cause_text names entries (Some (because.ReadAfter at last)) = codes ": read at " ++ (decimal at ++ (codes " after " ++ decimal last))
+cause_text names entries (Some (because.RowEnds ends at)) = codes ": it ends at " ++ (decimal ends ++ (codes ", read at " ++ decimal at))
+cause_text names entries (Some (because.GrantEnded kind number ends at)) =
+    codes ": " ++ (kind_word kind ++ (codes " " ++ (decimal number ++ (codes " ended at " ++ (decimal ends ++ (codes ", read at " ++ decimal at))))))
+cause_text names entries (Some (because.InLife life)) = codes ": the task is in life " ++ decimal life
 
 -- two entries of one ticket, the later one first
 abbrev pub double_text : List (List ℕ) → List LogEntry → ℕ → ℕ → List ℕ
@@ -163,6 +173,18 @@ abbrev pub start_text : Option ℕ → List ℕ
 start_text None = []
 start_text (Some task) = codes "hint: a start line of task " ++ (decimal task ++ codes " may be missing before this call\n")
 
+-- grants that the logs lack
+abbrev pub missing_line : MissingGrants → List ℕ
+missing_line grants = if grants.first == grants.last
+    then codes "hint: grant " ++ (decimal grants.first
+    ++ codes " is not in the logs: lines of the table may be missing before this call, or a second table ran\n")
+    else codes "hint: grants " ++ (decimal grants.first ++ (codes " to " ++ (decimal grants.last
+    ++ codes " are not in the logs: lines of the table may be missing before this call, or a second table ran\n")))
+
+abbrev pub missing_text : Option MissingGrants → List ℕ
+missing_text None = []
+missing_text (Some grants) = missing_line grants
+
 -- the lines for calls that are one run: how many there are, of which actors, how many replies were judged by one word, whose calls the log may
 -- lack, and whether the clocks were timely
 abbrev pub one_text : Job → List (List ℕ) → List LogEntry → ℕ → Option Late → List ℕ
@@ -179,5 +201,6 @@ IsReport job names entries (Other index wanted held cause) text = IsOtherOf name
 -- these lines, hints if there are any, and the later wrong replies if there are any
 abbrev pub IsWholeReport : Job → List (List ℕ) → List LogEntry → Finding → Option Hint → List WrongReply → List ℕ → Type 0
 IsWholeReport job names entries finding hint later text =
-    (lines : List ℕ) × IsReport job names entries finding lines × (text ≡ lines ++ (hint_text names entries hint
-    ++ (start_text (unstarted entries finding) ++ later_text names entries later)))
+    (lines : List ℕ) × IsReport job names entries finding lines × (missing : Option MissingGrants) × AreMissingFor entries finding missing
+    × (text ≡ lines ++ (hint_text names entries hint ++ (start_text (unstarted entries finding) ++ (missing_text missing
+    ++ later_text names entries later))))

@@ -1,6 +1,6 @@
 pub mod Alike
 pub mod Answers
-pub mod Shown
+pub mod Parts
 pub mod Reading
 pub mod Opening
 pub mod Watching

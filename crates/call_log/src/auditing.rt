@@ -1,20 +1,19 @@
-//! Audits of logs: the bytes of files in, the lines of a report out.
+//! Audits of logs: a log in, the lines of a report out.
 
-ghost use Rattle.std.specs.Prelude.{◌≡◌, IfErr, IfOk, map};
+ghost use Rattle.std.specs.Prelude.{◌≡◌, ℕ, IfOk, List, map};
 ghost use Rattle.call_log.specs.Audited.{is_one, is_timely};
 ghost use Rattle.call_log.specs.Audits.{IsAudited};
-ghost use Rattle.call_log.specs.Files.{IsUnread, lines_from};
+ghost use Rattle.call_log.specs.Files.{IsLog, lines_from};
 
 use crate::comparing::later_wrong_replies;
 use crate::entry::LinePosition;
 use crate::finding::Finding;
 use crate::hint::hint_for;
 use crate::judging::audit_calls;
-use crate::log::LogError;
-use crate::log_reading::read_log;
+use crate::log::Log;
 use crate::progress::Progress;
 use crate::report::{NamedEntries, report_of};
-use std::alloc::Global;
+use std::alloc::{AllocError, Global};
 
 /// The result of an audit.
 #[derive(Debug, Drop)]
@@ -41,32 +40,35 @@ fn is_timely(finding: &Finding) -> bool
     matches!(finding, Finding::One { late: None, .. })
 }
 
-/// Reads the log in the files, and judges its calls in the order of their tickets.
+/// Judges the calls of a log in the order of their tickets.
 ///
 /// `names` are the names of the files. With `all`, the report tells later wrong replies too,
-/// up to [`crate::MOST_WRONG_REPLIES`] in all. Errors are those of [`read_log`].
-pub fn audit_logs<P: Progress>(
+/// up to [`crate::MOST_WRONG_REPLIES`] in all.
+pub fn audit_log<P: Progress>(
     alloc: Global,
     names: &[&str],
-    files: &[&[u8]],
+    log: Log,
     all: bool,
     progress: &mut P,
-) -> Result<LogReport, LogError>
-    ensures ok { IfOk result (λ report.
-        IsAudited (map (λ n. n.now) names.now) (map (λ f. f.now) files.now) all report) }
-    ensures err { IfErr result (IsUnread (lines_from 0 (map (λ f. f.now) files.now))) }
+) -> Result<LogReport, AllocError>
+    ensures { (files : List (List ℕ)) → IsLog (lines_from 0 files) log
+        → IfOk result (IsAudited (map (λ n. n.now) names.now) files all) }
 {
-    let mut log = read_log(alloc, files, progress)?;
-    let finding = audit_calls(alloc, log.job, &mut log.entries, progress)?;
-    let entries = log.entries.as_slice();
+    let Log {
+        job,
+        mut entries,
+        torn,
+    } = log;
+    let finding = audit_calls(alloc, job, &mut entries, progress)?;
+    let entries = entries.as_slice();
     let named = NamedEntries { names, entries };
-    let hint = hint_for(alloc, log.job, entries, &finding)?;
-    let later = later_wrong_replies(alloc, log.job, entries, all, &finding)?;
-    let text = report_of(alloc, log.job, named, &finding, hint, later.as_slice())?;
+    let hint = hint_for(alloc, job, entries, &finding)?;
+    let later = later_wrong_replies(alloc, job, entries, all, &finding)?;
+    let text = report_of(alloc, job, named, &finding, hint, later.as_slice())?;
     Ok(LogReport {
         is_one: is_one(&finding),
         is_timely: is_timely(&finding),
         text,
-        torn: log.torn,
+        torn,
     })
 }

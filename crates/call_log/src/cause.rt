@@ -1,4 +1,4 @@
-//! Why a call delivers what nothing sent before it.
+//! Why a caller should have got another reply.
 
 use lease_rule::Kind;
 
@@ -46,10 +46,11 @@ pub struct Changed {
     pub change: Change,
 }
 
-/// Why nothing sent before what a call delivers.
+/// Why a caller should have got another reply.
 ///
-/// Another stands in its place if it has the number of a grant, the generation of an assignment,
-/// the task, life and number of a note, or the task, life and position of a handle.
+/// The first three variants say why nothing sent before what a call delivers. Another stands in its
+/// place if it has the number of a grant, the generation of an assignment, the task, life and number
+/// of a note, or the task, life and position of a handle.
 #[derive(Clone, Copy, Debug, PartialEq, Eq)]
 pub enum Cause {
     /// It is sent later: the entry at this index is the first that sends it.
@@ -58,4 +59,44 @@ pub enum Cause {
     Other(Changed),
     /// No later entry sends it, and no other in its place was sent before.
     Nothing,
+    /// A handle is broken: the entry at this index is the first that took its key away.
+    TakenAway(usize),
+    /// The term that a call names is the last one that the table gave, and has ended.
+    TermEnded {
+        /// The term.
+        term: u64,
+        /// The first reading, in ticks, at which it has ended.
+        at: u64,
+    },
+    /// A call names another term than the last one that the table gave, which is this one.
+    OtherTerm(u64),
+    /// The reading of a call, in ticks, is too early.
+    ReadAt(u64),
+    /// A reading is below the last accepted one of its clock.
+    ReadAfter {
+        /// The reading of the call, in ticks.
+        at: u64,
+        /// The last accepted one, in ticks.
+        last: u64,
+    },
+    /// The row that holds a commit up has not ended.
+    RowEnds {
+        /// The table's deadline of the row, in ticks.
+        ends: u64,
+        /// The reading of the commit, in ticks.
+        at: u64,
+    },
+    /// The lease of a grant that a call delivers has ended.
+    GrantEnded {
+        /// The kind of the lease.
+        kind: Kind,
+        /// The number of the grant.
+        number: u64,
+        /// The task's deadline, in ticks.
+        ends: u64,
+        /// The reading of the call, in ticks.
+        at: u64,
+    },
+    /// The task is in this life.
+    InLife(u32),
 }

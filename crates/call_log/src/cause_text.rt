@@ -1,4 +1,4 @@
-//! The words for why nothing sent before what a call delivers.
+//! The words for why a caller should have got another reply.
 
 ghost use Rattle.std.specs.Prelude.{◌≡◌, Some, map};
 ghost use Rattle.call_log.specs.Reports.{cause_text, change_text, member_word, standing_at};
@@ -54,7 +54,7 @@ impl fmt::Display for ChangeText<'_> {
     }
 }
 
-/// Displays why nothing sent before what a call delivers.
+/// Displays why a caller should have got another reply.
 #[derive(Clone, Copy)]
 pub struct CauseText<'a> {
     /// The log.
@@ -84,6 +84,27 @@ impl fmt::Display for CauseText<'_> {
                 write!(f, ": {change}")
             }
             Some(Cause::Nothing) => f.write_str(": no line of the logs sends it"),
+            Some(Cause::TakenAway(index)) => {
+                let place = Standing { log, index };
+                write!(f, ": {place} took its key away")
+            }
+            Some(Cause::TermEnded { term, at }) => write!(f, ": term {term} ended at {at}"),
+            Some(Cause::OtherTerm(term)) => write!(f, ": the table's term is {term}"),
+            Some(Cause::ReadAt(at)) => write!(f, ": read at {at}"),
+            Some(Cause::ReadAfter { at, last }) => write!(f, ": read at {at} after {last}"),
+            Some(Cause::RowEnds { ends, at }) => write!(f, ": it ends at {ends}, read at {at}"),
+            Some(
+                Cause::GrantEnded {
+                    kind,
+                    number,
+                    ends,
+                    at,
+                },
+            ) => {
+                let kind = kind_word(kind);
+                write!(f, ": {kind} {number} ended at {ends}, read at {at}")
+            }
+            Some(Cause::InLife(life)) => write!(f, ": the task is in life {life}"),
         }
     }
 }

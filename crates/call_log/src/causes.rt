@@ -5,16 +5,15 @@ ghost use Rattle.machines.specs.Refusals.{first_of};
 ghost use Rattle.cluster.specs.Jobs.{Job};
 ghost use Rattle.cluster.specs.Pasts.{Past};
 ghost use Rattle.cluster.specs.Clusters.{LeadsTo};
-ghost use Rattle.call_log.specs.Causes.{IsAssignmentCause, IsCauseFor, IsCauseOf, IsCommittedOr, IsGrantCause, IsGrantChangedOr};
+ghost use Rattle.call_log.specs.Causes.{IsAssignmentCause, IsCauseFor, IsCommittedOr, IsGrantCause, IsGrantChangedOr};
 ghost use Rattle.call_log.specs.Causes.{IsHandleCause, IsLearnCause, IsNoteCause, grant_changes, grant_delivered, handle_delivered};
-ghost use Rattle.call_log.specs.Causes.{has_other_ranges, is_not_sent, key_in, key_taken, kind_change, note_delivered, number_change};
+ghost use Rattle.call_log.specs.Causes.{has_other_ranges, key_in, key_taken, kind_change, note_delivered, number_change};
 ghost use Rattle.call_log.specs.Causes.{of_other_kind, other_kind};
 
 use crate::cause::{Cause, Change, Changed, Member};
 use crate::entry::LogEntry;
 use crate::line::{BareGrant, LoggedCall};
 use crate::sent::{Sent, bare, first_proposal, first_sender};
-use crate::told::CallerReply;
 use assignment::Assignment;
 use clerk::ClerkCall;
 use cluster::{Cluster, ClusterCall};
@@ -23,7 +22,6 @@ use lease_table::{ReleaseNote, TableCall};
 use slice_ranges::Ranges;
 use slicelet::{KeyHandle, SliceletCall};
 use std::alloc::{AllocError, Global};
-use world::{Refusal, Reply};
 
 fn number_change(member: Member, here: u64, there: u64) -> Option<Change>
     ensures { result ≡ number_change member here there }
@@ -49,8 +47,8 @@ fn kind_change(here: Kind, there: Kind) -> Option<Change>
     }
 }
 
-// Returns the grant that a call delivers.
-fn grant_delivered(call: &LoggedCall) -> Option<BareGrant>
+/// Returns the grant that a call delivers.
+pub fn grant_delivered(call: &LoggedCall) -> Option<BareGrant>
     ensures { result ≡ grant_delivered call.now }
 {
     match call {
@@ -287,16 +285,6 @@ fn handle_cause(
     }
 }
 
-// Whether a reply refuses what nothing sent before.
-fn is_not_sent(told: &CallerReply) -> bool
-    ensures { result ≡ is_not_sent told.now }
-{
-    matches!(
-        told,
-        CallerReply::Scripted(Reply::Refused(Refusal::NotSent))
-    )
-}
-
 // Returns why nothing committed before the entry at `index` an assignment that its call delivers.
 fn learn_cause(
     alloc: Global,
@@ -341,8 +329,8 @@ fn handle_delivered(call: &LoggedCall) -> Option<KeyHandle>
     }
 }
 
-// Returns why nothing sent before what the call of the entry at `index` delivers.
-fn cause_for(
+/// Returns why nothing sent before what `call` delivers, which the entry at `index` makes.
+pub fn cause_for(
     alloc: Global,
     cluster: &Cluster,
     entries: &[LogEntry],
@@ -365,25 +353,4 @@ fn cause_for(
         return handle_cause(alloc, entries, index, &handle);
     }
     learn_cause(alloc, entries, index, call)
-}
-
-/// Returns why the caller of the entry at `index`, which makes `call`, should have got `wanted`, if
-/// that refuses what nothing sent before.
-pub fn cause_of(
-    alloc: Global,
-    cluster: &Cluster,
-    entries: &[LogEntry],
-    index: usize,
-    call: &LoggedCall,
-    wanted: &CallerReply,
-) -> Result<Option<Cause>, AllocError>
-    requires { index < length entries.now }
-    ensures { (job : Job) (past : Past) → LeadsTo job past cluster.now
-        → IfOk result (IsCauseOf past entries.now index call.now wanted.now) }
-{
-    if is_not_sent(wanted) {
-        cause_for(alloc, cluster, entries, index, call)
-    } else {
-        Ok(None)
-    }
 }

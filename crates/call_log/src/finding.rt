@@ -38,8 +38,10 @@ pub enum Finding {
         /// The leases of the task that the call asks for a key; `None` for other calls, or if the
         /// job has no such task.
         held: Option<HeldLeases>,
-        /// Why nothing sent before what the call delivers; `None` if it is not refused for that, or
-        /// if it delivers a handle and the log does not say which handles on its key were given.
+        /// Why nothing sent before what the call delivers, which call broke the handle that it
+        /// checks, or which term, reading or life refuses it. `None` for other replies, if a handle
+        /// is delivered and the log does not say which handles on its key were given, if no call
+        /// broke the handle, or if the table has given no term.
         cause: Option<Cause>,
     },
 }

@@ -1,12 +1,12 @@
 //! The job lines of a log: the first lines of its files that have a job.
 
-ghost use Rattle.std.specs.Prelude.{◌≡◌, map, None, IfErr, IfOk};
+ghost use Rattle.std.specs.Prelude.{◌≡◌, ◌++◌, ◌∷◌, [], List, None, map, IfErr, IfOk, OnOk};
 ghost use Rattle.diagnosis.specs.JobLines.{SaysJob};
-ghost use Rattle.call_log.specs.Files.{AreParted, IsJobLine, begins_file};
+ghost use Rattle.call_log.specs.Files.{AreParted, IsJobLine, PlacedLine, begins_file};
+ghost use Rattle.call_log.specs.Readers.{AreJobLines, IsFirst, file_after, kept, others_with, shown};
 ghost use Rattle.call_log.specs.internals.Reading.{IsJobMember, IsJobOf, IsNoJobFor, IsNoJobOf};
-ghost use Rattle.call_log.specs.internals.Shown.{shown};
 
-use crate::lines::LineBytes;
+use crate::lines::{KeptLine, LineBytes};
 use crate::log::LogError;
 use cluster::Job;
 use diagnosis::job_said;
@@ -14,13 +14,15 @@ use program_io::{Fault, JsonError, strict_value_of};
 use service::job_member;
 use std::alloc::{AllocError, Global};
 
-/// The lines of a log that count.
-#[derive(Drop)]
-pub struct PartedLines<'a> {
+/// The job lines among the lines of a log that count.
+#[derive(Debug, Drop)]
+pub struct JobLines {
+    /// The first line that counts.
+    pub first: Option<KeptLine>,
+    /// The file of the last line that counts.
+    pub before: Option<usize>,
     /// The job lines.
-    pub jobs: Vec<LineBytes<'a>>,
-    /// The other lines.
-    pub others: Vec<LineBytes<'a>>,
+    pub jobs: Vec<KeptLine>,
 }
 
 // Whether a line is an object whose one member is `job`.
@@ -59,31 +61,69 @@ fn is_job_line(alloc: Global, before: Option<usize>, line: &LineBytes) -> Result
     }
 }
 
-/// Splits the lines that count into job lines and others.
-pub fn parted<'a>(alloc: Global, lines: &[LineBytes<'a>]) -> Result<PartedLines<'a>, AllocError>
-    ensures { IfOk result (λ parts. AreParted None (map shown lines.now)
-        (map shown parts.jobs.items) (map shown parts.others.items)) }
+// Keeps a line if there was none before it.
+fn keep_first(
+    alloc: Global,
+    first: &mut Option<KeptLine>,
+    line: &LineBytes,
+) -> Result<(), AllocError>
+    ensures { (lines : List PlacedLine) → IsFirst lines first.old
+        → OnOk result (IsFirst (lines ++ shown line.now ∷ []) first.new) }
 {
-    let mut jobs = Vec::new(alloc);
-    let mut others = Vec::with_capacity(alloc, lines.len())?;
-    let mut before = None;
-    for line in lines {
-        if is_job_line(alloc, before, line)? {
-            jobs.push(*line)?;
-        } else {
-            others.push(*line)?;
-        }
-        before = Some(line.place.file);
+    if first.is_none() {
+        *first = Some(line.keep(alloc)?);
     }
-    Ok(PartedLines { jobs, others })
+    Ok(())
+}
+
+// Keeps a line if it is a job line.
+fn keep_job(
+    alloc: Global,
+    jobs: &mut Vec<KeptLine>,
+    line: &LineBytes,
+    is_job: bool,
+) -> Result<(), AllocError>
+    ensures { (lines others : List PlacedLine) → AreParted None lines (map kept jobs.old.items) others
+        → IsJobLine (file_after None lines) (shown line.now) is_job
+        → OnOk result (AreParted None (lines ++ shown line.now ∷ []) (map kept jobs.new.items) (others_with others (shown line.now) is_job)) }
+{
+    if is_job {
+        jobs.push(line.keep(alloc)?)?;
+    }
+    Ok(())
+}
+
+impl JobLines {
+    /// Creates it without lines.
+    pub fn new(alloc: Global) -> Self
+        ensures { AreJobLines [] [] result }
+    {
+        JobLines {
+            first: None,
+            before: None,
+            jobs: Vec::new(alloc),
+        }
+    }
+
+    /// Takes the next line that counts, and returns whether it is a job line.
+    pub fn take(&mut self, alloc: Global, line: &LineBytes) -> Result<bool, AllocError>
+        ensures { (lines others : List PlacedLine) → AreJobLines lines others self.old
+            → IfOk result (λ is_job. AreJobLines (lines ++ shown line.now ∷ []) (others_with others (shown line.now) is_job) self.new) }
+    {
+        let is_job = is_job_line(alloc, self.before, line)?;
+        keep_first(alloc, &mut self.first, line)?;
+        keep_job(alloc, &mut self.jobs, line, is_job)?;
+        self.before = Some(line.place.file);
+        Ok(is_job)
+    }
 }
 
 // Parses a line as a job.
-fn job_on(alloc: Global, line: &LineBytes) -> Result<Job, LogError>
-    ensures ok { IfOk result (SaysJob line.now.bytes.now) }
-    ensures err { IfErr result (IsNoJobFor (shown line.now)) }
+fn job_on(alloc: Global, line: &KeptLine) -> Result<Job, LogError>
+    ensures ok { IfOk result (SaysJob line.now.bytes.items) }
+    ensures err { IfErr result (IsNoJobFor (kept line.now)) }
 {
-    match job_said(alloc, line.bytes) {
+    match job_said(alloc, line.bytes.as_slice()) {
         Ok(job) => Ok(job),
         Err(Fault::Input(faults)) => {
             let place = line.place;
@@ -94,9 +134,9 @@ fn job_on(alloc: Global, line: &LineBytes) -> Result<Job, LogError>
 }
 
 /// Returns the job of the job lines. If there are none, `first` is parsed as one.
-pub fn job_of(alloc: Global, jobs: &[LineBytes], first: &LineBytes) -> Result<Job, LogError>
-    ensures ok { IfOk result (IsJobOf (map shown jobs.now) (shown first.now)) }
-    ensures err { IfErr result (IsNoJobOf (map shown jobs.now) (shown first.now)) }
+pub fn job_of(alloc: Global, jobs: &[KeptLine], first: &KeptLine) -> Result<Job, LogError>
+    ensures ok { IfOk result (IsJobOf (map kept jobs.now) (kept first.now)) }
+    ensures err { IfErr result (IsNoJobOf (map kept jobs.now) (kept first.now)) }
 {
     if jobs.is_empty() {
         return job_on(alloc, first);

@@ -6,12 +6,12 @@ ghost use Rattle.std.specs.List.Sorted.{IsPermutation, IsNonDecreasingBy, IsStab
 ghost use Rattle.cluster.specs.Jobs.{Job};
 ghost use Rattle.call_log.specs.Audited.{IsDouble, IsFound, IsReplayed, TicketsRise};
 
-use crate::causes::cause_of;
 use crate::entry::LogEntry;
 use crate::finding::Finding;
 use crate::late::late_reading;
 use crate::playing::{answer, held_by_asked};
 use crate::progress::Progress;
+use crate::questions::{WrongCall, cause_of};
 use cluster::{Cluster, Job};
 use std::alloc::{AllocError, Global};
 
@@ -55,8 +55,14 @@ fn replay<P: Progress>(
         let other = answer(alloc, &mut cluster, &entry.line)?;
         if let Some(wanted) = other {
             cluster.run_law();
-            let held = held_by_asked(&cluster, &entry.line.call);
-            let cause = cause_of(alloc, &cluster, entries, index, &entry.line.call, &wanted)?;
+            let call = &entry.line.call;
+            let held = held_by_asked(&cluster, call);
+            let wrong = WrongCall {
+                index,
+                call,
+                wanted: &wanted,
+            };
+            let cause = cause_of(alloc, job, &cluster, entries, wrong)?;
             return Ok(Finding::Other {
                 index,
                 wanted,

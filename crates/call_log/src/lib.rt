@@ -2,6 +2,7 @@
 #![tactic(auto)]
 
 mod auditing;
+mod call_lines;
 mod callers;
 mod cause;
 mod cause_text;
@@ -21,22 +22,25 @@ mod laws;
 mod line;
 mod lines;
 mod log;
-mod log_reading;
+mod log_reader;
 mod mend;
 mod message_calls;
+mod missing;
 mod own_calls;
 mod playing;
 mod progress;
+mod questions;
 mod reading;
+mod refusing;
 mod report;
 mod restored;
 mod sent;
+mod taking;
 mod told;
 
-pub use auditing::{LogReport, audit_logs};
+pub use auditing::{LogReport, audit_log};
 pub use cause::{Cause, Change, Changed, Member};
 pub use comparing::{MOST_WRONG_REPLIES, WrongReply, wrong_replies};
-pub use days::state_of;
 pub use entry::{LinePosition, LogEntry};
 pub use finding::{Finding, HeldLeases};
 pub use hint::{Hint, hint_for};
@@ -45,7 +49,7 @@ pub use late::Late;
 pub use laws::days_law;
 pub use line::{BareGrant, LoggedCall, LoggedLine, Words};
 pub use log::{Log, LogError};
-pub use log_reading::read_log;
+pub use log_reader::{LogReader, ReadLog};
 pub use progress::Progress;
 pub use reading::{NoLine, line_of, line_said};
 pub use report::{NamedEntries, report_of};

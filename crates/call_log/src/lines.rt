@@ -1,8 +1,8 @@
-//! Files as lines.
+//! Lines of files.
 
-ghost use Rattle.std.specs.Prelude.{◌≡◌, ◌++◌, map, IfOk};
-ghost use Rattle.call_log.specs.Files.{lines_from, lines_in, numbered};
-ghost use Rattle.call_log.specs.internals.Shown.{IsNextLine, shown};
+ghost use Rattle.std.specs.Prelude.{◌≡◌, IfOk};
+ghost use Rattle.call_log.specs.Readers.{kept, shown};
+ghost use Rattle.call_log.specs.internals.Parts.{IsFirstPart};
 
 use crate::entry::LinePosition;
 use memchr::memchr;
@@ -19,65 +19,53 @@ pub struct LineBytes<'a> {
     pub ended: bool,
 }
 
-// The first line of bytes, without its end, and the bytes after it.
+/// A line that is kept: its bytes, without its line end, and its position.
+#[derive(Debug, Drop)]
+pub struct KeptLine {
+    /// The position of the line.
+    pub place: LinePosition,
+    /// Its bytes.
+    pub bytes: Vec<u8>,
+    /// Whether its end stands after it.
+    pub ended: bool,
+}
+
+impl LineBytes<'_> {
+    /// Copies the line.
+    pub fn keep(&self, alloc: Global) -> Result<KeptLine, AllocError>
+        ensures { IfOk result (λ line. kept line ≡ shown self.now) }
+    {
+        let mut bytes = Vec::new(alloc);
+        bytes.extend_from_slice(self.bytes)?;
+        Ok(KeptLine {
+            place: self.place,
+            bytes,
+            ended: self.ended,
+        })
+    }
+}
+
+/// The bytes before the first line end, and those after it.
 #[derive(Clone, Copy)]
-struct Split<'a> {
-    line: &'a [u8],
-    ended: bool,
-    rest: &'a [u8],
+pub struct FirstPart<'a> {
+    /// The bytes before the first line end, or all if there is none.
+    pub part: &'a [u8],
+    /// The bytes after it, if there is one.
+    pub rest: Option<&'a [u8]>,
 }
 
-// Splits bytes into the first line and the rest.
-fn next_line(bytes: &[u8]) -> Option<Split<'_>>
-    ensures { IsNextLine bytes.now result }
+/// Splits bytes at the first line end.
+pub fn first_part(bytes: &[u8]) -> FirstPart<'_>
+    ensures { IsFirstPart bytes.now result }
 {
-    if bytes.is_empty() {
-        return None;
-    }
     match memchr(b'\n', bytes) {
-        Some(end) => Some(Split {
-            line: &bytes[..end],
-            ended: true,
-            rest: &bytes[end + 1..],
-        }),
-        None => Some(Split {
-            line: bytes,
-            ended: false,
-            rest: &bytes[bytes.len()..],
-        }),
+        Some(end) => FirstPart {
+            part: &bytes[..end],
+            rest: Some(&bytes[end + 1..]),
+        },
+        None => FirstPart {
+            part: bytes,
+            rest: None,
+        },
     }
-}
-
-// Appends the lines of a file.
-fn add_lines<'a>(
-    lines: &mut Vec<LineBytes<'a>>,
-    file: usize,
-    bytes: &'a [u8],
-) -> Result<(), AllocError>
-    ensures { IfOk result (λ _. map shown lines.new.items
-        ≡ map shown lines.old.items ++ numbered file 1 (lines_in bytes.now)) }
-{
-    let mut rest = bytes;
-    let mut number = 1;
-    'splits: while let Some(split) = next_line(rest) {
-        lines.push(LineBytes {
-            place: LinePosition { file, line: number },
-            bytes: split.line,
-            ended: split.ended,
-        })?;
-        rest = split.rest;
-        number += 1;
-    }
-    Ok(())
-}
-
-/// Returns the lines of the files, in order.
-pub fn lines_of<'a>(alloc: Global, files: &[&'a [u8]]) -> Result<Vec<LineBytes<'a>>, AllocError>
-    ensures { IfOk result (λ lines. map shown lines.items ≡ lines_from 0 (map (λ f. f.now) files.now)) }
-{
-    let mut lines = Vec::new(alloc);
-    for file in 0..files.len() {
-        add_lines(&mut lines, file, files[file])?;
-    }
-    Ok(lines)
 }

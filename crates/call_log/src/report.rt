@@ -3,7 +3,7 @@
 ghost use Rattle.std.specs.Prelude.{◌≡◌, IfOk, Some, map, slice_get, string_bytes};
 ghost use Rattle.call_log.specs.Reports.{IsOtherOf, IsReport, IsWholeReport, cause_text, clocks_text, cut_text, double_text, ended_reason};
 ghost use Rattle.call_log.specs.Reports.{ended_text, wrong_text};
-ghost use Rattle.call_log.specs.Reports.{held_reason, hint_text, later_text, lease_text, name_text, one_text, reason_text, standing_at};
+ghost use Rattle.call_log.specs.Reports.{held_reason, hint_text, later_text, lease_text, missing_text, name_text, one_text, reason_text, standing_at};
 ghost use Rattle.call_log.specs.Reports.{start_text, ticket_of, told_text};
 
 use crate::callers::{calls_line, silent_line};
@@ -15,6 +15,7 @@ use crate::entry::LogEntry;
 use crate::finding::{Finding, HeldLeases};
 use crate::hint::{Hint, unstarted};
 use crate::late::Late;
+use crate::missing::{MissingGrants, missing_grants};
 use crate::told::{CallerReply, PlainLine};
 use cluster::{Job, Reading};
 use diagnosis::Escaped;
@@ -373,6 +374,24 @@ fn start_text(alloc: Global, task: Option<u64>) -> Result<String, AllocError>
     }
 }
 
+// Returns the line for grants that the logs lack, or nothing.
+fn missing_text(alloc: Global, missing: Option<MissingGrants>) -> Result<String, AllocError>
+    ensures { IfOk result (λ text. string_bytes text ≡ missing_text missing) }
+{
+    let Some(MissingGrants { first, last }) = missing else {
+        return Ok(String::new(alloc));
+    };
+    if first == last {
+        format!(in alloc;
+            "hint: grant {first} is not in the logs: lines of the table may be missing before this call, or a second table ran\n"
+        )
+    } else {
+        format!(in alloc;
+            "hint: grants {first} to {last} are not in the logs: lines of the table may be missing before this call, or a second table ran\n"
+        )
+    }
+}
+
 // The numbers of a report on calls that are one run.
 #[derive(Clone, Copy)]
 struct Run {
@@ -421,8 +440,8 @@ fn finding_text(
     }
 }
 
-/// Returns the report on what an audit found of calls of the job, with the `open` line that the log
-/// may lack, and the wrong replies after the first one that are told.
+/// Returns the report on what an audit found of calls of the job, with the `open` line, the start
+/// and the grants that the log may lack, and the wrong replies after the first one that are told.
 pub fn report_of(
     alloc: Global,
     job: Job,
@@ -437,6 +456,7 @@ pub fn report_of(
     let lines = finding_text(alloc, job, log, finding)?;
     let line = hint_text(alloc, log, hint)?;
     let start = start_text(alloc, unstarted(log.entries, finding))?;
+    let missing = missing_text(alloc, missing_grants(alloc, log.entries, finding)?)?;
     let more = later_text(alloc, log, later)?;
-    format!(in alloc; "{lines}{line}{start}{more}")
+    format!(in alloc; "{lines}{line}{start}{missing}{more}")
 }

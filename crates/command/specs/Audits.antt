@@ -7,6 +7,8 @@ use Rattle.program_io.specs.Streams.{ReadsAll}
 use Rattle.program_io.specs.declared.line.TheConstants.{MOST_LINE_BYTES}
 use Rattle.program_io.specs.Endings.{IsCut, IsWritten}
 use Rattle.call_log.specs.Audits.{IsAudited}
+use Rattle.call_log.specs.Readers.{IsReading}
+use Rattle.call_log.specs.declared.log_reader.LogReader.{LogReader}
 use Rattle.call_log.specs.declared.auditing.LogReport.{LogReport}
 use Rattle.call_log.specs.Files.{IsUnread, lines_from}
 use Rattle.call_log.specs.declared.log.LogError.{LogError}
@@ -60,6 +62,20 @@ module _ (Reads : Reading) where
       (between : Option (List ℕ)) × IsLogRead name before between bytes × AreLogsRead names between after files
   AreLogsRead _ before after _ = ⊥
 
+-- the bytes of a log were read, after these files
+abbrev pub IsLogTaken : Bool → List (List ℕ) → (before after : Option (List ℕ)) → LogReader → Type 0
+IsLogTaken keeps files before after reader = (bytes : List ℕ) × IsLogBytes before after bytes × IsReading keeps files bytes reader
+
+-- a log more was read
+abbrev pub IsOneMore : Reading → Bool → List (List ℕ) → (before after : Option (List ℕ)) → LogReader → Type 0
+IsOneMore Reads keeps files before after reader = (bytes : List ℕ) × Reads before after bytes × IsReading keeps (files ++ bytes ∷ []) [] reader
+
+-- the logs of these names were read
+pub record AreLogsTaken (keeps : Bool) (names : List (List ℕ)) (before after : Option (List ℕ)) (reader : LogReader) : Type 0 where
+  pub files : List (List ℕ)
+  pub read : AreLogsRead IsLogBytes names before after files
+  pub reading : IsReading keeps files [] reader
+
 -- a log was not read: no log was refused, and nothing was to be written
 abbrev pub IsNotRead : AuditError → Type 0
 IsNotRead (audit.Refused why) = ⊥
@@ -72,10 +88,29 @@ IsNotAudited files (audit.Refused why) = IsUnread (lines_from 0 files) why
 IsNotAudited files audit.Memory = ⊤
 IsNotAudited files _ = ⊥
 
--- their state is not saved: a line is too long, or memory ran out, or the file could not be written
-abbrev pub IsNotSaved : List (List ℕ) → AuditError → Type 0
-IsNotSaved files (audit.Unsaved name error) = ⊤
-IsNotSaved files why = IsNotAudited files why
+-- the logs of these names were read, and this is the report on them
+pub record AreJudged (names : List (List ℕ)) (all : Bool) (before after : Option (List ℕ)) (report : LogReport) : Type 0 where
+  pub files : List (List ℕ)
+  pub read : AreLogsRead IsLogBytes names before after files
+  pub audited : IsAudited names files all report
+
+-- or they say no calls, for this reason
+pub record SayNoCalls (names : List (List ℕ)) (before after : Option (List ℕ)) (why : LogError) : Type 0 where
+  pub files : List (List ℕ)
+  pub read : AreLogsRead IsLogBytes names before after files
+  pub unread : IsUnread (lines_from 0 files) why
+
+-- or nothing is known of them: one was not read, or memory ran out
+abbrev pub AreNotJudged : List (List ℕ) → (before after : Option (List ℕ)) → AuditError → Type 0
+AreNotJudged names before after (audit.Refused why) = SayNoCalls names before after why
+AreNotJudged names before after audit.Write = ⊥
+AreNotJudged names before after _ = ⊤
+
+-- their state is not saved: memory ran out, or the file could not be written
+abbrev pub IsNotSaved : AuditError → Type 0
+IsNotSaved (audit.Unsaved name error) = ⊤
+IsNotSaved audit.Memory = ⊤
+IsNotSaved _ = ⊥
 
 -- logs pass where their calls are one run, and in a strict audit only with timely clocks
 abbrev pub passes : Bool → Bool → Bool → Bool

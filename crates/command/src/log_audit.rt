@@ -1,12 +1,13 @@
 //! `hourstable audit`: reads logs, and writes a report.
 
-ghost use Rattle.std.specs.Prelude.{◌≡◌, ◌+◌, ◌++◌, ◌<◌, ◌^◌, ℕ, List, length, IfErr, IfOk, map};
-ghost use Rattle.call_log.specs.Audits.{IsAudited};
+ghost use Rattle.std.specs.Prelude.{◌≡◌, ◌+◌, ◌++◌, ◌<◌, ◌^◌, [], ℕ, Bool, List, length, IfErr, IfOk, map};
+ghost use Rattle.call_log.specs.Files.{lines_from};
+ghost use Rattle.call_log.specs.Readers.{IsReading, IsReadLog};
 ghost use Rattle.command.specs.declared.log_audit.AuditError.TheVariants as fault;
-ghost use Rattle.command.specs.Audits.{AreLogsRead, IsJudged, IsLogBytes, IsLogRead, IsNotAudited, IsNotRead, IsNotSaved, IsUnjudged};
-ghost use Rattle.command.specs.Audits.{EndsInLine, passes, status_of};
+ghost use Rattle.command.specs.Audits.{AreJudged, AreLogsTaken, AreNotJudged, IsJudged, IsLogBytes, IsLogRead, IsLogTaken, IsNotAudited, IsNotRead};
+ghost use Rattle.command.specs.Audits.{EndsInLine, IsNotSaved, IsOneMore, IsUnjudged, passes, status_of};
 
-use call_log::{LinePosition, LogError, LogReport, Progress, audit_logs, state_of};
+use call_log::{LinePosition, LogError, LogReader, LogReport, Progress, ReadLog, audit_log};
 use diagnosis::{Escaped, LONG_WORDS, say_about, say_memory, say_write};
 use memchr::memrchr;
 use program_io::{MOST_LINE_BYTES, ReadError, WriteError, write_all};
@@ -123,6 +124,13 @@ pub struct LogAudit<'n, 'a> {
     pub until: Option<&'a str>,
 }
 
+// Logs that were judged, and the state that they leave, if it is wanted.
+#[derive(Drop)]
+struct Judged {
+    report: LogReport,
+    state: Option<Vec<u8>>,
+}
+
 // Returns how many bytes there are since the last end of a line, where there were so many before
 // the piece.
 fn run_after(before: usize, piece: &[u8]) -> usize
@@ -136,22 +144,26 @@ fn run_after(before: usize, piece: &[u8]) -> usize
 }
 
 // Reads a log to its end, or up to a line that is too long, which is not read to its end.
-fn read_log<R: Read>(alloc: Global, reader: &mut R) -> Result<Vec<u8>, ReadError>
-    ensures { IfOk result (λ bytes.
-        IsLogBytes (R.remaining reader.old) (R.remaining reader.new) bytes.items) }
+fn read_log<R: Read, P: Progress>(
+    reader: &mut R,
+    log: LogReader,
+    progress: &mut P,
+) -> Result<LogReader, ReadError>
+    ensures { (keeps : Bool) (files : List (List ℕ)) → IsReading keeps files [] log
+        → IfOk result (IsLogTaken keeps files (R.remaining reader.old) (R.remaining reader.new)) }
 {
-    let mut bytes = Vec::new(alloc);
+    let mut log = log;
     let mut run = 0;
     let mut piece = [0u8; PIECE];
     'reads: for _ in 0..MOST_READS {
         match reader.read(&mut piece) {
-            Ok(0) => return Ok(bytes),
+            Ok(0) => return Ok(log),
             Ok(n) => {
                 let read = &piece[..n];
-                bytes.extend_from_slice(read)?;
+                log = log.read(read, progress)?;
                 run = run_after(run, read);
                 if run > MOST_LINE_BYTES + 1 {
-                    return Ok(bytes);
+                    return Ok(log);
                 }
             }
             Err(_) => return Err(ReadError::Failed),
@@ -160,90 +172,98 @@ fn read_log<R: Read>(alloc: Global, reader: &mut R) -> Result<Vec<u8>, ReadError
     Err(ReadError::Failed)
 }
 
-// Reads the log with this name.
-fn read_named<'a, R: Read>(
-    alloc: Global,
+// Reads the log with this name, and ends its file.
+fn read_named<'a, R: Read, P: Progress>(
     name: &'a str,
     reader: &mut R,
-) -> Result<Vec<u8>, AuditError<'a>>
-    ensures ok { IfOk result (λ bytes.
-        IsLogBytes (R.remaining reader.old) (R.remaining reader.new) bytes.items) }
+    log: LogReader,
+    progress: &mut P,
+) -> Result<LogReader, AuditError<'a>>
+    ensures ok { (keeps : Bool) (files : List (List ℕ)) → IsReading keeps files [] log
+        → IfOk result (IsOneMore IsLogBytes keeps files (R.remaining reader.old) (R.remaining reader.new)) }
     ensures err { IfErr result IsNotRead }
 {
-    match read_log(alloc, reader) {
-        Ok(bytes) => Ok(bytes),
+    match read_log(reader, log, progress) {
+        Ok(log) => Ok(log.end_file(progress)?),
         Err(ReadError::Failed) => Err(AuditError::Read { name }),
         Err(ReadError::Memory) => Err(AuditError::Memory),
     }
 }
 
-// Returns the bytes of the log with this name; `-` is standard input.
-fn log_bytes<'a, R: Read>(
+// Reads the log with this name; `-` is standard input.
+fn read_next<'a, R: Read, P: Progress>(
     rt: &(impl Files + AllocGlobal),
     name: &'a str,
     input: &mut R,
-) -> Result<Vec<u8>, AuditError<'a>>
-    ensures ok { IfOk result (λ bytes.
-        IsLogRead IsLogBytes name.now (R.remaining input.old) (R.remaining input.new) bytes.items) }
+    log: LogReader,
+    progress: &mut P,
+) -> Result<LogReader, AuditError<'a>>
+    ensures ok { (keeps : Bool) (files : List (List ℕ)) → IsReading keeps files [] log
+        → IfOk result (IsOneMore (IsLogRead IsLogBytes name.now) keeps files (R.remaining input.old) (R.remaining input.new)) }
     ensures err { IfErr result IsNotRead }
 {
     if name == "-" {
-        return read_named(rt.alloc(), name, input);
+        return read_named(name, input, log, progress);
     }
     match File::open(rt, name) {
-        Ok(mut file) => read_named(rt.alloc(), name, &mut file),
+        Ok(mut file) => read_named(name, &mut file, log, progress),
         Err(error) => Err(AuditError::Unopened { name, error }),
     }
 }
 
-// Returns the bytes of the logs with these names, in their order.
-fn contents_of<'a, R: Read>(
+// Reads the logs with these names, in their order.
+fn read_logs<'a, R: Read, P: Progress>(
     rt: &(impl Files + AllocGlobal),
     names: &[&'a str],
     input: &mut R,
-) -> Result<Vec<Vec<u8>>, AuditError<'a>>
-    ensures ok { IfOk result (λ contents. AreLogsRead IsLogBytes (map (λ n. n.now) names.now)
-        (R.remaining input.old) (R.remaining input.new) (map (λ v. v.items) contents.items)) }
+    log: LogReader,
+    progress: &mut P,
+) -> Result<LogReader, AuditError<'a>>
+    ensures ok { (keeps : Bool) → IsReading keeps [] [] log
+        → IfOk result (AreLogsTaken keeps (map (λ n. n.now) names.now) (R.remaining input.old) (R.remaining input.new)) }
     ensures err { IfErr result IsNotRead }
 {
-    let mut contents = Vec::new(rt.alloc());
+    let mut log = log;
     for name in names {
-        contents.push(log_bytes(rt, *name, input)?)?;
+        log = read_next(rt, *name, input, log, progress)?;
     }
-    Ok(contents)
+    Ok(log)
 }
 
-// Borrows the bytes of each log.
-fn slices_of(alloc: Global, contents: &[Vec<u8>]) -> Result<Vec<&[u8]>, AllocError>
-    ensures { IfOk result (λ files. map (λ f. f.now) files.items ≡ map (λ v. v.items) contents.now) }
+// Returns the log of the files that were read.
+fn finished<'a>(log: LogReader) -> Result<ReadLog, AuditError<'a>>
+    ensures ok { (keeps : Bool) (files : List (List ℕ)) → IsReading keeps files [] log
+        → IfOk result (IsReadLog keeps (lines_from 0 files)) }
+    ensures err { (keeps : Bool) (files : List (List ℕ)) → IsReading keeps files [] log → IfErr result (IsNotAudited files) }
 {
-    let mut files: Vec<&[u8]> = Vec::new(alloc);
-    for bytes in contents {
-        files.push(bytes.as_slice())?;
+    match log.finish() {
+        Ok(read) => Ok(read),
+        Err(LogError::Memory) => Err(AuditError::Memory),
+        Err(error) => Err(AuditError::Refused(error)),
     }
-    Ok(files)
 }
 
-// Returns the report on logs with these bytes.
-fn report_on<'a, E: Write>(
-    alloc: Global,
+// Reads the logs, and judges them.
+fn judge<'a, R: Read, E: Write>(
+    rt: &(impl Files + AllocGlobal),
     audit: LogAudit<'_, 'a>,
-    files: &[&[u8]],
+    input: &mut R,
     errors: &mut E,
-) -> Result<LogReport, AuditError<'a>>
-    ensures ok { IfOk result (λ report. IsAudited (map (λ n. n.now) audit.entry.names.now)
-        (map (λ f. f.now) files.now) audit.entry.all report) }
-    ensures err { IfErr result (IsNotAudited (map (λ f. f.now) files.now)) }
+) -> Result<Judged, AuditError<'a>>
+    ensures ok { IfOk result (λ judged. AreJudged (map (λ n. n.now) audit.entry.names.now) audit.entry.all
+        (R.remaining input.old) (R.remaining input.new) judged.report) }
+    ensures err { IfErr result (AreNotJudged (map (λ n. n.now) audit.entry.names.now)
+        (R.remaining input.old) (R.remaining input.new)) }
 {
     let mut progress = Counting {
         errors,
         is_wanted: audit.progress,
     };
-    match audit_logs(alloc, audit.names, files, audit.all, &mut progress) {
-        Ok(report) => Ok(report),
-        Err(LogError::Memory) => Err(AuditError::Memory),
-        Err(error) => Err(AuditError::Refused(error)),
-    }
+    let log = LogReader::new(rt.alloc(), audit.until.is_some());
+    let log = read_logs(rt, audit.names, input, log, &mut progress)?;
+    let ReadLog { log, state } = finished(log)?;
+    let report = audit_log(rt.alloc(), audit.names, log, audit.all, &mut progress)?;
+    Ok(Judged { report, state })
 }
 
 // Writes bytes to the file of this name: to a new file beside it, which then takes its place.
@@ -253,21 +273,19 @@ fn replace_file(rt: &(impl Files + AllocGlobal), name: &str, bytes: &[u8]) -> Re
     fs::rename(rt, fresh.as_str(), name)
 }
 
-// Saves the state that logs with these bytes leave in the file of this name, if there is a name.
+// Saves a state in the file of this name, if there is a name.
 fn save_state<'a>(
     rt: &(impl Files + AllocGlobal),
     until: Option<&'a str>,
-    files: &[&[u8]],
+    state: Option<Vec<u8>>,
 ) -> Result<(), AuditError<'a>>
-    ensures err { IfErr result (IsNotSaved (map (λ f. f.now) files.now)) }
+    ensures err { IfErr result IsNotSaved }
 {
     let Some(name) = until else {
         return Ok(());
     };
-    let state = match state_of(rt.alloc(), files) {
-        Ok(state) => state,
-        Err(LogError::Memory) => return Err(AuditError::Memory),
-        Err(error) => return Err(AuditError::Refused(error)),
+    let Some(state) = state else {
+        return Ok(());
     };
     match replace_file(rt, name, state.as_slice()) {
         Ok(()) => Ok(()),
@@ -305,11 +323,9 @@ pub fn audit_named<'a, R: Read, W: Write, E: Write>(
     ensures err { IfErr result (IsUnjudged (map (λ n. n.now) audit.entry.names.now) audit.entry.strict audit.entry.all
         (R.remaining input.old) (R.remaining input.new) (W.contents output.old) (W.contents output.new)) }
 {
-    let contents = contents_of(rt, audit.names, input)?;
-    let files = slices_of(rt.alloc(), contents.as_slice())?;
-    let report = report_on(rt.alloc(), audit, files.as_slice(), errors)?;
+    let Judged { report, state } = judge(rt, audit, input, errors)?;
     if report.is_one {
-        save_state(rt, audit.until, files.as_slice())?;
+        save_state(rt, audit.until, state)?;
     }
     say_torn(errors, audit.names, report.torn.as_slice());
     write_all(output, report.text.as_str().as_bytes())?;

@@ -5,7 +5,7 @@ use Rattle.program_io.specs.declared.fault.Fault.TheVariants as fault
 use Rattle.diagnosis.specs.JobLines.{IsNoJob, SaysJob}
 use Rattle.call_log.specs.declared.log.LogError.{LogError}
 use Rattle.call_log.specs.declared.log.LogError.TheVariants as unread
-use Rattle.call_log.specs.Files.{PlacedLine, AreOfJob, AreOtherJobs, IsBadJob, IsBadLine, HasJobMember, HasLongLine, HasNoJobMember}
+use Rattle.call_log.specs.Files.{PlacedLine, AreOfJob, AreOtherJobs, IsBadJob, HasJobMember, HasNoJobMember}
 
 -- a line says no job, or memory ran out
 abbrev pub IsNoJobFor : PlacedLine → LogError → Type 0
@@ -35,18 +35,3 @@ IsNoJobOf jobs first unread.Empty = ⊥
 IsNoJobOf jobs first (unread.LongLine place) = ⊥
 IsNoJobOf jobs first (unread.BadLine place why mend) = ⊥
 IsNoJobOf jobs first unread.Memory = ⊤
-
--- one of some lines says no call, or memory ran out
-abbrev pub IsNotRead : List PlacedLine → LogError → Type 0
-IsNotRead lines (unread.BadLine place why mend) = IsBadLine lines place why
-IsNotRead lines unread.Empty = ⊥
-IsNotRead lines (unread.LongLine place) = ⊥
-IsNotRead lines (unread.NoJob place faults) = ⊥
-IsNotRead lines (unread.OtherJob first second) = ⊥
-IsNotRead lines unread.Memory = ⊤
-
--- one of some lines is too long, or memory ran out
-abbrev pub IsNotCounted : List PlacedLine → LogError → Type 0
-IsNotCounted lines (unread.LongLine place) = HasLongLine lines place
-IsNotCounted lines unread.Memory = ⊤
-IsNotCounted lines _ = ⊥

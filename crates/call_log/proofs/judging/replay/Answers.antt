@@ -16,7 +16,7 @@ returns-in-Some g c =
     caused_here c.args.entries.now c.loop-index.index c.index-entries-index.result c.loop-index-test.true c.index-entries-index.is
     c.args.job known.past c.answer.new.cluster c.in-Some.wanted c.held_by_asked-held.result c.in_ok-cause.cause known.told answered
     (c.run_law.ensures.run c.args.job _ answered.played.leads) (c.held_by_asked-held.ensures c.args.job _ answered.played.leads)
-    (c.in_ok-cause.ensures c.args.job _ answered.played.leads)
+    (c.in_ok-cause.ensures _ answered.played.leads)
 
 pub loop-index-preserved : goal.loop-index-preserved
 loop-index-preserved g c =

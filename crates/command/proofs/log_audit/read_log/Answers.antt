@@ -1,26 +1,28 @@
-use Rattle.std.proofs.Common.{inr, arith}
-use Rattle.program_io.proofs.Bytes.{consumes_more, consumes_none}
-use Rattle.command.proofs.Runs.{nothing_yet}
+use Rattle.std.proofs.Common.{rules, arith}
+use Rattle.command.proofs.Logs.{cut_here, ended_here, nothing_more, nothing_taken, taken_more}
 use Rattle.command.proofs.log_audit.read_log.Goals as goal
 
 pub reads-init : goal.reads-init
-reads-init g c = record { gave = rw c.new-bytes.ensures.items (consumes_none _); line = rw c.new-bytes.ensures.items nothing_yet; short = omega arith }
+reads-init g c = record { short = omega arith; taken = λ keeps files reading. nothing_taken keeps files _ c.args.log reading }
 
 pub returns-then-run : goal.returns-then-run
-returns-then-run g c =
+returns-then-run g c = λ keeps files reading.
     let more = c.if-run.true in
-    inr (record {
-      gave = rw c.in_ok-extend_from_slice-in-Ok.ensures.items (consumes_more _ _ _ _ _ c.reads.invariant.gave c.in-Ok.ensures.bytes.0);
-      many = c.run_after-run.result;
-      line = rw c.in_ok-extend_from_slice-in-Ok.ensures.items (c.run_after-run.ensures c.reads.bytes.items c.reads.invariant.line);
-      long = omega (arith, more);
-    })
+    cut_here keeps files _ _ _ _ (omega (arith, more))
+    (taken_more keeps files _ _ _ _ _ _ _ _ (c.reads.invariant.taken keeps files reading) c.in-Ok.ensures.bytes.0 (λ bytes so_far. c.run_after-run.ensures bytes so_far)
+    (λ bytes known. c.in_ok-log-in-Ok.ensures keeps files bytes known))
 
 pub reads-preserved : goal.reads-preserved
 reads-preserved g c =
     let few = c.if-run.false in
     record {
-      gave = rw c.in_ok-extend_from_slice-in-Ok.ensures.items (consumes_more _ _ _ _ _ c.reads.invariant.gave c.in-Ok.ensures.bytes.0);
-      line = rw c.in_ok-extend_from_slice-in-Ok.ensures.items (c.run_after-run.ensures c.reads.bytes.items c.reads.invariant.line);
       short = omega (arith, few);
+      taken = λ keeps files reading.
+          taken_more keeps files _ _ _ _ _ _ _ _ (c.reads.invariant.taken keeps files reading) c.in-Ok.ensures.bytes.0 (λ bytes so_far. c.run_after-run.ensures bytes so_far)
+          (λ bytes known. c.in_ok-log-in-Ok.ensures keeps files bytes known);
     }
+
+pub returns-in-Ok-eq0 : goal.returns-in-Ok-eq0
+returns-in-Ok-eq0 g c = λ keeps files reading.
+    ended_here keeps files _ _ _ _ (search rules)
+    (nothing_more keeps files _ _ _ _ c.in-Ok-eq0.field-0 _ _ c.in-Ok-eq0.field-0-test c.in-Ok-eq0.ensures.bytes.0 (c.reads.invariant.taken keeps files reading))

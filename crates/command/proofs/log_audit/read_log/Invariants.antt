@@ -1,12 +1,12 @@
-use Rattle.std.proofs.Common.{◌≤◌, ◌+◌}
-use Rattle.std.specs.Io.KnownBytes.{Consumes}
+use Rattle.std.proofs.Common.{◌≤◌, ◌+◌, [], ℕ, Bool, List}
 use Rattle.program_io.specs.declared.line.TheConstants.{MOST_LINE_BYTES}
-use Rattle.command.specs.Audits.{EndsInLine}
+use Rattle.call_log.specs.Readers.{IsReading}
+use Rattle.command.proofs.Logs.{IsTakenSoFar}
 use Rattle.command.proofs.log_audit.read_log.Given as goal
 
 abbrev pub invariant-reads : goal.invariant-reads
 invariant-reads g l = record {
-  gave : Consumes (g.R.Read.remaining l.initial.reader) (g.R.Read.remaining l.reader) l.bytes.items;
-  line : EndsInLine l.bytes.items l.run;
   short : l.run ≤ MOST_LINE_BYTES + 1;
+  taken : (keeps : Bool) → (files : List (List ℕ)) → IsReading keeps files [] l.fn.log
+      → IsTakenSoFar keeps files (g.R.Read.remaining l.initial.reader) (g.R.Read.remaining l.reader) l.run l.log;
 }

@@ -1,0 +1,246 @@
+//! Reading a log from the bytes of its files, piece by piece.
+
+ghost use Rattle.std.specs.Prelude.{◌≡◌, ◌++◌, ◌∷◌, [], ℕ, Bool, List, take, map, option_map, is_some, IfErr, IfOk, OnOk};
+ghost use Rattle.std.specs.List.{flat_map};
+ghost use Rattle.call_log.specs.Days.{ended};
+ghost use Rattle.call_log.specs.Files.{IsUnread, PlacedLine, lines_from};
+ghost use Rattle.call_log.specs.Readers.{AreTaken, IsReading, IsReadLog, kept, shown};
+ghost use Rattle.call_log.specs.internals.Parts.{AreFewer, EndsLine, IsPartRead};
+
+use crate::call_lines::{BadLine, CallLines};
+use crate::entry::LinePosition;
+use crate::job_lines::{JobLines, job_of};
+use crate::lines::{KeptLine, LineBytes, first_part};
+use crate::log::{Log, LogError};
+use crate::progress::Progress;
+use program_io::{is_blank, is_long};
+use std::alloc::{AllocError, Global};
+
+/// The lines of a log that were read.
+#[derive(Debug, Drop)]
+pub struct TakenLines {
+    /// The position of the first line that is too long.
+    pub long: Option<LinePosition>,
+    /// The job lines before it.
+    pub jobs: JobLines,
+    /// The calls before it.
+    pub calls: CallLines,
+}
+
+/// A log that was read, and the state that it leaves.
+#[derive(Debug, Drop)]
+pub struct ReadLog {
+    /// The log.
+    pub log: Log,
+    /// The state, if it is wanted: a log of the first job line and of those lines whose calls may
+    /// change something, as they stand in the files.
+    ///
+    /// A log of this state and of later lines is one run if the whole log is one.
+    pub state: Option<Vec<u8>>,
+}
+
+// Returns the text of the first line, if there is one.
+fn first_line(alloc: Global, lines: &[KeptLine]) -> Result<Vec<u8>, AllocError>
+    ensures { IfOk result (λ text. text.items ≡ flat_map ended (take 1 (map kept lines.now))) }
+{
+    let mut text = Vec::new(alloc);
+    if let [first, ..] = lines {
+        text.extend_from_slice(first.bytes.as_slice())?;
+        text.push(b'\n')?;
+    }
+    Ok(text)
+}
+
+// Returns the state with these job lines and these lines that last, if they are wanted.
+fn state_with(
+    alloc: Global,
+    jobs: &[KeptLine],
+    lasting: Option<Vec<u8>>,
+) -> Result<Option<Vec<u8>>, AllocError>
+    ensures { IfOk result (λ state. option_map (λ t. t.items) state
+        ≡ option_map (λ t. flat_map ended (take 1 (map kept jobs.now)) ++ t.items) lasting) }
+{
+    let Some(lasting) = lasting else {
+        return Ok(None);
+    };
+    let mut text = first_line(alloc, jobs)?;
+    text.extend_from_slice(lasting.as_slice())?;
+    Ok(Some(text))
+}
+
+impl TakenLines {
+    // Takes the next line. After a line that is too long the others are passed over.
+    fn take<P: Progress>(
+        &mut self,
+        alloc: Global,
+        line: &LineBytes,
+        progress: &mut P,
+    ) -> Result<(), AllocError>
+        ensures taken { (lines : List PlacedLine) → AreTaken lines self.old
+            → OnOk result (AreTaken (lines ++ shown line.now ∷ []) self.new) }
+        ensures wanted { OnOk result (is_some self.new.calls.lasting ≡ is_some self.old.calls.lasting) }
+    {
+        if self.long.is_some() {
+            return Ok(());
+        }
+        if is_long(line.bytes) {
+            self.long = Some(line.place);
+            return Ok(());
+        }
+        if is_blank(line.bytes) {
+            return Ok(());
+        }
+        let is_job = self.jobs.take(alloc, line)?;
+        if is_job {
+            return Ok(());
+        }
+        self.calls.take(alloc, line, progress)?;
+        Ok(())
+    }
+
+    // Returns the log that the lines are, with its state.
+    fn finish(self, alloc: Global) -> Result<ReadLog, LogError>
+        ensures ok { (lines : List PlacedLine) → AreTaken lines self
+            → IfOk result (IsReadLog (is_some self.calls.lasting) lines) }
+        ensures err { (lines : List PlacedLine) → AreTaken lines self → IfErr result (IsUnread lines) }
+    {
+        let TakenLines { long, jobs, calls } = self;
+        if let Some(place) = long {
+            return Err(LogError::LongLine(place));
+        }
+        let Some(first) = &jobs.first else {
+            return Err(LogError::Empty);
+        };
+        let job = job_of(alloc, jobs.jobs.as_slice(), first)?;
+        let CallLines {
+            entries,
+            torn,
+            bad,
+            lasting,
+        } = calls;
+        if let Some(BadLine { place, why, mend }) = bad {
+            return Err(LogError::BadLine { place, why, mend });
+        }
+        let state = state_with(alloc, jobs.jobs.as_slice(), lasting)?;
+        let log = Log { job, entries, torn };
+        Ok(ReadLog { log, state })
+    }
+}
+
+/// Reads a log from the bytes of its files, which come in pieces.
+///
+/// The first line of one file or several is the job line, and each other line is a call. Blank
+/// lines do not count. A last line of a file without its end counts if it is a call, and is left out
+/// if it is not.
+///
+/// It holds the calls, and of the bytes only the job lines, the line that has not ended, and the
+/// state if that is wanted.
+#[derive(Debug, Drop)]
+pub struct LogReader {
+    alloc: Global,
+    // The index of the file, and the number of its next line.
+    file: usize,
+    number: usize,
+    // The bytes of the line that has not ended.
+    part: Vec<u8>,
+    taken: TakenLines,
+}
+
+impl LogReader {
+    /// Creates a reader at the start of the first file. `keeps_state` is whether the state is
+    /// wanted.
+    pub fn new(alloc: Global, keeps_state: bool) -> Self
+        ensures { IsReading keeps_state [] [] result }
+    {
+        LogReader {
+            alloc,
+            file: 0,
+            number: 1,
+            part: Vec::new(alloc),
+            taken: TakenLines {
+                long: None,
+                jobs: JobLines::new(alloc),
+                calls: CallLines::new(alloc, keeps_state),
+            },
+        }
+    }
+
+    // Takes the line whose bytes were read.
+    fn end_line<P: Progress>(&mut self, ended: bool, progress: &mut P) -> Result<(), AllocError>
+        ensures { OnOk result (EndsLine self.old ended self.new) }
+    {
+        let line = LineBytes {
+            place: LinePosition {
+                file: self.file,
+                line: self.number,
+            },
+            bytes: self.part.as_slice(),
+            ended,
+        };
+        self.taken.take(self.alloc, &line, progress)?;
+        self.part.clear();
+        self.number = self.number.checked_add(1).ok_or(AllocError)?;
+        Ok(())
+    }
+
+    // Reads bytes up to the first line end, and returns those after it, if there is one.
+    fn read_part<'a, P: Progress>(
+        &mut self,
+        bytes: &'a [u8],
+        progress: &mut P,
+    ) -> Result<Option<&'a [u8]>, AllocError>
+        ensures read { (keeps : Bool) (files : List (List ℕ)) (before : List ℕ) → IsReading keeps files before self.old
+            → IfOk result (λ rest. IsPartRead keeps files before bytes.now rest self.new) }
+        ensures shorter { IfOk result (AreFewer bytes.now) }
+    {
+        let first = first_part(bytes);
+        self.part.extend_from_slice(first.part)?;
+        if first.rest.is_some() {
+            self.end_line(true, progress)?;
+        }
+        Ok(first.rest)
+    }
+
+    /// Reads the next bytes of the file.
+    pub fn read<P: Progress>(self, piece: &[u8], progress: &mut P) -> Result<LogReader, AllocError>
+        ensures { (keeps : Bool) (files : List (List ℕ)) (before : List ℕ) → IsReading keeps files before self
+            → IfOk result (IsReading keeps files (before ++ piece.now)) }
+    {
+        let mut reader = self;
+        let mut bytes = piece;
+        'parts: while let Some(rest) = reader.read_part(bytes, progress)? {
+            bytes = rest;
+        }
+        Ok(reader)
+    }
+
+    /// Ends the file. What is read from now on is of the next one.
+    pub fn end_file<P: Progress>(self, progress: &mut P) -> Result<LogReader, AllocError>
+        ensures { (keeps : Bool) (files : List (List ℕ)) (bytes : List ℕ) → IsReading keeps files bytes self
+            → IfOk result (IsReading keeps (files ++ bytes ∷ []) []) }
+    {
+        let mut reader = self;
+        if !reader.part.is_empty() {
+            reader.end_line(false, progress)?;
+        }
+        reader.file = reader.file.checked_add(1).ok_or(AllocError)?;
+        reader.number = 1;
+        Ok(reader)
+    }
+
+    /// Returns the log of the files that were read to their ends.
+    ///
+    /// An error names the first line that is longer than [`program_io::MOST_LINE_BYTES`], or else the
+    /// first job line that is not valid, or has another job than those before it, or else the first
+    /// other line that is not a call, or says that memory ran out. If there is no job line, the error
+    /// names the first line.
+    pub fn finish(self) -> Result<ReadLog, LogError>
+        ensures ok { (keeps : Bool) (files : List (List ℕ)) → IsReading keeps files [] self
+            → IfOk result (IsReadLog keeps (lines_from 0 files)) }
+        ensures err { (keeps : Bool) (files : List (List ℕ)) → IsReading keeps files [] self
+            → IfErr result (IsUnread (lines_from 0 files)) }
+    {
+        let LogReader { alloc, taken, .. } = self;
+        taken.finish(alloc)
+    }
+}
