@@ -97,7 +97,7 @@ bug(
     "takes-a-held-lease",
     "An assigner is given the job lease while another one has it.",
     "terms",
-    told("held", "term 2 until 1010", "refused job-held 1000"),
+    told("held", "term 2 until 1010", "refused job-held 1000", "read at 10"),
     before(LeaseTable, "take", take_over),
 )
 
@@ -117,7 +117,7 @@ bug(
     "term-runs-at-its-end",
     "A term still runs at the reading at which it ends.",
     "terms",
-    told("late", "renewed 1 until 2500", "refused not-holder 1"),
+    told("late", "renewed 1 until 2500", "refused not-holder 1", "term 1 ended at 1500"),
     instead(LeaseTable, "is_over", lambda table, term, at: at > term.until),
 )
 
@@ -132,7 +132,7 @@ bug(
     "renewal-moves-nothing",
     "A renewal is answered, and the end of the term stays where it was.",
     "terms",
-    told("moved", "term 2 until 2000", "refused job-held 1500"),
+    told("moved", "term 2 until 2000", "refused job-held 1500", "read at 1000"),
     instead(LeaseTable, "renew", renew_nothing),
 )
 
@@ -147,21 +147,21 @@ bug(
     "old-term-renews",
     "A term that was taken over may still renew.",
     "terms",
-    told("old", "renewed 1 until 2501", "refused not-holder 2"),
+    told("old", "renewed 1 until 2501", "refused not-holder 2", "the table's term is 2"),
     instead(LeaseTable, "holder", whoever_holds),
 )
 bug(
     "ended-term-proposes",
     "A term that has ended still proposes.",
     "terms",
-    told("ended", "proposed 2", "refused not-holder 1"),
+    told("ended", "proposed 2", "refused not-holder 1", "term 1 ended at 1500"),
     during(LeaseTable, "propose", is_over=lambda table, term, at: False),
 )
 bug(
     "old-term-commits",
     "A term that was taken over still commits.",
     "terms",
-    told("older", "committed 2", "refused not-holder 2"),
+    told("older", "committed 2", "refused not-holder 2", "the table's term is 2"),
     during(LeaseTable, "commit", holder=nothing),
 )
 
@@ -192,7 +192,7 @@ bug(
     "names-the-callers-term",
     "A refusal names the term of the caller, and not the last one.",
     "terms",
-    told("old", "refused not-holder 1", "refused not-holder 2"),
+    told("old", "refused not-holder 1", "refused not-holder 2", "the table's term is 2"),
     instead(LeaseTable, "holder", name_the_caller),
 )
 
@@ -211,7 +211,7 @@ bug(
     "tells-how-long",
     "A refused assigner is told for how long the job lease is held, and not until when.",
     "terms",
-    told("held", "refused job-held 990", "refused job-held 1000"),
+    told("held", "refused job-held 990", "refused job-held 1000", "read at 10"),
     instead(LeaseTable, "take", tell_how_long(LeaseTable.take)),
 )
 
@@ -296,7 +296,7 @@ bug(
     "commits-over-guards",
     "A commit looks at no row, while guard leases of the old generation run.",
     "commits",
-    told("guard", "committed 2", "refused held 1 guard 1"),
+    told("guard", "committed 2", "refused held 1 guard 1", "it ends at 105, read at 21"),
     instead(LeaseTable, "holds_up", lambda table, row, at: False),
 )
 OLDER = LeaseTable.holds_up
@@ -304,7 +304,7 @@ bug(
     "commits-over-bridges",
     "A commit looks at guard leases alone.",
     "commits",
-    told("bridge", "committed 3", "refused held 1 bridge 3"),
+    told("bridge", "committed 3", "refused held 1 bridge 3", "it ends at 102, read at 34"),
     instead(
         LeaseTable,
         "holds_up",
@@ -322,7 +322,7 @@ bug(
     "names-the-last-row",
     "A commit that is held up names the last row, and not the first.",
     "commits",
-    told("guard", "refused held 2 guard 2", "refused held 1 guard 1"),
+    told("guard", "refused held 2 guard 2", "refused held 1 guard 1", "it ends at 105, read at 21"),
     instead(LeaseTable, "row_told", lambda table, rows: rows[-1]),
 )
 bug(
@@ -336,7 +336,7 @@ bug(
     "row-ends-with-the-lease",
     "A row ends at the deadline of the task, and not at that of the table.",
     "waiting",
-    told("first", "refused held 2 guard 2", "refused held 1 guard 1"),
+    told("first", "refused held 2 guard 2", "refused held 1 guard 1", "it ends at 105, read at 95"),
     instead(LeaseTable, "is_open", lambda table, row, at: at < row.ends),
 )
 bug(
@@ -388,7 +388,7 @@ bug(
     "table-goes-back",
     "The table accepts a reading below its last one.",
     "readings",
-    told("back", "renewed 1 until 1039", "refused clock-back"),
+    told("back", "renewed 1 until 1039", "refused clock-back", "read at 39 after 40"),
     instead(LeaseTable, "check_reading", check_range),
 )
 
@@ -508,7 +508,7 @@ bug(
     "free-forgets",
     "A note is answered, and its rows stay.",
     "commits",
-    told("other", "refused held 1 guard 1", "refused held 2 guard 2"),
+    told("other", "refused held 1 guard 1", "refused held 2 guard 2", "it ends at 107, read at 26"),
     instead(LeaseTable, "drop", nothing),
 )
 bug(
@@ -658,7 +658,7 @@ bug(
     "no-grace",
     "A table that lost its rows commits at once.",
     "loss",
-    told("grace", "committed 2", "refused grace 107"),
+    told("grace", "committed 2", "refused grace 107", "read at 104"),
     instead(LeaseTable, "check_grace", nothing),
 )
 
@@ -755,7 +755,7 @@ bug(
     "restored-without-grace",
     "A restored table commits at once.",
     "kept",
-    told("grace", "committed 2", "refused grace 107"),
+    told("grace", "committed 2", "refused grace 107", "read at 37"),
     restored_with(grace=0),
 )
 bug(
@@ -809,7 +809,7 @@ bug(
     "goes-on-before-the-stored-reading",
     "A restored table accepts readings below the one that was saved ahead.",
     "ahead",
-    told("early", "grant 8 guard 1 until 116 106", "refused clock-back"),
+    told("early", "grant 8 guard 1 until 116 106", "refused clock-back", "read at 16 after 20"),
     restored_with(last=12),
 )
 bug(
@@ -823,7 +823,7 @@ bug(
     "grace-of-what-was-granted",
     "The grace of a restored table leaves out what was saved ahead.",
     "ahead",
-    told("grace", "refused held 1 guard 8", "refused grace 120"),
+    told("grace", "refused held 1 guard 8", "refused grace 120", "read at 119"),
     restored_with(grace=112),
 )
 bug(
@@ -895,14 +895,14 @@ bug(
     "hears-other-lives",
     "A task hears a grant of an earlier life.",
     "denials",
-    told("lived", "heard 1", "refused other-life"),
+    told("lived", "heard 1", "refused other-life", "the task is in life 2"),
     instead(Slicelet, "check_receiver", check_task_alone),
 )
 bug(
     "hears-too-late",
     "A task hears a grant at the end of its lease.",
     "denials",
-    told("late", "heard 3", "refused too-late"),
+    told("late", "heard 3", "refused too-late", "guard 3 ended at 115, read at 115"),
     instead(Slicelet, "check_in_time", nothing),
 )
 bug(
@@ -932,7 +932,7 @@ bug(
     "accepts-a-clock-behind",
     "A task accepts calls with a reading below its last one.",
     "denials",
-    told("back", "released life 1 number 1", "refused clock-back"),
+    told("back", "released life 1 number 1", "refused clock-back", "read at 19 after 20"),
     instead(Slicelet, "check_reading", nothing),
 )
 
@@ -1022,7 +1022,7 @@ bug(
     "serves-with-a-clock-behind",
     "A task serves at a reading below its last one.",
     "denials",
-    told("behind", "served guard 1", "denied clock-back"),
+    told("behind", "served guard 1", "denied clock-back", "read at 19 after 20"),
     instead(Slicelet, "verdict", lambda task, key, at: VERDICT(task, key, max(at, task.last))),
 )
 bug(
@@ -1192,7 +1192,7 @@ bug(
     "handle-survives-a-gap",
     "A handle is continuous if the task may serve its key now, though the key was away.",
     "move",
-    told("gap", "continuous", "broken"),
+    told("gap", "continuous", "broken", "{release-1} took its key away"),
     instead(
         Slicelet,
         "is_continuous",
@@ -1204,7 +1204,7 @@ bug(
     "handle-survives-a-life",
     "A handle of an earlier life is continuous.",
     "move",
-    told("life", "continuous", "broken"),
+    told("life", "continuous", "broken", "{release-1} took its key away"),
     instead(
         Slicelet,
         "is_continuous",
@@ -1269,14 +1269,14 @@ bug(
     "starts-a-life-twice",
     "A task starts its life once more.",
     "denials",
-    told("same", "started 1", "refused old-life"),
+    told("same", "started 1", "refused old-life", "the task is in life 1"),
     instead(Slicelet, "check_life", life_not_below),
 )
 bug(
     "starts-with-a-clock-behind",
     "A life starts at a reading below the last one.",
     "denials",
-    told("begun", "started 2", "refused clock-back") + hint(1, 1, "begun"),
+    told("begun", "started 2", "refused clock-back", "read at 19 after 20") + hint(1, 1, "begun"),
     during(Slicelet, "start", check_reading=nothing),
 )
 bug(
@@ -1297,28 +1297,28 @@ bug(
     "lives-not-stored",
     "The lives of a task are not stored, so its next process begins with none.",
     "lives",
-    told("open", "opened 0", "refused old-life"),
+    told("open", "opened 0", "refused old-life", "the task is in life 2"),
     instead(TaskActor, "store", nothing),
 )
 bug(
     "life-stored-too-late",
     "A life is stored when the next one begins.",
     "lives",
-    told("open", "opened 1", "refused old-life"),
+    told("open", "opened 1", "refused old-life", "the task is in life 2"),
     instead(TaskActor, "store", lambda task, life: task.lives.write_text(str(life - 1))),
 )
 bug(
     "life-of-an-earlier-process",
     "A new process of a task starts the last life of the one before.",
     "lives",
-    told("twice", "started 2", "refused old-life"),
+    told("twice", "started 2", "refused old-life", "the task is in life 2"),
     instead(Slicelet, "check_life", life_not_below),
 )
 bug(
     "open-not-logged",
     "A new process of a task begins, and its log does not say so.",
     "lives",
-    told("down", "denied down", "denied clock-back") + hint(1, 2, "down"),
+    told("down", "denied down", "denied clock-back", "read at 13 after 15") + hint(1, 2, "down"),
     lost("task-1", "open", 1),
 )
 bug(
@@ -1477,7 +1477,7 @@ bug(
     "free-not-logged",
     "A line of the table is lost: that of a note.",
     "move",
-    told("commit", "committed 2", "refused held 1 guard 1"),
+    told("commit", "committed 2", "refused held 1 guard 1", "it ends at 105, read at 25"),
     lost("table", "free", 1),
 )
 bug(
@@ -1665,7 +1665,7 @@ bug(
     "tickets-in-stock",
     "A task draws tickets ahead, and uses the last one first.",
     "move",
-    told("open-1", "opened 0", "refused old-life"),
+    told("open-1", "opened 0", "refused old-life", "the task is in life 1"),
     only_in("task-1", instead(SharedCounter, "draw", draw_in_stock(SharedCounter.draw))),
 )
 bug(
