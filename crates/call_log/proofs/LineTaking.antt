@@ -32,9 +32,6 @@ pub first_stays_so : (lines : List PlacedLine) (line : PlacedLine) (first : Opti
 first_stays_so lines line None some is = absurd (cc)
 first_stays_so lines line (Some first) some is = first_stays lines line first is
 
-pub first_is : (lines : List PlacedLine) (line : PlacedLine) (first : KeptLine) → lines ≡ [] → kept first ≡ line → IsFirst (lines ++ line ∷ []) (Some first)
-first_is lines line first none is = ([], ap (λ (ls : List PlacedLine). ls ++ line ∷ []) none ∙ ap (λ (l : PlacedLine). l ∷ []) (sym is))
-
 pub job_kept : (lines others : List PlacedLine) (jobs : List KeptLine) (line : PlacedLine) (l : KeptLine) → AreParted None lines (map kept jobs) others
     → IsJobLine (file_after None lines) line true → kept l ≡ line → AreParted None (lines ++ line ∷ []) (map kept (jobs ++ l ∷ [])) others
 job_kept lines others jobs line l parted is same =
@@ -240,18 +237,6 @@ all_read keeps files r known =
     let same : known.lines ≡ lines_from 0 files =
     sym (append-nil known.lines) ∙ sym all ∙ files_more 0 files [] ∙ append-nil (lines_from 0 files) in
     subst (λ (ls : List PlacedLine). AreTaken ls r.taken) same known.taken
-
-pub nothing_read : (r : LogReader) → r.file ≡ 0 → r.number ≡ 1 → r.part.items ≡ [] → AreTaken [] r.taken → IsReading (is_some r.taken.calls.lasting) [] [] r
-nothing_read r file number part taken = record {
-  count = file;
-  ended = [];
-  parts = sym part;
-  unended = rw part tt;
-  lines = [];
-  taken = taken;
-  ahead = λ next. rw (file, number, part) (append-nil (numbered 0 1 (lines_in next)));
-  keeps_state = refl;
-}
 
 -- what was read up to the first end of a line, or to the end
 pub line_read_to : (keeps : Bool) (files : List (List ℕ)) (before bytes part : List ℕ) (rest : Option (Bor (List ℕ))) (s : LogReader) → is_some rest ≡ true → IsFollowedBy bytes part rest

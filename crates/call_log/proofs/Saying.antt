@@ -7,7 +7,6 @@ use Rattle.program_io.specs.Lines.{is_blank, is_long}
 use Rattle.call_log.specs.declared.entry.LogEntry.{LogEntry}
 use Rattle.call_log.specs.declared.entry.LinePosition.{LinePosition}
 use Rattle.call_log.specs.declared.lines.KeptLine.{KeptLine}
-use Rattle.call_log.specs.Lines.{SaysNoLine}
 use Rattle.call_log.specs.Files.{PlacedLine, IsSaid, IsTorn, AreSaid, IsBadLine, AreShort, counted, HasLongLine}
 use Rattle.call_log.specs.Readers.{kept}
 
@@ -70,21 +69,6 @@ bad_after lines line place why bad = record {
   says = bad.says;
 }
 
-pub bad_here : (lines : List PlacedLine) (line : PlacedLine) (entries : List LogEntry) (torn : List LinePosition) (why : DecodeRefusal) → AreSaid lines entries torn
-    → line.ended ≡ true → SaysNoLine line.bytes why → IsBadLine (lines ++ line ∷ []) line.place why
-bad_here lines line entries torn why are ended says = record {
-  before = lines;
-  line = line;
-  later = [];
-  whole = refl;
-  entries = entries;
-  torn = torn;
-  said = are;
-  at = refl;
-  ended = ended;
-  says = says;
-}
-
 pub long_after : (lines : List PlacedLine) (line : PlacedLine) (place : LinePosition) → HasLongLine lines place → HasLongLine (lines ++ line ∷ []) place
 long_after lines line place long = record {
   before = long.before;
@@ -95,9 +79,6 @@ long_after lines line place long = record {
   at = long.at;
   long = long.long;
 }
-
-pub long_here : (lines : List PlacedLine) (line : PlacedLine) → AreShort lines → is_long line.bytes ≡ true → HasLongLine (lines ++ line ∷ []) line.place
-long_here lines line short long = record { before = lines; line = line; later = []; whole = refl; short = short; at = refl; long = long }
 
 module _ (lines : List KeptLine) (i : ℕ) (line d : KeptLine) (low : i < length lines) (here : line ≡ get_or lines i d) where
   pub one_more : map kept (take (i + 1) lines) ≡ map kept (take i lines) ++ kept line ∷ []

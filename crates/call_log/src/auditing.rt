@@ -43,7 +43,7 @@ fn is_timely(finding: &Finding) -> bool
 /// Judges the calls of a log in the order of their tickets.
 ///
 /// `names` are the names of the files. With `all`, the report tells later wrong replies too,
-/// up to [`crate::MOST_WRONG_REPLIES`] in all.
+/// up to [`crate::MOST_WRONG_REPLIES`] in all. Fails if memory runs out.
 pub fn audit_log<P: Progress>(
     alloc: Global,
     names: &[&str],

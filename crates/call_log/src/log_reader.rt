@@ -202,6 +202,8 @@ impl LogReader {
     }
 
     /// Reads the next bytes of the file.
+    ///
+    /// Fails if memory runs out; the reader is then gone.
     pub fn read<P: Progress>(self, piece: &[u8], progress: &mut P) -> Result<LogReader, AllocError>
         ensures { (keeps : Bool) (files : List (List ℕ)) (before : List ℕ) → IsReading keeps files before self
             → IfOk result (IsReading keeps files (before ++ piece.now)) }
@@ -215,6 +217,8 @@ impl LogReader {
     }
 
     /// Ends the file. What is read from now on is of the next one.
+    ///
+    /// Fails if memory runs out; the reader is then gone.
     pub fn end_file<P: Progress>(self, progress: &mut P) -> Result<LogReader, AllocError>
         ensures { (keeps : Bool) (files : List (List ℕ)) (bytes : List ℕ) → IsReading keeps files bytes self
             → IfOk result (IsReading keeps (files ++ bytes ∷ []) []) }
