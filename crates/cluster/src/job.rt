@@ -13,7 +13,7 @@ use std::marker::Model;
 pub const MOST_ASSIGNERS: u64 = 8;
 
 /// The largest number of clerks in a job.
-pub const MOST_CLERKS: u64 = 16;
+pub const MOST_CLERKS: u64 = 4096;
 
 /// A job: its policy, and how many assigners, tasks and clerks it has.
 #[derive(Clone, Copy, Debug, PartialEq, Eq)]
@@ -33,7 +33,7 @@ impl Model for Job {
 
     ghost view = { λ j. job_of j.policy j.assigners j.tasks j.clerks };
 
-    ghost invariant = { λ j. (is_within j.assigners 8 && is_within j.tasks 64 && is_within j.clerks 16) ≡ true };
+    ghost invariant = { λ j. (is_within j.assigners 8 && is_within j.tasks 64 && is_within j.clerks 4096) ≡ true };
 
     ghost inverse = { λ t. record { policy = t.policy; assigners = t.assigners; tasks = t.tasks; clerks = t.clerks } };
 }
@@ -41,10 +41,10 @@ impl Model for Job {
 impl Job {
     /// Creates a job with this policy and these numbers of actors, or returns `None`.
     ///
-    /// A job has 1 to 8 assigners, 1 to 64 tasks and 1 to 16 clerks. `None` is returned if a number
+    /// A job has 1 to 8 assigners, 1 to 64 tasks and 1 to 4,096 clerks. `None` is returned if a number
     /// is outside its range.
     pub fn new(policy: Policy, assigners: u64, tasks: u64, clerks: u64) -> Option<Self>
-        ensures valid { is_some result ≡ (is_within assigners 8 && is_within tasks 64 && is_within clerks 16) }
+        ensures valid { is_some result ≡ (is_within assigners 8 && is_within tasks 64 && is_within clerks 4096) }
         ensures value { IfSome result (λ job. job ≡ job_of policy assigners tasks clerks) }
     {
         let within = |number: u64, most: u64| 1 <= number && number <= most;
@@ -86,10 +86,10 @@ impl Job {
         self.tasks
     }
 
-    /// Returns the number of clerks, from 1 to 16.
+    /// Returns the number of clerks, from 1 to 4,096.
     pub fn clerks(self) -> u64
         ensures value { result ≡ self.clerks }
-        ensures within { (1 ≤ result) × (result ≤ 16) }
+        ensures within { (1 ≤ result) × (result ≤ 4096) }
     {
         self.clerks
     }

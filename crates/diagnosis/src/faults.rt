@@ -11,7 +11,7 @@ use crate::job_faults::{job_line_mend, job_mend};
 use crate::step_faults::step_mend;
 use program_io::{Fault, Unread};
 use serde_json::Value;
-use service::{ScriptError, head_of, job_member};
+use service::{MOST_SCRIPT_CLERKS, ScriptError, head_of, job_member, script_job_of};
 use std::alloc::{AllocError, Global};
 use std::fmt;
 use world::Job;
@@ -95,8 +95,8 @@ fn head_mend(alloc: Global, value: &Value) -> Result<String, AllocError> {
     };
     match job_member(line) {
         Err(_) => job_line_mend(alloc, line),
-        Ok(job) => match service::job_of(job) {
-            Err(_) => job_mend(alloc, job),
+        Ok(job) => match script_job_of(job) {
+            Err(_) => job_mend(alloc, job, MOST_SCRIPT_CLERKS),
             Ok(_job) => format!(in alloc; "{} steps; a script may have at most 4096", steps.len()),
         },
     }

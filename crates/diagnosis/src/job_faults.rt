@@ -45,12 +45,16 @@ fn number_of(job: &Value, member: &str) -> Option<u64> {
 }
 
 // Describes the first member of the job whose value is wrong.
-fn wrong_member(alloc: Global, job: &Value) -> Result<Option<String>, AllocError> {
+fn wrong_member(
+    alloc: Global,
+    job: &Value,
+    most_clerks: u64,
+) -> Result<Option<String>, AllocError> {
     for name in NAMES {
         let Some(value) = job.get(*name) else {
             continue;
         };
-        let wanted = Wanted::of_job(name);
+        let wanted = Wanted::of_job(name, most_clerks);
         if !wanted.is_met(alloc, value)? {
             let wrong = WrongMember {
                 name: *name,
@@ -64,8 +68,8 @@ fn wrong_member(alloc: Global, job: &Value) -> Result<Option<String>, AllocError
 }
 
 // Returns how to fix a job that has exactly its members: describes the first with a wrong value.
-fn values_mend(alloc: Global, job: &Value) -> Result<String, AllocError> {
-    if let Some(wrong) = wrong_member(alloc, job)? {
+fn values_mend(alloc: Global, job: &Value, most_clerks: u64) -> Result<String, AllocError> {
+    if let Some(wrong) = wrong_member(alloc, job, most_clerks)? {
         return Ok(wrong);
     }
     let skew = number_of(job, "skew").unwrap_or(0);
@@ -80,8 +84,8 @@ fn values_mend(alloc: Global, job: &Value) -> Result<String, AllocError> {
     String::from_str(alloc, "a member is outside its limits")
 }
 
-/// Returns how to fix a value that is not a job.
-pub fn job_mend(alloc: Global, job: &Value) -> Result<String, AllocError> {
+/// Returns how to fix a value that is not a job of at most so many clerks.
+pub fn job_mend(alloc: Global, job: &Value, most_clerks: u64) -> Result<String, AllocError> {
     let Some(object) = job.as_object() else {
         return format!(in alloc; "found {}; a job must be an object", Found(job));
     };
@@ -94,6 +98,6 @@ pub fn job_mend(alloc: Global, job: &Value) -> Result<String, AllocError> {
     }
     match missing_member(job, members) {
         Some(missing) => format!(in alloc; "\"{missing}\" is missing; {members}"),
-        None => values_mend(alloc, job),
+        None => values_mend(alloc, job, most_clerks),
     }
 }

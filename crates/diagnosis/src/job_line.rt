@@ -12,7 +12,7 @@ use program_io::{Fault, JsonError, next_line, strict_value_of};
 use service::{ScriptError, job_member, job_of};
 use std::alloc::{AllocError, Global};
 use std::io::BufRead;
-use world::Job;
+use world::{Job, MOST_CLERKS};
 
 /// The words for a line that is too long.
 pub const LONG_WORDS: &str = "the line has more than 1048576 bytes";
@@ -63,7 +63,7 @@ pub fn job_said(alloc: Global, line: &[u8]) -> Result<Job, AnswerError>
     match job_of(member) {
         Ok(job) => Ok(job),
         Err(_) => {
-            let mend = job_mend(alloc, member)?;
+            let mend = job_mend(alloc, member, MOST_CLERKS)?;
             let faults = one_fault(alloc, ScriptError::BadJob, mend)?;
             Err(Fault::Input(faults))
         }

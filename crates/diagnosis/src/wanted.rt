@@ -37,14 +37,14 @@ pub enum Wanted {
 impl Wanted {
     /// Returns what the job's member with this name must be.
     ///
-    /// The skew may be any number here.
-    pub fn of_job(member: &str) -> Wanted {
+    /// The skew may be any number here, and the job may have so many clerks.
+    pub fn of_job(member: &str, most_clerks: u64) -> Wanted {
         match member {
             "redundancy" => Wanted::Redundancy,
             "skew" => Wanted::Between(0, u64::MAX),
             "assigners" => Wanted::Between(1, 8),
             "tasks" => Wanted::Between(1, 64),
-            "clerks" => Wanted::Between(1, 16),
+            "clerks" => Wanted::Between(1, most_clerks),
             _ => Wanted::Between(1, 1 << 32),
         }
     }

@@ -1,4 +1,4 @@
--- What the job line of a script says.
+-- What a job line says.
 use Rattle.std.specs.Prelude.{ℕ, ◌&&◌, [], ◌∷◌, codes, Result, Ok}
 use Rattle.serde_json.specs.Data.{Data}
 use Rattle.lease_table.specs.Policies.{Terms, is_policy, terms}
@@ -44,5 +44,12 @@ job_of d = do
   assigners ← number_at (codes "assigners") d
   tasks ← number_at (codes "tasks") d
   clerks ← number_at (codes "clerks") d
-  check (is_within assigners 8 && is_within tasks 64 && is_within clerks 16) wrong
+  check (is_within assigners 8 && is_within tasks 64 && is_within clerks 4096) wrong
   Ok (job_with policy assigners tasks clerks)
+
+-- the job of a script, which has at most 16 clerks
+unfoldable pub script_job_of : Data → Result Job WrongForm
+script_job_of d = do
+  job ← job_of d
+  check (is_within job.clerks 16) wrong
+  Ok job

@@ -12,7 +12,7 @@ use Rattle.service.specs.declared.script.Script.{Script}
 use Rattle.program_io.specs.Status.{IsUnread}
 use Rattle.program_io.specs.Reading.{◌>>=◌, ◌>>◌, check, in_turn}
 use Rattle.program_io.specs.Members.{array_of}
-use Rattle.service.specs.Jobs.{job_member, job_of}
+use Rattle.service.specs.Jobs.{job_member, script_job_of}
 use Rattle.service.specs.Steps.{step_of}
 
 -- what is read, or this refusal
@@ -31,7 +31,7 @@ head_of d = do
   elements ← or_refuse NotArray (array_of d)
   parts ← parts_of elements
   line ← or_refuse NoJob (job_member parts.0)
-  job ← or_refuse BadJob (job_of line)
+  job ← or_refuse BadJob (script_job_of line)
   check (nat_le (length parts.1) 4096) TooManySteps
   Ok (job, parts.1)
 

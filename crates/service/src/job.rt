@@ -1,14 +1,17 @@
-//! The job of a script, read from its first element.
+//! Jobs, read from job lines.
 
 ghost use Rattle.std.specs.Prelude.{◌≡◌};
 ghost use Rattle.serde_json.specs.View.{view};
 ghost use Rattle.program_io.specs.Members.{IsRead};
-ghost use Rattle.service.specs.Jobs.{job_member, redundancy_of, policy_of, job_of};
+ghost use Rattle.service.specs.Jobs.{job_member, redundancy_of, policy_of, job_of, script_job_of};
 
 use lease_table::Policy;
 use program_io::{WrongForm, exactly, member_at, number_at, number_of, two_numbers_of};
 use serde_json::Value;
 use world::Job;
+
+/// The largest number of clerks in the job of a script.
+pub const MOST_SCRIPT_CLERKS: u64 = 16;
 
 /// Returns the one member of the job line.
 #[tactic(auto, unfolding(crate::specs::Jobs::job_member))]
@@ -73,4 +76,18 @@ pub fn job_of(job: &Value) -> Result<Job, WrongForm>
         Some(job) => Ok(job),
         None => Err(WrongForm),
     }
+}
+
+/// Reads the job of a script from the member of the job line.
+///
+/// A script may have at most [`MOST_SCRIPT_CLERKS`] clerks.
+#[tactic(auto, unfolding(crate::specs::Jobs::script_job_of))]
+pub fn script_job_of(job: &Value) -> Result<Job, WrongForm>
+    ensures { result ≡ script_job_of (view job.now) }
+{
+    let job = job_of(job)?;
+    if job.clerks() > MOST_SCRIPT_CLERKS {
+        return Err(WrongForm);
+    }
+    Ok(job)
 }

@@ -21,7 +21,7 @@ mod task_steps;
 mod words;
 
 pub use fault::{ProgramError, ScriptError};
-pub use job::{job_member, job_of};
+pub use job::{MOST_SCRIPT_CLERKS, job_member, job_of, script_job_of};
 pub use key_member::MOST_KEY_BYTES;
 pub use laws::printed_law;
 pub use line::{Hex, Line};

@@ -7,7 +7,7 @@ ghost use Rattle.service.specs.Steps.{step_of};
 ghost use Rattle.service.specs.Scripts.{IsReadOrRefused, Answers, AnswersScript, head_of, steps_of, script_of};
 
 use crate::fault::ScriptError;
-use crate::job::{job_member, job_of};
+use crate::job::{job_member, script_job_of};
 use crate::step::step_of;
 use machines::Listed;
 use program_io::{Fault, Unread, array_of};
@@ -44,7 +44,7 @@ pub fn head_of(value: &Value) -> Result<(Job, &[Value]), ScriptError>
     let Ok(line) = job_member(line) else {
         return Err(ScriptError::NoJob);
     };
-    let Ok(job) = job_of(line) else {
+    let Ok(job) = script_job_of(line) else {
         return Err(ScriptError::BadJob);
     };
     if elements.len() > MOST_STEPS {
