@@ -1,5 +1,5 @@
 -- Wrong replies to calls that are played one after another.
-use Rattle.std.proofs.Common.{◌≡◌, ◌∙◌, ℕ, ◌+◌, ◌<◌, List, [], ◌∷◌, ◌++◌, length, get_or, take, reverse, inl, inr, sym, subst, arith}
+use Rattle.std.proofs.Common.{◌≡◌, ◌∙◌, ℕ, ◌+◌, ◌<◌, List, [], ◌∷◌, ◌++◌, length, take, reverse, inl, inr, sym, subst, arith}
 use Rattle.std.specs.Prelude.{Some, None}
 use Rattle.std.proofs.lemmas.List.{length-reverse, length-take-le, reverse-append}
 use Rattle.cluster.specs.Jobs.{Job}
@@ -13,31 +13,31 @@ use Rattle.call_log.specs.internals.Answers.{FindsWrongReply}
 use Rattle.call_log.proofs.Replaying.{one_more}
 
 -- what is known once some calls were played
-pub record AreWrongRepliesTo (job : Job) (entries : List LogEntry) (replies : List WrongReply) (cluster : Cluster) : Type 0 where
+pub record AreWrongRepliesTo (job : Job) (entries played : List LogEntry) (replies : List WrongReply) (cluster : Cluster) : Type 0 where
   pub past : Past
-  pub are : AreWrongReplies job (reverse entries) past (reverse replies)
+  pub are : AreWrongReplies job entries (reverse played) past (reverse replies)
   pub leads : LeadsTo job past cluster
 
-module _ (entries : List LogEntry) (i : ℕ) (entry : LogEntry) (low : i < length entries) (here : entry ≡ get_or entries i entry) where
+module _ (entries : List LogEntry) (i : ℕ) (low : i < length entries) where
   before_are : length (reverse (take i entries)) ≡ i
   before_are = length-reverse (take i entries) ∙ length-take-le i entries (omega (arith, low))
 
   -- a call whose caller got the right reply
-  pub right_more : (job : Job) (replies : List WrongReply) (cluster next : Cluster) (known : AreWrongRepliesTo job (take i entries) replies cluster)
-      → FindsWrongReply job known.past entry i None next → AreWrongRepliesTo job (take (i + 1) entries) replies next
+  pub right_more : (job : Job) (replies : List WrongReply) (cluster next : Cluster) (known : AreWrongRepliesTo job entries (take i entries) replies cluster)
+      → FindsWrongReply job known.past entries i None next → AreWrongRepliesTo job entries (take (i + 1) entries) replies next
   right_more job replies cluster next known found = record {
     past = found.played.after;
-    are = subst (λ (es : List LogEntry). AreWrongReplies job es found.played.after (reverse replies)) (sym (one_more entries i entry low here))
+    are = subst (λ (es : List LogEntry). AreWrongReplies job entries es found.played.after (reverse replies)) (sym (one_more entries i found.entry low found.here))
         (known.past, found.told, found.played.stands, inl (found.found, known.are));
     leads = found.played.leads;
   }
 
   -- a call whose caller got a wrong one
-  pub wrong_more : (job : Job) (replies : List WrongReply) (wrong : WrongReply) (cluster next : Cluster) (known : AreWrongRepliesTo job (take i entries) replies cluster)
-      → FindsWrongReply job known.past entry i (Some wrong) next → AreWrongRepliesTo job (take (i + 1) entries) (replies ++ wrong ∷ []) next
+  pub wrong_more : (job : Job) (replies : List WrongReply) (wrong : WrongReply) (cluster next : Cluster) (known : AreWrongRepliesTo job entries (take i entries) replies cluster)
+      → FindsWrongReply job known.past entries i (Some wrong) next → AreWrongRepliesTo job entries (take (i + 1) entries) (replies ++ wrong ∷ []) next
   wrong_more job replies wrong cluster next known found = record {
     past = found.played.after;
-    are = subst (λ (es : List LogEntry). AreWrongReplies job es found.played.after (reverse (replies ++ wrong ∷ []))) (sym (one_more entries i entry low here)) (
+    are = subst (λ (es : List LogEntry). AreWrongReplies job entries es found.played.after (reverse (replies ++ wrong ∷ []))) (sym (one_more entries i found.entry low found.here)) (
       known.past,
       found.told,
       found.played.stands,

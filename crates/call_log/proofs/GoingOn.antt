@@ -10,9 +10,11 @@ use Rattle.lease_table.specs.declared.kept.Kept.{Kept}
 use Rattle.lease_table.specs.declared.values.ReleaseNote.{ReleaseNote}
 use Rattle.lease_table.specs.Calls.{AnsweredTableCall, grants_sent, standing_after}
 use Rattle.lease_table.specs.KeptValues.{kept_of, lease_term, Covers}
+use Rattle.lease_table.specs.Generations.{published_in}
 use Rattle.lease_table.specs.Tables.{Standing}
 use Rattle.slicelet.specs.declared.call.SliceletCall.TheVariants.{Hear}
 use Rattle.slicelet.specs.declared.handle.KeyHandle.{KeyHandle}
+use Rattle.clerk.specs.declared.call.ClerkCall.TheVariants.{Learn}
 use Rattle.cluster.specs.Jobs.{Job}
 use Rattle.cluster.specs.declared.call.ClusterCall.{ClusterCall}
 use Rattle.cluster.specs.declared.call.ClusterCall.TheVariants as call
@@ -26,13 +28,13 @@ use Rattle.cluster.specs.Deliveries.{handles_made, notes_made}
 use Rattle.cluster.specs.Runs.{IsReply, IsRun}
 use Rattle.call_log.specs.declared.entry.LogEntry.{LogEntry}
 use Rattle.call_log.specs.declared.line.LoggedCall.{LoggedCall}
-use Rattle.call_log.specs.declared.line.LoggedCall.TheVariants.{Whole, HearBare, Restore}
+use Rattle.call_log.specs.declared.line.LoggedCall.TheVariants.{Whole, HearBare, LearnBare, Restore, Sample}
 use Rattle.call_log.specs.declared.restored.KeptNumbers.{KeptNumbers}
 use Rattle.call_log.specs.declared.restored.RestoreFault.{RestoreFault}
 use Rattle.call_log.specs.declared.restored.RestoreFault.TheVariants.{LessThanLog, FarAhead, NotAhead}
 use Rattle.call_log.specs.declared.told.CallerReply.{CallerReply}
 use Rattle.call_log.specs.Audited.{IsCalled, IsPastOf, StandsFor}
-use Rattle.call_log.specs.Calls.{call_after, ranges_sent, with_ranges}
+use Rattle.call_log.specs.Calls.{call_after, ranges_sent, slicing_sent, with_ranges}
 use Rattle.call_log.specs.Days.{asks, lasting, lasts, only_asks, AreTimelyRun}
 use Rattle.call_log.specs.Hints.{AreRun}
 use Rattle.call_log.specs.Restores.{IsChecked, IsRestored, IsTaken, grant_to_nobody, is_less, kept_with, numbers_of, restore_told}
@@ -47,7 +49,10 @@ call_same : (p q : Past) (s : AreAlike p q) (c : LoggedCall) → call_after p c 
 call_same p q s (Whole c) = refl
 call_same p q s (HearBare task grant at) =
     ap (λ (ts : List AnsweredTableCall). call.Task task (Hear (with_ranges grant (ranges_sent (with_number grant.number (grants_sent ts)))) at)) s.table
+call_same p q s (LearnBare clerk generation) =
+    ap (λ (ts : List AnsweredTableCall). call.Clerk clerk (Learn (slicing_sent generation (published_in generation ts)))) s.table
 call_same p q s (Restore numbers) = refl
+call_same p q s (Sample taken) = refl
 
 told_same : (p q : Past) (s : AreAlike p q) (c : LoggedCall) (answer : ClusterReply) → told_after p c answer ≡ told_after q c answer
 told_same p q s c answer =
@@ -221,7 +226,10 @@ module _ (job : Job) where
   stands_alike p q after other (Whole c) one two s here there run run_there = called_alike p q after other (Whole c) one two s here there run run_there
   stands_alike p q after other (HearBare task grant at) one two s here there run run_there =
       called_alike p q after other (HearBare task grant at) one two s here there run run_there
+  stands_alike p q after other (LearnBare clerk generation) one two s here there run run_there =
+      called_alike p q after other (LearnBare clerk generation) one two s here there run run_there
   stands_alike p q after other (Restore numbers) one two s here there run run_there = restored_alike p q after other numbers one two s here there run run_there
+  stands_alike p q after other (Sample taken) one two s here there run run_there = rw (here.made, there.made) s
 
   stands_over : (q p other : Past) (c : LoggedCall) (told : CallerReply) → AreAlike q p → StandsFor job q c told other → IsRun job other → IsRun job p → IsOver p c told other
   stands_over q p other (Whole c) told s there run behind =
@@ -230,7 +238,12 @@ module _ (job : Job) where
   stands_over q p other (HearBare task grant at) told s there run behind =
       let over = called_over q p other (HearBare task grant at) told s there run behind in
       record { after = over.0; stands = over.1; run = over.2; alike = over.3 }
+  stands_over q p other (LearnBare clerk generation) told s there run behind =
+      let over = called_over q p other (LearnBare clerk generation) told s there run behind in
+      record { after = over.0; stands = over.1; run = over.2; alike = over.3 }
   stands_over q p other (Restore numbers) told s there run behind = restored_over q p other numbers told s there run behind
+  stands_over q p other (Sample taken) told s there run behind =
+      record { after = p; stands = record { tells = there.tells; made = refl }; run = behind; alike = rw there.made s }
 
   taken_behind : (p after : Past) (numbers : KeptNumbers) (granted : ℕ) (fault : Option RestoreFault) → IsTaken fault granted numbers p after → IsRun job after → IsRun job p
   taken_behind p after numbers granted (Some fault) taken run = subst (IsRun job) taken run
@@ -239,12 +252,16 @@ module _ (job : Job) where
   stands_behind : (p after : Past) (c : LoggedCall) (told : CallerReply) → StandsFor job p c told after → IsRun job after → IsRun job p
   stands_behind p after (Whole c) told stands run = (subst (IsRun job) stands.made run).1
   stands_behind p after (HearBare task grant at) told stands run = (subst (IsRun job) stands.made run).1
+  stands_behind p after (LearnBare clerk generation) told stands run = (subst (IsRun job) stands.made run).1
   stands_behind p after (Restore numbers) told stands run = taken_behind p after numbers _ stands.fault stands.taken run
+  stands_behind p after (Sample taken) told stands run = subst (IsRun job) stands.made run
 
   quiet_alike : (p after : Past) (c : LoggedCall) (told : CallerReply) → only_asks c ≡ true → StandsFor job p c told after → AreAlike after p
   quiet_alike p after (Whole c) told is stands = rw stands.made (asked p c stands.answer is)
   quiet_alike p after (HearBare task grant at) told is stands = absurd (true≢false (sym is))
+  quiet_alike p after (LearnBare clerk generation) told is stands = absurd (true≢false (sym is))
   quiet_alike p after (Restore numbers) told is stands = absurd (true≢false (sym is))
+  quiet_alike p after (Sample taken) told is stands = rw stands.made (alike_itself p)
 
   -- ALL LINES, newest first
 
@@ -299,7 +316,9 @@ module _ (job : Job) (skew : ℕ) where
   quiet_covers p after q (Whole c) told is stands covers late near =
       subst (AreNear late) (sym stands.made) (quiet_reading late c is, covers late near)
   quiet_covers p after q (HearBare task grant at) told is stands covers late near = absurd (true≢false (sym is))
+  quiet_covers p after q (LearnBare clerk generation) told is stands covers late near = absurd (true≢false (sym is))
   quiet_covers p after q (Restore numbers) told is stands covers late near = absurd (true≢false (sym is))
+  quiet_covers p after q (Sample taken) told is stands covers late near = subst (AreNear late) (sym stands.made) (covers late near)
 
   called_covers : (p q after other : Past) (c : LoggedCall) (one two : CallerReply) → AreAlike p q → IsCalled p c one after → IsCalled q c two other
       → NearAlso q p → NearAlso other after
@@ -332,8 +351,12 @@ module _ (job : Job) (skew : ℕ) where
   stands_cover p q after other (Whole c) one two s here there covers = called_covers p q after other (Whole c) one two s here there covers
   stands_cover p q after other (HearBare task grant at) one two s here there covers =
       called_covers p q after other (HearBare task grant at) one two s here there covers
+  stands_cover p q after other (LearnBare clerk generation) one two s here there covers =
+      called_covers p q after other (LearnBare clerk generation) one two s here there covers
   stands_cover p q after other (Restore numbers) one two s here there covers =
       taken_covers p q after other numbers (standing job.policy p).granted here.fault here.taken (same_taken job p q after other numbers one two s here there) covers
+  stands_cover p q after other (Sample taken) one two s here there covers =
+      λ late near. subst (AreNear late) (sym here.made) (covers late (subst (AreNear late) there.made near))
 
   one_covers : (quiet : Bool) (e : LogEntry) (es : List LogEntry) (p q : Past) → only_asks e.line.call ≡ quiet
       → ((before other : Past) → IsPastOf job es before → IsRun job before → IsPastOf job (filter lasts es) other → IsRun job other → NearAlso other before)
@@ -365,7 +388,10 @@ module _ (job : Job) (skew : ℕ) where
   stands_timely p q after other (Whole c) one two s here there covers timely far = called_timely p q after other (Whole c) one two s here there covers timely far
   stands_timely p q after other (HearBare task grant at) one two s here there covers timely far =
       called_timely p q after other (HearBare task grant at) one two s here there covers timely far
+  stands_timely p q after other (LearnBare clerk generation) one two s here there covers timely far =
+      called_timely p q after other (LearnBare clerk generation) one two s here there covers timely far
   stands_timely p q after other (Restore numbers) one two s here there covers timely far = timely_taken skew here.fault _ numbers p after here.taken timely
+  stands_timely p q after other (Sample taken) one two s here there covers timely far = subst (λ (x : Past). IsTimely skew (readings x)) (sym here.made) timely
 
   timely_without : (ahead p : Past) → IsTimely skew (readings (ahead ++ p)) → IsTimely skew (readings p)
   timely_without [] p timely = timely
@@ -380,7 +406,9 @@ module _ (job : Job) (skew : ℕ) where
   timely_before : (p after : Past) (c : LoggedCall) (told : CallerReply) → StandsFor job p c told after → IsTimely skew (readings after) → IsTimely skew (readings p)
   timely_before p after (Whole c) told stands timely = (subst (λ (x : Past). IsTimely skew (readings x)) stands.made timely).1
   timely_before p after (HearBare task grant at) told stands timely = (subst (λ (x : Past). IsTimely skew (readings x)) stands.made timely).1
+  timely_before p after (LearnBare clerk generation) told stands timely = (subst (λ (x : Past). IsTimely skew (readings x)) stands.made timely).1
   timely_before p after (Restore numbers) told stands timely = taken_before p after numbers _ stands.fault stands.taken timely
+  timely_before p after (Sample taken) told stands timely = subst (λ (x : Past). IsTimely skew (readings x)) stands.made timely
 
 -- GOING ON, newest first
 

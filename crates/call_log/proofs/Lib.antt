@@ -8,6 +8,7 @@ pub mod Reporting
 pub mod Places
 pub mod Opening
 pub mod Restoring
+pub mod Learning
 pub mod Hinting
 pub mod Naming
 pub mod Counting
@@ -20,3 +21,5 @@ pub mod Passing
 pub mod LineTaking
 pub mod Breaking
 pub mod Telling
+pub mod Drifting
+pub mod Contradicting

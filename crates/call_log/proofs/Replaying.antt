@@ -17,7 +17,7 @@ use Rattle.call_log.specs.declared.cause.Cause.{Cause}
 use Rattle.call_log.specs.declared.entry.LogEntry.{LogEntry}
 use Rattle.call_log.specs.declared.late.Late.{Late}
 use Rattle.call_log.specs.declared.line.LoggedCall.{LoggedCall}
-use Rattle.call_log.specs.declared.line.LoggedCall.TheVariants.{Whole, HearBare, Restore}
+use Rattle.call_log.specs.declared.line.LoggedCall.TheVariants.{Whole, HearBare, LearnBare, Restore, Sample}
 use Rattle.call_log.specs.declared.finding.HeldLeases.{HeldLeases}
 use Rattle.call_log.specs.declared.restored.KeptNumbers.{KeptNumbers}
 use Rattle.call_log.specs.declared.restored.RestoreFault.{RestoreFault}
@@ -108,7 +108,9 @@ module _ (skew : ℕ) where
       → AreNear late (readings before) → AreNear late (readings after)
   near_one job late before after (Whole c) told s near all = subst (λ (p : Past). AreNear late (readings p)) (sym s.made) (near, all)
   near_one job late before after (HearBare task grant at) told s near all = subst (λ (p : Past). AreNear late (readings p)) (sym s.made) (near, all)
+  near_one job late before after (LearnBare clerk generation) told s near all = subst (λ (p : Past). AreNear late (readings p)) (sym s.made) (near, all)
   near_one job late before after (Restore numbers) told s near all = near_taken late s.fault _ numbers before after s.taken near all
+  near_one job late before after (Sample taken) told s near all = subst (λ (p : Past). AreNear late (readings p)) (sym s.made) all
 
   timely_ahead : (at : ℕ) (ahead before : Past) → AllByRecursion (λ e. e.call ≡ grant_to_nobody at) ahead → IsTimely skew (readings before)
       → IsTimely skew (readings (ahead ++ before))
@@ -128,7 +130,9 @@ module _ (skew : ℕ) where
       → IsTimely skew (readings before) → IsTimely skew (readings after)
   timely_one job before after (Whole c) told s near timely = subst (λ (p : Past). IsTimely skew (readings p)) (sym s.made) (near, timely)
   timely_one job before after (HearBare task grant at) told s near timely = subst (λ (p : Past). IsTimely skew (readings p)) (sym s.made) (near, timely)
+  timely_one job before after (LearnBare clerk generation) told s near timely = subst (λ (p : Past). IsTimely skew (readings p)) (sym s.made) (near, timely)
   timely_one job before after (Restore numbers) told s near timely = timely_taken s.fault _ numbers before after s.taken timely
+  timely_one job before after (Sample taken) told s near timely = subst (λ (p : Past). IsTimely skew (readings p)) (sym s.made) timely
 
   near_all : (job : Job) (late : Reading) (entries : List LogEntry) (past : Past) → IsPastOf job entries past
       → AreNear late (map (λ (e : LogEntry). reading_in e.line.call) entries) → AreNear late (readings past)

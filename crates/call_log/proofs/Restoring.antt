@@ -13,7 +13,7 @@ use Rattle.cluster.specs.Pasts.{event, Past, standing}
 use Rattle.cluster.specs.Clusters.{LeadsTo}
 use Rattle.call_log.specs.declared.line.BareGrant.{BareGrant}
 use Rattle.call_log.specs.declared.line.LoggedCall.{LoggedCall}
-use Rattle.call_log.specs.declared.line.LoggedCall.TheVariants.{Whole, HearBare, Restore}
+use Rattle.call_log.specs.declared.line.LoggedCall.TheVariants.{Whole, HearBare, LearnBare, Restore}
 use Rattle.call_log.specs.declared.restored.KeptNumbers.{KeptNumbers}
 use Rattle.call_log.specs.declared.restored.RestoreFault.{RestoreFault}
 use Rattle.call_log.specs.declared.told.CallerReply.{CallerReply}
@@ -31,6 +31,12 @@ pub heard_played : (job : Job) (past : Past) (line : LoggedCall) (task : ℕ) (g
     → IsMade job past line told cluster → IsPlayed job past line told cluster
 heard_played job past line task grant at told cluster is made =
     let here : IsMade job past (HearBare task grant at) told cluster = subst (λ (l : LoggedCall). IsMade job past l told cluster) is made in
+    subst (λ (l : LoggedCall). IsPlayed job past l told cluster) (sym is) (record { after = here.after; stands = here.called; leads = here.leads })
+
+pub learnt_played : (job : Job) (past : Past) (line : LoggedCall) (clerk generation : ℕ) (told : CallerReply) (cluster : Cluster) → line ≡ LearnBare clerk generation
+    → IsMade job past line told cluster → IsPlayed job past line told cluster
+learnt_played job past line clerk generation told cluster is made =
+    let here : IsMade job past (LearnBare clerk generation) told cluster = subst (λ (l : LoggedCall). IsMade job past l told cluster) is made in
     subst (λ (l : LoggedCall). IsPlayed job past l told cluster) (sym is) (record { after = here.after; stands = here.called; leads = here.leads })
 
 -- one grant to nobody more

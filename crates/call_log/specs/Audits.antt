@@ -1,8 +1,9 @@
 -- What an audit says of the files of a log.
-use Rattle.std.specs.Prelude.{◌≡◌, ℕ, Bool, List, Option, string_bytes}
+use Rattle.std.specs.Prelude.{◌≡◌, ℕ, List, ◌++◌, Option, string_bytes}
 use Rattle.std.specs.Ordering.{nat_cmp}
 use Rattle.std.specs.List.Sorted.{IsPermutation, IsStableByKey}
 use Rattle.call_log.specs.declared.entry.LogEntry.{LogEntry}
+use Rattle.call_log.specs.declared.auditing.AuditOptions.{AuditOptions}
 use Rattle.call_log.specs.declared.auditing.LogReport.{LogReport}
 use Rattle.call_log.specs.declared.comparing.WrongReply.{WrongReply}
 use Rattle.call_log.specs.declared.finding.Finding.{Finding}
@@ -10,13 +11,15 @@ use Rattle.call_log.specs.declared.hint.Hint.{Hint}
 use Rattle.call_log.specs.declared.log.Log.{Log}
 use Rattle.call_log.specs.Audited.{IsFound, is_one, is_timely}
 use Rattle.call_log.specs.WrongReplies.{AreLater}
+use Rattle.call_log.specs.DriftReports.{IsDriftTold}
 use Rattle.call_log.specs.Files.{IsLog, lines_from}
 use Rattle.call_log.specs.Hints.{IsHinted}
 use Rattle.call_log.specs.Reports.{IsWholeReport}
 
 -- the files say a log, but for the last lines at the places that the report has; this is found of its calls in the order of their tickets, where
--- equal tickets stay in the order of their lines, and the text reports it, with a hint if there is one, and with the later wrong replies if all are wanted
-pub record IsAudited (names files : List (List ℕ)) (all : Bool) (report : LogReport) : Type 0 where
+-- equal tickets stay in the order of their lines, and the text reports it, with a hint if there is one, with the later wrong replies if all are wanted,
+-- and with what the samples say of a drift
+pub record IsAudited (names files : List (List ℕ)) (options : AuditOptions) (report : LogReport) : Type 0 where
   pub log : Log
   pub left_out : report.torn.items ≡ log.torn.items
   pub reads : IsLog (lines_from 0 files) log
@@ -30,5 +33,9 @@ pub record IsAudited (names files : List (List ℕ)) (all : Bool) (report : LogR
   pub hint : Option Hint
   pub hinted : IsHinted log.job ordered finding hint
   pub later : List WrongReply
-  pub more : AreLater log.job ordered all finding later
-  pub told : IsWholeReport log.job names ordered finding hint later (string_bytes report.text)
+  pub more : AreLater log.job ordered options.all finding later
+  pub lines : List ℕ
+  pub told : IsWholeReport log.job names ordered finding hint later lines
+  pub drift : List ℕ
+  pub samples : IsDriftTold options.drift names ordered finding report.keeps_drift drift
+  pub text : string_bytes report.text ≡ lines ++ drift

@@ -1,14 +1,14 @@
 -- Which actors of a job took the calls of a log.
-use Rattle.std.specs.Prelude.{ℕ, ◌==◌, ◌&&◌, nat_lt, zero, suc, Bool, true, false, List, [], ◌∷◌, ◌++◌, codes, decimal, if◌then◌else◌}
+use Rattle.std.specs.Prelude.{ℕ, ◌==◌, ◌&&◌, nat_lt, zero, suc, Bool, true, false, List, [], ◌∷◌, ◌++◌, codes, decimal, if◌then◌else◌, Option, Some, None}
 use Rattle.std.specs.List.{count_by}
 use Rattle.lease_table.specs.declared.call.TableCall.TheVariants as table_call
 use Rattle.cluster.specs.Jobs.{Job}
 use Rattle.cluster.specs.declared.call.ClusterCall.TheVariants as call
 use Rattle.call_log.specs.declared.callers.Caller.{Caller}
-use Rattle.call_log.specs.declared.callers.Caller.TheVariants.{Table, Task, Clerk}
+use Rattle.call_log.specs.declared.callers.Caller.TheVariants.{Table, Task}
 use Rattle.call_log.specs.declared.entry.LogEntry.{LogEntry}
 use Rattle.call_log.specs.declared.line.LoggedCall.{LoggedCall}
-use Rattle.call_log.specs.declared.line.LoggedCall.TheVariants.{Whole, HearBare, Restore}
+use Rattle.call_log.specs.declared.line.LoggedCall.TheVariants.{Whole, HearBare, LearnBare, Restore, Sample}
 
 -- the table takes the call
 unfoldable pub is_of_table : LoggedCall → Bool
@@ -25,19 +25,28 @@ is_of_task task (Whole (call.Serve by key at)) = by == task
 is_of_task task (Whole (call.Hold by key at)) = by == task
 is_of_task task (Whole (call.Check by handle at)) = by == task
 is_of_task task (HearBare by grant at) = by == task
+is_of_task task (Sample taken) = taken.task == task
 is_of_task task _ = false
 
--- this clerk takes the call
-unfoldable pub is_of_clerk : ℕ → LoggedCall → Bool
-is_of_clerk clerk (Whole (call.Clerk by c)) = by == clerk
-is_of_clerk clerk (Whole (call.Look by key)) = by == clerk
-is_of_clerk clerk _ = false
-
--- this actor takes the call
+-- the table or this task takes the call
 unfoldable pub is_of : Caller → LoggedCall → Bool
 is_of Table c = is_of_table c
 is_of (Task task) c = is_of_task task c
-is_of (Clerk clerk) c = is_of_clerk clerk c
+
+-- the clerk that takes the call, if one does
+unfoldable pub clerk_of : LoggedCall → Option ℕ
+clerk_of (Whole (call.Clerk by c)) = Some by
+clerk_of (Whole (call.Look by key)) = Some by
+clerk_of (LearnBare by generation) = Some by
+clerk_of _ = None
+
+-- this clerk takes the call
+abbrev pub is_clerk : ℕ → Option ℕ → Bool
+is_clerk clerk None = false
+is_clerk clerk (Some by) = by == clerk
+
+abbrev pub is_of_clerk : ℕ → LoggedCall → Bool
+is_of_clerk clerk c = is_clerk clerk (clerk_of c)
 
 -- the call asks for a lease for this task, or gives one of it back
 unfoldable pub names_task : ℕ → LoggedCall → Bool
@@ -63,7 +72,7 @@ unfoldable pub calls_line : Job → List LogEntry → List ℕ
 calls_line job entries =
     codes "calls table " ++ (decimal (calls_where (is_of Table) entries)
     ++ (texts_to (λ n. counted_text (codes ", task ") n (calls_where (is_of (Task n)) entries)) job.tasks
-    ++ (texts_to (λ n. counted_text (codes ", clerk ") n (calls_where (is_of (Clerk n)) entries)) job.clerks ++ codes "\n")))
+    ++ (texts_to (λ n. counted_text (codes ", clerk ") n (calls_where (is_of_clerk n) entries)) job.clerks ++ codes "\n")))
 
 -- a task that took no call, though others name it
 unfoldable pub is_silent : List LogEntry → ℕ → Bool

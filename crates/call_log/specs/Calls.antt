@@ -1,21 +1,23 @@
 -- The call that a line tells, by the calls before it.
 use Rattle.std.specs.Prelude.{ℕ, List, [], Option, Some, None, option_map, option_and_then}
+use Rattle.assignment.specs.Slices.{Slicing}
 use Rattle.lease_table.specs.declared.values.Grant.{Grant}
 use Rattle.lease_table.specs.declared.call.TableCall.TheVariants as table_call
 use Rattle.slicelet.specs.declared.call.SliceletCall.TheVariants.{Hear}
 use Rattle.slicelet.specs.States.{SliceletState, held_lease}
+use Rattle.clerk.specs.declared.call.ClerkCall.TheVariants.{Learn}
 use Rattle.cluster.specs.Jobs.{Job}
 use Rattle.cluster.specs.Clusters.{slicelet_of}
 use Rattle.cluster.specs.declared.call.ClusterCall.{ClusterCall}
 use Rattle.cluster.specs.declared.call.ClusterCall.TheVariants as call
 use Rattle.cluster.specs.declared.timing.Reading.{Reading}
-use Rattle.cluster.specs.declared.timing.Reading.TheVariants.{TableClock, TaskClock}
+use Rattle.cluster.specs.declared.timing.Reading.TheVariants.{TableClock, TaskClock, NoClock}
 use Rattle.cluster.specs.Numbers.{with_number}
-use Rattle.cluster.specs.Pasts.{Past, grants, reading}
+use Rattle.cluster.specs.Pasts.{Past, grants, published, reading}
 use Rattle.call_log.specs.declared.finding.HeldLeases.{HeldLeases}
 use Rattle.call_log.specs.declared.line.BareGrant.{BareGrant}
 use Rattle.call_log.specs.declared.line.LoggedCall.{LoggedCall}
-use Rattle.call_log.specs.declared.line.LoggedCall.TheVariants.{Whole, HearBare, Restore}
+use Rattle.call_log.specs.declared.line.LoggedCall.TheVariants.{Whole, HearBare, LearnBare, Restore, Sample}
 
 -- the ranges of a grant that was sent; where none was, none
 abbrev pub ranges_sent : Option Grant → List ℕ
@@ -36,11 +38,22 @@ with_ranges g ranges = record {
 abbrev pub whole_grant : Past → BareGrant → Grant
 whole_grant past g = with_ranges g (ranges_sent (with_number g.number (grants past)))
 
--- the call that a line tells after these calls; of a table that is restored, its restart
+-- an assignment that was published; where none was, one of this generation without slices
+abbrev pub slicing_sent : ℕ → Option Slicing → Slicing
+slicing_sent generation (Some sent) = sent
+slicing_sent generation None = record { generation = generation; slices = [] }
+
+-- slices that are left out are those of the assignment of this generation that the table published
+abbrev pub whole_slicing : Past → ℕ → Slicing
+whole_slicing past generation = slicing_sent generation (published generation past)
+
+-- the call that a line tells after these calls; of a table that is restored, its restart, and of a sample one that only asks
 abbrev pub call_after : Past → LoggedCall → ClusterCall
 call_after past (Whole c) = c
 call_after past (HearBare task grant at) = call.Task task (Hear (whole_grant past grant) at)
+call_after past (LearnBare clerk generation) = call.Clerk clerk (Learn (whole_slicing past generation))
 call_after past (Restore numbers) = call.Table table_call.Restart
+call_after past (Sample taken) = call.Phase
 
 -- the task that a call asks for a key
 abbrev pub asked_task : LoggedCall → Option ℕ
@@ -60,4 +73,6 @@ held_by_asked job past c = option_map leases_held (option_and_then (slicelet_of 
 abbrev pub reading_in : LoggedCall → Reading
 reading_in (Whole c) = reading c
 reading_in (HearBare task grant at) = TaskClock at
+reading_in (LearnBare clerk generation) = NoClock
 reading_in (Restore numbers) = TableClock numbers.last
+reading_in (Sample taken) = NoClock

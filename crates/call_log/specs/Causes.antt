@@ -25,7 +25,7 @@ use Rattle.call_log.specs.declared.cause.Member.TheVariants as member
 use Rattle.call_log.specs.declared.entry.LogEntry.{LogEntry}
 use Rattle.call_log.specs.declared.line.BareGrant.{BareGrant}
 use Rattle.call_log.specs.declared.line.LoggedCall.{LoggedCall}
-use Rattle.call_log.specs.declared.line.LoggedCall.TheVariants.{Whole, HearBare}
+use Rattle.call_log.specs.declared.line.LoggedCall.TheVariants.{Whole, HearBare, LearnBare}
 use Rattle.call_log.specs.Sent.{NonePasses, IsFirst, IsFirstFrom, bare, sends_grant, sends_proposal, sends_commit, sends_note, sends_handle, hides_handle}
 
 -- the members of a grant that differ from those of another one, in this order
@@ -96,6 +96,12 @@ IsAssignmentCause entries index a (Other changed) =
 IsAssignmentCause entries index a Nothing = IsCommittedOr entries index a None × IsFirstFrom (sends_proposal true a) (take index entries) 0 None
 IsAssignmentCause entries index a _ = ⊥
 
+-- why no assignment of a generation was committed before: a later commit is the first; or there is none
+abbrev pub IsGenerationCause : List LogEntry → ℕ → ℕ → Cause → Type 0
+IsGenerationCause entries index generation (Later place) = IsFirst (sends_commit generation) entries (index + 1) place
+IsGenerationCause entries index generation Nothing = NonePasses (sends_commit generation) entries (index + 1) (length entries)
+IsGenerationCause entries index generation _ = ⊥
+
 -- why no task sent a note before: a later entry is the first that does; or none does, and one of the other kind was sent before; or none is
 abbrev pub other_kind : Kind → Kind
 other_kind Guard = Bridge
@@ -155,6 +161,7 @@ handle_delivered _ = None
 -- why nothing committed before an assignment that a call delivers; none for other calls
 abbrev pub IsLearnCause : List LogEntry → ℕ → LoggedCall → Option Cause → Type 0
 IsLearnCause entries index (Whole (call.Clerk clerk (Learn slicing))) cause = MatchOption cause ⊥ (IsAssignmentCause entries index slicing)
+IsLearnCause entries index (LearnBare clerk generation) cause = MatchOption cause ⊥ (IsGenerationCause entries index generation)
 IsLearnCause entries index _ cause = cause ≡ None
 
 -- why nothing sent before what the call of the entry at this place delivers

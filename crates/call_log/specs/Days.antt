@@ -9,14 +9,14 @@ use Rattle.cluster.specs.Runs.{IsRun}
 use Rattle.cluster.specs.Timing.{IsTimely}
 use Rattle.call_log.specs.declared.entry.LogEntry.{LogEntry}
 use Rattle.call_log.specs.declared.line.LoggedCall.{LoggedCall}
-use Rattle.call_log.specs.declared.line.LoggedCall.TheVariants.{Whole}
+use Rattle.call_log.specs.declared.line.LoggedCall.TheVariants.{Whole, Sample}
 use Rattle.call_log.specs.declared.line.LoggedLine.{LoggedLine}
 use Rattle.wire.specs.declared.fault.DecodeRefusal.{DecodeRefusal}
 use Rattle.call_log.specs.Audited.{IsPastOf}
 use Rattle.call_log.specs.Files.{PlacedLine, AreParted, counted}
 use Rattle.call_log.specs.Lines.{SaysLine, SaysNoLine}
 
--- a call that asks and changes nothing, whatever it is answered
+-- a call that asks and changes nothing, whatever it is answered; a sample changes nothing either
 abbrev pub asks : ClusterCall → Bool
 asks (call.Serve task key at) = true
 asks (call.Check task handle at) = true
@@ -27,6 +27,7 @@ asks _ = false
 
 abbrev pub only_asks : LoggedCall → Bool
 only_asks (Whole c) = asks c
+only_asks (Sample taken) = true
 only_asks _ = false
 
 -- an entry whose call may change something

@@ -9,9 +9,11 @@ pub mod Files
 pub mod Told
 -- Whether the calls of a log are one run.
 pub mod Restores
+pub mod Samples
 pub mod Calls
 pub mod Played
 pub mod Late
+pub mod Drifts
 pub mod Sent
 pub mod Broken
 pub mod Causes
@@ -25,5 +27,6 @@ pub mod Hints
 pub mod Callers
 pub mod Coarse
 pub mod Reports
+pub mod DriftReports
 pub mod Audits
 pub mod internals

@@ -3,12 +3,14 @@ use Rattle.std.specs.Prelude.{ℕ, List, [], ◌∷◌, codes, is_some, Result, 
 use Rattle.serde_json.specs.Data.{Data}
 use Rattle.serde_json.specs.Find.{get}
 use Rattle.slicelet.specs.declared.call.SliceletCall.TheVariants as task_call
+use Rattle.clerk.specs.declared.call.ClerkCall.TheVariants.{Learn}
 use Rattle.cluster.specs.declared.call.ClusterCall.TheVariants as call
 use Rattle.program_io.specs.declared.fault.WrongForm.{WrongForm}
 use Rattle.program_io.specs.Reading.{◌>>=◌, ◌>>◌}
 use Rattle.program_io.specs.Members.{exactly, member_at, number_at}
 use Rattle.wire.specs.declared.fault.DecodeRefusal.{DecodeRefusal}
 use Rattle.wire.specs.declared.numerals.Numerals.TheVariants.{Either}
+use Rattle.wire.specs.Assignments.{slicing_in}
 use Rattle.wire.specs.Grants.{grant_of}
 use Rattle.wire.specs.Handles.{handle_of}
 use Rattle.wire.specs.LeaseMembers.{kind_at, life_at, task_at}
@@ -17,7 +19,7 @@ use Rattle.wire.specs.Refusals.{or_wrong}
 use Rattle.call_log.specs.Keys.{key_name, slice_key_in}
 use Rattle.call_log.specs.declared.line.BareGrant.{BareGrant}
 use Rattle.call_log.specs.declared.line.LoggedCall.{LoggedCall}
-use Rattle.call_log.specs.declared.line.LoggedCall.TheVariants.{Whole, HearBare, Restore}
+use Rattle.call_log.specs.declared.line.LoggedCall.TheVariants.{Whole, HearBare, LearnBare, Restore, Sample}
 
 -- a `phase` has nothing more
 unfoldable pub phase_line : Data → Result LoggedCall DecodeRefusal
@@ -84,6 +86,16 @@ hear_line d = do
   grant ← or_wrong (member_at (codes "grant") d)
   heard_of task at grant
 
+-- a `sample` has a task, and what its clock takes: its local reading when the request was sent, the table's in the answer, and the local one now
+unfoldable pub sample_line : Data → Result LoggedCall DecodeRefusal
+sample_line d = do
+  or_wrong (exactly (codes "ticket" ∷ codes "reply" ∷ codes "do" ∷ codes "task" ∷ codes "sent" ∷ codes "reading" ∷ codes "now" ∷ []) d)
+  task ← or_wrong (number_at (codes "task") d)
+  sent ← or_wrong (numeral_at Either (codes "sent") d)
+  reading ← or_wrong (numeral_at Either (codes "reading") d)
+  now ← or_wrong (numeral_at Either (codes "now") d)
+  Ok (Sample (record { task = task; sample = record { sent = sent; reading = reading }; now = now }))
+
 -- a `serve` has a task, a key and a reading
 unfoldable pub serve_line : Data → Result LoggedCall DecodeRefusal
 serve_line d = do
@@ -111,6 +123,24 @@ check_line d = do
   at ← or_wrong (numeral_at Either (codes "at") d)
   Ok (Whole (call.Check task handle at))
 
+-- a `learn` has a clerk and an assignment, of which the slices may be left out
+abbrev pub whole_learnt : Data → Result LoggedCall DecodeRefusal
+whole_learnt d = do
+  or_wrong (exactly (codes "ticket" ∷ codes "reply" ∷ codes "do" ∷ codes "clerk" ∷ codes "generation" ∷ codes "slices" ∷ []) d)
+  slicing ← slicing_in Either d
+  clerk ← or_wrong (number_at (codes "clerk") d)
+  Ok (Whole (call.Clerk clerk (Learn slicing)))
+
+abbrev pub bare_learnt : Data → Result LoggedCall DecodeRefusal
+bare_learnt d = do
+  or_wrong (exactly (codes "ticket" ∷ codes "reply" ∷ codes "do" ∷ codes "clerk" ∷ codes "generation" ∷ []) d)
+  generation ← or_wrong (numeral_at Either (codes "generation") d)
+  clerk ← or_wrong (number_at (codes "clerk") d)
+  Ok (LearnBare clerk generation)
+
+unfoldable pub learn_line : Data → Result LoggedCall DecodeRefusal
+learn_line d = if is_some (get (codes "slices") d) then whole_learnt d else bare_learnt d
+
 -- a `look` has a clerk and a key
 unfoldable pub look_line : Data → Result LoggedCall DecodeRefusal
 look_line d = do
@@ -127,7 +157,9 @@ own_kinds =
     (codes "restore", restore_line) ∷
     (codes "open", open_line) ∷
     (codes "hear", hear_line) ∷
+    (codes "sample", sample_line) ∷
     (codes "serve", serve_line) ∷
     (codes "hold", hold_line) ∷
     (codes "check", check_line) ∷
+    (codes "learn", learn_line) ∷
     (codes "look", look_line) ∷ []

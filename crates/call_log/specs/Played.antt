@@ -6,9 +6,10 @@ use Rattle.cluster.specs.Pasts.{event, Past}
 use Rattle.call_log.specs.declared.told.CallerReply.{CallerReply}
 use Rattle.call_log.specs.declared.entry.LogEntry.{LogEntry}
 use Rattle.call_log.specs.declared.line.LoggedCall.{LoggedCall}
-use Rattle.call_log.specs.declared.line.LoggedCall.TheVariants.{Whole, HearBare, Restore}
+use Rattle.call_log.specs.declared.line.LoggedCall.TheVariants.{Whole, HearBare, LearnBare, Restore, Sample}
 use Rattle.call_log.specs.Calls.{call_after}
 use Rattle.call_log.specs.Restores.{IsRestored}
+use Rattle.call_log.specs.Samples.{IsSampled}
 use Rattle.call_log.specs.Told.{told_after}
 
 -- after these calls a line's call is answered, and its caller is told so
@@ -17,12 +18,14 @@ pub record IsCalled (before : Past) (c : LoggedCall) (told : CallerReply) (after
   pub tells : told ≡ told_after before c answer
   pub made : after ≡ event (call_after before c) answer ∷ before
 
--- what the caller of a line's call is told after these calls, and the calls once those are made that the line stands for: its call, or
--- those of a restored table
+-- what the caller of a line's call is told after these calls, and the calls once those are made that the line stands for: its call,
+-- those of a restored table, or none for a sample
 abbrev pub StandsFor : Job → Past → LoggedCall → CallerReply → Past → Type 0
 StandsFor job before (Whole c) told after = IsCalled before (Whole c) told after
 StandsFor job before (HearBare task grant at) told after = IsCalled before (HearBare task grant at) told after
+StandsFor job before (LearnBare clerk generation) told after = IsCalled before (LearnBare clerk generation) told after
 StandsFor job before (Restore numbers) told after = IsRestored job before numbers told after
+StandsFor job before (Sample taken) told after = IsSampled job before taken told after
 
 -- the calls of a past are those that these entries stand for, both newest first, whatever their callers were told
 abbrev pub AreCallsOf : Job → List LogEntry → Past → Type 0

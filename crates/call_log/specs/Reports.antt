@@ -146,12 +146,13 @@ IsOtherOf names entries index wanted held cause (Some entry) text =
 IsOtherOf names entries index wanted held cause None text = text ≡ []
 
 -- a later call whose caller was told otherwise
-abbrev pub wrong_line : List ℕ → Option LogEntry → WrongReply → List ℕ
-wrong_line standing (Some entry) wrong = told_text standing entry.line.reply wrong.wanted (reading_in entry.line.call) wrong.held []
-wrong_line standing None wrong = []
+abbrev pub wrong_line : List ℕ → List ℕ → Option LogEntry → WrongReply → List ℕ
+wrong_line standing why (Some entry) wrong = told_text standing entry.line.reply wrong.wanted (reading_in entry.line.call) wrong.held why
+wrong_line standing why None wrong = []
 
 abbrev pub wrong_text : List (List ℕ) → List LogEntry → WrongReply → List ℕ
-wrong_text names entries wrong = wrong_line (standing_at names entries wrong.index) (slice_get entries wrong.index) wrong
+wrong_text names entries wrong =
+    wrong_line (standing_at names entries wrong.index) (cause_text names entries wrong.cause) (slice_get entries wrong.index) wrong
 
 -- where no more wrong replies are told, the calls after the last of them were not judged
 abbrev pub cut_text : ℕ → List ℕ

@@ -16,9 +16,9 @@ use Rattle.world.specs.declared.told.NextNumbers.{NextNumbers}
 use Rattle.world.specs.Replies.{next_numbers, told_as as reply_as}
 use Rattle.service.specs.Lines.{reply_text}
 use Rattle.call_log.specs.declared.line.LoggedCall.{LoggedCall}
-use Rattle.call_log.specs.declared.line.LoggedCall.TheVariants.{Whole, HearBare}
+use Rattle.call_log.specs.declared.line.LoggedCall.TheVariants.{Whole, HearBare, LearnBare}
 use Rattle.call_log.specs.declared.told.CallerReply.{CallerReply}
-use Rattle.call_log.specs.declared.told.CallerReply.TheVariants.{Scripted, Opened, Restored, NotRestored}
+use Rattle.call_log.specs.declared.told.CallerReply.TheVariants.{Scripted, Opened, Restored, NotRestored, Sampled}
 use Rattle.call_log.specs.declared.restored.RestoreFault.{RestoreFault}
 use Rattle.call_log.specs.declared.restored.RestoreFault.TheVariants.{LessThanLog, FarAhead, NotAhead}
 
@@ -34,6 +34,7 @@ number_in (Whole (call.Table (table_call.Propose term slicing at))) = slicing.ge
 number_in (Whole (call.Task task (task_call.Hear grant at))) = grant.number
 number_in (Whole (call.Clerk clerk (clerk_call.Learn slicing))) = slicing.generation
 number_in (HearBare task grant at) = grant.number
+number_in (LearnBare clerk generation) = generation
 number_in _ = 0
 
 -- a call renews a job term
@@ -63,6 +64,7 @@ fault_word NotAhead = codes "not-ahead"
 abbrev pub words_of : CallerReply → List ℕ
 words_of (Scripted scripted) = reply_text scripted
 words_of (Opened life) = codes "opened " ++ decimal life
+words_of Sampled = codes "sampled"
 words_of (Restored generation grace) = codes "restored generation " ++ (decimal generation ++ (codes " grace " ++ decimal grace))
 words_of (NotRestored fault table) =
     codes "refused " ++ (fault_word fault ++ (codes " last " ++ (decimal table.last

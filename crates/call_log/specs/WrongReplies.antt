@@ -11,29 +11,32 @@ use Rattle.call_log.specs.declared.finding.Finding.TheVariants.{Other}
 use Rattle.call_log.specs.declared.told.CallerReply.{CallerReply}
 use Rattle.call_log.specs.Audited.{StandsFor}
 use Rattle.call_log.specs.Calls.{held_by_asked}
+use Rattle.call_log.specs.Questions.{IsCauseOf}
 use Rattle.call_log.specs.Told.{is_worded}
 
--- the caller of an entry's call should have been told this and was told something else, and these are the leases of the task that it asked
-pub record IsWrongReply (job : Job) (entry : LogEntry) (told : CallerReply) (after : Past) (wrong : WrongReply) : Type 0 where
+-- the caller of an entry's call should have been told this and was told something else; these are the leases of the task that it asked, and
+-- this is why
+pub record IsWrongReply (job : Job) (entries : List LogEntry) (entry : LogEntry) (told : CallerReply) (after : Past) (wrong : WrongReply) : Type 0 where
   pub wanted : wrong.wanted ≡ told
   pub other : is_worded entry.line.reply told ≡ false
   pub leases : wrong.held ≡ held_by_asked job after entry.line.call
+  pub because : IsCauseOf job after entries wrong.index entry.line.call told wrong.cause
 
--- the calls of a past are those that these entries stand for, and these are the wrong replies to them, each with the place of its entry; all
--- are newest first
-abbrev pub AreWrongReplies : Job → List LogEntry → Past → List WrongReply → Type 0
-AreWrongReplies job [] past replies = (past ≡ []) × (replies ≡ [])
-AreWrongReplies job (entry ∷ entries) past replies =
+-- the calls of a past are those that the last of these entries stand for, and these are the wrong replies to them, each with the place of its
+-- entry; all are newest first
+abbrev pub AreWrongReplies : Job → List LogEntry → List LogEntry → Past → List WrongReply → Type 0
+AreWrongReplies job entries [] past replies = (past ≡ []) × (replies ≡ [])
+AreWrongReplies job entries (entry ∷ earlier) past replies =
     (before : Past) × (told : CallerReply) × StandsFor job before entry.line.call told past
-    × (((is_worded entry.line.reply told ≡ true) × AreWrongReplies job entries before replies)
-    ⊎ ((wrong : WrongReply) × (earlier : List WrongReply) × (replies ≡ wrong ∷ earlier) × (wrong.index ≡ length entries)
-    × IsWrongReply job entry told past wrong × AreWrongReplies job entries before earlier))
+    × (((is_worded entry.line.reply told ≡ true) × AreWrongReplies job entries earlier before replies)
+    ⊎ ((wrong : WrongReply) × (others : List WrongReply) × (replies ≡ wrong ∷ others) × (wrong.index ≡ length earlier)
+    × IsWrongReply job entries entry told past wrong × AreWrongReplies job entries earlier before others))
 
 -- the wrong replies to entries, or the first of them: as many as are told at most
 pub record AreFirstWrongReplies (job : Job) (entries : List LogEntry) (replies : List WrongReply) : Type 0 where
   pub judged : ℕ
   pub past : Past
-  pub are : AreWrongReplies job (reverse (take judged entries)) past (reverse replies)
+  pub are : AreWrongReplies job entries (reverse (take judged entries)) past (reverse replies)
   pub answered : IsRun job past
   pub enough : (judged ≡ length entries) ⊎ (length replies ≡ MOST_WRONG_REPLIES)
 

@@ -5,3 +5,4 @@ pub mod Reading
 pub mod Opening
 pub mod Watching
 pub mod Sending
+pub mod Clocks

@@ -1,11 +1,14 @@
 //! Audits of logs: a log in, the lines of a report out.
 
-ghost use Rattle.std.specs.Prelude.{◌≡◌, ℕ, IfOk, List, map};
+ghost use Rattle.std.specs.Prelude.{◌≡◌, ℕ, IfOk, List, map, string_bytes};
 ghost use Rattle.call_log.specs.Audited.{is_one, is_timely};
 ghost use Rattle.call_log.specs.Audits.{IsAudited};
+ghost use Rattle.call_log.specs.DriftReports.{IsDriftTold};
 ghost use Rattle.call_log.specs.Files.{IsLog, lines_from};
 
 use crate::comparing::later_wrong_replies;
+use crate::drift::drift_fault;
+use crate::drift_text::drift_text;
 use crate::entry::LinePosition;
 use crate::finding::Finding;
 use crate::hint::hint_for;
@@ -13,7 +16,17 @@ use crate::judging::audit_calls;
 use crate::log::Log;
 use crate::progress::Progress;
 use crate::report::{NamedEntries, report_of};
+use clocks::Drift;
 use std::alloc::{AllocError, Global};
+
+/// What an audit does beyond judging the calls.
+#[derive(Clone, Copy, Debug, PartialEq, Eq)]
+pub struct AuditOptions {
+    /// Whether the report tells later wrong replies too, up to [`crate::MOST_WRONG_REPLIES`] in all.
+    pub all: bool,
+    /// The drift that the samples of the log are judged by.
+    pub drift: Option<Drift>,
+}
 
 /// The result of an audit.
 #[derive(Debug, Drop)]
@@ -22,6 +35,8 @@ pub struct LogReport {
     pub is_one: bool,
     /// Whether the calls are one run with timely clocks.
     pub is_timely: bool,
+    /// Whether no sample shows that clocks did not keep the drift; true if none is judged.
+    pub keeps_drift: bool,
     /// The lines of the report.
     pub text: String,
     /// The positions of last lines that were left out: they lack their end, and are not calls.
@@ -40,19 +55,50 @@ fn is_timely(finding: &Finding) -> bool
     matches!(finding, Finding::One { late: None, .. })
 }
 
+// What the samples of a log say of a drift.
+#[derive(Drop)]
+struct DriftTold {
+    // Whether none shows that clocks did not keep it.
+    is_kept: bool,
+    // The line of the report, or nothing.
+    line: String,
+}
+
+// Judges the samples by a drift, if one is given and the calls are one run.
+fn drift_told(
+    alloc: Global,
+    drift: Option<Drift>,
+    log: NamedEntries,
+    finding: &Finding,
+) -> Result<DriftTold, AllocError>
+    ensures { IfOk result (λ told. IsDriftTold drift (map (λ n. n.now) log.entry.names.now) log.entry.entries.now finding.now
+        told.is_kept (string_bytes told.line)) }
+{
+    let (Some(drift), Finding::One { .. }) = (drift, finding) else {
+        return Ok(DriftTold {
+            is_kept: true,
+            line: String::new(alloc),
+        });
+    };
+    let fault = drift_fault(alloc, drift, log.entries)?;
+    Ok(DriftTold {
+        is_kept: fault.is_none(),
+        line: drift_text(alloc, log, fault)?,
+    })
+}
+
 /// Judges the calls of a log in the order of their tickets.
 ///
-/// `names` are the names of the files. With `all`, the report tells later wrong replies too,
-/// up to [`crate::MOST_WRONG_REPLIES`] in all. Fails if memory runs out.
+/// `names` are the names of the files. Fails if memory runs out.
 pub fn audit_log<P: Progress>(
     alloc: Global,
     names: &[&str],
     log: Log,
-    all: bool,
+    options: AuditOptions,
     progress: &mut P,
 ) -> Result<LogReport, AllocError>
     ensures { (files : List (List ℕ)) → IsLog (lines_from 0 files) log
-        → IfOk result (IsAudited (map (λ n. n.now) names.now) files all) }
+        → IfOk result (IsAudited (map (λ n. n.now) names.now) files options) }
 {
     let Log {
         job,
@@ -63,11 +109,14 @@ pub fn audit_log<P: Progress>(
     let entries = entries.as_slice();
     let named = NamedEntries { names, entries };
     let hint = hint_for(alloc, job, entries, &finding)?;
-    let later = later_wrong_replies(alloc, job, entries, all, &finding)?;
-    let text = report_of(alloc, job, named, &finding, hint, later.as_slice())?;
+    let later = later_wrong_replies(alloc, job, entries, options.all, &finding)?;
+    let mut text = report_of(alloc, job, named, &finding, hint, later.as_slice())?;
+    let told = drift_told(alloc, options.drift, named, &finding)?;
+    text.push_str(told.line.as_str())?;
     Ok(LogReport {
         is_one: is_one(&finding),
         is_timely: is_timely(&finding),
+        keeps_drift: told.is_kept,
         text,
         torn,
     })

@@ -1,8 +1,9 @@
 //! Which actors of a job took the calls of a log.
 
-ghost use Rattle.std.specs.Prelude.{◌≡◌, IfOk, Some, codes, string_bytes};
+ghost use Rattle.std.specs.Prelude.{◌≡◌, ℕ, IfOk, Some, codes, nat_eq, string_bytes, unwrap_or};
+ghost use Rattle.std.specs.HashMap as hash;
 ghost use Rattle.call_log.specs.declared.callers.Caller.TheVariants as caller;
-ghost use Rattle.call_log.specs.Callers.{calls_line, calls_where, counted_text, is_of, is_of_clerk, is_of_table, is_of_task, is_silent};
+ghost use Rattle.call_log.specs.Callers.{calls_line, calls_where, clerk_of, counted_text, is_of, is_of_clerk, is_of_table, is_of_task, is_silent};
 ghost use Rattle.call_log.specs.Callers.{names_task, silent_line, silent_text, texts_to};
 
 use crate::entry::LogEntry;
@@ -10,14 +11,14 @@ use crate::line::LoggedCall;
 use cluster::{ClusterCall, Job};
 use lease_table::TableCall;
 use std::alloc::{AllocError, Global};
+use std::collections::HashMap;
 use std::fmt;
 
-/// An actor of a job, which takes calls.
+/// The table or a task, which take calls.
 #[derive(Clone, Copy)]
 enum Caller {
     Table,
     Task(u64),
-    Clerk(u64),
 }
 
 #[tactic(auto, unfolding(crate::specs::Callers::is_of_table))]
@@ -43,19 +44,22 @@ fn is_of_task(number: u64, call: &LoggedCall) -> bool
             | ClusterCall::Check { task, .. },
         ) => *task == number,
         LoggedCall::HearBare { task, .. } => *task == number,
+        LoggedCall::Sample(taken) => taken.task == number,
         _ => false,
     }
 }
 
-#[tactic(auto, unfolding(crate::specs::Callers::is_of_clerk))]
-fn is_of_clerk(number: u64, call: &LoggedCall) -> bool
-    ensures { result ≡ is_of_clerk number call.now }
+// Returns the clerk that takes a call, if one does.
+#[tactic(auto, unfolding(crate::specs::Callers::clerk_of))]
+fn clerk_of(call: &LoggedCall) -> Option<u64>
+    ensures { result ≡ clerk_of call.now }
 {
     match call {
         LoggedCall::Whole(ClusterCall::Clerk { clerk, .. } | ClusterCall::Look { clerk, .. }) => {
-            *clerk == number
+            Some(*clerk)
         }
-        _ => false,
+        LoggedCall::LearnBare { clerk, .. } => Some(*clerk),
+        _ => None,
     }
 }
 
@@ -82,11 +86,10 @@ fn is_of(caller: Caller, call: &LoggedCall) -> bool
     match caller {
         Caller::Table => is_of_table(call),
         Caller::Task(number) => is_of_task(number, call),
-        Caller::Clerk(number) => is_of_clerk(number, call),
     }
 }
 
-// Returns how many calls an actor took.
+// Returns how many calls the table or a task took.
 #[tactic(auto, unfolding(crate::specs::Callers::calls_where))]
 fn calls_of(caller: Caller, entries: &[LogEntry]) -> u64
     ensures { result ≡ calls_where (is_of caller) entries.now }
@@ -95,6 +98,20 @@ fn calls_of(caller: Caller, entries: &[LogEntry]) -> u64
         .iter()
         .filter(|entry| is_of(caller, &entry.line.call))
         .count() as u64
+}
+
+// Returns how many calls each clerk took.
+fn clerk_calls(alloc: Global, entries: &[LogEntry]) -> Result<HashMap<u64, u64>, AllocError>
+    ensures { IfOk result (λ counts. (clerk : ℕ)
+        → unwrap_or (hash.get nat_eq counts clerk) 0 ≡ calls_where (is_of_clerk clerk) entries.now) }
+{
+    let mut counts = HashMap::new(alloc);
+    for entry in entries {
+        if let Some(clerk) = clerk_of(&entry.line.call) {
+            *counts.entry(clerk)?.or_insert(0) += 1;
+        }
+    }
+    Ok(counts)
 }
 
 // Returns how many calls name a task.
@@ -146,18 +163,26 @@ fn tasks_text(alloc: Global, job: Job, entries: &[LogEntry]) -> Result<String, A
     Ok(text)
 }
 
+// Returns how many calls a clerk took.
+fn count_of(counts: &HashMap<u64, u64>, clerk: u64) -> u64
+    ensures { result ≡ unwrap_or (hash.get nat_eq counts.now clerk) 0 }
+{
+    counts.get(&clerk).copied().unwrap_or(0)
+}
+
 #[tactic(auto, using(crate::proofs::Counting::texts_more))]
 fn clerks_text(alloc: Global, job: Job, entries: &[LogEntry]) -> Result<String, AllocError>
     ensures { IfOk result (λ text. string_bytes text
-        ≡ texts_to (λ n. counted_text (codes ", clerk ") n (calls_where (is_of (caller.Clerk n)) entries.now)) job.clerks) }
+        ≡ texts_to (λ n. counted_text (codes ", clerk ") n (calls_where (is_of_clerk n) entries.now)) job.clerks) }
 {
+    let counts = clerk_calls(alloc, entries)?;
     let mut text = String::new(alloc);
     for place in 0..job.clerks() {
         let number = place + 1;
         let counted = Counted {
             word: ", clerk ",
             number,
-            count: calls_of(Caller::Clerk(number), entries),
+            count: count_of(&counts, number),
         };
         let part = format!(in alloc; "{counted}")?;
         text.push_str(part.as_str())?;

@@ -5,8 +5,8 @@ ghost use Rattle.machines.specs.Refusals.{first_of};
 ghost use Rattle.cluster.specs.Jobs.{Job};
 ghost use Rattle.cluster.specs.Pasts.{Past};
 ghost use Rattle.cluster.specs.Clusters.{LeadsTo};
-ghost use Rattle.call_log.specs.Causes.{IsAssignmentCause, IsCauseFor, IsCommittedOr, IsGrantCause, IsGrantChangedOr};
-ghost use Rattle.call_log.specs.Causes.{IsHandleCause, IsLearnCause, IsNoteCause, grant_changes, grant_delivered, handle_delivered};
+ghost use Rattle.call_log.specs.Causes.{IsAssignmentCause, IsCauseFor, IsCommittedOr, IsGenerationCause, IsGrantCause};
+ghost use Rattle.call_log.specs.Causes.{IsGrantChangedOr, IsHandleCause, IsLearnCause, IsNoteCause, grant_changes, grant_delivered, handle_delivered};
 ghost use Rattle.call_log.specs.Causes.{has_other_ranges, key_in, key_taken, kind_change, note_delivered, number_change};
 ghost use Rattle.call_log.specs.Causes.{of_other_kind, other_kind};
 
@@ -188,6 +188,22 @@ fn assignment_cause(
     }
 }
 
+// Returns why nothing committed this generation before the entry at `index`.
+fn generation_cause(
+    alloc: Global,
+    entries: &[LogEntry],
+    index: usize,
+    generation: u64,
+) -> Result<Cause, AllocError>
+    requires { index < length entries.now }
+    ensures { IfOk result (IsGenerationCause entries.now index generation) }
+{
+    match first_sender(alloc, entries, index + 1, &Sent::Commit(generation))? {
+        Some(place) => Ok(Cause::Later(place)),
+        None => Ok(Cause::Nothing),
+    }
+}
+
 fn other_kind(kind: Kind) -> Kind
     ensures { result ≡ other_kind kind }
 {
@@ -303,6 +319,10 @@ fn learn_cause(
             },
         ) => {
             let cause = assignment_cause(alloc, entries, index, assignment)?;
+            Ok(Some(cause))
+        }
+        LoggedCall::LearnBare { generation, .. } => {
+            let cause = generation_cause(alloc, entries, index, *generation)?;
             Ok(Some(cause))
         }
         _ => Ok(None),

@@ -1,15 +1,16 @@
 //! The calls of a log whose callers got a wrong reply.
 
-ghost use Rattle.std.specs.Prelude.{◌≡◌, IfOk, drop};
-ghost use Rattle.cluster.specs.Jobs.{Job};
+ghost use Rattle.std.specs.Prelude.{◌≡◌, ◌<◌, IfOk, drop, length};
 ghost use Rattle.cluster.specs.Pasts.{Past};
 ghost use Rattle.cluster.specs.Clusters.{LeadsTo};
 ghost use Rattle.call_log.specs.WrongReplies.{AreFirstWrongReplies, AreLater};
 ghost use Rattle.call_log.specs.internals.Answers.{FindsWrongReply};
 
+use crate::cause::Cause;
 use crate::entry::LogEntry;
 use crate::finding::{Finding, HeldLeases};
 use crate::playing::{answer, held_by_asked};
+use crate::questions::{WrongCall, cause_of};
 use crate::told::CallerReply;
 use cluster::{Cluster, Job};
 use std::alloc::{AllocError, Global};
@@ -27,26 +28,39 @@ pub struct WrongReply {
     /// The leases of the task that the call asks for a key; `None` for other calls, or if the job
     /// has no such task.
     pub held: Option<HeldLeases>,
+    /// Why the caller should have got that reply, beyond what it says.
+    pub cause: Option<Cause>,
 }
 
 // Plays the entry at this index, and returns what its caller got wrong, if it did.
 fn wrong_reply_at(
     alloc: Global,
+    job: Job,
     cluster: &mut Cluster,
-    entry: &LogEntry,
+    entries: &[LogEntry],
     index: usize,
 ) -> Result<Option<WrongReply>, AllocError>
-    ensures { (job : Job) (past : Past) → LeadsTo job past cluster.old
-        → IfOk result (λ wrong. FindsWrongReply job past entry.now index wrong cluster.new) }
+    requires { index < length entries.now }
+    ensures { (past : Past) → LeadsTo job past cluster.old
+        → IfOk result (λ wrong. FindsWrongReply job past entries.now index wrong cluster.new) }
 {
+    let entry = &entries[index];
     let Some(wanted) = answer(alloc, cluster, &entry.line)? else {
         return Ok(None);
     };
-    let held = held_by_asked(cluster, &entry.line.call);
+    let call = &entry.line.call;
+    let held = held_by_asked(cluster, call);
+    let wrong = WrongCall {
+        index,
+        call,
+        wanted: &wanted,
+    };
+    let cause = cause_of(alloc, job, cluster, entries, wrong)?;
     Ok(Some(WrongReply {
         index,
         wanted,
         held,
+        cause,
     }))
 }
 
@@ -64,8 +78,7 @@ pub fn wrong_replies(
     let mut cluster = Cluster::new(alloc, job)?;
     let mut replies = Vec::new(alloc);
     for index in 0..entries.len() {
-        let entry = &entries[index];
-        if let Some(wrong) = wrong_reply_at(alloc, &mut cluster, entry, index)? {
+        if let Some(wrong) = wrong_reply_at(alloc, job, &mut cluster, entries, index)? {
             replies.push(wrong)?;
             if replies.len() == MOST_WRONG_REPLIES {
                 cluster.run_law();

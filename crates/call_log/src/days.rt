@@ -6,7 +6,7 @@ ghost use Rattle.call_log.specs.Days.{only_asks};
 use crate::line::LoggedCall;
 use cluster::ClusterCall;
 
-/// Whether a call asks and changes nothing, whatever it is answered.
+/// Whether a call asks and changes nothing, whatever it is answered, or is a sample.
 pub fn only_asks(call: &LoggedCall) -> bool
     ensures { result ≡ only_asks call.now }
 {
@@ -18,6 +18,6 @@ pub fn only_asks(call: &LoggedCall) -> bool
                 | ClusterCall::Look { .. }
                 | ClusterCall::Phase
                 | ClusterCall::Rows
-        )
+        ) | LoggedCall::Sample(_)
     )
 }

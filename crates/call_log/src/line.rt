@@ -4,6 +4,7 @@ ghost use Rattle.std.specs.Prelude.{◌≡◌, IfOk};
 
 use crate::restored::KeptNumbers;
 use assignment::TaskId;
+use clocks::Sample;
 use cluster::ClusterCall;
 use lease_rule::Kind;
 use std::alloc::{AllocError, Global};
@@ -60,6 +61,17 @@ pub struct BareGrant {
     pub table_ends: u64,
 }
 
+/// A sample that a task's clock takes: an answer of the table.
+#[derive(Clone, Copy, Debug, PartialEq, Eq)]
+pub struct TaskSample {
+    /// The task.
+    pub task: u64,
+    /// The local clock when the request was sent, and the table's reading in the answer, in ticks.
+    pub sample: Sample,
+    /// The local clock when the answer was taken, in ticks.
+    pub now: u64,
+}
+
 /// A call as a log records it.
 #[derive(Debug, Drop)]
 pub enum LoggedCall {
@@ -71,8 +83,15 @@ pub enum LoggedCall {
         grant: BareGrant,
         at: u64,
     },
+    /// A clerk learns the assignment of this generation, without its slices.
+    LearnBare {
+        clerk: u64,
+        generation: u64,
+    },
     /// A table is restored from kept values, of which these are the numbers.
     Restore(KeptNumbers),
+    /// A task's clock takes a sample. No machine sees it.
+    Sample(TaskSample),
 }
 
 /// A line of a log: a call, and the reply that its caller got.

@@ -9,7 +9,7 @@ use std::alloc::{AllocError, Global};
 use std::fmt;
 use wire::{DecodeError, EitherSlice, Numerals, grant_of, handle_of, note_of, numeral_of};
 
-/// The members of each call, in the order in which they are checked.
+/// The members of each call, in the order in which they are checked. One that may be left out comes last.
 const CALLS: &[(&str, &[&str])] = &[
     ("take", &["ticket", "reply", "assigner", "at"]),
     ("renew", &["ticket", "reply", "term", "at"]),
@@ -31,6 +31,10 @@ const CALLS: &[(&str, &[&str])] = &[
     ("resume", &["ticket", "reply", "task", "life"]),
     ("start", &["ticket", "reply", "task", "life", "at"]),
     ("hear", &["ticket", "reply", "task", "grant", "at"]),
+    (
+        "sample",
+        &["ticket", "reply", "task", "sent", "reading", "now"],
+    ),
     ("release", &["ticket", "reply", "task", "kind", "at"]),
     ("serve", &["ticket", "reply", "task", "key", "at"]),
     ("hold", &["ticket", "reply", "task", "key", "at"]),
@@ -109,9 +113,16 @@ fn is_grant(alloc: Global, value: &Value) -> Result<bool, AllocError> {
 // Whether a value is the member with this name as messages have it, whose numbers are texts.
 fn is_of_message(alloc: Global, name: &str, value: &Value) -> Result<bool, AllocError> {
     match name {
-        "assigner" | "term" | "generation" | "at" | "last" | "granted" | "deadline" => {
-            Ok(numeral_of(Numerals::Quoted, value).is_ok())
-        }
+        "assigner"
+        | "term"
+        | "generation"
+        | "at"
+        | "last"
+        | "granted"
+        | "deadline"
+        | "sent"
+        | "reading"
+        | "now" => { Ok(numeral_of(Numerals::Quoted, value).is_ok()) }
         "slice_key" => match numeral_of(Numerals::Quoted, value) {
             Ok(key) => Ok(SliceKey::new(key).is_some()),
             Err(_) => Ok(false),
@@ -168,6 +179,11 @@ fn member_mend(
     Ok(Some(format!(in alloc; "{wrong}")?))
 }
 
+// Whether a call may leave the member with this name out.
+fn is_optional(call: &str, name: &str) -> bool {
+    call == "learn" && name == "slices"
+}
+
 // Returns how to fix the members of a call.
 fn members_mend(alloc: Global, members: Members, line: &Value) -> Result<String, AllocError> {
     let call = members.kind;
@@ -178,7 +194,9 @@ fn members_mend(alloc: Global, members: Members, line: &Value) -> Result<String,
         }
     }
     if let Some(missing) = missing_member(line, members) {
-        return format!(in alloc; "{call}: \"{missing}\" is missing; {members}");
+        if !is_optional(call, missing) {
+            return format!(in alloc; "{call}: \"{missing}\" is missing; {members}");
+        }
     }
     for name in members.names {
         if let Some(value) = line.get(*name) {

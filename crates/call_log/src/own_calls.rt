@@ -4,20 +4,22 @@ ghost use Rattle.std.specs.Prelude.{◌≡◌};
 ghost use Rattle.serde_json.specs.View.{view};
 ghost use Rattle.wire.specs.Named.{GivesBy, reader_of};
 ghost use Rattle.wire.specs.Refusals.{Gives};
-ghost use Rattle.call_log.specs.OwnCalls.{bare_grant_of, check_line, heard_of, hear_line, hold_line, look_line, open_line, own_kinds};
-ghost use Rattle.call_log.specs.OwnCalls.{phase_line, restore_line, rows_line, serve_line};
+ghost use Rattle.call_log.specs.OwnCalls.{bare_grant_of, bare_learnt, check_line, heard_of, hear_line, hold_line, learn_line, look_line};
+ghost use Rattle.call_log.specs.OwnCalls.{open_line, own_kinds, phase_line, restore_line, rows_line, sample_line, serve_line, whole_learnt};
 
 use crate::key_member::{key_name, slice_key_in};
-use crate::line::{BareGrant, LoggedCall};
+use crate::line::{BareGrant, LoggedCall, TaskSample};
 use crate::restored::KeptNumbers;
+use clerk::ClerkCall;
+use clocks::Sample;
 use cluster::ClusterCall;
 use program_io::{WrongForm, exactly, member_at, number_at};
 use serde_json::Value;
 use slicelet::SliceletCall;
 use std::alloc::Global;
 use wire::{
-    DecodeError, DecodeRefusal, Numerals, grant_of, handle_of, kind_at, life_at, numeral_at,
-    task_at,
+    DecodeError, DecodeRefusal, Numerals, assignment_in, grant_of, handle_of, kind_at, life_at,
+    numeral_at, task_at,
 };
 
 #[tactic(auto, unfolding(crate::specs::OwnCalls::phase_line))]
@@ -117,6 +119,25 @@ fn hear_line(alloc: Global, line: &Value) -> Result<LoggedCall, DecodeError>
     heard_of(alloc, task, at, member_at("grant", line)?)
 }
 
+#[tactic(auto, unfolding(crate::specs::OwnCalls::sample_line))]
+fn sample_line(line: &Value) -> Result<LoggedCall, DecodeError>
+    ensures { Gives result (sample_line (view line.now)) }
+{
+    exactly(
+        &["ticket", "reply", "do", "task", "sent", "reading", "now"],
+        line,
+    )?;
+    let task = number_at("task", line)?;
+    let sent = numeral_at(Numerals::Either, "sent", line)?;
+    let reading = numeral_at(Numerals::Either, "reading", line)?;
+    let now = numeral_at(Numerals::Either, "now", line)?;
+    Ok(LoggedCall::Sample(TaskSample {
+        task,
+        sample: Sample { sent, reading },
+        now,
+    }))
+}
+
 #[tactic(auto, unfolding(crate::specs::OwnCalls::serve_line))]
 fn serve_line(line: &Value) -> Result<LoggedCall, DecodeError>
     ensures { Gives result (serve_line (view line.now)) }
@@ -159,6 +180,41 @@ fn check_line(line: &Value) -> Result<LoggedCall, DecodeError>
     }))
 }
 
+fn whole_learnt(alloc: Global, line: &Value) -> Result<LoggedCall, DecodeError>
+    ensures { Gives result (whole_learnt (view line.now)) }
+{
+    exactly(
+        &["ticket", "reply", "do", "clerk", "generation", "slices"],
+        line,
+    )?;
+    let assignment = assignment_in(alloc, Numerals::Either, line)?;
+    Ok(LoggedCall::Whole(ClusterCall::Clerk {
+        clerk: number_at("clerk", line)?,
+        call: ClerkCall::Learn(assignment),
+    }))
+}
+
+fn bare_learnt(line: &Value) -> Result<LoggedCall, DecodeError>
+    ensures { Gives result (bare_learnt (view line.now)) }
+{
+    exactly(&["ticket", "reply", "do", "clerk", "generation"], line)?;
+    let generation = numeral_at(Numerals::Either, "generation", line)?;
+    let clerk = number_at("clerk", line)?;
+    Ok(LoggedCall::LearnBare { clerk, generation })
+}
+
+// Parses a clerk's learning of an assignment, whose slices may be left out.
+#[tactic(auto, unfolding(crate::specs::OwnCalls::learn_line))]
+fn learn_line(alloc: Global, line: &Value) -> Result<LoggedCall, DecodeError>
+    ensures { Gives result (learn_line (view line.now)) }
+{
+    if line.get("slices").is_some() {
+        whole_learnt(alloc, line)
+    } else {
+        bare_learnt(line)
+    }
+}
+
 #[tactic(auto, unfolding(crate::specs::OwnCalls::look_line))]
 fn look_line(line: &Value) -> Result<LoggedCall, DecodeError>
     ensures { Gives result (look_line (view line.now)) }
@@ -184,9 +240,11 @@ pub fn own_call_named(
         "restore" => restore_line(line),
         "open" => open_line(line),
         "hear" => hear_line(alloc, line),
+        "sample" => sample_line(line),
         "serve" => serve_line(line),
         "hold" => hold_line(line),
         "check" => check_line(line),
+        "learn" => learn_line(alloc, line),
         "look" => look_line(line),
         _ => return None,
     })

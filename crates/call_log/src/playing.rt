@@ -5,13 +5,14 @@ ghost use Rattle.lease_table.specs.Tables.{generation_of};
 ghost use Rattle.cluster.specs.Jobs.{Job};
 ghost use Rattle.cluster.specs.Pasts.{Past, event};
 ghost use Rattle.cluster.specs.Clusters.{LeadsTo};
-ghost use Rattle.call_log.specs.declared.line.LoggedCall.TheVariants.{Restore};
+ghost use Rattle.call_log.specs.declared.line.LoggedCall.TheVariants.{LearnBare, Restore};
 ghost use Rattle.call_log.specs.Calls.{asked_task, call_after, held_by_asked, reading_in, whole_grant, with_ranges};
 ghost use Rattle.call_log.specs.Restores.{grant_to_nobody};
+ghost use Rattle.call_log.specs.Samples.{sampled_told};
 ghost use Rattle.call_log.specs.internals.Answers.{HasGranted, IsAnswered, IsMade, IsPlayed};
 
 use crate::finding::HeldLeases;
-use crate::line::{BareGrant, LoggedCall, LoggedLine};
+use crate::line::{BareGrant, LoggedCall, LoggedLine, TaskSample};
 use crate::restored::{KeptNumbers, numbers_of, restore_fault};
 use crate::told::{CallerReply, is_worded, told_as};
 use assignment::{Assignment, TaskId};
@@ -21,7 +22,7 @@ use lease_table::{Grant, TableCall};
 use slice_ranges::Ranges;
 use slicelet::SliceletCall;
 use std::alloc::{AllocError, Global};
-use world::NextNumbers;
+use world::{NextNumbers, Refusal, Reply};
 
 impl LoggedCall {
     /// Returns whose clock the call reads, and the reading.
@@ -31,7 +32,9 @@ impl LoggedCall {
         match self {
             LoggedCall::Whole(call) => call.reading(),
             LoggedCall::HearBare { at, .. } => Reading::TaskClock(*at),
+            LoggedCall::LearnBare { .. } => Reading::NoClock,
             LoggedCall::Restore(numbers) => Reading::TableClock(numbers.last),
+            LoggedCall::Sample(_) => Reading::NoClock,
         }
     }
 }
@@ -66,6 +69,16 @@ fn whole_grant(alloc: Global, cluster: &Cluster, grant: &BareGrant) -> Result<Gr
     Ok(with_ranges(*grant, ranges))
 }
 
+// Plays the learning of the assignment that was published of a generation.
+fn learn(cluster: &mut Cluster, clerk: u64, generation: u64) -> Result<ClusterReply, AllocError>
+    ensures { (job : Job) (past : Past) → LeadsTo job past cluster.old → IfOk result
+        (λ answer. LeadsTo job (event (call_after past (LearnBare clerk generation)) answer ∷ past) cluster.new) }
+{
+    let answer = cluster.learn_published(clerk, generation)?;
+    cluster.refusal_law();
+    Ok(answer)
+}
+
 // Plays a logged call, and returns the machines' reply.
 fn play(alloc: Global, cluster: &mut Cluster, call: &LoggedCall) -> Result<ClusterReply, AllocError>
     ensures { (job : Job) (past : Past) → LeadsTo job past cluster.old
@@ -77,7 +90,9 @@ fn play(alloc: Global, cluster: &mut Cluster, call: &LoggedCall) -> Result<Clust
             let grant = whole_grant(alloc, cluster, grant)?;
             cluster.call_task(*task, &SliceletCall::Hear { grant, at: *at })
         }
+        LoggedCall::LearnBare { clerk, generation } => learn(cluster, *clerk, *generation),
         LoggedCall::Restore(_) => cluster.call_table(&TableCall::Restart),
+        LoggedCall::Sample(_) => cluster.play(&ClusterCall::Phase),
     }
 }
 
@@ -140,15 +155,33 @@ fn restore(cluster: &mut Cluster, numbers: KeptNumbers) -> Result<CallerReply, A
     })
 }
 
-// Plays what a line stands for, and returns what its caller is told.
-fn tell(alloc: Global, cluster: &mut Cluster, line: &LoggedCall) -> Result<CallerReply, AllocError>
+// Returns what the caller of a sample is told.
+fn sampled_told(cluster: &Cluster, taken: TaskSample) -> CallerReply
+    ensures { (job : Job) (past : Past) → LeadsTo job past cluster.now → result ≡ sampled_told job taken }
+{
+    match cluster.slicelet(taken.task) {
+        Some(_) => CallerReply::Sampled,
+        None => CallerReply::Scripted(Reply::Refused(Refusal::NoActor)),
+    }
+}
+
+/// Plays what a line stands for, and returns what its caller is told.
+///
+/// If memory runs out, the cluster is as it was after some of the calls that the line stands for.
+pub fn tell(
+    alloc: Global,
+    cluster: &mut Cluster,
+    line: &LoggedCall,
+) -> Result<CallerReply, AllocError>
     ensures { (job : Job) (past : Past) → LeadsTo job past cluster.old
         → IfOk result (λ told. IsPlayed job past line.now told cluster.new) }
 {
     match line {
         LoggedCall::Restore(numbers) => restore(cluster, *numbers),
+        LoggedCall::Sample(taken) => Ok(sampled_told(cluster, *taken)),
         LoggedCall::Whole(_) => call(alloc, cluster, line),
         LoggedCall::HearBare { .. } => call(alloc, cluster, line),
+        LoggedCall::LearnBare { .. } => call(alloc, cluster, line),
     }
 }
 

@@ -295,26 +295,22 @@ fn other_text(
     told_text(alloc, Standing { log, index }, told, reason, cause)
 }
 
-// Returns the line for a later call whose caller got a wrong reply.
-fn wrong_text(alloc: Global, log: NamedEntries, wrong: &WrongReply) -> Result<String, AllocError>
+/// Returns the line for a call whose caller got a wrong reply.
+pub fn wrong_text(
+    alloc: Global,
+    log: NamedEntries,
+    wrong: &WrongReply,
+) -> Result<String, AllocError>
     ensures { IfOk result (λ text. string_bytes text
         ≡ wrong_text (map (λ n. n.now) log.entry.names.now) log.entry.entries.now wrong.now) }
 {
-    let Some(entry) = log.entries.get(wrong.index) else {
-        return Ok(String::new(alloc));
-    };
-    let reason = Reason {
-        wanted: &wrong.wanted,
-        reading: entry.line.call.reading(),
-        held: wrong.held,
-    };
-    let index = wrong.index;
-    told_text(
+    other_text(
         alloc,
-        Standing { log, index },
-        entry.line.reply.as_str(),
-        reason,
-        CauseText { log, cause: None },
+        log,
+        wrong.index,
+        &wrong.wanted,
+        wrong.held,
+        wrong.cause,
     )
 }
 

@@ -23,6 +23,8 @@ pub enum CallerReply {
     Scripted(Reply),
     /// A new process of the task began; the value is the life that the call names.
     Opened(u32),
+    /// A sample was taken.
+    Sampled,
     /// A new process of the table began.
     Restored {
         /// The committed generation, 0 if there is none.
@@ -70,6 +72,7 @@ fn number_in(call: &LoggedCall) -> u64
             },
         ) => assignment.generation(),
         LoggedCall::HearBare { grant, .. } => grant.number,
+        LoggedCall::LearnBare { generation, .. } => *generation,
         _ => 0,
     }
 }
@@ -127,6 +130,7 @@ impl fmt::Display for ToldLine<'_> {
         match self.0 {
             CallerReply::Scripted(reply) => write!(f, "{}", Line(reply)),
             CallerReply::Opened(life) => write!(f, "opened {life}"),
+            CallerReply::Sampled => f.write_str("sampled"),
             CallerReply::Restored { generation, grace } => {
                 write!(f, "restored generation {generation} grace {grace}")
             }

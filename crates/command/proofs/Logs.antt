@@ -11,6 +11,7 @@ use Rattle.call_log.specs.declared.auditing.LogReport.{LogReport}
 use Rattle.call_log.specs.declared.log_reader.LogReader.{LogReader}
 use Rattle.call_log.specs.Readers.{IsReading}
 use Rattle.call_log.specs.Files.{PlacedLine, AreShort, numbered, lines_in, lines_from}
+use Rattle.command.specs.declared.arguments.AuditFlags.{AuditFlags}
 use Rattle.command.specs.declared.log_audit.AuditError.{AuditError}
 use Rattle.command.specs.declared.log_audit.AuditError.TheVariants as audit
 use Rattle.command.specs.Audits.{AreJudged, AreLogsRead, AreLogsTaken, AreNotJudged, EndsInLine, IsJudged, IsLogBytes, IsLogRead, IsLogTaken, IsNotAudited, IsOneMore, IsReport, IsSomeReport, passes}
@@ -103,6 +104,7 @@ not_judged names before after keeps log taken audit.Memory none = tt
 not_judged names before after keeps log taken (audit.Unopened name error) is = absurd is
 not_judged names before after keeps log taken (audit.Read name) is = absurd is
 not_judged names before after keeps log taken (audit.Unsaved name error) is = absurd is
+not_judged names before after keeps log taken (audit.NoDrift words) is = absurd is
 not_judged names before after keeps log taken audit.Write is = absurd is
 
 -- logs whose lines are short were read to their ends
@@ -133,22 +135,22 @@ to_their_ends (name ∷ names) file before after (bytes ∷ files) short read =
     (read.0, to_its_end name file before read.0 bytes (short_front lines rest short) read.1, to_their_ends names (file + 1) read.0 after files (short_back lines rest short) read.2)
 
 -- logs that are judged were read to their ends, and their report is written, or a first part of it
-module _ (names : List (List ℕ)) (strict all : Bool) (before after held holds : Option (List ℕ)) (report : LogReport) (told : List ℕ) (is : told ≡ string_bytes report.text)
-    (judged : AreJudged names all before after report) where
+module _ (names : List (List ℕ)) (flags : AuditFlags) (before after held holds : Option (List ℕ)) (report : LogReport) (told : List ℕ) (is : told ≡ string_bytes report.text)
+    (judged : AreJudged names flags before after report) where
   whole : AreLogsRead ReadsAll names before after judged.files
   whole = to_their_ends names 0 before after judged.files judged.audited.reads.short judged.read
 
   abbrev verdict : Bool
-  verdict = passes strict report.is_one report.is_timely
+  verdict = passes flags.strict report
 
-  reported : (passed : Bool) → passed ≡ verdict → IsReport names strict all before after passed (string_bytes report.text)
+  reported : (passed : Bool) → passed ≡ verdict → IsReport names flags before after passed (string_bytes report.text)
   reported passed is_verdict =
-      record { files = judged.files; read = whole; report = report; audited = judged.audited; text_is = refl; verdict = is_verdict }
+      record { files = judged.files; read = whole; options = judged.options; given = judged.given; report = report; audited = judged.audited; text_is = refl; verdict = is_verdict }
 
-  pub report_written : (passed : Bool) → passed ≡ verdict → Appends held holds told → IsJudged names strict all before after held holds passed
+  pub report_written : (passed : Bool) → passed ≡ verdict → Appends held holds told → IsJudged names flags before after held holds passed
   report_written passed is_verdict written = record { text = string_bytes report.text; is = reported passed is_verdict; wrote = subst (Appends held holds) is written }
 
-  pub report_cut : (len : ℕ) → Appends held holds (take len told) → IsCut (IsSomeReport names strict all before after) held holds
+  pub report_cut : (len : ℕ) → Appends held holds (take len told) → IsCut (IsSomeReport names flags before after) held holds
   report_cut len written = record {
     text = string_bytes report.text;
     is = (verdict, reported verdict refl);

@@ -1,24 +1,29 @@
 -- What `hourstable audit` writes, and the status that it exits with.
-use Rattle.std.specs.Prelude.{◌≡◌, ◌≢◌, ◌⊎◌, ◌+◌, ◌<◌, ◌++◌, ℕ, Bool, List, [], ◌∷◌, All, length, codes, string_bytes, Option, Result, Ok}
-use Rattle.std.specs.Prelude.{Err, ⊤, if◌then◌else◌}
+use Rattle.std.specs.Prelude.{◌≡◌, ◌≢◌, ◌⊎◌, ◌+◌, ◌<◌, ◌++◌, ◌&&◌, ℕ, Bool, List, [], ◌∷◌, All, length, codes, decimal, string_bytes, Option, Some, None}
+use Rattle.std.specs.Prelude.{Result, Ok, Err, ⊤, if◌then◌else◌}
+use Rattle.std.specs.Borrow.{Bor}
 use Rattle.std.specs.Io.{IsEmptyOrEndsWith}
 use Rattle.std.specs.Io.KnownBytes.{Consumes, Keeps}
 use Rattle.program_io.specs.Streams.{ReadsAll}
 use Rattle.program_io.specs.declared.line.TheConstants.{MOST_LINE_BYTES}
 use Rattle.program_io.specs.Endings.{IsCut, IsWritten}
+use Rattle.clocks.specs.declared.drift.Drift.{Drift}
 use Rattle.call_log.specs.Audits.{IsAudited}
 use Rattle.call_log.specs.Readers.{IsReading}
 use Rattle.call_log.specs.declared.log_reader.LogReader.{LogReader}
+use Rattle.call_log.specs.declared.auditing.AuditOptions.{AuditOptions}
 use Rattle.call_log.specs.declared.auditing.LogReport.{LogReport}
 use Rattle.call_log.specs.Files.{IsUnread, lines_from}
 use Rattle.call_log.specs.declared.log.LogError.{LogError}
+use Rattle.command.specs.declared.arguments.AuditFlags.{AuditFlags}
 use Rattle.command.specs.declared.log_audit.AuditError.{AuditError}
 use Rattle.command.specs.declared.log_audit.AuditError.TheVariants as audit
 
--- the status where logs are not judged: 2 where one cannot be opened or says no calls, and else 3
+-- the status where logs are not judged: 2 where one cannot be opened or says no calls, or the drift is none, and else 3
 abbrev pub status_of : AuditError → ℕ
 status_of (audit.Unopened name error) = 2
 status_of (audit.Refused why) = 2
+status_of (audit.NoDrift words) = 2
 status_of _ = 3
 
 -- the status where they are: 0 for one run, and else 1
@@ -88,11 +93,27 @@ IsNotAudited files (audit.Refused why) = IsUnread (lines_from 0 files) why
 IsNotAudited files audit.Memory = ⊤
 IsNotAudited files _ = ⊥
 
+-- a drift as it is written: `EXTRA/PER/GRAIN`
+abbrev pub drift_words : Drift → List ℕ
+drift_words drift = decimal drift.extra ++ (codes "/" ++ (decimal drift.per ++ (codes "/" ++ decimal drift.grain)))
+
+-- the drift that is given, if one is
+abbrev pub IsDriftGiven : Option (Bor (List ℕ)) → Option Drift → Type 0
+IsDriftGiven None given = given ≡ None
+IsDriftGiven (Some words) given = (drift : Drift) × (given ≡ Some drift) × (words.now ≡ drift_words drift)
+
+-- how these flags ask for logs to be judged
+pub record AreOptionsOf (flags : AuditFlags) (options : AuditOptions) : Type 0 where
+  pub all : options.all ≡ flags.all
+  pub drift : IsDriftGiven flags.drift options.drift
+
 -- the logs of these names were read, and this is the report on them
-pub record AreJudged (names : List (List ℕ)) (all : Bool) (before after : Option (List ℕ)) (report : LogReport) : Type 0 where
+pub record AreJudged (names : List (List ℕ)) (flags : AuditFlags) (before after : Option (List ℕ)) (report : LogReport) : Type 0 where
+  pub options : AuditOptions
+  pub given : AreOptionsOf flags options
   pub files : List (List ℕ)
   pub read : AreLogsRead IsLogBytes names before after files
-  pub audited : IsAudited names files all report
+  pub audited : IsAudited names files options report
 
 -- or they say no calls, for this reason
 pub record SayNoCalls (names : List (List ℕ)) (before after : Option (List ℕ)) (why : LogError) : Type 0 where
@@ -112,27 +133,29 @@ IsNotSaved (audit.Unsaved name error) = ⊤
 IsNotSaved audit.Memory = ⊤
 IsNotSaved _ = ⊥
 
--- logs pass where their calls are one run, and in a strict audit only with timely clocks
-abbrev pub passes : Bool → Bool → Bool → Bool
-passes strict one timely = if strict then timely else one
+-- logs pass where their calls are one run, and in a strict audit only with timely clocks that kept the drift
+abbrev pub passes : Bool → LogReport → Bool
+passes strict report = if strict then report.is_timely && report.keeps_drift else report.is_one
 
-module _ (names : List (List ℕ)) (strict all : Bool) (before after : Option (List ℕ)) where
+module _ (names : List (List ℕ)) (flags : AuditFlags) (before after : Option (List ℕ)) where
   -- the logs of these names were read to their ends, this is the report on them all, and they pass or not
   pub record IsReport (passed : Bool) (text : List ℕ) : Type 0 where
     pub files : List (List ℕ)
     pub read : AreLogsRead ReadsAll names before after files
+    pub options : AuditOptions
+    pub given : AreOptionsOf flags options
     pub report : LogReport
-    pub audited : IsAudited names files all report
+    pub audited : IsAudited names files options report
     pub text_is : text ≡ string_bytes report.text
-    pub verdict : passed ≡ passes strict report.is_one report.is_timely
+    pub verdict : passed ≡ passes flags.strict report
 
   abbrev pub IsSomeReport : List ℕ → Type 0
   IsSomeReport text = (passed : Bool) × IsReport passed text
 
-module _ (names : List (List ℕ)) (strict all : Bool) (before after held holds : Option (List ℕ)) where
+module _ (names : List (List ℕ)) (flags : AuditFlags) (before after held holds : Option (List ℕ)) where
   -- it was written
   abbrev pub IsJudged : Bool → Type 0
-  IsJudged passed = IsWritten (IsReport names strict all before after passed) held holds
+  IsJudged passed = IsWritten (IsReport names flags before after passed) held holds
 
   -- the logs were read, up to a line that is too long where there is one, and say no calls, for this reason, and nothing was written
   pub record IsRefused (why : LogError) : Type 0 where
@@ -144,7 +167,7 @@ module _ (names : List (List ℕ)) (strict all : Bool) (before after held holds 
   -- what was read and written where they are not judged
   abbrev pub IsUnjudged : AuditError → Type 0
   IsUnjudged (audit.Refused why) = IsRefused why
-  IsUnjudged audit.Write = IsCut (IsSomeReport names strict all before after) held holds
+  IsUnjudged audit.Write = IsCut (IsSomeReport names flags before after) held holds
   IsUnjudged _ = Keeps held holds
 
   -- what was read and written by an audit, and the status that it exits with

@@ -81,8 +81,8 @@ module _ {S : Type 0} (opens : List ℕ → List ℕ → Result S FileError → 
   -- or a look at what a file has
   abbrev pub EndsFor : Asked → (before after held holds : Option (List ℕ)) → ℕ → Type 0
   EndsFor (asked.Answer request) before after held holds code = EndsBy request before after held holds code
-  EndsFor (asked.Audit names progress strict all until) before after held holds code =
-      IsAuditEnd (map (λ n. n.now) names.items) strict all before after held holds code
+  EndsFor (asked.Audit names progress flags until) before after held holds code =
+      IsAuditEnd (map (λ n. n.now) names.items) flags before after held holds code
   EndsFor (asked.Keep keep) before after held holds code = EndsKeep opens is_honest may_leave may_fail keep before after held holds code
   EndsFor (asked.See action file) before after held holds code = IsSeeEnd sees action file.now held holds code × Keeps before after
   EndsFor (asked.Unknown action) before after held holds code = IsUnknown before after held holds code

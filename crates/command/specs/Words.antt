@@ -64,19 +64,23 @@ session_options = subcommand (codes "session") (flag (codes "json") ∷ option (
 abbrev pub session_words : Shape
 session_words = subcommand (codes "session") (flag (codes "json") ∷ option (codes "store") ∷ option (codes "job") ∷ file ∷ [])
 
--- `audit` before the states and the logs
+-- `audit` before the drift, the states and the logs
 abbrev pub audit_flags : Shape
 audit_flags = subcommand (codes "audit") (flag (codes "progress") ∷ flag (codes "strict") ∷ flag (codes "all") ∷ [])
 
+abbrev pub audit_drift : Shape
+audit_drift = subcommand (codes "audit") (flag (codes "progress") ∷ flag (codes "strict") ∷ flag (codes "all") ∷ option (codes "drift") ∷ [])
+
 abbrev pub audit_from : Shape
-audit_from = subcommand (codes "audit") (flag (codes "progress") ∷ flag (codes "strict") ∷ flag (codes "all") ∷ option (codes "from") ∷ [])
+audit_from = subcommand (codes "audit") (flag (codes "progress") ∷ flag (codes "strict") ∷ flag (codes "all") ∷ option (codes "drift")
+    ∷ option (codes "from") ∷ [])
 
 abbrev pub audit_until : Shape
-audit_until = subcommand (codes "audit") (flag (codes "progress") ∷ flag (codes "strict") ∷ flag (codes "all")
+audit_until = subcommand (codes "audit") (flag (codes "progress") ∷ flag (codes "strict") ∷ flag (codes "all") ∷ option (codes "drift")
     ∷ option (codes "from") ∷ option (codes "until") ∷ [])
 
 abbrev pub audit_words : Shape
-audit_words = subcommand (codes "audit") (flag (codes "progress") ∷ flag (codes "strict") ∷ flag (codes "all")
+audit_words = subcommand (codes "audit") (flag (codes "progress") ∷ flag (codes "strict") ∷ flag (codes "all") ∷ option (codes "drift")
     ∷ option (codes "from") ∷ option (codes "until") ∷ logs ∷ [])
 
 abbrev pub explain_words : Shape
@@ -169,12 +173,13 @@ abbrev pub with_first : Option Text → List Text → List Text
 with_first None names = names
 with_first (Some name) names = name ∷ names
 
--- `audit [--progress] [--strict] [--all] [--from STATE] [--until STATE] LOG..`: the state to go on from, and all the logs, in their order
+-- `audit [--progress] [--strict] [--all] [--drift EXTRA/PER/GRAIN] [--from STATE] [--until STATE] LOG..`: the state to go on from, and all the
+-- logs, in their order
 abbrev pub AsksAudit : List Row → Asked → Type 0
-AsksAudit rows (asked.Audit names progress strict all until) =
+AsksAudit rows (asked.Audit names progress flags until) =
     (map (λ n. n.now) names.items ≡ with_first (first_of (codes "from") rows) (unwrap_or (all_of (codes "LOG") rows) []))
-    × IsFlag (codes "progress") rows progress × IsFlag (codes "strict") rows strict × IsFlag (codes "all") rows all
-    × (option_map (λ n. n.now) until ≡ first_of (codes "until") rows)
+    × IsFlag (codes "progress") rows progress × IsFlag (codes "strict") rows flags.strict × IsFlag (codes "all") rows flags.all
+    × (option_map (λ w. w.now) flags.drift ≡ first_of (codes "drift") rows) × (option_map (λ n. n.now) until ≡ first_of (codes "until") rows)
 AsksAudit rows _ = ⊥
 
 -- what is asked for by the subcommand of this name and what was given to it

@@ -6,7 +6,7 @@ ghost use Rattle.clap.specs.Matches.{found_of};
 ghost use Rattle.clap.specs.Walk.{first_of, rows_of};
 ghost use Rattle.command.specs.Words.{Asks, AsksAudit, AsksExplain, AsksRun, AsksSession, AsksStore, AsksTimeline};
 ghost use Rattle.command.specs.Words.{IsActionNamed, IsHeldOver, IsRequest, IsSource, with_first};
-ghost use Rattle.command.specs.Words.{audit_flags, audit_from, audit_until, audit_words, explain_words, run_words, session_options};
+ghost use Rattle.command.specs.Words.{audit_drift, audit_flags, audit_from, audit_until, audit_words, explain_words, run_words, session_options};
 ghost use Rattle.command.specs.Words.{session_words, store_words, timeline_words};
 ghost use Rattle.command.specs.Words.{IsArgument, IsReadAs, WordsAsk, action, bare_hourstable, file, flag, hourstable, leaf, logs, option};
 ghost use Rattle.command.specs.Words.{stored_file, word_faults};
@@ -45,7 +45,8 @@ const STORE_STATUSES: &str = "Exit statuses:
 
 const AUDIT_STATUSES: &str = "Exit statuses:
   0  the calls are one run
-  1  the calls are not one run, or with --strict the clocks were not timely; the report says where
+  1  the calls are not one run, or with --strict the clocks were not timely or did not keep the
+     drift; the report says where
   2  the arguments or a log are refused, or a log cannot be opened
   3  reading or writing failed, or memory ran out";
 
@@ -115,6 +116,18 @@ pub enum StoreAction {
     Check,
 }
 
+/// How logs are judged.
+#[derive(Clone, Copy, Debug, PartialEq, Eq)]
+pub struct AuditFlags<'a> {
+    /// Whether clocks that are not timely are a fault, or samples that show that clocks did not keep
+    /// the drift.
+    pub strict: bool,
+    /// Whether later wrong replies are told after the first one.
+    pub all: bool,
+    /// The drift that samples are judged by, as it was written.
+    pub drift: Option<&'a str>,
+}
+
 /// What a command line asks for.
 #[derive(Debug, Drop)]
 pub enum Asked<'a> {
@@ -125,10 +138,8 @@ pub enum Asked<'a> {
     Audit {
         names: Vec<&'a str>,
         progress: bool,
-        /// Whether clocks that are not timely are a fault.
-        strict: bool,
-        /// Whether later wrong replies are told after the first one.
-        all: bool,
+        /// How they are judged.
+        flags: AuditFlags<'a>,
         /// The file to save the state in that the logs leave.
         until: Option<&'a str>,
     },
@@ -255,6 +266,16 @@ fn logs_argument<'a>(alloc: Global) -> Arg<'a>
         .action(ArgAction::Append)
 }
 
+fn drift_argument<'a>(alloc: Global) -> Arg<'a>
+    ensures { IsArgument (option (codes "drift")) result }
+{
+    Arg::new(alloc, "drift")
+        .long("drift")
+        .value_name("EXTRA/PER/GRAIN")
+        .help("Judge the samples of task clocks by this drift, and report whether they keep it")
+        .action(ArgAction::Set)
+}
+
 fn state_argument<'a>(alloc: Global, name: &'static str, help: &'static str) -> Arg<'a>
     ensures { IsArgument (option name.now) result }
 {
@@ -270,7 +291,7 @@ fn audit_flags<'a>(alloc: Global) -> Result<Command<'a>, AllocError>
     ensures { IfOk result (IsReadAs (leaf audit_flags)) }
 {
     let progress = "Report every 100,000 lines read and calls judged on standard error";
-    let strict = "Exit with status 1 if the clocks were not timely, too";
+    let strict = "Exit with status 1 if the clocks were not timely or did not keep the drift, too";
     let all = "Go on after a fault, and report up to 20";
     Command::new(alloc, "audit")
         .about("Read logs of a service's calls, and report whether they are one run of the job")
@@ -280,12 +301,19 @@ fn audit_flags<'a>(alloc: Global) -> Result<Command<'a>, AllocError>
         .arg(flag(alloc, "all", all))
 }
 
+// Returns the same with the drift.
+fn audit_drift<'a>(alloc: Global) -> Result<Command<'a>, AllocError>
+    ensures { IfOk result (IsReadAs (leaf audit_drift)) }
+{
+    audit_flags(alloc)?.arg(drift_argument(alloc))
+}
+
 // Returns the same with the state to go on from.
 fn audit_from<'a>(alloc: Global) -> Result<Command<'a>, AllocError>
     ensures { IfOk result (IsReadAs (leaf audit_from)) }
 {
     let help = "A state that an earlier audit saved, to go on from";
-    audit_flags(alloc)?.arg(state_argument(alloc, "from", help))
+    audit_drift(alloc)?.arg(state_argument(alloc, "from", help))
 }
 
 // Returns the same with the file of the state to save.
@@ -519,12 +547,13 @@ fn audited<'a>(alloc: Global, matches: &ArgMatches<'a>) -> Result<Asked<'a>, All
     let progress = matches.get_flag("progress");
     let strict = matches.get_flag("strict");
     let all = matches.get_flag("all");
+    let drift = matches.get_str("drift");
+    let flags = AuditFlags { strict, all, drift };
     let until = matches.get_str("until");
     Ok(Asked::Audit {
         names,
         progress,
-        strict,
-        all,
+        flags,
         until,
     })
 }

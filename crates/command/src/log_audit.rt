@@ -1,13 +1,17 @@
 //! `hourstable audit`: reads logs, and writes a report.
 
-ghost use Rattle.std.specs.Prelude.{◌≡◌, ◌+◌, ◌++◌, ◌<◌, ◌^◌, [], ℕ, Bool, List, length, IfErr, IfOk, map};
+ghost use Rattle.std.specs.Prelude.{◌≡◌, ◌+◌, ◌++◌, ◌<◌, ◌^◌, [], ℕ, Bool, List, length, IfErr, IfOk, MatchOption, map, ⊤};
 ghost use Rattle.call_log.specs.Files.{lines_from};
 ghost use Rattle.call_log.specs.Readers.{IsReading, IsReadLog};
 ghost use Rattle.command.specs.declared.log_audit.AuditError.TheVariants as fault;
 ghost use Rattle.command.specs.Audits.{AreJudged, AreLogsTaken, AreNotJudged, IsJudged, IsLogBytes, IsLogRead, IsLogTaken, IsNotAudited, IsNotRead};
-ghost use Rattle.command.specs.Audits.{EndsInLine, IsNotSaved, IsOneMore, IsUnjudged, passes, status_of};
+ghost use Rattle.command.specs.Audits.{AreOptionsOf, EndsInLine, IsDriftGiven, drift_words, IsNotSaved, IsOneMore, IsUnjudged, passes, status_of};
 
-use call_log::{LinePosition, LogError, LogReader, LogReport, Progress, ReadLog, audit_log};
+use crate::arguments::AuditFlags;
+use call_log::{
+    AuditOptions, LinePosition, LogError, LogReader, LogReport, Progress, ReadLog, audit_log,
+};
+use clocks::Drift;
 use diagnosis::{Escaped, LONG_WORDS, say_about, say_memory, say_write};
 use memchr::memrchr;
 use program_io::{MOST_LINE_BYTES, ReadError, WriteError, write_all};
@@ -25,6 +29,8 @@ pub enum AuditError<'a> {
     Read { name: &'a str },
     /// The logs are not a job and its calls.
     Refused(LogError),
+    /// This is not a drift, `EXTRA/PER/GRAIN`.
+    NoDrift(&'a str),
     /// The state cannot be saved in the file of this name.
     Unsaved { name: &'a str, error: Error },
     /// The report cannot be written.
@@ -34,12 +40,13 @@ pub enum AuditError<'a> {
 }
 
 impl AuditError<'_> {
-    /// Returns the exit status: 2 if a log cannot be opened or is refused, otherwise 3.
+    /// Returns the exit status: 2 if a log cannot be opened or is refused, or the drift is, otherwise
+    /// 3.
     pub fn status(&self) -> u8
         ensures { result ≡ status_of self.now }
     {
         match self {
-            AuditError::Unopened { .. } | AuditError::Refused(_) => 2,
+            AuditError::Unopened { .. } | AuditError::Refused(_) | AuditError::NoDrift(_) => 2,
             AuditError::Read { .. }
             | AuditError::Unsaved { .. }
             | AuditError::Write
@@ -116,10 +123,8 @@ pub struct LogAudit<'n, 'a> {
     pub names: &'n [&'a str],
     /// Whether to report progress on standard error.
     pub progress: bool,
-    /// Whether clocks that are not timely are a fault.
-    pub strict: bool,
-    /// Whether later wrong replies are told after the first one.
-    pub all: bool,
+    /// How the logs are judged.
+    pub flags: AuditFlags<'a>,
     /// The file to save the state in that the logs leave, if they are one run.
     pub until: Option<&'a str>,
 }
@@ -243,6 +248,59 @@ fn finished<'a>(log: LogReader) -> Result<ReadLog, AuditError<'a>>
     }
 }
 
+// Returns the drift that is written `EXTRA/PER/GRAIN`.
+fn drift_in(alloc: Global, words: &str) -> Result<Option<Drift>, AllocError>
+    ensures { IfOk result (λ drift. MatchOption drift ⊤ (λ d. words.now ≡ drift_words d)) }
+{
+    let Some((extra, rest)) = words.split_once("/") else {
+        return Ok(None);
+    };
+    let Some((per, grain)) = rest.split_once("/") else {
+        return Ok(None);
+    };
+    let (Ok(extra), Ok(per), Ok(grain)) = (
+        extra.parse::<u64>(),
+        per.parse::<u64>(),
+        grain.parse::<u64>(),
+    ) else {
+        return Ok(None);
+    };
+    let Some(drift) = Drift::new(extra, per, grain) else {
+        return Ok(None);
+    };
+    let written = format!(in alloc; "{}/{}/{}", drift.extra, drift.per, drift.grain)?;
+    if written.as_str() == words {
+        Ok(Some(drift))
+    } else {
+        Ok(None)
+    }
+}
+
+// Returns the drift that is given, if one is.
+fn drift_given<'a>(alloc: Global, given: Option<&'a str>) -> Result<Option<Drift>, AuditError<'a>>
+    ensures ok { IfOk result (IsDriftGiven given.entry) }
+    ensures err { IfErr result IsNotRead }
+{
+    let Some(words) = given else {
+        return Ok(None);
+    };
+    match drift_in(alloc, words)? {
+        Some(drift) => Ok(Some(drift)),
+        None => Err(AuditError::NoDrift(words)),
+    }
+}
+
+// Returns how the logs are to be judged.
+fn options_of<'a>(alloc: Global, flags: AuditFlags<'a>) -> Result<AuditOptions, AuditError<'a>>
+    ensures ok { IfOk result (AreOptionsOf flags.entry) }
+    ensures err { IfErr result IsNotRead }
+{
+    Ok(AuditOptions {
+        all: flags.all,
+        drift: drift_given(alloc, flags.drift)?,
+    })
+}
+
 // Reads the logs, and judges them.
 fn judge<'a, R: Read, E: Write>(
     rt: &(impl Files + AllocGlobal),
@@ -250,7 +308,7 @@ fn judge<'a, R: Read, E: Write>(
     input: &mut R,
     errors: &mut E,
 ) -> Result<Judged, AuditError<'a>>
-    ensures ok { IfOk result (λ judged. AreJudged (map (λ n. n.now) audit.entry.names.now) audit.entry.all
+    ensures ok { IfOk result (λ judged. AreJudged (map (λ n. n.now) audit.entry.names.now) audit.entry.flags
         (R.remaining input.old) (R.remaining input.new) judged.report) }
     ensures err { IfErr result (AreNotJudged (map (λ n. n.now) audit.entry.names.now)
         (R.remaining input.old) (R.remaining input.new)) }
@@ -259,10 +317,11 @@ fn judge<'a, R: Read, E: Write>(
         errors,
         is_wanted: audit.progress,
     };
+    let options = options_of(rt.alloc(), audit.flags)?;
     let log = LogReader::new(rt.alloc(), audit.until.is_some());
     let log = read_logs(rt, audit.names, input, log, &mut progress)?;
     let ReadLog { log, state } = finished(log)?;
-    let report = audit_log(rt.alloc(), audit.names, log, audit.all, &mut progress)?;
+    let report = audit_log(rt.alloc(), audit.names, log, options, &mut progress)?;
     Ok(Judged { report, state })
 }
 
@@ -295,17 +354,17 @@ fn save_state<'a>(
 
 // Whether logs pass an audit.
 fn passes(strict: bool, report: &LogReport) -> bool
-    ensures { result ≡ passes strict report.now.is_one report.now.is_timely }
+    ensures { result ≡ passes strict report.now }
 {
     if strict {
-        report.is_timely
+        report.is_timely && report.keeps_drift
     } else {
         report.is_one
     }
 }
 
 /// Audits the logs with these names, writes a report, and returns whether they pass: their calls
-/// are one run, and if the audit is strict, the clocks were timely.
+/// are one run, and if the audit is strict, the clocks were timely and kept the drift.
 ///
 /// The logs are read in their order, and judged as one log. A log is read to its end, or up to a
 /// line of more than [`MOST_LINE_BYTES`], for which it is refused. Each `-` is what is left of the
@@ -318,9 +377,9 @@ pub fn audit_named<'a, R: Read, W: Write, E: Write>(
     output: &mut W,
     errors: &mut E,
 ) -> Result<bool, AuditError<'a>>
-    ensures ok { IfOk result (IsJudged (map (λ n. n.now) audit.entry.names.now) audit.entry.strict audit.entry.all
+    ensures ok { IfOk result (IsJudged (map (λ n. n.now) audit.entry.names.now) audit.entry.flags
         (R.remaining input.old) (R.remaining input.new) (W.contents output.old) (W.contents output.new)) }
-    ensures err { IfErr result (IsUnjudged (map (λ n. n.now) audit.entry.names.now) audit.entry.strict audit.entry.all
+    ensures err { IfErr result (IsUnjudged (map (λ n. n.now) audit.entry.names.now) audit.entry.flags
         (R.remaining input.old) (R.remaining input.new) (W.contents output.old) (W.contents output.new)) }
 {
     let Judged { report, state } = judge(rt, audit, input, errors)?;
@@ -329,7 +388,7 @@ pub fn audit_named<'a, R: Read, W: Write, E: Write>(
     }
     say_torn(errors, audit.names, report.torn.as_slice());
     write_all(output, report.text.as_str().as_bytes())?;
-    Ok(passes(audit.strict, &report))
+    Ok(passes(audit.flags.strict, &report))
 }
 
 // Returns the name of the log at this index, as it is told.
@@ -375,6 +434,13 @@ pub fn say_error<E: Write>(errors: &mut E, names: &[&str], error: &AuditError) {
         }
         AuditError::Read { name } => {
             let _ = say_about(errors, name, "read fault");
+        }
+        AuditError::NoDrift(words) => {
+            let words = Escaped(words);
+            let _ = writeln!(
+                errors,
+                "hourstable: --drift {words}: it must be EXTRA/PER/GRAIN, three numbers below 2^64, and PER not 0"
+            );
         }
         AuditError::Unsaved { name, error } => {
             let name = Escaped(name);

@@ -119,7 +119,7 @@ fn judge_logs<R: Read, W: Write, E: Write>(
     output: &mut W,
     errors: &mut E,
 ) -> u8
-    ensures { IsAuditEnd (map (λ n. n.now) audit.entry.names.now) audit.entry.strict audit.entry.all (R.remaining input.old) (R.remaining input.new)
+    ensures { IsAuditEnd (map (λ n. n.now) audit.entry.names.now) audit.entry.flags (R.remaining input.old) (R.remaining input.new)
         (W.contents output.old) (W.contents output.new) result }
 {
     match audit_named(rt, audit, input, output, errors) {
@@ -149,16 +149,14 @@ fn do_asked<T: TableFiles, R: BufRead, W: Write, E: Write>(
         Asked::Audit {
             names,
             progress,
-            strict,
-            all,
+            flags,
             until,
         } => {
             let names = names.as_slice();
             let audit = LogAudit {
                 names,
                 progress,
-                strict,
-                all,
+                flags,
                 until,
             };
             judge_logs(rt, audit, input, output, errors)

@@ -1,5 +1,5 @@
 -- What one line of a log makes of a cluster.
-use Rattle.std.specs.Prelude.{◌≡◌, ℕ, true, false, ◌++◌, length, Option, Some, None}
+use Rattle.std.specs.Prelude.{◌≡◌, ℕ, true, false, List, ◌++◌, get_or, length, Option, Some, None}
 use Rattle.std.specs.List.{AllByRecursion}
 use Rattle.cluster.specs.Jobs.{Job}
 use Rattle.cluster.specs.declared.cluster.Cluster.{Cluster}
@@ -46,12 +46,15 @@ pub record IsAnswered (job : Job) (past : Past) (line : LoggedLine) (other : Opt
   pub compared : Compares line told other
 
 -- the caller of an entry's call was told the right words, or this is the wrong reply
-abbrev pub IsWrongReplyOf : Job → LogEntry → ℕ → CallerReply → Past → Option WrongReply → Type 0
-IsWrongReplyOf job entry index told after None = is_worded entry.line.reply told ≡ true
-IsWrongReplyOf job entry index told after (Some wrong) = (wrong.index ≡ index) × IsWrongReply job entry told after wrong
+abbrev pub IsWrongReplyOf : Job → List LogEntry → LogEntry → ℕ → CallerReply → Past → Option WrongReply → Type 0
+IsWrongReplyOf job entries entry index told after None = is_worded entry.line.reply told ≡ true
+IsWrongReplyOf job entries entry index told after (Some wrong) = (wrong.index ≡ index) × IsWrongReply job entries entry told after wrong
 
--- an entry was played, and what its caller is told was compared with its words
-pub record FindsWrongReply (job : Job) (past : Past) (entry : LogEntry) (index : ℕ) (wrong : Option WrongReply) (cluster : Cluster) : Type 0 where
+-- the entry at this place was played, and what its caller is told was compared with its words
+pub record FindsWrongReply (job : Job) (past : Past) (entries : List LogEntry) (index : ℕ) (wrong : Option WrongReply) (cluster : Cluster)
+    : Type 0 where
+  pub entry : LogEntry
+  pub here : entry ≡ get_or entries index entry
   pub told : CallerReply
   pub played : IsPlayed job past entry.line.call told cluster
-  pub found : IsWrongReplyOf job entry index told played.after wrong
+  pub found : IsWrongReplyOf job entries entry index told played.after wrong

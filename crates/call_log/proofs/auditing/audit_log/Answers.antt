@@ -1,4 +1,4 @@
-use Rattle.std.proofs.Common.{refl}
+use Rattle.std.proofs.Common.{refl, rules, string_bytes}
 use Rattle.call_log.proofs.auditing.audit_log.Goals as goal
 
 pub returns : goal.returns
@@ -17,5 +17,9 @@ returns g c = λ files reads. record {
   hinted = rw (← c.as_slice-entries.ensures.value) c.in_ok-hint.ensures;
   later = c.in_ok-later.later.items;
   more = rw (← c.as_slice-entries.ensures.value) c.in_ok-later.ensures;
+  lines = string_bytes c.in_ok-text.text;
   told = rw (← c.as_slice-entries.ensures.value, ← c.as_slice.ensures.value) c.in_ok-text.ensures;
+  drift = string_bytes c.in_ok-told.told.line;
+  samples = rw (← c.as_slice-entries.ensures.value) c.in_ok-told.ensures;
+  text = search rules;
 }

@@ -8,13 +8,13 @@ use Rattle.call_log.proofs.comparing.wrong_replies.Goals.{in-Some+in_ok-push+els
 pub returns-then-len-eq-MOST_WRONG_REPLIES : goal.returns-then-len-eq-MOST_WRONG_REPLIES
 returns-then-len-eq-MOST_WRONG_REPLIES c =
     let known = c.loop-index.invariant in
-    let found = rw c.in-Some.is at (c.in_ok-wrong.ensures c.args.job known.past known.leads) in
-    let more = wrong_more c.args.entries.now c.loop-index.index c.index-entries-index.result c.loop-index-test.true c.index-entries-index.is
+    let found = rw c.in-Some.is at (c.in_ok-wrong.ensures known.past known.leads) in
+    let more = wrong_more c.args.entries.now c.loop-index.index c.loop-index-test.true
     c.args.job c.loop-index.replies.items c.in-Some.wrong c.loop-index.cluster c.wrong_reply_at.new.cluster known found in
     record {
       judged = c.loop-index.index + 1;
       past = more.past;
-      are = subst (λ (rs : List WrongReply). AreWrongReplies c.args.job (reverse (take (c.loop-index.index + 1) c.args.entries.now)) more.past (reverse rs))
+      are = subst (λ (rs : List WrongReply). AreWrongReplies c.args.job c.args.entries.now (reverse (take (c.loop-index.index + 1) c.args.entries.now)) more.past (reverse rs))
           (sym c.in_ok-push.ensures.items) more.are;
       answered = c.run_law.ensures.run c.args.job more.past more.leads;
       enough = inr (search rules);
@@ -24,14 +24,14 @@ pub loop-index-preserved : goal.loop-index-preserved
 loop-index-preserved c =
     let known = c.loop-index.invariant in elim c.match-branch-3.branch [
       | in-Some+in_ok-push+else-len-eq-MOST_WRONG_REPLIES w ↦
-          let found = rw w.in-Some.is at (c.in_ok-wrong.ensures c.args.job known.past known.leads) in
+          let found = rw w.in-Some.is at (c.in_ok-wrong.ensures known.past known.leads) in
           rw (w.replies-is, w.in_ok-push.ensures.items)
-          (wrong_more c.args.entries.now c.loop-index.index c.index-entries-index.result c.loop-index-test.true c.index-entries-index.is
+          (wrong_more c.args.entries.now c.loop-index.index c.loop-index-test.true
           c.args.job c.loop-index.replies.items w.in-Some.wrong c.loop-index.cluster c.wrong_reply_at.new.cluster known found)
       | in_default w ↦
-          let found = rw w.in_default.is at (c.in_ok-wrong.ensures c.args.job known.past known.leads) in
+          let found = rw w.in_default.is at (c.in_ok-wrong.ensures known.past known.leads) in
           rw w.replies-is
-          (right_more c.args.entries.now c.loop-index.index c.index-entries-index.result c.loop-index-test.true c.index-entries-index.is
+          (right_more c.args.entries.now c.loop-index.index c.loop-index-test.true
           c.args.job c.loop-index.replies.items c.loop-index.cluster c.wrong_reply_at.new.cluster known found)
     ]
 

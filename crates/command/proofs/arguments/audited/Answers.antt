@@ -18,5 +18,6 @@ returns c =
       flag_is found (codes "progress") c.get_flag-progress.result progress.none progress.value progress.other,
       flag_is found (codes "strict") c.get_flag-strict.result strict.none strict.value strict.other,
       flag_is found (codes "all") c.get_flag-all.result all.none all.value all.other,
+      first_is found (codes "drift") _ c.get_str-drift.ensures,
       first_is found (codes "until") _ c.get_str-until.ensures,
     )

@@ -12,4 +12,4 @@ pub returns-clause-ok : goal.returns-clause-ok
 returns-clause-ok g c =
     let taken = c.in_ok-log.ensures.ok _ c.new-log.ensures in
     let read = c.in_ok-log-2.ensures.ok _ taken.files taken.reading in
-    record { files = taken.files; read = taken.read; audited = c.in_ok-report.ensures taken.files read.log }
+    record { options = c.in_ok-options.options; given = c.in_ok-options.ensures.ok; files = taken.files; read = taken.read; audited = c.in_ok-report.ensures taken.files read.log }
