@@ -341,6 +341,29 @@ enum hs_task_action {
     HS_TASK_REST = 6       /* nothing */
 };
 
+/* Calls that a line of a log may be of: see hs_log_line. A number never changes its meaning. */
+enum hs_call {
+    HS_CALL_TAKE = 1,     /* hs_table_take */
+    HS_CALL_RENEW = 2,    /* hs_table_renew */
+    HS_CALL_PROPOSE = 3,  /* hs_table_propose */
+    HS_CALL_COMMIT = 4,   /* hs_table_commit */
+    HS_CALL_GRANT = 5,    /* hs_table_grant */
+    HS_CALL_FREE = 6,     /* hs_table_free */
+    HS_CALL_LOSE = 7,     /* hs_table_restart */
+    HS_CALL_PHASE = 8,    /* hs_table_phase */
+    HS_CALL_RESTORE = 9,  /* hs_table_restore */
+    HS_CALL_OPEN = 10,    /* hs_slicelet_open, hs_slicelet_resume */
+    HS_CALL_START = 11,   /* hs_slicelet_start */
+    HS_CALL_HEAR = 12,    /* hs_slicelet_hear */
+    HS_CALL_RELEASE = 13, /* hs_slicelet_release */
+    HS_CALL_SERVE = 14,   /* hs_slicelet_serve, hs_slicelet_serve_at */
+    HS_CALL_HOLD = 15,    /* hs_slicelet_hold, hs_slicelet_hold_at */
+    HS_CALL_CHECK = 16,   /* hs_slicelet_check */
+    HS_CALL_LEARN = 17,   /* hs_clerk_learn */
+    HS_CALL_LOOK = 18,    /* hs_clerk_look, hs_clerk_look_at */
+    HS_CALL_FORGET = 19   /* hs_clerk_forget */
+};
+
 /* Numbers that a code comes with. A call sets just the fields that its code names, unless its comment
  * says otherwise: hs_slicelet_hear, _serve and _serve_at tell a lease where they are done. */
 struct hs_told {
@@ -465,6 +488,29 @@ struct hs_table_clock {
     uint64_t opened; /* the local reading at which it was opened */
     uint64_t kept;   /* the value that was kept; no reading is below it */
     uint64_t last;   /* the last accepted local reading */
+};
+
+/* A call for hs_log_line: what was passed, the code that was returned, and what the call wrote. Zero
+ * it, and set `ticket`, `call`, `code`, and the members whose comments name the call; the others are
+ * not looked at. */
+struct hs_logged_call {
+    uint64_t ticket;             /* the place of the call among all calls of the job (docs/AUDIT.md) */
+    uint32_t call;               /* which call it was, an hs_call */
+    int32_t code;                /* what it returned */
+    uint64_t task;               /* each call of a slicelet, and HS_CALL_GRANT */
+    uint64_t clerk;              /* each call of a clerk: its number in the job, from 1 */
+    uint64_t assigner;           /* HS_CALL_TAKE */
+    uint64_t term;               /* HS_CALL_RENEW, _PROPOSE, _COMMIT: the number that was passed */
+    uint64_t at;                 /* each call that is passed a reading */
+    uint64_t slice_key;          /* HS_CALL_SERVE, _HOLD, _LOOK: hs_slice_key of the key */
+    uint32_t life;               /* HS_CALL_GRANT, _START, _OPEN; 0 for hs_slicelet_open */
+    uint32_t kind;               /* HS_CALL_RELEASE: an hs_kind */
+    uint64_t count;              /* HS_CALL_FREE, _LOSE: what *freed or *lost is then */
+    struct hs_told told;         /* each call that has `told` */
+    struct hs_job_term job_term; /* HS_CALL_TAKE, _RENEW: what was written */
+    struct hs_phase phase;       /* HS_CALL_PHASE: what was written */
+    struct hs_key_handle handle; /* HS_CALL_CHECK: what was passed; HS_CALL_HOLD: what was written */
+    struct hs_owners owners;     /* HS_CALL_LOOK: what was written */
 };
 
 /* A version of the library: major.minor.patch. */
@@ -824,6 +870,21 @@ int32_t hs_table_clock_read(struct hs_table_clock *clock, uint64_t now, uint64_t
  * is outside its limits, then message codes. */
 int32_t hs_clock_evidence(const uint8_t *job, size_t job_len, const uint8_t *grant, size_t grant_len, uint64_t at,
                           const struct hs_policy *policy, uint32_t *out);
+
+/* Logs. ----------------------------------------------------------------------------------------------------------- */
+
+/* Writes the line of a call for `hourstable audit` (docs/AUDIT.md), ended by a line feed. It has the
+ * full words of the reply, and names keys by their slice keys, and notes and handles by what they
+ * contain. `message` is the message that HS_CALL_PROPOSE, _FREE, _RESTORE, _HEAR or _LEARN passed, or
+ * that HS_CALL_GRANT or _RELEASE wrote, if they are done; for other calls it is not looked at, and may
+ * have length 0. Write the line before the reply leaves the process. A call of hs_table_rows has no
+ * line here, and nothing rests on one. Nor has a call whose code is negative: it was no call of the
+ * job. HS_WRONG_FORM if `job` is not the name of a job or `call` is no hs_call, then message codes,
+ * then HS_WRONG_FORM if the call returns no such code, or a number is outside its limits, then
+ * HS_NO_ROOM or HS_NO_MEMORY. Calls that may change a table share their codes here, and so do those
+ * that may change a slicelet: an audit finds one that the call does not return. */
+int32_t hs_log_line(const uint8_t *job, size_t job_len, const struct hs_logged_call *call, const uint8_t *message,
+                    size_t message_len, uint8_t *out, size_t out_len, size_t *needed);
 
 /* Sessions. ------------------------------------------------------------------------------------------------------- */
 

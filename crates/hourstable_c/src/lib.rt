@@ -13,6 +13,7 @@ mod grant_exports;
 mod held;
 mod keeping_exports;
 mod load_exports;
+mod log_exports;
 mod parts;
 mod place;
 mod place_exports;

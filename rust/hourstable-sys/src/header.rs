@@ -172,6 +172,44 @@ pub const HS_GIVE_UP_GUARD: u32 = 4;
 pub const HS_GIVE_UP_BRIDGE: u32 = 5;
 /// nothing
 pub const HS_TASK_REST: u32 = 6;
+/// hs_table_take
+pub const HS_CALL_TAKE: u32 = 1;
+/// hs_table_renew
+pub const HS_CALL_RENEW: u32 = 2;
+/// hs_table_propose
+pub const HS_CALL_PROPOSE: u32 = 3;
+/// hs_table_commit
+pub const HS_CALL_COMMIT: u32 = 4;
+/// hs_table_grant
+pub const HS_CALL_GRANT: u32 = 5;
+/// hs_table_free
+pub const HS_CALL_FREE: u32 = 6;
+/// hs_table_restart
+pub const HS_CALL_LOSE: u32 = 7;
+/// hs_table_phase
+pub const HS_CALL_PHASE: u32 = 8;
+/// hs_table_restore
+pub const HS_CALL_RESTORE: u32 = 9;
+/// hs_slicelet_open, hs_slicelet_resume
+pub const HS_CALL_OPEN: u32 = 10;
+/// hs_slicelet_start
+pub const HS_CALL_START: u32 = 11;
+/// hs_slicelet_hear
+pub const HS_CALL_HEAR: u32 = 12;
+/// hs_slicelet_release
+pub const HS_CALL_RELEASE: u32 = 13;
+/// hs_slicelet_serve, hs_slicelet_serve_at
+pub const HS_CALL_SERVE: u32 = 14;
+/// hs_slicelet_hold, hs_slicelet_hold_at
+pub const HS_CALL_HOLD: u32 = 15;
+/// hs_slicelet_check
+pub const HS_CALL_CHECK: u32 = 16;
+/// hs_clerk_learn
+pub const HS_CALL_LEARN: u32 = 17;
+/// hs_clerk_look, hs_clerk_look_at
+pub const HS_CALL_LOOK: u32 = 18;
+/// hs_clerk_forget
+pub const HS_CALL_FORGET: u32 = 19;
 
 /// Numbers that a code comes with. A call sets just the fields that its code names, unless its comment
 /// says otherwise: hs_slicelet_hear, _serve and _serve_at tell a lease where they are done.
@@ -373,6 +411,48 @@ pub struct hs_table_clock {
     pub kept: u64,
     /// the last accepted local reading
     pub last: u64,
+}
+
+/// A call for hs_log_line: what was passed, the code that was returned, and what the call wrote. Zero
+/// it, and set `ticket`, `call`, `code`, and the members whose comments name the call; the others are
+/// not looked at.
+#[repr(C)]
+#[derive(Clone, Copy, Debug, Default, PartialEq, Eq)]
+pub struct hs_logged_call {
+    /// the place of the call among all calls of the job (docs/AUDIT.md)
+    pub ticket: u64,
+    /// which call it was, an hs_call
+    pub call: u32,
+    /// what it returned
+    pub code: i32,
+    /// each call of a slicelet, and HS_CALL_GRANT
+    pub task: u64,
+    /// each call of a clerk: its number in the job, from 1
+    pub clerk: u64,
+    /// HS_CALL_TAKE
+    pub assigner: u64,
+    /// HS_CALL_RENEW, _PROPOSE, _COMMIT: the number that was passed
+    pub term: u64,
+    /// each call that is passed a reading
+    pub at: u64,
+    /// HS_CALL_SERVE, _HOLD, _LOOK: hs_slice_key of the key
+    pub slice_key: u64,
+    /// HS_CALL_GRANT, _START, _OPEN; 0 for hs_slicelet_open
+    pub life: u32,
+    /// HS_CALL_RELEASE: an hs_kind
+    pub kind: u32,
+    /// HS_CALL_FREE, _LOSE: what *freed or *lost is then
+    pub count: u64,
+    /// each call that has `told`
+    pub told: hs_told,
+    /// HS_CALL_TAKE, _RENEW: what was written
+    pub job_term: hs_job_term,
+    /// HS_CALL_PHASE: what was written
+    pub phase: hs_phase,
+    /// HS_CALL_CHECK: what was passed; HS_CALL_HOLD: what was written
+    pub handle: hs_key_handle,
+    /// HS_CALL_LOOK: what was written
+    pub owners: hs_owners,
 }
 
 /// A version of the library: major.minor.patch.
@@ -619,6 +699,17 @@ extern "C" {
     /// grant need not be heard. HS_WRONG_FORM if `job` is not the name of a job or a number of the policy
     /// is outside its limits, then message codes.
     pub fn hs_clock_evidence(job: *const u8, job_len: usize, grant: *const u8, grant_len: usize, at: u64, policy: *const hs_policy, out: *mut u32) -> i32;
+    /// Writes the line of a call for `hourstable audit` (docs/AUDIT.md), ended by a line feed. It has the
+    /// full words of the reply, and names keys by their slice keys, and notes and handles by what they
+    /// contain. `message` is the message that HS_CALL_PROPOSE, _FREE, _RESTORE, _HEAR or _LEARN passed, or
+    /// that HS_CALL_GRANT or _RELEASE wrote, if they are done; for other calls it is not looked at, and may
+    /// have length 0. Write the line before the reply leaves the process. A call of hs_table_rows has no
+    /// line here, and nothing rests on one. Nor has a call whose code is negative: it was no call of the
+    /// job. HS_WRONG_FORM if `job` is not the name of a job or `call` is no hs_call, then message codes,
+    /// then HS_WRONG_FORM if the call returns no such code, or a number is outside its limits, then
+    /// HS_NO_ROOM or HS_NO_MEMORY. Calls that may change a table share their codes here, and so do those
+    /// that may change a slicelet: an audit finds one that the call does not return.
+    pub fn hs_log_line(job: *const u8, job_len: usize, call: *const hs_logged_call, message: *const u8, message_len: usize, out: *mut u8, out_len: usize, needed: *mut usize) -> i32;
     /// Creates a session of the job on the line in `place`, destroying what was there. Replies are lines
     /// of text, or of JSON if `json` is not 0. HS_NO_JOB, HS_NO_MEMORY.
     pub fn hs_session_open(place: *mut hs_place, line: *const u8, line_len: usize, json: u32) -> i32;

@@ -1,0 +1,4 @@
+pub mod Values
+pub mod ReadBack
+pub mod Written
+pub mod MessageReads

@@ -1,0 +1,23 @@
+//! Lines of logs of calls that were made through the library for C.
+//!
+//! A service says which call it made, what it passed, which code it got, and what the call wrote.
+//! [`log_line`] returns the line that an audit reads as this call with this reply.
+#![tactic(auto)]
+
+mod arguments;
+mod call_name;
+mod calls;
+mod laws;
+mod line;
+mod line_json;
+mod line_laws;
+mod message;
+mod numbers;
+mod output;
+mod refusals;
+mod replies;
+
+pub use call_name::{CallName, TableCallName, TaskCallName};
+pub use laws::{ground_law, table_error_law, task_error_law};
+pub use line::log_line;
+pub use numbers::LoggedNumbers;
