@@ -79,6 +79,7 @@ int main(void) {
     check("readers", check_readers);
     check("jobs", check_jobs);
     check("kept values", check_keeping);
+    check("logs", check_logs);
     for (int32_t code = LOWEST; code <= HIGHEST; code++) {
         if (!was_seen[code - LOWEST])
             printf("code %d was never returned\n", (int)code);

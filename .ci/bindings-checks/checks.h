@@ -130,5 +130,6 @@ void check_memory(void);
 void check_readers(void);
 void check_jobs(void);
 void check_keeping(void);
+void check_logs(void);
 
 #endif

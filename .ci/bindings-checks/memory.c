@@ -246,6 +246,18 @@ static int32_t find_slice(struct hs_place *place) {
     return code;
 }
 
+static int32_t log_proposal(struct hs_place *place) {
+    const char *text = ASSIGNMENT("1", HALVES);
+    const struct hs_logged_call call = {.ticket = 1, .call = HS_CALL_PROPOSE, .term = 1, .at = 2};
+    uint8_t out[256];
+    size_t needed = UNTOLD;
+    (void)place;
+    memset(out, '-', sizeof out);
+    int32_t code = hs_log_line(JOB, &call, (const uint8_t *)text, strlen(text), out, sizeof out, &needed);
+    HOLDS(code == HS_DONE ? needed < sizeof out : needed == UNTOLD && are_dashes(out, sizeof out));
+    return code;
+}
+
 static int32_t gather_more(struct hs_place *place) {
     const char *text = ASSIGNMENT("1", HALVES);
     const struct hs_load_record records[] = {{5, 1}, {(uint64_t)1 << 62, 2}, {6, 3}, {7, 4}, {8, 5}};
@@ -435,6 +447,7 @@ void check_memory(void) {
         {"session", knowing_clerk, open_session, clerk_state},
         {"gather", counting_book, gather_more, load_book_state},
         {"plan", knowing_clerk, plan, clerk_state},
+        {"log line", knowing_clerk, log_proposal, clerk_state},
         {"evidence", knowing_clerk, weigh, clerk_state},
         {"read grant", knowing_clerk, read_grant, clerk_state},
         {"permitted", serving_task, list_permitted, slicelet_state},

@@ -30,6 +30,7 @@ kinds, actions = ({word.lower(): int(number) for word, number in re.findall(r"HS
                   for words in re.findall(r"enum hs_(?:kind|action) \{(.*?)\}", header, re.S))
 
 task_actions = re.findall(r"HS_(\w+) = \d+", header.split("enum hs_task_action {")[1].split("};")[0])
+calls = {word.lower(): int(number) for word, number in re.findall(r"HS_CALL_(\w+) = (\d+)", header)}
 
 
 def class_of(struct):
@@ -39,7 +40,10 @@ def class_of(struct):
 
 def member_of(c_type, length):
     """Returns the Python type of a member of a struct."""
-    member = {"void *": ctypes.c_void_p, "uint64_t ": ctypes.c_uint64, "uint32_t ": ctypes.c_uint32}[c_type]
+    struct = re.fullmatch(r"struct hs_(\w+) ", c_type)
+    member = class_of(struct[1]) if struct else {
+        "void *": ctypes.c_void_p, "uint64_t ": ctypes.c_uint64, "uint32_t ": ctypes.c_uint32, "int32_t ": ctypes.c_int32,
+    }[c_type]
     return member * int(length) if length else member
 
 
@@ -65,7 +69,7 @@ declared = {name: (function.restype, list(function.argtypes)) for name, function
     for name in [*hourstable.DECLARED, "library_version", "slice_key", "place_free"])}
 structs = {}
 for name, members in re.findall(r"^struct hs_(\w+) \{(.*?)^\};", header, re.M | re.S):
-    found = re.findall(r"^    (uint\d+_t |void \*)(\w+)(?:\[(\d+)\])?;", members, re.M)
+    found = re.findall(r"^    (u?int\d+_t |void \*|struct hs_\w+ )(\w+)(?:\[(\d+)\])?;", members, re.M)
     structs[name] = [(member, member_of(c_type, length)) for c_type, member, length in found]
 faults = [what for what, same in [
     ("names of hs_code_name", named == {name: name for name in in_header}),
@@ -81,6 +85,7 @@ faults = [what for what, same in [
     ("actions in Python", hourstable.ACTIONS == {number: word for word, number in actions.items()}),
     ("task actions in Python", list(hourstable.TASK_ACTIONS)
      == [word.lower().replace("_", " ").removeprefix("task ") for word in task_actions]),
+    ("calls in Python", hourstable.CALLS == calls),
     *[(f"parameters of {name} in Python", declared.get(name) == function) for name, function in functions.items()],
     *[(f"fields of {name} in Python", getattr(class_of(name), "_fields_", None) == fields)
       for name, fields in structs.items()],

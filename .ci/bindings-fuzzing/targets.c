@@ -22,6 +22,8 @@ static const char *const assignments[] = {
     ASSIGNMENT("1", HALVES), ASSIGNMENT("2", HALVES), ASSIGNMENT("2", "[[0,[2]]]"), ASSIGNMENT("3", "[[0,[1,2,3,4,5]]]"),
     ASSIGNMENT("2", "[[0,[1]],[1,[2]],[2,[1]],[3,[2]],[4,[64]],[9223372036854775807,[1]]]")};
 static const char *const notes[] = {NOTE("guard", "1", "1"), NOTE("guard", "9", "2"), NOTE("bridge", "1", "1")};
+static const char *const delivered[] = {
+    GRANT("guard", "7", "[[0,9223372036854775808]]"), ASSIGNMENT("1", HALVES), NOTE("guard", "1", "1")};
 static const char *const lines[] = {
     "{\"do\":\"take\",\"assigner\":1,\"at\":7}", "{\"do\":\"renew\",\"assigner\":1,\"at\":7}",
     "{\"do\":\"propose\",\"assigner\":1,\"generation\":2,\"slices\":" HALVES ",\"at\":8}",
@@ -186,6 +188,31 @@ static int32_t weigh(struct hs_place *place, struct input input, struct hs_told 
     return code;
 }
 
+/* Writes the line of a call with the message. A line has no line feed but its last byte. No place and no `told` is
+ * passed. */
+static int32_t write_line(struct hs_place *place, struct input input, struct hs_told *told) {
+    size_t needed = 99, room = draw(4) ? LONGEST_INPUT : draw(64);
+    uint8_t *out = room_of(room);
+    struct hs_logged_call call = {.ticket = draw_number(9), .call = (uint32_t)draw(21), .code = (int32_t)draw(31) - 1};
+    (void)place, (void)told;
+    call.task = draw_number(66);
+    call.slice_key = draw(9) << draw(64);
+    call.kind = (uint32_t)draw(4);
+    call.told.kind = draw(4);
+    call.told.task = draw_number(66);
+    call.phase = (struct hs_phase){draw(3), draw(3)};
+    call.handle.task = draw_number(66);
+    call.owners.count = draw(7);
+    for (size_t at = 0; at < 5; at++)
+        call.owners.tasks[at] = draw_number(66);
+    int32_t code = hs_log_line(NO_NAME, &call, input.bytes, input.length, out, room, &needed);
+    if (code == HS_DONE)
+        MUST(needed > 0 && needed <= room && memchr(out, '\n', needed) == out + needed - 1);
+    else
+        MUST(code == HS_NO_ROOM ? needed > room : needed == 99);
+    return code;
+}
+
 static void begin_book(struct hs_place *place) {
     MUST(hs_load_book_open(place, NO_NAME) == HS_DONE);
 }
@@ -326,6 +353,7 @@ const struct target targets[] = {
     {"plan", assignments, COUNT(assignments), begin_clerk, plan, clerk_state},
     {"read", assignments, COUNT(assignments), begin_clerk, read_slices, clerk_state},
     {"evidence", grants, COUNT(grants), begin_clerk, weigh, clerk_state},
+    {"log", delivered, COUNT(delivered), begin_clerk, write_line, clerk_state},
     {"session", jobs, COUNT(jobs), begin_session, open_session, session_state},
     {"answer", lines, COUNT(lines), begin_session, answer, session_state},
 };
