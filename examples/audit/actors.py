@@ -159,6 +159,8 @@ class Actor:
             line["reply"] = one_word(call["do"], words)
             if "key" in call:
                 line["slice_key"] = slice_key(line.pop("key"))
+            if call["do"] == "learn":
+                del line["slices"]
         return line
 
 

@@ -353,6 +353,7 @@ STORIES = {
     "lives-hybrid": told_with(LIVES, tickets=HYBRID),
     "history": Story(HISTORY),
     "clerks": Story(CLERKS),
+    "clerks-sparse": told_with(CLERKS, SPARSE),
     "loss": Story(LOSS),
     "kept": Story(KEPT),
     "kept-far": told_with(KEPT, numbers=1 << 32),

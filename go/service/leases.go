@@ -54,7 +54,7 @@ func (l *leases) read() (uint64, error) {
 	return at, err
 }
 
-// sample takes an answer of the table to a request.
+// sample takes an answer of the table to a request, and logs it.
 func (l *leases) sample(made answer) error {
 	if made.reading == nil {
 		return nil
@@ -62,11 +62,19 @@ func (l *leases) sample(made answer) error {
 	l.mutex.Lock()
 	defer l.mutex.Unlock()
 	now, err := l.local()
-	if err == nil {
-		err = l.clock.Sample(made.sent, *made.reading, now)
+	if err != nil {
+		return err
 	}
-	l.sampled = l.sampled || err == nil
-	return err
+	if err := l.clock.Sample(made.sent, *made.reading, now); err != nil {
+		return err
+	}
+	l.sampled = true
+	ticket, err := l.tickets.draw()
+	if err != nil {
+		return err
+	}
+	members := map[string]any{"task": l.task, "sent": made.sent, "reading": *made.reading, "now": now}
+	return l.log.tell(ticket, "sample", "sampled", members)
 }
 
 // call makes a call of the slicelet at the reading of now, and logs it.

@@ -26,7 +26,7 @@ type callLog struct {
 
 // jobLine returns the first line of a log of a job with these members of a policy.
 func jobLine(policy map[string]any) ([]byte, error) {
-	job := map[string]any{"assigners": 8, "tasks": 64, "clerks": 16}
+	job := map[string]any{"assigners": 8, "tasks": 64, "clerks": 128}
 	for name, value := range policy {
 		job[name] = value
 	}

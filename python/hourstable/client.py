@@ -19,8 +19,8 @@ from typing import Any, TypeVar
 
 from .calls import TIMEOUT, WAIT, Backoff, Control, Unreachable
 from .clock import local_clock
-from .library import Clerk, Found, Refused
-from .logs import Log, folder_of, job_line, line_of, told_refusal
+from .library import CALLS, Clerk, Found, LoggedCall, Refused, log_line, owners_of, slice_key
+from .logs import Log, folder_of, job_line
 from .tickets import Tickets, follow
 from .waiting import pause
 
@@ -42,7 +42,7 @@ class Router:
 
     With `by_load` it picks, of several owners, the one to which the fewest attempts are underway,
     and else one at random. With `logs` it writes a log of its clerk, which is number `clerk` of
-    the job, 1 to 16.
+    the job, 1 to 128.
     """
 
     def __init__(
@@ -118,13 +118,13 @@ class Router:
 
     def owners(self, key: str) -> Found:
         """Returns the owners of a key and the generation. Raises NoOwner if nothing is known."""
+        slice_key_ = slice_key(key.encode())
         try:
-            found = self._clerk.look(key.encode())
+            found = self._clerk.look_at(slice_key_)
         except Refused as refused:
-            self._tell("look", told_refusal("look", str(refused)), key=key)
+            self._tell("look", refused, slice_key=slice_key_)
             raise NoOwner(key) from refused
-        tasks = ",".join(map(str, found.tasks))
-        self._tell("look", f"found generation {found.generation} owners {tasks}", key=key)
+        self._tell("look", slice_key=slice_key_, owners=owners_of(found))
         return found
 
     def pick(self, key: str) -> int:
@@ -187,7 +187,7 @@ class Router:
     async def _open_log(self, logs: str | os.PathLike[str]) -> None:
         policy = (await self._control.call("GET")).value()["policy"]
         self._log = Log(folder_of(logs, self.job), f"clerk-{self.clerk}", job_line(policy))
-        self._tell("forget", "forgotten")  # what an earlier process of this clerk had learnt
+        self._tell("forget")  # what an earlier process of this clerk had learnt
 
     async def _learn(self) -> None:
         """Learns the next assignment, as soon as there is one."""
@@ -197,18 +197,22 @@ class Router:
         if answer.status == 204:
             return
         value = answer.value()["value"]
-        members = {"generation": value["generation"], "slices": value["slices"]}
         try:
             self._clerk.learn(answer.body)
         except Refused as refused:
-            self._tell("learn", told_refusal("learn", str(refused)), **members)
+            self._tell("learn", refused, answer.body)
             await asyncio.sleep(0.2)  # a plane that stands by is behind
             return
-        self._tell("learn", f"learnt {value['generation']}", **members)
+        self._tell("learn", message=answer.body)
         self._generation = int(value["generation"])
         self._changed.set()
 
-    def _tell(self, do: str, reply: str, **members: Any) -> None:
-        if self._log is not None:
-            ticket = self._tickets.draw()
-            self._log.append(line_of(ticket, do, reply, clerk=self.clerk, **members))
+    def _tell(
+        self, do: str, refused: Refused | None = None, message: bytes = b"", **members: Any
+    ) -> None:
+        """Writes the line of a call, if the clerk was asked."""
+        code = 0 if refused is None else refused.code
+        if self._log is not None and code >= 0:
+            call = LoggedCall(self._tickets.draw(), CALLS[do], code, clerk=self.clerk, **members)
+            call.told = self._clerk.told
+            self._log.append(log_line(self.job, call, message))

@@ -136,8 +136,10 @@ def _audit_words(words: argparse.ArgumentParser) -> None:
     words.add_argument("--hourstable", metavar="PROGRAM",
                        help=f"the program; else that of ${PROGRAM}, else hourstable in PATH")
     words.add_argument("--strict", action="store_true",
-                       help="clocks that were not timely are a fault, too")
+                       help="clocks that are not timely or break the drift are a fault, too")
     words.add_argument("--all", action="store_true", help="tell the first 20 wrong replies")
+    words.add_argument("--drift", metavar="EXTRA/PER/GRAIN",
+                       help="judge the samples of task clocks by this drift")
     words.add_argument("--from", type=Path, metavar="STATE", dest="begins",
                        help="go on from the state that earlier logs of the job left")
     words.add_argument("--until", type=Path, metavar="STATE",
@@ -309,6 +311,8 @@ def _audit(chosen: argparse.Namespace) -> int:
 
 def _audit_options(chosen: argparse.Namespace) -> list[str]:
     options = [f"--{name}" for name in ("strict", "all") if getattr(chosen, name)]
+    if chosen.drift:
+        options += ["--drift", chosen.drift]
     for name, state in (("from", chosen.begins), ("until", chosen.until)):
         if state:
             options += [f"--{name}", str(state.absolute())]

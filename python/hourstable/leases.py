@@ -6,10 +6,15 @@ ticket, never an older one.
 """
 
 from collections.abc import Callable, Mapping
+from functools import partial
 from typing import Any, TypeVar
 
-from .library import KeyHandle, Phase, Policy, Refused, Served, Slicelet, TaskClock, clock_evidence
-from .logs import Log, line_of, told_note, told_refusal, value_of
+from .library import KINDS as NUMBERS
+from .library import (
+    CALLS, KeyHandle, LoggedCall, Phase, Policy, Refused, Served, Slicelet, TaskClock,
+    clock_evidence, log_line,
+)
+from .logs import Log, line_of, value_of
 from .ranges import Ranges, minus, ranges_of, union
 from .tickets import Tickets
 
@@ -59,8 +64,8 @@ class Leases:
         self.held: dict[str, Held] = {}
         self._tickets, self._log = tickets, log
         self._slicelet = Slicelet.resume(job, task, last)
-        line = line_of(tickets.draw(), "open", f"opened {last}", task=task, life=last)
-        log.append(line)
+        opened = LoggedCall(ticket=tickets.draw(), call=CALLS["open"], task=task, life=last)
+        log.append(log_line(job, opened))
 
     def close(self) -> None:
         """Destroys the slicelet. Nothing is released."""
@@ -75,7 +80,10 @@ class Leases:
 
     def sample(self, sent: int, reading: int) -> None:
         """Takes an answer of the table to a request that was sent at the local reading `sent`."""
-        self.clock.sample(sent, reading, self.local_clock())
+        now = self.local_clock()
+        self.clock.sample(sent, reading, now)
+        members = {"task": self.task, "sent": sent, "reading": reading, "now": now}
+        self._log.append(line_of(self._tickets.draw(), "sample", "sampled", **members))
 
     def is_sampled(self) -> bool:
         """Whether the clock has heard an answer of the table."""
@@ -91,8 +99,7 @@ class Leases:
 
     def start(self) -> None:
         """Starts the life. Raises Refused or ClockBehind, as the calls below do."""
-        told = f"started {self.life}"
-        self._call("start", lambda at: self._slicelet.start(self.life, at), told, life=self.life)
+        self._call("start", lambda at: self._slicelet.start(self.life, at), life=self.life)
         self.started = True
 
     def shows_evidence(self, grant: bytes, policy: Policy) -> bool:
@@ -101,39 +108,32 @@ class Leases:
 
     def hear(self, grant: bytes) -> None:
         """Hears a grant, given as its message."""
+        self._call("hear", lambda at: self._slicelet.hear(grant, at), grant)
         value = value_of(grant)
-        told = f"heard {value['number']}"
-        self._call("hear", lambda at: self._slicelet.hear(grant, at), told, grant=value)
         self.held[value["kind"]] = Held(value)
 
     def release(self, kind: str) -> bytes:
         """Gives up the lease of a kind, and returns the message of its note."""
-
-        def told(note: bytes) -> str:
-            return told_note(value_of(note))
-
-        note = self._call("release", lambda at: self._slicelet.release(kind, at), told, kind=kind)
+        call = partial(self._slicelet.release, kind)
+        note = self._call("release", call, kind=NUMBERS[kind])
         self.held.pop(kind, None)
         return note
 
-    def serve(self, key: str, slice_key: int) -> Served:
-        """Asks whether the task may serve a key."""
-        told = "served {0.kind} {0.generation}".format
+    def serve(self, slice_key: int) -> Served:
+        """Asks whether the task may serve the keys of a slice key."""
         return self._call(
-            "serve", lambda at: self._slicelet.serve_at(slice_key, at), told, key=key
+            "serve", lambda at: self._slicelet.serve_at(slice_key, at), slice_key=slice_key
         )
 
-    def hold(self, key: str, slice_key: int) -> KeyHandle:
-        """Takes a handle on a key."""
-        told = "handle life {0.life} position {0.position}".format
-        return self._call("hold", lambda at: self._slicelet.hold_at(slice_key, at), told, key=key)
+    def hold(self, slice_key: int) -> KeyHandle:
+        """Takes a handle on the keys of a slice key."""
+        return self._call(
+            "hold", lambda at: self._slicelet.hold_at(slice_key, at), slice_key=slice_key
+        )
 
     def check(self, handle: KeyHandle) -> None:
         """Raises Refused unless the task has held the key of a handle without a break."""
-        members = {name: getattr(handle, name) for name, _ in handle._fields_}
-        self._call(
-            "check", lambda at: self._slicelet.check(handle, at), "continuous", handle=members
-        )
+        self._call("check", lambda at: self._slicelet.check(handle, at), handle=handle)
 
     def live(self, at: int) -> Ranges:
         """Returns the keys of the leases that have not ended at a reading."""
@@ -152,17 +152,23 @@ class Leases:
         return lost
 
     def _call(
-        self, do: str, ask: Callable[[int], Made], told: str | Callable[[Made], str], **members: Any
+        self, do: str, ask: Callable[[int], Made], message: bytes = b"", **members: Any
     ) -> Made:
-        ticket = self._tickets.draw()
-        at = self.read()
-        members = {"task": self.task, **members, "at": at}
+        """Makes a call, and writes its line. A note and a handle that it made are in the line."""
+        call = LoggedCall(self._tickets.draw(), CALLS[do], task=self.task, **members)
+        call.at = self.read()
         try:
-            made = ask(at)
+            made = ask(call.at)
         except Refused as refused:
+            call.code = refused.code
             if refused.code > 0:  # otherwise the machine was not asked
-                self._log.append(line_of(ticket, do, told_refusal(do, str(refused)), **members))
+                self._write(call, message)
             raise
-        reply = told if isinstance(told, str) else told(made)
-        self._log.append(line_of(ticket, do, reply, **members))
+        if isinstance(made, KeyHandle):
+            call.handle = made
+        self._write(call, made if isinstance(made, bytes) else message)
         return made
+
+    def _write(self, call: LoggedCall, message: bytes) -> None:
+        call.told = self._slicelet.told
+        self._log.append(log_line(self.job, call, message))

@@ -41,6 +41,10 @@ KINDS = {"guard": 1, "bridge": 2}
 KIND_WORDS = {number: word for word, number in KINDS.items()}
 SCRIPT_WORDS = {"OLD_GENERATION": "old"}  # if a script has another word than the header
 ACTIONS = {1: "take", 2: "renew", 3: "commit", 4: "propose", 5: "rest"}
+CALLS = {word: number for number, word in enumerate((
+    "take renew propose commit grant free lose phase restore open start hear release serve hold check"
+    " learn look forget"
+).split(), 1)}  # the calls of which a line of a log may be
 TASK_ACTIONS = ("start", "ask guard", "ask bridge", "give up guard", "give up bridge", "rest")
 
 CType = Any  # a type of ctypes, a parameter type, or an argument for one
@@ -206,6 +210,34 @@ class Row(Numbers):
     kind: int
     generation: int
     table_ends: int
+
+
+class LoggedCall(ctypes.Structure):
+    """A call for log_line: what was passed, its code, and what it wrote, as the header says."""
+
+    _fields_ = [
+        ("ticket", ctypes.c_uint64), ("call", ctypes.c_uint32), ("code", ctypes.c_int32),
+        *fields("task clerk assigner term at slice_key"), *fields("life kind", ctypes.c_uint32),
+        ("count", ctypes.c_uint64), ("told", Told), ("job_term", JobTerm), ("phase", Phase),
+        ("handle", KeyHandle), ("owners", Owners),
+    ]
+    ticket: int
+    call: int
+    code: int
+    task: int
+    clerk: int
+    assigner: int
+    term: int
+    at: int
+    slice_key: int
+    life: int
+    kind: int
+    count: int
+    told: Told
+    job_term: JobTerm
+    phase: Phase
+    handle: KeyHandle
+    owners: Owners
 
 
 class LoadRecord(Numbers):
@@ -402,6 +434,7 @@ DECLARED: dict[str, list[CType]] = {
     "table_clock_open": [P(TableClock), U64, U64, U64],
     "table_clock_read": [P(TableClock), U64, P(ctypes.c_uint64)],
     "clock_evidence": [*BYTES, *BYTES, U64, P(Policy), P(ctypes.c_uint32)],
+    "log_line": [*BYTES, P(LoggedCall), *BYTES, *OUT],
     "plan": [
         *BYTES, *BYTES, ctypes.c_void_p, SIZE, ctypes.c_void_p, SIZE, P(PlanPolicy), *OUT,
     ],
@@ -532,6 +565,19 @@ def slice_of(job: str, assignment: bytes, slice_key: int) -> tuple[int, list[int
     given = (*named(job), assignment, len(assignment), slice_key, ctypes.byref(found))
     done(library.hs_assignment_slice(*given))
     return found.start, list(found.tasks[: found.count])
+
+
+def owners_of(found: Found) -> Owners:
+    """Returns the owners that a clerk found, as numbers."""
+    tasks = array_of(ctypes.c_uint64, [*found.tasks, 0, 0, 0, 0, 0][:5])
+    return Owners(found.generation, len(found.tasks), tasks)
+
+
+def log_line(job: str, call: LoggedCall, message: bytes = b"") -> str:
+    """Returns the line of a call for `hourstable audit`, without its line feed. `message` is what a
+    propose, free, restore, hear or learn passed, or what a grant or release that is done made."""
+    given = (*named(job), ctypes.byref(call), message, len(message))
+    return text_of(library.hs_log_line, *given).decode().removesuffix("\n")
 
 
 def plan(

@@ -15,7 +15,8 @@ from collections.abc import Callable, Iterator, Mapping, Sequence
 from pathlib import Path
 from typing import Any
 
-ASSIGNERS, TASKS, CLERKS = 8, 64, 16  # the most that a job may have
+ASSIGNERS, TASKS = 8, 64  # the most that a job may have
+CLERKS = 128  # as many as have a ticket process of their own
 ENDING = ".jsonl"
 COMPACT = json.JSONEncoder(separators=(",", ":"))
 NAME = re.compile(r"[A-Za-z0-9_-][A-Za-z0-9._-]{0,63}")
@@ -52,11 +53,6 @@ def told_phase(committed: int, proposed: int) -> str:
 def told_grant(grant: Mapping[str, object]) -> str:
     """Returns the reply of `grant`, from the value of the message."""
     return "grant {number} {kind} {generation} until {until} {ends}".format(**grant)
-
-
-def told_note(note: Mapping[str, object]) -> str:
-    """Returns the reply of `release`, from the value of the message of its note."""
-    return "released life {life} number {number}".format(**note)
 
 
 def value_of(message: bytes | str) -> dict[str, Any]:

@@ -326,7 +326,7 @@ class Task:
         if self._leases is None:
             raise self._denied(key, "down")
         try:
-            served = self._leases.serve(key, slice_key_)
+            served = self._leases.serve(slice_key_)
         except Refused as refused:
             raise self._denied(key, str(refused)) from refused
         except ClockBehind as behind:
@@ -338,7 +338,7 @@ class Task:
         if self._leases is None:
             raise self._denied(key, "down")
         try:
-            return Hold(self, key, self._leases, self._leases.hold(key, slice_key_))
+            return Hold(self, key, self._leases, self._leases.hold(slice_key_))
         except Refused as refused:
             raise self._denied(key, str(refused)) from refused
         except ClockBehind as behind:

@@ -175,7 +175,7 @@ def test_an_audit_is_that_of_the_program(
     assert main(["audit", str(tmp_path / "logs")]) == 1
     assert capfd.readouterr().out == told
     assert main(["audit", str(tmp_path / "none")]) == 2
-    options = ["--strict", "--all", "--from", "/old", "--until", "/new"]
+    options = ["--strict", "--all", "--drift", "1/9/2", "--from", "/old", "--until", "/new"]
     assert main(["audit", *options, str(folder)]) == 1
     assert capfd.readouterr().out.startswith(f"audit {' '.join(options)} control-0.2026-01-02.jsonl ")
     logs.Log(logs.folder_of(tmp_path / "logs", "cart"), "control-0", logs.job_line(POLICY)).close()

@@ -14,7 +14,7 @@ JOB = logs.job_line(POLICY)
 
 def test_the_job_line() -> None:
     assert JOB == (
-        '{"job":{"assigners":8,"bridge":100,"clerks":16,"guard":100,"job":1000,"numbers":9,'
+        '{"job":{"assigners":8,"bridge":100,"clerks":128,"guard":100,"job":1000,"numbers":9,'
         '"redundancy":[1,1],"skew":0,"tasks":64}}'
     )
 
@@ -31,8 +31,6 @@ def test_words_of_replies() -> None:
         "until": "105",
     }
     assert logs.told_grant(grant) == "grant 3 guard 4 until 105 95"
-    note = {"life": 2, "number": "9", "kind": "guard", "task": 1}
-    assert logs.told_note(note) == "released life 2 number 9"
     assert logs.told_phase(3, 0) == "phase steady 3"
     assert logs.told_phase(3, 4) == "phase bridging 3 4"
     assert logs.told_refusal("serve", "not-owned 2") == "denied not-owned 2"

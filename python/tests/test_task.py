@@ -78,8 +78,8 @@ async def test_keys_are_served_and_denied(
         assert await ground(task, "hello") == ""
         assert await ground(task, "abc") == "not-owned"
     log = calls(tmp_path)
-    assert log[:7] == [
-        "open: opened 0", "start: started 1", "hear: heard 1", "serve: served guard 1",
+    assert log[:8] == [
+        "open: opened 0", "sample: sampled", "start: started 1", "hear: heard 1", "serve: served guard 1",
         "hold: handle life 1 position 2", "check: continuous", "serve: denied not-owned 1",
     ]
     assert log[-1].startswith("release: released life 1 number ")
@@ -304,7 +304,7 @@ async def test_a_slicelet_that_is_nearly_full_is_replaced(
     async with task_of() as task:
         await until(lambda: len(calls(tmp_path, "open")) == 2)
         await until(lambda: task.served() == LOWER)
-    assert calls(tmp_path)[:6] == [
+    assert calls(tmp_path, "open", "start", "hear", "release")[:6] == [
         "open: opened 0", "start: started 1", "hear: heard 1", "hear: heard 2", "hear: heard 3",
         "release: released life 1 number 3",
     ]
