@@ -85,7 +85,7 @@ held_reason at held = if is_some held.guard || is_some held.bridge
     then codes ": " ++ (lease_text (codes "guard") held.guard at ++ (lease_text (codes "bridge") held.bridge at ++ (codes "read at " ++ decimal at)))
     else []
 
--- why a key should have been denied, by the leases of the task
+-- why a key is denied, by the leases of the task
 abbrev pub reason_text : CallerReply → Reading → Option HeldLeases → List ℕ
 reason_text (Scripted (reply.Verdict (Deny Ended))) (TaskClock at) (Some held) = ended_reason at held
 reason_text (Scripted (reply.Verdict (Deny (NotOwned generation)))) (TaskClock at) (Some held) = held_reason at held

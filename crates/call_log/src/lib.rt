@@ -58,6 +58,6 @@ pub use playing::{held_by_asked, tell, with_ranges};
 pub use progress::Progress;
 pub use questions::{WrongCall, cause_of};
 pub use reading::{NoLine, line_of, line_said};
-pub use report::{NamedEntries, Standing, report_of, wrong_text};
+pub use report::{NamedEntries, Reason, Standing, report_of, wrong_text};
 pub use restored::{KeptNumbers, MOST_AHEAD, RestoreFault, restore_fault};
 pub use told::{CallerReply, PlainLine, ToldLine, is_worded, named};

@@ -167,12 +167,15 @@ impl fmt::Display for HeldReason {
     }
 }
 
-/// Displays why a key should have been denied, by the leases of the task.
+/// Displays why a key is denied, by the leases of the task; nothing for other replies.
 #[derive(Clone, Copy)]
-struct Reason<'a> {
-    wanted: &'a CallerReply,
-    reading: Reading,
-    held: Option<HeldLeases>,
+pub struct Reason<'a> {
+    /// The right reply.
+    pub wanted: &'a CallerReply,
+    /// The reading of the call.
+    pub reading: Reading,
+    /// The leases of the task that the call asks for a key.
+    pub held: Option<HeldLeases>,
 }
 
 impl fmt::Display for Reason<'_> {
