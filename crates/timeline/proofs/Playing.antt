@@ -1,5 +1,5 @@
 -- One more step of a script.
-use Rattle.std.proofs.Common.{◌≡◌, ◌∙◌, ℕ, ◌+◌, ◌<◌, false, List, [], ◌∷◌, length, get_or, take, slice_index_or, refl, sym, subst, ap, inl, inr, arith}
+use Rattle.std.proofs.Common.{◌≡◌, ◌∙◌, ℕ, ◌+◌, ◌<◌, List, [], ◌∷◌, length, get_or, take, slice_index_or, sym, subst, ap, arith}
 use Rattle.std.specs.Prelude.{Result, Ok, Err, reverse}
 use Rattle.std.proofs.lemmas.List.{take_more, reverse-append}
 use Rattle.world.specs.Jobs.{Job}
@@ -9,13 +9,13 @@ use Rattle.world.specs.declared.reply.Reply.TheVariants as reply
 use Rattle.world.specs.declared.reply.Refusal.{Refusal}
 use Rattle.world.specs.declared.world.World.{World}
 use Rattle.world.specs.Pasts.{Event, event, Past}
-use Rattle.world.specs.Calls.{call_of, calls_in, with_call, unless_out_of_memory, resumes}
+use Rattle.world.specs.Calls.{call_of, calls_in, with_call, unless_out_of_memory}
 use Rattle.world.specs.Worlds.{LeadsTo}
 use Rattle.world.specs.Runs.{past_after}
-use Rattle.world.proofs.Telling.{Goes, step_goes}
 use Rattle.cluster.specs.declared.call.ClusterCall.{ClusterCall}
 use Rattle.cluster.specs.Pasts.{Event as ClusterEvent, Past as ClusterPast}
 use Rattle.timeline.specs.Tasks.{IsNextPast}
+use Rattle.timeline.proofs.Tasks.{next_call, next_none}
 
 pub one_reply : (replies : List Reply) (r : Reply) → length replies ≡ 1 → r ≡ slice_index_or replies 0 r → replies ≡ r ∷ []
 one_reply [] r many first = absurd (omega (arith, many))
@@ -23,17 +23,17 @@ one_reply (s ∷ []) r many first = ap (λ x. x ∷ []) (sym first)
 one_reply (s ∷ t ∷ replies) r many first = absurd (omega (arith, many))
 
 -- a reply, or that memory ran out
-unless_next : (answer : Reply) (e : ClusterEvent) (calls : ClusterPast) → resumes e.call ≡ false → IsNextPast calls (unless_out_of_memory answer e calls)
-unless_next reply.NoMemory e calls goes = inl refl
-unless_next _ e calls goes = inr (e, goes, refl)
+unless_next : (answer : Reply) (e : ClusterEvent) (calls : ClusterPast) → IsNextPast calls (unless_out_of_memory answer e calls)
+unless_next reply.NoMemory e calls = next_none calls
+unless_next _ e calls = next_call calls e
 
-with_next : (answer : Reply) (made : Result ClusterCall Refusal) (calls : ClusterPast) → Goes made → IsNextPast calls (with_call answer made calls)
-with_next answer (Ok made) calls goes = unless_next answer _ calls goes
-with_next answer (Err why) calls goes = inl refl
+with_next : (answer : Reply) (made : Result ClusterCall Refusal) (calls : ClusterPast) → IsNextPast calls (with_call answer made calls)
+with_next answer (Ok made) calls = unless_next answer _ calls
+with_next answer (Err why) calls = next_none calls
 
 -- one more step makes at most one more call of the machines
 pub next_past : (job : Job) (past : Past) (e : Event) → IsNextPast (calls_in job past) (calls_in job (e ∷ past))
-next_past job past e = with_next e.reply (call_of job past (calls_in job past) e.step) (calls_in job past) (step_goes job past (calls_in job past) e.step)
+next_past job past e = with_next e.reply (call_of job past (calls_in job past) e.step) (calls_in job past)
 
 -- the past after a step that was played alone
 pub one_step : (job : Job) (past : Past) (steps : List Step) (step : Step) (replies : List Reply) (r : Reply) (world : World) → steps ≡ step ∷ []

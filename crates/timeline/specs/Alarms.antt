@@ -40,9 +40,9 @@ task_of (step.Hold task key at) = task
 task_of (step.Check task handle at) = task
 task_of _ = 0
 
--- a step in which a task's clock is read, by its number
+-- a step in which a task's clock is read, by its number, which is its place
 abbrev pub seen_in : ℕ → Step → Reading → Option Seen
-seen_in number s (TaskClock at) = Some (record { step = number; task = task_of s; at = at })
+seen_in number s (TaskClock at) = Some (record { place = codes "step " ++ decimal number; task = task_of s; at = at })
 seen_in number s _ = None
 
 -- a reading of a task's clock is not timely, if the table's greatest one before it is more than the skew above it
@@ -63,11 +63,15 @@ is_shown_key (Some key) asked = asked == key
 abbrev pub committed_after : Job → Past → Option Slicing
 committed_after job past = committed_in (table_calls (calls_in job past))
 
--- the committed generation, where a step asks a task for a key that is shown and that the task does not own in it
+-- the committed generation, where a task is asked for a key that is shown and that the task does not own in it
+abbrev pub foreign_at : Option ℕ → Option Slicing → ℕ → ℕ → Option ℕ
+foreign_at key committed task asked =
+    if not (is_shown_key key asked) then None else
+    (if is_among (owners_of (slices_of committed) asked) task then None else Some (generation_of committed))
+
+-- the same of a step
 abbrev pub foreign_in : Option ℕ → Option Slicing → Step → Option ℕ
-foreign_in key committed (step.Serve task asked at) =
-    if not (is_shown_key key (slice_key asked)) then None else
-    (if is_among (owners_of (slices_of committed) (slice_key asked)) task then None else Some (generation_of committed))
+foreign_in key committed (step.Serve task asked at) = foreign_at key committed task (slice_key asked)
 foreign_in key committed _ = None
 
 -- the warnings of a reading, where there is one
@@ -102,7 +106,7 @@ why_words at (NotOwner generation) = codes " serves a key at " ++ (decimal at ++
 
 abbrev pub alarm_words : Alarm → List ℕ
 alarm_words alarm =
-    codes "step " ++ (decimal alarm.seen.step ++ (codes ": task " ++ (decimal alarm.seen.task ++ why_words alarm.seen.at alarm.why)))
+    alarm.seen.place ++ (codes ": task " ++ (decimal alarm.seen.task ++ why_words alarm.seen.at alarm.why))
 
 -- a warning as a line of text
 abbrev pub alarm_line : Alarm → List ℕ

@@ -1,4 +1,4 @@
--- What a picture of a script has of each actor: its lane, and what is told of it.
+-- What a picture has of each actor: its lane, and what is told of it.
 use Rattle.std.specs.Prelude.{◌≡◌, ◌≢◌, ◌⊎◌, ℕ, ◌-◌, ◌==◌, max, Bool, false, List}
 use Rattle.std.specs.Prelude.{[], ◌∷◌, ◌++◌, codes, decimal, Option, MatchOption, unwrap_or, slice_get, if◌then◌else◌}
 use Rattle.std.specs.List.{flat_map, list_any}
@@ -13,6 +13,7 @@ use Rattle.timeline.specs.declared.levels.Levels.{Levels}
 use Rattle.timeline.specs.declared.stretch.Stretch.{Stretch}
 use Rattle.timeline.specs.Actors.{actor_name, actors_in, is_of}
 use Rattle.timeline.specs.Alarms.{AreAlarms, alarm_line, alarm_words}
+use Rattle.timeline.specs.Escapes.{escaped_text}
 use Rattle.timeline.specs.Grids.{AreApart, line_text}
 use Rattle.timeline.specs.Levels.{AreLevels, level_text}
 use Rattle.timeline.specs.Scripts.{AreColoured}
@@ -125,20 +126,30 @@ pub record Adds (is : List ℕ → Type 0) (old new : List ℕ) : Type 0 where
   pub is_added : is added
   pub new_is : new ≡ old ++ added
 
--- a picture: the stretches of each task are those in which the rule allows it the key, none without a key; the lines of its grid are apart; it says the
--- warnings of all steps; and of each actor, in order, it has the lane and tells what it may serve, each with its own name, stretches and warnings
+-- what a picture says first, as a line; nothing where there is nothing to say
+abbrev pub note_line : List ℕ → List ℕ
+note_line [] = []
+note_line (b ∷ note) = escaped_text (b ∷ note) ++ codes "\n"
+
+-- a drawn picture: the lines of its grid are apart; it says the note, and then all warnings; and of each actor, in order, it has the lane and tells
+-- what it may serve, each with its own name, stretches and warnings
+pub record IsDrawn (note : List ℕ) (actors : List Actor) (tasks : List (List Stretch)) (alarms : List Alarm) (text : List ℕ) : Type 0 where
+  pub axis : Axis
+  pub apart : AreApart axis.lines.items
+  pub told : List ℕ
+  pub each_told : HasParts (IsOrQuiet IsActorTold tasks alarms) actors told
+  pub lanes : List ℕ
+  pub each_drawn : HasParts (IsOrQuiet (IsLaneDrawn axis alarms) tasks alarms) actors lanes
+  pub head : List ℕ
+  pub style : List ℕ
+  pub foot : List ℕ
+  pub text_is : text ≡ head ++ (note_line note ++ (flat_map alarm_line alarms ++ (told ++ (style ++ (lanes ++ foot)))))
+
+-- a picture of a script: the stretches of each task are those in which the rule allows it the key, none without a key; the warnings are those of all
+-- steps; and both are drawn, for the actors of the job
 pub record IsPicture (script : Script) (key : Option ℕ) (with_clerks : Bool) (text : List ℕ) : Type 0 where
   pub tasks : List (List Stretch)
   pub coloured : MatchOption key (tasks ≡ []) (λ k. AreColoured script.job script.steps k tasks)
   pub alarms : List Alarm
   pub are_alarms : AreAlarms script.job script.steps key alarms
-  pub axis : Axis
-  pub apart : AreApart axis.lines.items
-  pub told : List ℕ
-  pub each_told : HasParts (IsOrQuiet IsActorTold tasks alarms) (actors_in script.job with_clerks) told
-  pub lanes : List ℕ
-  pub each_drawn : HasParts (IsOrQuiet (IsLaneDrawn axis alarms) tasks alarms) (actors_in script.job with_clerks) lanes
-  pub head : List ℕ
-  pub style : List ℕ
-  pub foot : List ℕ
-  pub text_is : text ≡ head ++ (flat_map alarm_line alarms ++ (told ++ (style ++ (lanes ++ foot))))
+  pub drawn : IsDrawn [] (actors_in script.job with_clerks) tasks alarms text

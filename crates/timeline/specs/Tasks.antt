@@ -1,11 +1,10 @@
 -- The stretches of each task of a job.
-use Rattle.std.specs.Prelude.{◌≡◌, ◌⊎◌, ℕ, ◌+◌, false, List, ◌∷◌, length, Some, slice_get}
+use Rattle.std.specs.Prelude.{◌≡◌, ℕ, ◌+◌, List, length, Some, slice_get}
 use Rattle.cluster.specs.Jobs.{Job}
-use Rattle.cluster.specs.Pasts.{Event, Past, task_calls}
-use Rattle.world.specs.Calls.{resumes}
+use Rattle.cluster.specs.Pasts.{Past, task_calls}
 use Rattle.timeline.specs.declared.stretch.Stretch.{Stretch}
 use Rattle.timeline.specs.declared.stretch.KeyStretches.{KeyStretches}
-use Rattle.timeline.specs.Stretches.{AreStretches, IsKept}
+use Rattle.timeline.specs.Stretches.{AreStretches, IsKept, IsNext}
 
 -- there are so many, the first of number 1, and this holds of each
 abbrev pub Each : {A : Type 0} → (ℕ → A → Type 0) → ℕ → List A → Type 0
@@ -19,6 +18,6 @@ AreTaskStretches job past key tasks = Each (λ task. AreStretches key (task_call
 abbrev pub IsKeptOf : Past → ℕ → ℕ → KeyStretches → Type 0
 IsKeptOf past key task kept = (kept.key ≡ key) × IsKept (task_calls task past) kept
 
--- nothing happened since, or one call was made, by which no task began a new process
+-- since then each task accepted at most one call
 abbrev pub IsNextPast : Past → Past → Type 0
-IsNextPast before after = (after ≡ before) ⊎ ((e : Event) × (resumes e.call ≡ false) × (after ≡ e ∷ before))
+IsNextPast before after = (task : ℕ) → IsNext (task_calls task before) (task_calls task after)

@@ -1,9 +1,10 @@
 //! The lane of a clerk. Its steps have no reading: each is drawn at the last reading before it.
 
+use crate::deed::Deed;
 use crate::lane::{Item, Look, Row, add_row};
-use crate::words::{OwnerWords, key_label};
+use crate::words::OwnerWords;
 use clerk::Found;
-use service::{Line, RefusalWords};
+use service::RefusalWords;
 use std::alloc::{AllocError, Global};
 use world::Reply;
 
@@ -24,7 +25,7 @@ impl ClerkRecord {
     }
 
     /// Records the reply to a `learn` or a `forget`, after a step at the reading `now`.
-    pub fn take_in(&mut self, now: u64, reply: &Reply) -> Result<(), AllocError> {
+    pub fn take_in(&mut self, now: u64, deed: &Deed, reply: &Reply) -> Result<(), AllocError> {
         let (look, label) = match reply {
             Reply::Learnt(generation) => {
                 let label = format!(in self.alloc; "learnt generation {generation}")?;
@@ -37,15 +38,13 @@ impl ClerkRecord {
             ),
             _ => return Ok(()),
         };
-        let words = format!(in self.alloc; "{} after {now}", Line(reply))?;
-        let item = Item::mark(self.alloc, look, now, label, words)?;
-        self.steps.push(item)?;
-        Ok(())
+        let words = format!(in self.alloc; "{}{} after {now}", deed.place, deed.line)?;
+        self.push(look, now, label, words)
     }
 
     /// Records the reply to a `look` for a key.
-    pub fn take_in_look(&mut self, now: u64, key: &[u8], reply: &Reply) -> Result<(), AllocError> {
-        let name = key_label(self.alloc, key)?;
+    pub fn take_in_look(&mut self, now: u64, deed: &Deed, reply: &Reply) -> Result<(), AllocError> {
+        let (name, place, line) = (deed.label, deed.place, deed.line);
         let (look, label) = match reply {
             Reply::Found(Found { generation, owners }) => (
                 Look::Served,
@@ -56,7 +55,17 @@ impl ClerkRecord {
             ),
             _ => (Look::Denied, format!(in self.alloc; "{name}: unknown")?),
         };
-        let words = format!(in self.alloc; "look for {name} after {now}: {}", Line(reply))?;
+        let words = format!(in self.alloc; "{place}look for {} after {now}: {line}", deed.key)?;
+        self.push(look, now, label, words)
+    }
+
+    fn push(
+        &mut self,
+        look: Look,
+        now: u64,
+        label: String,
+        words: String,
+    ) -> Result<(), AllocError> {
         let item = Item::mark(self.alloc, look, now, label, words)?;
         self.steps.push(item)?;
         Ok(())

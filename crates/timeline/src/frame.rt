@@ -5,7 +5,7 @@ use crate::axis::{Axis, LEFT, WIDTH};
 use crate::lane::Look;
 use crate::levels::LEVEL;
 use crate::look_picture::{draw_look, is_mark};
-use crate::svg::text_width;
+use crate::svg::{push_text, text_width};
 use std::alloc::{AllocError, Global};
 
 /// How wide a picture is, in pixels.
@@ -107,6 +107,22 @@ pub fn draw_legend(
         x = x.saturating_add(width);
     }
     Ok(line.saturating_add(LEVEL))
+}
+
+/// Writes the lines of a note below a height, and returns the height below them.
+pub fn draw_note(svg: &mut String, note: &str, y: u64) -> Result<u64, AllocError> {
+    let mut below = y;
+    for line in note.lines() {
+        let baseline = below.saturating_add(14);
+        below = below.saturating_add(LEVEL);
+        write!(
+            svg,
+            "<text class=\"warning\" x=\"{MARGIN}\" y=\"{baseline}\">"
+        )?;
+        push_text(svg, line)?;
+        svg.push_str("</text>\n")?;
+    }
+    Ok(below)
 }
 
 /// Writes the first warnings below a height, and how many more there are. Returns the height below

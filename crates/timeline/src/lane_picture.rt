@@ -154,11 +154,11 @@ struct Mark<'a> {
     y: u64,
     foot: u64,
     actor: Actor,
-    alarm: Alarm,
+    alarm: &'a Alarm,
 }
 
 impl fmt::Display for Mark<'_> {
-    ghost output = { λ m. Some (mark_text m.axis.now m.y m.foot m.actor m.alarm) };
+    ghost output = { λ m. Some (mark_text m.axis.now m.y m.foot m.actor m.alarm.now) };
 
     #[tactic(auto, unfolding(crate::specs::Pictures::mark_text))]
     fn fmt<W: fmt::Write>(&self, f: &mut fmt::Formatter<W>) -> fmt::Result {
@@ -200,7 +200,7 @@ impl fmt::Display for Marks<'_> {
                 y: self.y,
                 foot: self.foot,
                 actor: self.actor,
-                alarm: *alarm,
+                alarm,
             };
             write!(f, "{mark}")?;
         }

@@ -3,6 +3,7 @@
 use crate::lane::{Item, Look, Part};
 use crate::words::kind_word;
 use lease_rule::Kind;
+use lease_table::{MOST_GRANTS, ReleaseNote};
 use std::alloc::{AllocError, Global};
 
 /// What happened to a grant.
@@ -10,6 +11,8 @@ use std::alloc::{AllocError, Global};
 pub struct LeaseRecord {
     /// The number of the grant.
     pub number: u64,
+    /// The life of its task.
+    pub life: u32,
     /// The kind of its lease.
     pub kind: Kind,
     /// The generation of its lease.
@@ -43,6 +46,19 @@ impl LeaseRecord {
         if self.heard.is_some() && self.stopped.is_none() {
             self.stopped = Some(at);
             self.is_released = true;
+        }
+    }
+
+    /// Records that a note was delivered to the table at this reading.
+    ///
+    /// The note of a life that ended gives all its leases of a kind back.
+    pub fn free(&mut self, note: &ReleaseNote, at: u64) {
+        if self.life != note.life || self.kind != note.kind {
+            return;
+        }
+        let is_ended = note.number == MOST_GRANTS && self.freed.is_none();
+        if is_ended || self.number == note.number {
+            self.freed = Some(at);
         }
     }
 

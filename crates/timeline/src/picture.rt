@@ -1,16 +1,16 @@
-//! Scripts as pictures.
+//! Pictures, and those of scripts.
 
 ghost use Rattle.std.specs.Prelude.{◌≡◌, [], IfOk, OnOk, map, option_map, string_bytes};
 ghost use Rattle.slice_ranges.specs.Hash.{slice_key};
-ghost use Rattle.timeline.specs.Pictures.{Adds, HasParts, IsLaneDrawn, IsOrQuiet, IsPicture};
+ghost use Rattle.timeline.specs.Pictures.{Adds, HasParts, IsDrawn, IsLaneDrawn, IsOrQuiet, IsPicture};
 
 use crate::axis::Axis;
-use crate::frame::{draw_legend, draw_readings, draw_warnings};
+use crate::frame::{draw_legend, draw_note, draw_readings, draw_warnings};
 use crate::lane::Lane;
 use crate::lane_picture::draw_lane;
 use crate::shown::Shown;
 use crate::style::STYLE;
-use crate::summary::{summary, warnings};
+use crate::summary::{note_line, summary, warnings};
 use crate::svg::push_text;
 use service::Script;
 use slice_ranges::{SliceKey, slice_key};
@@ -112,6 +112,35 @@ fn style(alloc: Global, axis: &Axis, heading: &str, height: u64) -> Result<Strin
     Ok(svg)
 }
 
+/// Draws a picture as SVG, 1,000 pixels wide.
+///
+/// It has the lane of each actor, unless nothing happened to a task or a clerk, with the stretches
+/// and the warnings of the actor. It says its note and the warnings in words too. `has_key` is
+/// whether the stretches are those of a key. If memory runs out, there is no picture.
+pub fn draw(
+    alloc: Global,
+    shown: &Shown,
+    heading: &str,
+    has_key: bool,
+) -> Result<String, AllocError>
+    ensures { IfOk result (λ text. IsDrawn (string_bytes shown.now.note) (map (λ l. l.actor) shown.now.lanes.items)
+        shown.now.stretches.items shown.now.alarms.items (string_bytes text)) }
+{
+    let axis = Axis::of_shown(alloc, shown)?;
+    let note = note_line(alloc, shown.note.as_str())?;
+    let warned = warnings(alloc, shown.alarms.as_slice())?;
+    let told = summary(alloc, shown)?;
+    let mut lanes = String::new(alloc);
+    let below = draw_lanes(alloc, &mut lanes, &axis, shown)?;
+    let mut legend = String::new(alloc);
+    let below = draw_legend(&mut legend, has_key, !shown.alarms.is_empty(), below)?;
+    let below = draw_note(&mut legend, shown.note.as_str(), below)?;
+    let height = draw_warnings(&mut legend, shown.alarms.as_slice(), below)?.saturating_add(8);
+    let head = head(alloc, heading, height)?;
+    let style = style(alloc, &axis, heading, height)?;
+    format!(in alloc; "{head}{note}{warned}{told}{style}{lanes}{legend}</svg>\n")
+}
+
 /// Draws a script as an SVG picture, 1,000 pixels wide.
 ///
 /// It has a lane for the table, one for each task to which something happened and, with
@@ -129,16 +158,6 @@ pub fn timeline_svg(
     ensures { IfOk result (λ text. IsPicture script.now (option_map (λ k. slice_key k.now) key.entry) with_clerks (string_bytes text)) }
 {
     let shown = Shown::of_script(alloc, script, hashed(key), with_clerks)?;
-    let axis = Axis::of_shown(alloc, &shown)?;
-    let warned = warnings(alloc, shown.alarms.as_slice())?;
-    let told = summary(alloc, &shown)?;
-    let mut lanes = String::new(alloc);
-    let below = draw_lanes(alloc, &mut lanes, &axis, &shown)?;
-    let mut legend = String::new(alloc);
-    let below = draw_legend(&mut legend, key.is_some(), !shown.alarms.is_empty(), below)?;
-    let height = draw_warnings(&mut legend, shown.alarms.as_slice(), below)?.saturating_add(8);
     let heading = heading(alloc, script, key)?;
-    let head = head(alloc, heading.as_str(), height)?;
-    let style = style(alloc, &axis, heading.as_str(), height)?;
-    format!(in alloc; "{head}{warned}{told}{style}{lanes}{legend}</svg>\n")
+    draw(alloc, &shown, heading.as_str(), key.is_some())
 }

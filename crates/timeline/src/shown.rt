@@ -1,6 +1,6 @@
 //! The contents of a picture.
 
-ghost use Rattle.std.specs.Prelude.{◌≡◌, [], false, IfOk, MatchOption};
+ghost use Rattle.std.specs.Prelude.{◌≡◌, [], false, IfOk, MatchOption, string_bytes};
 ghost use Rattle.std.specs.List.{list_any};
 ghost use Rattle.timeline.specs.Actors.{AreLanes, is_of};
 ghost use Rattle.timeline.specs.Alarms.{AreAlarms};
@@ -10,22 +10,24 @@ ghost use Rattle.timeline.specs.Scripts.{AreColoured};
 use crate::alarm::Alarm;
 use crate::lane::{Actor, Lane, is_of};
 use crate::runs::serving_stretches;
-use crate::story::{Told, lanes_of};
+use crate::script_story::{Told, lanes_of};
 use crate::stretch::Stretch;
 use machines::Listed;
 use service::Script;
 use slice_ranges::SliceKey;
 use std::alloc::{AllocError, Global};
 
-/// The contents of a picture: its lanes, the stretches in which each task may serve the key, and
-/// the warnings.
+/// The contents of a picture: what it says first, its lanes, the stretches in which each task may
+/// serve the key, and the warnings.
 #[derive(Drop)]
 pub struct Shown {
+    /// What the picture says before all else, or nothing.
+    pub note: String,
     /// The lane of the table, those of the tasks in order, and those of the clerks in order.
     pub lanes: Vec<Lane>,
     /// The stretches of each task, if there is a key.
     pub stretches: Vec<Listed<Stretch>>,
-    /// The warnings of the steps, in the order of the steps.
+    /// The warnings, in the order of the steps or calls.
     pub alarms: Vec<Alarm>,
 }
 
@@ -55,6 +57,7 @@ impl Shown {
         key: Option<SliceKey>,
         with_clerks: bool,
     ) -> Result<Self, AllocError>
+        ensures note { IfOk result (λ shown. string_bytes shown.note ≡ []) }
         ensures lanes { IfOk result (λ shown. AreLanes script.now.job with_clerks shown.lanes.items) }
         ensures stretches { IfOk result (λ shown. MatchOption key (shown.stretches.items ≡ [])
             (λ k. AreColoured script.now.job script.now.steps k shown.stretches.items)) }
@@ -63,6 +66,7 @@ impl Shown {
         let stretches = stretches_of_key(alloc, script, &key)?;
         let Told { lanes, alarms } = lanes_of(alloc, script, key, with_clerks)?;
         Ok(Shown {
+            note: String::new(alloc),
             lanes,
             stretches,
             alarms,

@@ -1,29 +1,19 @@
-//! What happened to each actor, from the steps of a script.
+//! What happened to each actor of a job, from what the actors did.
 
-ghost use Rattle.std.specs.Prelude.{◌≡◌, ◌++◌, ℕ, List, ◌∷◌, IfOk, OnOk, Option, map, if◌then◌else◌};
-ghost use Rattle.world.specs.Jobs.{Job as PlayedJob};
-ghost use Rattle.world.specs.declared.step.Step.{Step as PlayedStep};
+ghost use Rattle.std.specs.Prelude.{◌≡◌, ◌++◌, IfOk, OnOk, map, if◌then◌else◌};
 ghost use Rattle.timeline.specs.declared.lane.Actor.TheVariants as actor;
 ghost use Rattle.timeline.specs.Actors.{actors_of, numbered, AreLanes};
-ghost use Rattle.timeline.specs.Alarms.{AreAlarms};
-ghost use Rattle.timeline.specs.internals.Watching.{AreWatched};
 
-use crate::alarm::Alarm;
 use crate::clerk_lane::ClerkRecord;
+use crate::deed::{Act, Deed};
 use crate::lane::{Actor, Lane};
 use crate::leases::LeaseRecord;
 use crate::table_lane::TableRecord;
 use crate::task_lane::TaskRecord;
-use crate::watch::{Watch, foreign_generation, is_shown_key};
-use crate::words::{ground_word, key_label, reading_of};
 use cluster::Cluster;
-use lease_rule::Verdict;
-use lease_table::Grant;
-use service::Script;
-use slice_ranges::{SliceKey, slice_key};
+use lease_table::{Grant, ReleaseNote};
 use std::alloc::{AllocError, Global};
-use std::slice;
-use world::{Job, Reply, Step, World};
+use world::{Job, Reply};
 
 /// What happened to the actors of a job.
 #[derive(Drop)]
@@ -32,21 +22,10 @@ pub struct Story {
     table: TableRecord,
     tasks: Vec<TaskRecord>,
     clerks: Vec<ClerkRecord>,
-    // The task and the grant of each note.
-    notes: Vec<(u64, u64)>,
-    // The reading of the last step that has one.
+    // The last reading of a clock.
     now: u64,
-    // The key of the picture, if it has one.
-    key: Option<SliceKey>,
-    // Whether there is a warning of the last step.
-    is_alarmed: bool,
-}
-
-/// What is told of a script: the lanes of its actors, and the warnings of its steps.
-#[derive(Drop)]
-pub struct Told {
-    pub lanes: Vec<Lane>,
-    pub alarms: Vec<Alarm>,
+    // What ended up to this reading is left out.
+    first: u64,
 }
 
 // Returns the index of the actor with this number.
@@ -54,28 +33,35 @@ fn place_of(number: u64) -> usize {
     usize::try_from(number.saturating_sub(1)).unwrap_or(usize::MAX)
 }
 
-// Whether a picture shows a step: a request for another key than that of the picture is left out.
-fn is_shown(cluster: &Cluster, step: &Step, key: Option<SliceKey>) -> bool {
-    match step {
-        Step::Serve { key: asked, .. }
-        | Step::Hold { key: asked, .. }
-        | Step::Look { key: asked, .. } => is_shown_key(key, slice_key(asked.as_slice())),
-        Step::Check { handle, .. } => match cluster.handle(*handle) {
-            Some(handle) => is_shown_key(key, handle.key),
-            None => true,
-        },
-        _ => true,
+// Returns what is kept of a grant.
+fn lease_of(grant: &Grant) -> LeaseRecord {
+    LeaseRecord {
+        number: grant.number,
+        life: grant.life,
+        kind: grant.lease.kind,
+        generation: grant.lease.generation,
+        granted: 0,
+        ends: grant.lease.ends,
+        table_ends: grant.table_ends,
+        heard: None,
+        stopped: None,
+        is_released: false,
+        freed: None,
     }
 }
 
 impl Story {
-    fn new(alloc: Global, script: &Script, key: Option<SliceKey>) -> Result<Self, AllocError> {
+    /// Creates the story of a job before its first call.
+    ///
+    /// Leases and phases that ended up to the reading `first`, in ticks, are left out; with 0, none
+    /// are.
+    pub fn new(alloc: Global, job: Job, first: u64) -> Result<Self, AllocError> {
         let mut tasks = Vec::new(alloc);
-        for _task in 0..script.job.tasks() {
+        for _task in 0..job.tasks() {
             tasks.push(TaskRecord::new(alloc))?;
         }
         let mut clerks = Vec::new(alloc);
-        for _clerk in 0..script.job.clerks() {
+        for _clerk in 0..job.clerks() {
             clerks.push(ClerkRecord::new(alloc))?;
         }
         Ok(Story {
@@ -83,90 +69,123 @@ impl Story {
             table: TableRecord::new(alloc),
             tasks,
             clerks,
-            notes: Vec::new(alloc),
             now: 0,
-            key,
-            is_alarmed: false,
+            first,
         })
     }
 
-    // Records a step that was played, with its reply, unless it is a request for another key than
-    // that of the picture.
-    fn take_in(&mut self, cluster: &Cluster, step: &Step, reply: &Reply) -> Result<(), AllocError> {
-        if let Some(at) = reading_of(step) {
+    /// Returns the allocator of the story.
+    pub fn allocator(&self) -> Global {
+        self.alloc
+    }
+
+    /// Records what an actor did with its reply, on the machines as they are after it.
+    ///
+    /// A call without a reply of scripts, as of a new process, has none.
+    pub fn take_in(
+        &mut self,
+        cluster: &Cluster,
+        deed: &Deed<'_>,
+        reply: Option<&Reply>,
+    ) -> Result<(), AllocError> {
+        if let Some(at) = deed.at {
             self.now = at;
         }
-        if !is_shown(cluster, step, self.key) {
-            return Ok(());
-        }
-        match step {
-            Step::Take { .. }
-            | Step::Renew { .. }
-            | Step::Propose { .. }
-            | Step::Commit { .. }
-            | Step::Grant { .. }
-            | Step::Free { .. } => self.take_in_table(cluster, step, reply),
-            Step::Lose => {
+        match &deed.act {
+            Act::Restart => {
                 let at = cluster.table().last_reading();
-                self.table.take_in(step, at, reply)
+                self.table.restart(at, deed)
             }
-            Step::Start { task, .. }
-            | Step::Hear { task, .. }
-            | Step::Release { task, .. }
-            | Step::Serve { task, .. }
-            | Step::Hold { task, .. }
-            | Step::Check { task, .. } => self.take_in_task(cluster, *task, step, reply),
-            Step::Learn { clerk, .. } | Step::Look { clerk, .. } | Step::Forget { clerk } => {
-                self.take_in_clerk(*clerk, step, reply)
-            }
+            Act::Open(task) => match self.tasks.get_mut(place_of(*task)) {
+                Some(owner) => owner.open(self.now, deed),
+                None => Ok(()),
+            },
+            _ => match reply {
+                Some(reply) => self.take_in_reply(cluster, deed, reply),
+                None => Ok(()),
+            },
+        }
+    }
+
+    fn take_in_reply(
+        &mut self,
+        cluster: &Cluster,
+        deed: &Deed<'_>,
+        reply: &Reply,
+    ) -> Result<(), AllocError> {
+        match &deed.act {
+            Act::Table(word) => self.take_in_table(cluster, word, deed, reply),
+            Act::Grant(task) => self.take_in_grant(cluster, *task, deed, reply),
+            Act::Free(note) => self.take_in_free(cluster, note, deed, reply),
+            Act::Task(task) => self.take_in_task(cluster, *task, deed, reply),
+            Act::Clerk(clerk) => match self.clerks.get_mut(place_of(*clerk)) {
+                Some(owner) if deed.is_marked => owner.take_in(self.now, deed, reply),
+                _ => Ok(()),
+            },
+            Act::Look(clerk) => match self.clerks.get_mut(place_of(*clerk)) {
+                Some(owner) if deed.is_marked => owner.take_in_look(self.now, deed, reply),
+                _ => Ok(()),
+            },
             _ => Ok(()),
         }
+    }
+
+    fn take_in_grant(
+        &mut self,
+        cluster: &Cluster,
+        task: u64,
+        deed: &Deed<'_>,
+        reply: &Reply,
+    ) -> Result<(), AllocError> {
+        self.take_in_table(cluster, "grant", deed, reply)?;
+        match reply {
+            Reply::Granted(grant) => self.add_lease(task, grant),
+            _ => Ok(()),
+        }
+    }
+
+    fn take_in_free(
+        &mut self,
+        cluster: &Cluster,
+        note: &Option<ReleaseNote>,
+        deed: &Deed<'_>,
+        reply: &Reply,
+    ) -> Result<(), AllocError> {
+        self.take_in_table(cluster, "free", deed, reply)?;
+        if let Some(note) = note
+            && matches!(reply, Reply::Freed(_))
+        {
+            self.free(note);
+        }
+        Ok(())
     }
 
     fn take_in_table(
         &mut self,
         cluster: &Cluster,
-        step: &Step,
+        word: &str,
+        deed: &Deed<'_>,
         reply: &Reply,
     ) -> Result<(), AllocError> {
-        self.table.take_in(step, self.now, reply)?;
-        self.table.see_phase(cluster.phase(), self.now)?;
-        match (step, reply) {
-            (Step::Grant { task, .. }, Reply::Granted(grant)) => self.add_lease(*task, grant),
-            (Step::Free { note, .. }, Reply::Freed(_)) => {
-                self.free(*note);
-                Ok(())
-            }
-            _ => Ok(()),
-        }
+        self.table.take_in(word, self.now, deed, reply)?;
+        self.table.see_phase(cluster.phase(), self.now, self.first)
     }
 
     fn add_lease(&mut self, task: u64, grant: &Grant) -> Result<(), AllocError> {
-        let lease = LeaseRecord {
-            number: grant.number,
-            kind: grant.lease.kind,
-            generation: grant.lease.generation,
-            granted: self.now,
-            ends: grant.lease.ends,
-            table_ends: grant.table_ends,
-            heard: None,
-            stopped: None,
-            is_released: false,
-            freed: None,
-        };
+        let mut lease = lease_of(grant);
+        lease.granted = self.now;
+        if lease.ends.max(lease.table_ends) < self.first {
+            return Ok(());
+        }
         match self.tasks.get_mut(place_of(task)) {
             Some(owner) => owner.add_lease(lease),
             None => Ok(()),
         }
     }
 
-    fn free(&mut self, note: u64) {
-        let Some((task, number)) = self.notes.get(place_of(note)) else {
-            return;
-        };
-        let (task, number) = (*task, *number);
-        if let Some(owner) = self.tasks.get_mut(place_of(task)) {
-            owner.free(number, self.now);
+    fn free(&mut self, note: &ReleaseNote) {
+        if let Some(owner) = self.tasks.get_mut(place_of(note.task.number())) {
+            owner.free(note, self.now);
         }
     }
 
@@ -174,12 +193,9 @@ impl Story {
         &mut self,
         cluster: &Cluster,
         task: u64,
-        step: &Step,
+        deed: &Deed<'_>,
         reply: &Reply,
     ) -> Result<(), AllocError> {
-        if let Reply::Released { note, .. } = reply {
-            self.notes.push((task, note.number))?;
-        }
         let Some(slicelet) = cluster.slicelet(task) else {
             return Ok(());
         };
@@ -191,28 +207,26 @@ impl Story {
             Reply::Heard(number) => owner.hear(*number, self.now),
             Reply::Released { note, .. } => owner.release(note.number, self.now),
             Reply::Holding { number, handle } => {
-                if let Step::Hold { key, .. } = step {
-                    owner.hold(*number, *handle, key.as_slice(), self.now, slicelet)?;
+                if deed.is_marked {
+                    owner.hold(*number, *handle, self.now, deed, slicelet)?;
                 }
                 return Ok(());
             }
-            _ => {
-                let label = request_label(self.alloc, step, reply)?;
-                return owner.request(self.now, label, reply, self.is_alarmed);
-            }
+            _ => return owner.request(self.now, deed, reply),
         }
         owner.see_handles(slicelet);
         Ok(())
     }
 
-    fn take_in_clerk(&mut self, clerk: u64, step: &Step, reply: &Reply) -> Result<(), AllocError> {
-        let Some(owner) = self.clerks.get_mut(place_of(clerk)) else {
-            return Ok(());
-        };
-        match step {
-            Step::Look { key, .. } => owner.take_in_look(self.now, key.as_slice(), reply),
-            _ => owner.take_in(self.now, reply),
-        }
+    /// Returns the lanes of the table, of the job's tasks in order and, with `with_clerks`, of its
+    /// clerks in order.
+    ///
+    /// The lane of an actor to which nothing happened has no rows.
+    pub fn lanes(self, job: Job, with_clerks: bool) -> Result<Vec<Lane>, AllocError>
+        ensures { IfOk result (λ lanes. AreLanes job with_clerks lanes.items) }
+    {
+        let many_clerks = clerks_shown(job, with_clerks);
+        lanes_in(self, job.tasks(), many_clerks)
     }
 }
 
@@ -264,59 +278,6 @@ fn add_clerk_lanes(
     Ok(())
 }
 
-// Returns a label with why its key is denied, if it is.
-fn with_ground(alloc: Global, label: String, reply: &Reply) -> Result<String, AllocError> {
-    match reply {
-        Reply::Verdict(Verdict::Deny(ground)) => {
-            format!(in alloc; "{label}: {}", ground_word(*ground))
-        }
-        _ => Ok(label),
-    }
-}
-
-// Returns what a task was asked for: the key of a request and why it is denied, or the step with
-// its number.
-fn request_label(alloc: Global, step: &Step, reply: &Reply) -> Result<String, AllocError> {
-    match step {
-        Step::Serve { key, .. } => { with_ground(alloc, key_label(alloc, key.as_slice())?, reply) }
-        Step::Hold { key, .. } => {
-            let name = key_label(alloc, key.as_slice())?;
-            with_ground(alloc, format!(in alloc; "hold {name}")?, reply)
-        }
-        Step::Check { handle, .. } => match reply {
-            Reply::Continuous => format!(in alloc; "handle {handle} kept"),
-            Reply::Broken => format!(in alloc; "handle {handle} broken"),
-            _ => format!(in alloc; "handle {handle}"),
-        },
-        Step::Start { life, .. } => format!(in alloc; "start {life}"),
-        Step::Hear { number, .. } => format!(in alloc; "hear {number}"),
-        Step::Release { .. } => String::from_str(alloc, "release"),
-        _ => Ok(String::new(alloc)),
-    }
-}
-
-// Plays a step, and records it with its reply.
-fn play(
-    world: &mut World,
-    story: &mut Story,
-    watch: &mut Watch,
-    step: &Step,
-) -> Result<(), AllocError>
-    ensures { (job : PlayedJob) (steps : List PlayedStep) (key : Option ℕ) → AreWatched job steps key world.old watch.old
-        → OnOk result (AreWatched job (step.now ∷ steps) key world.new watch.new) }
-{
-    let foreign = foreign_generation(world.cluster(), step, watch.key);
-    let replies = world.run(slice::from_ref(step))?;
-    match &replies[0] {
-        Reply::NoMemory => Err(AllocError),
-        reply => {
-            watch.see(step, reply, foreign)?;
-            story.is_alarmed = watch.is_alarmed();
-            story.take_in(world.cluster(), step, reply)
-        }
-    }
-}
-
 // Returns the lanes of the table, of this many tasks and of this many clerks.
 #[tactic(auto, unfolding(crate::specs::Actors::actors_of))]
 fn lanes_in(story: Story, many_tasks: u64, many_clerks: u64) -> Result<Vec<Lane>, AllocError>
@@ -327,10 +288,8 @@ fn lanes_in(story: Story, many_tasks: u64, many_clerks: u64) -> Result<Vec<Lane>
         table,
         tasks,
         clerks,
-        notes: _,
         now: _,
-        key: _,
-        is_alarmed: _,
+        first: _,
     } = story;
     let mut lanes = Vec::new(alloc);
     lanes.push(Lane {
@@ -342,48 +301,9 @@ fn lanes_in(story: Story, many_tasks: u64, many_clerks: u64) -> Result<Vec<Lane>
     Ok(lanes)
 }
 
-// Returns what happened to each actor of a job that plays the steps of a script, and the warnings
-// of its steps.
-fn story_of(
-    alloc: Global,
-    script: &Script,
-    key: Option<SliceKey>,
-) -> Result<(Story, Vec<Alarm>), AllocError>
-    ensures { IfOk result (λ told. AreAlarms script.now.job script.now.steps key told.1.items) }
-{
-    let mut world = World::new(alloc, script.job)?;
-    let mut watch = Watch::new(alloc, script.job, key);
-    let mut story = Story::new(alloc, script, watch.key)?;
-    for step in script.steps.as_slice() {
-        play(&mut world, &mut story, &mut watch, step)?;
-    }
-    world.run_law();
-    Ok((story, watch.alarms))
-}
-
 // Returns how many clerks have a lane.
 fn clerks_shown(job: Job, with_clerks: bool) -> u64
     ensures { result ≡ (if with_clerks then job.clerks else 0) }
 {
     if with_clerks { job.clerks() } else { 0 }
-}
-
-/// Returns the lanes of a job that plays the steps of a script.
-///
-/// They are the lane of the table, those of the job's tasks in order and, with `with_clerks`, those
-/// of its clerks in order. The lane of an actor that took no step has no rows. The warnings of the
-/// steps come with them, those of requests for the key alone if there is one.
-pub fn lanes_of(
-    alloc: Global,
-    script: &Script,
-    key: Option<SliceKey>,
-    with_clerks: bool,
-) -> Result<Told, AllocError>
-    ensures lanes { IfOk result (λ told. AreLanes script.now.job with_clerks told.lanes.items) }
-    ensures alarms { IfOk result (λ told. AreAlarms script.now.job script.now.steps key told.alarms.items) }
-{
-    let (story, alarms) = story_of(alloc, script, key)?;
-    let many_clerks = clerks_shown(script.job, with_clerks);
-    let lanes = lanes_in(story, script.job.tasks(), many_clerks)?;
-    Ok(Told { lanes, alarms })
 }

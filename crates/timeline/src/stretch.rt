@@ -1,10 +1,9 @@
 //! Stretches of readings in which a task may serve a key.
 
-ghost use Rattle.std.specs.Prelude.{◌≡◌, ℕ, ◌≤◌, ◌&&◌, ◌||◌, List, [], IfOk, OnOk, nat_lt};
+ghost use Rattle.std.specs.Prelude.{◌≡◌, ℕ, ◌≤◌, ◌&&◌, ◌||◌, List, [], IfOk, OnOk, nat_le, nat_lt};
 ghost use Rattle.std.specs.List.{list_any};
 ghost use Rattle.slicelet.specs.declared.call.SliceletCall.{SliceletCall};
 ghost use Rattle.slicelet.specs.Accepted.{StandsAfter};
-ghost use Rattle.slicelet.specs.Calls.{last_reading};
 ghost use Rattle.slicelet.specs.Rules.{covers_key, is_permitted};
 ghost use Rattle.slicelet.specs.States.{holding_in, permits};
 ghost use Rattle.timeline.specs.internals.Ends.{allowed_to};
@@ -12,7 +11,7 @@ ghost use Rattle.timeline.specs.Stretches.{AreStretches, IsKept, IsNext, is_in};
 
 use lease_rule::Verdict;
 use slice_ranges::SliceKey;
-use slicelet::Slicelet;
+use slicelet::{CALLS, Slicelet};
 use std::alloc::{AllocError, Global};
 
 /// A stretch of readings of a task's clock, in ticks.
@@ -22,6 +21,30 @@ pub struct Stretch {
     pub from: u64,
     /// The first reading after the stretch.
     pub to: u64,
+}
+
+// Adds the part of a stretch that lies in another one, if there is one.
+fn add_part(parts: &mut Vec<Stretch>, stretch: Stretch, span: Stretch) -> Result<(), AllocError>
+    ensures { OnOk result ((at : ℕ) → list_any (is_in at) parts.new.items
+        ≡ (list_any (is_in at) parts.old.items || (is_in at span && is_in at stretch))) }
+{
+    let from = stretch.from.max(span.from);
+    let to = stretch.to.min(span.to);
+    if from < to {
+        parts.push(Stretch { from, to })?;
+    }
+    Ok(())
+}
+
+/// Returns the parts of stretches that lie in another one.
+pub fn cut(alloc: Global, stretches: &[Stretch], span: Stretch) -> Result<Vec<Stretch>, AllocError>
+    ensures { IfOk result (λ parts. (at : ℕ) → list_any (is_in at) parts.items ≡ (is_in at span && list_any (is_in at) stretches.now)) }
+{
+    let mut parts = Vec::new(alloc);
+    for stretch in stretches {
+        add_part(&mut parts, *stretch, span)?;
+    }
+    Ok(parts)
 }
 
 /// The stretches in which a task may serve a key, from the calls that are known so far.
@@ -71,19 +94,40 @@ impl KeyStretches {
         }
     }
 
-    /// Records what the task's slicelet knows now, after at most one more call of the same
-    /// process.
+    /// Records what the task's slicelet knows now, after at most one more call of the task.
+    ///
+    /// A new process changes nothing before its first call that reads the clock. From that reading
+    /// on, the stretches are those of the new process.
     pub fn observe(&mut self, slicelet: &Slicelet) -> Result<(), AllocError>
         ensures key { OnOk result (self.new.key ≡ self.old.key) }
         ensures kept { (before after : List SliceletCall) → IsKept before self.old → StandsAfter after slicelet.now
             → IsNext before after → OnOk result (IsKept after self.new) }
     {
+        if slicelet.calls_left() == CALLS {
+            return Ok(());
+        }
         let now = slicelet.last_reading();
+        self.forget_from(now)?;
         self.close(now)?;
         self.last = Stretch {
             from: now,
             to: serving_end(slicelet, self.key, now),
         };
+        Ok(())
+    }
+
+    // Leaves out what is kept from a reading on, if it is below the last one: a new process may
+    // count from 0 again.
+    fn forget_from(&mut self, now: u64) -> Result<(), AllocError>
+        ensures key { OnOk result (self.new.key ≡ self.old.key) }
+        ensures last { OnOk result (self.new.last ≡ self.old.last) }
+        ensures closed { OnOk result ((at : ℕ) → list_any (is_in at) self.new.closed.items
+            ≡ (list_any (is_in at) self.old.closed.items && (nat_le self.old.last.from now || nat_lt at now))) }
+    {
+        if now < self.last.from {
+            let span = Stretch { from: 0, to: now };
+            self.closed = cut(*self.closed.allocator(), self.closed.as_slice(), span)?;
+        }
         Ok(())
     }
 

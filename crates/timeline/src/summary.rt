@@ -3,7 +3,7 @@
 ghost use Rattle.std.specs.Prelude.{◌≡◌, ◌++◌, IfOk, OnOk, map, string_bytes};
 ghost use Rattle.std.specs.List.{flat_map};
 ghost use Rattle.timeline.specs.Alarms.{alarm_line};
-ghost use Rattle.timeline.specs.Pictures.{gap_words, stretch_words, stretches_of, HasParts, IsActorTold, IsOrQuiet};
+ghost use Rattle.timeline.specs.Pictures.{gap_words, note_line, stretch_words, stretches_of, HasParts, IsActorTold, IsOrQuiet};
 
 use crate::alarm::Alarm;
 use crate::lane::Lane;
@@ -70,6 +70,18 @@ fn told_or_quiet(alloc: Global, shown: &Shown, lane: &Lane) -> Result<String, Al
     } else {
         Ok(String::new(alloc))
     }
+}
+
+/// Returns the line of a note, or nothing if it is empty.
+pub fn note_line(alloc: Global, note: &str) -> Result<String, AllocError>
+    ensures { IfOk result (λ text. string_bytes text ≡ note_line note.now) }
+{
+    let mut text = String::new(alloc);
+    if !note.is_empty() {
+        push_text(&mut text, note)?;
+        text.push_str("\n")?;
+    }
+    Ok(text)
 }
 
 /// Returns the warnings of a picture in words, one line for each.

@@ -1,11 +1,12 @@
 //! The lane of the table.
 
+use crate::deed::Deed;
 use crate::lane::{FOREVER, Item, Look, Part, Row, add_row};
-use crate::words::{Ending, table_word};
+use crate::words::Ending;
 use lease_table::{JobTerm, Phase};
-use service::{Line, RefusalWords};
+use service::RefusalWords;
 use std::alloc::{AllocError, Global};
-use world::{Reply, Step};
+use world::Reply;
 
 /// A term of the job lease, and the reading when it was taken.
 #[derive(Clone, Copy, Debug, PartialEq, Eq)]
@@ -73,21 +74,25 @@ impl TableRecord {
         }
     }
 
-    /// Records a step of the table at a reading, with its reply.
-    pub fn take_in(&mut self, step: &Step, at: u64, reply: &Reply) -> Result<(), AllocError> {
+    /// Records a call of the table at a reading, by its name, with its reply.
+    pub fn take_in(
+        &mut self,
+        word: &str,
+        at: u64,
+        deed: &Deed,
+        reply: &Reply,
+    ) -> Result<(), AllocError> {
         match reply {
             Reply::Term(term) => self.terms.push(TermRecord {
                 from: at,
                 term: *term,
             })?,
             Reply::Renewed(term) => self.renew(*term),
-            Reply::Lost(_) => self.add_lost(at, reply)?,
-            Reply::Refused(why) => {
-                let word = table_word(step);
+            Reply::Refused(why) if deed.is_marked => {
+                let (place, line) = (deed.place, deed.line);
                 let label = format!(in self.alloc; "{word}: {}", RefusalWords(*why))?;
-                let words = format!(in self.alloc; "{word} at {at}: {}", Line(reply))?;
-                let item = Item::mark(self.alloc, Look::Refused, at, label, words)?;
-                self.events.push(item)?;
+                let words = format!(in self.alloc; "{place}{word} at {at}: {line}")?;
+                self.mark(Look::Refused, at, label, words)?;
             }
             _ => {}
         }
@@ -95,9 +100,11 @@ impl TableRecord {
     }
 
     /// Records the phase after a step at a reading.
-    pub fn see_phase(&mut self, phase: Phase, at: u64) -> Result<(), AllocError> {
+    ///
+    /// Phases that end up to the reading `first` are left out.
+    pub fn see_phase(&mut self, phase: Phase, at: u64, first: u64) -> Result<(), AllocError> {
         if phase != self.phase {
-            if self.since < at {
+            if self.since < at && first < at {
                 let item = phase_item(self.alloc, self.phase, self.since, at)?;
                 self.phases.push(item)?;
             }
@@ -113,10 +120,25 @@ impl TableRecord {
         }
     }
 
-    fn add_lost(&mut self, at: u64, reply: &Reply) -> Result<(), AllocError> {
-        let label = String::from_str(self.alloc, "restart")?;
-        let words = format!(in self.alloc; "the table restarts at {at}: {}", Line(reply))?;
-        let item = Item::mark(self.alloc, Look::Done, at, label, words)?;
+    /// Records that the table restarted, after a reading of its clock.
+    pub fn restart(&mut self, at: u64, deed: &Deed) -> Result<(), AllocError> {
+        if !deed.is_marked {
+            return Ok(());
+        }
+        let (place, asked, line) = (deed.place, deed.asked, deed.line);
+        let label = String::from_str(self.alloc, deed.label)?;
+        let words = format!(in self.alloc; "{place}{asked} at {at}: {line}")?;
+        self.mark(Look::Done, at, label, words)
+    }
+
+    fn mark(
+        &mut self,
+        look: Look,
+        at: u64,
+        label: String,
+        words: String,
+    ) -> Result<(), AllocError> {
+        let item = Item::mark(self.alloc, look, at, label, words)?;
         self.events.push(item)?;
         Ok(())
     }

@@ -1,11 +1,12 @@
 //! The lane of a task.
 
+use crate::deed::Deed;
 use crate::lane::{FOREVER, Item, Look, Part, Row, add_row};
 use crate::leases::LeaseRecord;
 use crate::stretch::serving_end;
-use crate::words::{Ending, key_label};
+use crate::words::Ending;
 use lease_rule::{Kind, Verdict};
-use service::Line;
+use lease_table::ReleaseNote;
 use slicelet::{KeyHandle, Slicelet};
 use std::alloc::{AllocError, Global};
 use world::Reply;
@@ -22,7 +23,9 @@ struct LifeRecord {
 struct HandleRecord {
     number: u64,
     handle: KeyHandle,
-    label: String,
+    // Its place in words, and the name of its key.
+    place: String,
+    key: String,
     from: u64,
     // The first reading at which it is broken, if no other call comes.
     to: u64,
@@ -74,10 +77,12 @@ fn lease_items(alloc: Global, kind: Kind, leases: &[LeaseRecord]) -> Result<Vec<
 fn handle_items(alloc: Global, handles: &[HandleRecord]) -> Result<Vec<Item>, AllocError> {
     let mut items = Vec::new(alloc);
     for kept in handles {
-        let (number, key) = (kept.number, kept.label.as_str());
+        let (number, place, key) = (kept.number, kept.place.as_str(), kept.key.as_str());
         let (from, to) = (kept.from, kept.to);
         let label = format!(in alloc; "handle {number}: {key}")?;
-        let words = format!(in alloc; "handle {number} on {key} from {from}; it breaks at {to}")?;
+        let words = format!(in alloc;
+            "{place}handle {number} on {key} from {from}; it breaks at {to}"
+        )?;
         let part = Part {
             look: Look::Handle,
             from,
@@ -119,12 +124,10 @@ impl TaskRecord {
         Ok(())
     }
 
-    /// Records that the row of a lease was freed, at a reading of the table.
-    pub fn free(&mut self, number: u64, at: u64) {
+    /// Records that a note was delivered to the table, at a reading of its clock.
+    pub fn free(&mut self, note: &ReleaseNote, at: u64) {
         for lease in self.leases.iter_mut() {
-            if lease.number == number {
-                lease.freed = Some(at);
-            }
+            lease.free(note, at);
         }
     }
 
@@ -169,20 +172,20 @@ impl TaskRecord {
         }
     }
 
-    /// Records that a handle was taken on a key.
+    /// Records that a handle was taken on a key at a reading.
     pub fn hold(
         &mut self,
         number: u64,
         handle: KeyHandle,
-        key: &[u8],
         at: u64,
+        deed: &Deed,
         slicelet: &Slicelet,
     ) -> Result<(), AllocError> {
-        let label = key_label(self.alloc, key)?;
         self.handles.push(HandleRecord {
             number,
             handle,
-            label,
+            place: String::from_str(self.alloc, deed.place)?,
+            key: String::from_str(self.alloc, deed.key)?,
             from: at,
             to: serving_end(slicelet, handle.key, at),
             is_broken: false,
@@ -211,16 +214,23 @@ impl TaskRecord {
         }
     }
 
-    /// Records a request and its reply, and whether there is a warning of it.
-    pub fn request(
-        &mut self,
-        at: u64,
-        label: String,
-        reply: &Reply,
-        is_alarmed: bool,
-    ) -> Result<(), AllocError> {
-        let words = format!(in self.alloc; "{} at {at}: {}", label.as_str(), Line(reply))?;
-        let look = request_look(reply, is_alarmed);
+    /// Records a request at a reading, with its reply.
+    pub fn request(&mut self, at: u64, deed: &Deed, reply: &Reply) -> Result<(), AllocError> {
+        self.mark(request_look(reply, deed.is_alarmed), at, deed)
+    }
+
+    /// Records that a new process of the task began, after a reading.
+    pub fn open(&mut self, at: u64, deed: &Deed) -> Result<(), AllocError> {
+        self.mark(Look::Done, at, deed)
+    }
+
+    fn mark(&mut self, look: Look, at: u64, deed: &Deed) -> Result<(), AllocError> {
+        if !deed.is_marked {
+            return Ok(());
+        }
+        let (place, asked, line) = (deed.place, deed.asked, deed.line);
+        let label = String::from_str(self.alloc, deed.label)?;
+        let words = format!(in self.alloc; "{place}{asked} at {at}: {line}")?;
         let item = Item::mark(self.alloc, look, at, label, words)?;
         self.requests.push(item)?;
         Ok(())

@@ -28,7 +28,7 @@ pub fn new_stretches(
     Ok(tasks)
 }
 
-// Records what a task of the job knows, after at most one more call of the job's machines.
+// Records what a task of the job knows, after at most one more call of each task.
 fn observe_task(kept: &mut KeyStretches, cluster: &Cluster, task: u64) -> Result<(), AllocError>
     ensures { (job : Job) (before after : Past) (key : ℕ) → LeadsTo job after cluster.now → IsNextPast before after
         → is_within task job.tasks ≡ true → IsKeptOf before key task kept.old
@@ -42,7 +42,7 @@ fn observe_task(kept: &mut KeyStretches, cluster: &Cluster, task: u64) -> Result
     }
 }
 
-/// Records what each task of the job knows, after at most one more call of the job's machines.
+/// Records what each task of the job knows, after at most one more call of each.
 pub fn observe_tasks(tasks: &mut Vec<KeyStretches>, cluster: &Cluster) -> Result<(), AllocError>
     ensures { (job : Job) (before after : Past) (key : ℕ) → LeadsTo job after cluster.now → IsNextPast before after
         → Each (IsKeptOf before key) job.tasks tasks.old.items

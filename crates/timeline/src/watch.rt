@@ -1,6 +1,6 @@
 //! The steps that a picture warns of, from the steps of a script.
 
-ghost use Rattle.std.specs.Prelude.{◌≡◌, ℕ, ◌+◌, List, [], ◌∷◌, ◌++◌, Option, None, OnOk, if◌then◌else◌};
+ghost use Rattle.std.specs.Prelude.{◌≡◌, ℕ, ◌+◌, List, [], ◌∷◌, ◌++◌, Option, None, IfOk, OnOk, if◌then◌else◌};
 ghost use Rattle.world.specs.Headline.{is_served};
 ghost use Rattle.world.specs.Jobs.{Job};
 ghost use Rattle.world.specs.Pasts.{Past, event, reading};
@@ -12,10 +12,10 @@ ghost use Rattle.lease_table.specs.Tables.{generation_of, slices_of};
 ghost use Rattle.lease_table.specs.Calls.{committed_in};
 ghost use Rattle.cluster.specs.declared.timing.Reading.{Reading as ReadingOf};
 ghost use Rattle.timeline.specs.Levels.{counted};
-ghost use Rattle.timeline.specs.Alarms.{committed_after, foreign_in, greatest_of_table, is_shown_key, late_of, seen_in, task_of, unowned_of};
+ghost use Rattle.timeline.specs.Alarms.{committed_after, foreign_at, foreign_in, greatest_of_table, is_shown_key, late_of, seen_in, task_of, unowned_of};
 ghost use Rattle.timeline.specs.internals.Watching.{IsWatch};
 
-use crate::alarm::{Alarm, Seen, Why};
+use crate::alarm::{Alarm, PlaceWords, Seen, Why};
 use assignment::TaskId;
 use cluster::{Cluster, Reading};
 use lease_rule::Verdict;
@@ -26,6 +26,7 @@ use world::{Job, Reply, Step};
 /// What is known of the steps so far.
 #[derive(Drop)]
 pub struct Watch {
+    alloc: Global,
     pub(crate) skew: u64,
     // The key of the picture, if it has one.
     pub(crate) key: Option<SliceKey>,
@@ -34,6 +35,8 @@ pub struct Watch {
     // The greatest reading of the table's clock.
     pub(crate) table: u64,
     pub(crate) alarms: Vec<Alarm>,
+    // Whether there is a warning of the last step.
+    is_alarmed: bool,
 }
 
 // Whether a task is among these.
@@ -75,6 +78,23 @@ pub fn is_shown_key(key: Option<SliceKey>, asked: SliceKey) -> bool
     }
 }
 
+/// Returns the committed generation if a task is asked for a key that is shown and that it does not
+/// own in it.
+pub fn foreign_at(
+    cluster: &Cluster,
+    task: u64,
+    asked: SliceKey,
+    key: Option<SliceKey>,
+) -> Option<u64>
+    ensures { (job : Job) (calls : Calls) → LeadsTo job calls cluster.now
+        → result ≡ foreign_at key (committed_in (table_calls calls)) task asked }
+{
+    if !is_shown_key(key, asked) || is_owner(cluster, task, asked) {
+        return None;
+    }
+    Some(committed_generation(cluster))
+}
+
 /// Returns the committed generation if a step is a request, for a key that is shown, of a task that
 /// does not own the key in it.
 pub fn foreign_generation(cluster: &Cluster, step: &Step, key: Option<SliceKey>) -> Option<u64>
@@ -89,11 +109,7 @@ pub fn foreign_generation(cluster: &Cluster, step: &Step, key: Option<SliceKey>)
     else {
         return None;
     };
-    let asked = slice_key(asked.as_slice());
-    if !is_shown_key(key, asked) || is_owner(cluster, *task, asked) {
-        return None;
-    }
-    Some(committed_generation(cluster))
+    foreign_at(cluster, *task, slice_key(asked.as_slice()), key)
 }
 
 // Whether a reply serves a key.
@@ -125,8 +141,8 @@ fn foreign_served(reply: &Reply, foreign: Option<u64>) -> Option<u64>
     if is_served(reply) { foreign } else { None }
 }
 
-// Returns the greatest reading of the table's clock, with one more reading.
-fn greatest(table: u64, reading: Reading) -> u64
+/// Returns the greatest reading of the table's clock, with one more reading.
+pub fn greatest(table: u64, reading: Reading) -> u64
     ensures { (readings : List ReadingOf) → table ≡ greatest_of_table readings → result ≡ greatest_of_table (reading ∷ readings) }
 {
     match reading {
@@ -135,23 +151,25 @@ fn greatest(table: u64, reading: Reading) -> u64
     }
 }
 
-// Adds the warnings of a step.
-fn push_alarms(
+/// Adds the warnings of a step or a call that reads a task's clock.
+///
+/// `table` is the greatest reading of the table's clock before it, `skew` that of the job, and
+/// `foreign` the generation in which a request that was served is of another task.
+pub fn push_alarms(
     alarms: &mut Vec<Alarm>,
-    seen: Seen,
+    seen: &Seen,
     table: u64,
     skew: u64,
     foreign: Option<u64>,
 ) -> Result<(), AllocError>
-    ensures { OnOk result (alarms.new.items ≡ alarms.old.items ++ (late_of skew table seen ++ unowned_of foreign seen)) }
+    ensures { OnOk result (alarms.new.items ≡ alarms.old.items ++ (late_of skew table seen.now ++ unowned_of foreign seen.now)) }
 {
+    let alloc = *alarms.allocator();
     if table.saturating_sub(seen.at) > skew {
-        let why = Why::Late(table);
-        alarms.push(Alarm { seen, why })?;
+        alarms.push(Alarm::new(alloc, seen, Why::Late(table))?)?;
     }
     if let Some(generation) = foreign {
-        let why = Why::NotOwner(generation);
-        alarms.push(Alarm { seen, why })?;
+        alarms.push(Alarm::new(alloc, seen, Why::NotOwner(generation))?)?;
     }
     Ok(())
 }
@@ -162,34 +180,33 @@ impl Watch {
         ensures { IsWatch job key [] result }
     {
         Watch {
+            alloc,
             skew: job.policy().skew(),
             key,
             steps: 0,
             table: 0,
             alarms: Vec::new(alloc),
+            is_alarmed: false,
         }
     }
 
     /// Whether there is a warning of the last step.
     pub fn is_alarmed(&self) -> bool {
-        match self.alarms.last() {
-            Some(alarm) => alarm.seen.step == self.steps,
-            None => false,
-        }
+        self.is_alarmed
     }
 
     // Returns the reading of a task's clock in the next step, if it has one.
-    fn seen(&self, step: &Step) -> Option<Seen>
-        ensures { result ≡ seen_in (counted (self.now.steps + 1)) step.now (reading step.now) }
+    fn seen(&self, step: &Step) -> Result<Option<Seen>, AllocError>
+        ensures { IfOk result (λ seen. seen ≡ seen_in (counted (self.now.steps + 1)) step.now (reading step.now)) }
     {
-        match step.reading() {
-            Reading::TaskClock(at) => Some(Seen {
-                step: self.steps.saturating_add(1),
-                task: task_of(step),
-                at,
-            }),
-            _ => None,
-        }
+        let Reading::TaskClock(at) = step.reading() else {
+            return Ok(None);
+        };
+        Ok(Some(Seen {
+            place: PlaceWords::of_step(self.alloc, self.steps.saturating_add(1))?,
+            task: task_of(step),
+            at,
+        }))
     }
 
     /// Records a step with its reply. `foreign` is what [`foreign_generation`] returned before it.
@@ -203,15 +220,17 @@ impl Watch {
             → foreign ≡ foreign_in key (committed_after job past) step.now
             → OnOk result (IsWatch job key (event step.now reply.now ∷ past) self.new) }
     {
-        if let Some(seen) = self.seen(step) {
+        let before = self.alarms.len();
+        if let Some(seen) = self.seen(step)? {
             push_alarms(
                 &mut self.alarms,
-                seen,
+                &seen,
                 self.table,
                 self.skew,
                 foreign_served(reply, foreign),
             )?;
         }
+        self.is_alarmed = before < self.alarms.len();
         self.table = greatest(self.table, step.reading());
         self.steps = self.steps.saturating_add(1);
         Ok(())

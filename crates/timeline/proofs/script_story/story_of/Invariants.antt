@@ -1,7 +1,7 @@
 use Rattle.std.proofs.Common.{take}
 use Rattle.std.specs.Prelude.{reverse}
 use Rattle.timeline.specs.internals.Watching.{AreWatched}
-use Rattle.timeline.proofs.story.story_of.Given as goal
+use Rattle.timeline.proofs.script_story.story_of.Given as goal
 
 -- the steps so far
 abbrev pub invariant-loop-step : goal.invariant-loop-step

@@ -4,7 +4,7 @@ use Rattle.std.proofs.lemmas.List.{take_all}
 use Rattle.world.specs.declared.step.Step.{Step}
 use Rattle.timeline.specs.internals.Watching.{AreWatched}
 use Rattle.timeline.proofs.Playing.{one_more}
-use Rattle.timeline.proofs.story.story_of.Goals as goal
+use Rattle.timeline.proofs.script_story.story_of.Goals as goal
 
 pub loop-step-init : goal.loop-step-init
 loop-step-init c = record {

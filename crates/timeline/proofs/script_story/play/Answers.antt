@@ -5,7 +5,7 @@ use Rattle.world.specs.Pasts.{event}
 use Rattle.world.specs.Calls.{calls_in}
 use Rattle.timeline.specs.Alarms.{committed_after, foreign_in}
 use Rattle.timeline.proofs.Playing.{one_reply, one_step}
-use Rattle.timeline.proofs.story.play.Goals as goal
+use Rattle.timeline.proofs.script_story.play.Goals as goal
 
 on_ok : {T E P : Type 0} → P → (r : Result T E) → OnOk r P
 on_ok p (Ok x) = p
