@@ -1,0 +1,30 @@
+-- Calls of a log that are played one after another.
+use Rattle.std.proofs.Common.{◌≡◌, ℕ, ◌+◌, ◌<◌, List, [], ◌∷◌, ◌++◌, length, get_or, take, reverse, sym, ◌∙◌, ap, subst, refl}
+use Rattle.std.proofs.lemmas.List.{take_more, reverse-append}
+use Rattle.cluster.specs.Jobs.{Job}
+use Rattle.cluster.specs.declared.cluster.Cluster.{Cluster}
+use Rattle.cluster.specs.Clusters.{LeadsTo}
+use Rattle.call_log.specs.declared.entry.LogEntry.{LogEntry}
+use Rattle.call_log.specs.declared.told.CallerReply.{CallerReply}
+use Rattle.call_log.specs.Played.{AreCallsOf}
+use Rattle.call_log.specs.internals.Answers.{IsPlayed}
+use Rattle.log_view.specs.internals.Playing.{IsPlayedTo}
+
+-- before the first call
+pub none_played : (job : Job) (cluster : Cluster) → LeadsTo job [] cluster → IsPlayedTo job [] cluster
+none_played job cluster leads = record { past = []; made = refl; leads = leads }
+
+module _ (entries : List LogEntry) (i : ℕ) (entry : LogEntry) (low : i < length entries) (here : entry ≡ get_or entries i entry) where
+  one_more : reverse (take (i + 1) entries) ≡ entry ∷ reverse (take i entries)
+  one_more =
+      ap reverse (take_more entries i entry low ∙ ap (λ (e : LogEntry). take i entries ++ e ∷ []) (sym here))
+      ∙ reverse-append (take i entries) (entry ∷ [])
+
+  -- one call more
+  pub played_more : (job : Job) (cluster next : Cluster) (told : CallerReply) (known : IsPlayedTo job (take i entries) cluster)
+      → IsPlayed job known.past entry.line.call told next → IsPlayedTo job (take (i + 1) entries) next
+  played_more job cluster next told known played = record {
+    past = played.after;
+    made = subst (λ (es : List LogEntry). AreCallsOf job es played.after) (sym one_more) (known.past, told, played.stands, known.made);
+    leads = played.leads;
+  }
