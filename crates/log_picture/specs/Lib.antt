@@ -1,0 +1,5 @@
+pub mod Shots
+pub mod Colours
+pub mod Warnings
+pub mod Pictures
+pub mod internals

@@ -1,0 +1,38 @@
+-- The machines after some entries of a log, and what is kept of them.
+use Rattle.std.specs.Prelude.{◌≡◌, ℕ, Bool, true, false, List}
+use Rattle.cluster.specs.Jobs.{Job}
+use Rattle.cluster.specs.Pasts.{Past}
+use Rattle.cluster.specs.Clusters.{LeadsTo}
+use Rattle.cluster.specs.declared.call.ClusterCall.TheVariants as call
+use Rattle.cluster.specs.declared.cluster.Cluster.{Cluster}
+use Rattle.call_log.specs.declared.entry.LogEntry.{LogEntry}
+use Rattle.call_log.specs.declared.line.LoggedCall.{LoggedCall}
+use Rattle.call_log.specs.declared.line.LoggedCall.TheVariants.{Whole, HearBare}
+use Rattle.call_log.specs.Played.{AreCallsOf}
+use Rattle.timeline.specs.declared.stretch.KeyStretches.{KeyStretches}
+use Rattle.timeline.specs.Alarms.{greatest_of_table}
+use Rattle.timeline.specs.Tasks.{Each, IsKeptOf}
+use Rattle.log_picture.specs.declared.alarms.LogWatch.{LogWatch}
+use Rattle.log_picture.specs.Shots.{Shot}
+use Rattle.log_picture.specs.Warnings.{AreWarned, readings_of}
+
+-- a call may change what a task holds
+abbrev pub calls_task : LoggedCall → Bool
+calls_task (Whole (call.Task task c)) = true
+calls_task (HearBare task grant at) = true
+calls_task _ = false
+
+-- the calls of these entries, the newest first, were made, and this is kept of each task
+pub record ArePlayed (job : Job) (entries : List LogEntry) (key : ℕ) (cluster : Cluster) (tasks : List KeyStretches) : Type 0 where
+  pub past : Past
+  pub calls : AreCallsOf job entries past
+  pub leads : LeadsTo job past cluster
+  pub kept : Each (IsKeptOf past key) job.tasks tasks
+
+-- the calls of these entries, the newest first, were made, and this is known of those that a picture warns of
+pub record AreWatched (shot : Shot) (job : Job) (entries : List LogEntry) (cluster : Cluster) (watch : LogWatch) : Type 0 where
+  pub past : Past
+  pub warned : AreWarned shot job entries past watch.alarms.items
+  pub leads : LeadsTo job past cluster
+  pub skew : watch.skew ≡ job.policy.skew
+  pub table : watch.table ≡ greatest_of_table (readings_of entries)
