@@ -2,19 +2,25 @@
 use Rattle.std.proofs.Common.{Bool, ℕ, ◌+◌, ◌<◌, ◌≤◌, List, [], ◌∷◌, ◌++◌, map, length, take, get_or, Option, inl, inr, refl, string_bytes, subst}
 use Rattle.std.proofs.lemmas.List.{append-nil, map-append, take_all, take_more}
 use Rattle.std.specs.Prelude.{◌≡◌, ◌≢◌, codes}
-use Rattle.std.specs.Io.KnownBytes.{Appends, Consumes, IsAtEnd}
+use Rattle.std.specs.Io.KnownBytes.{Appends, Consumes, IsAtEnd, Keeps}
 use Rattle.program_io.proofs.Bytes.{consumes_more, consumes_none}
 use Rattle.program_io.specs.declared.line.TheConstants.{MOST_LINE_BYTES}
 use Rattle.program_io.specs.Endings.{IsCut}
 use Rattle.program_io.specs.Streams.{ReadsAll}
 use Rattle.call_log.specs.declared.auditing.LogReport.{LogReport}
 use Rattle.call_log.specs.declared.log_reader.LogReader.{LogReader}
+use Rattle.call_log.specs.declared.log_reader.ReadLog.{ReadLog}
+use Rattle.log_view.specs.declared.window.View.{View}
 use Rattle.call_log.specs.Readers.{IsReading}
 use Rattle.call_log.specs.Files.{PlacedLine, AreShort, numbered, lines_in, lines_from}
 use Rattle.command.specs.declared.arguments.AuditFlags.{AuditFlags}
+use Rattle.command.specs.declared.arguments.LogText.{LogText}
+use Rattle.command.specs.declared.arguments.ViewWords.{ViewWords}
 use Rattle.command.specs.declared.log_audit.AuditError.{AuditError}
 use Rattle.command.specs.declared.log_audit.AuditError.TheVariants as audit
-use Rattle.command.specs.Audits.{AreJudged, AreLogsRead, AreLogsTaken, AreNotJudged, EndsInLine, IsJudged, IsLogBytes, IsLogRead, IsLogTaken, IsNotAudited, IsOneMore, IsReport, IsSomeReport, passes}
+use Rattle.command.specs.Audits.{AreJudged, AreLogsKept, AreLogsRead, AreLogsTaken, AreNotJudged, EndsInLine, IsJudged, IsLogBytes, IsLogRead, IsLogTaken, IsNotAudited, IsNotRead, IsOneMore, IsReport, IsSomeReport, passes}
+use Rattle.command.specs.Shows.{AreShown, AreSomehowShown, HasNothingShown, HaveNoCalls, IsNoneShown, IsShowing, IsShownOf, IsUnshown}
+use Rattle.command.specs.Views.{IsViewOf}
 use Rattle.command.proofs.Runs.{never_cut, nothing_yet}
 
 -- ONE LOG
@@ -105,6 +111,8 @@ not_judged names before after keeps log taken (audit.Unopened name error) is = a
 not_judged names before after keeps log taken (audit.Read name) is = absurd is
 not_judged names before after keeps log taken (audit.Unsaved name error) is = absurd is
 not_judged names before after keeps log taken (audit.NoDrift words) is = absurd is
+not_judged names before after keeps log taken (audit.NoView words fault) is = absurd is
+not_judged names before after keeps log taken audit.NoCalls is = absurd is
 not_judged names before after keeps log taken audit.Write is = absurd is
 
 -- logs whose lines are short were read to their ends
@@ -157,3 +165,59 @@ module _ (names : List (List ℕ)) (flags : AuditFlags) (before after held holds
     len = len;
     wrote = subst (λ (t : List ℕ). Appends held holds (take len t)) is written;
   }
+
+-- what is shown of logs that were read
+module _ (names : List (List ℕ)) (text : LogText) (words : ViewWords) (before after : Option (List ℕ)) where
+  -- it is shown of logs that were read to their ends, or they have no calls such as are wanted
+  module _ (keeps : Bool) (logs : ReadLog) (kept : AreLogsKept keeps names before after logs) (view : View) (given : IsViewOf names words view) where
+    ends : AreLogsRead ReadsAll names before after kept.files
+    ends = to_their_ends names 0 before after kept.files kept.log.log.short kept.read
+
+    pub are_shown : (one : Bool) (bytes : List ℕ) → IsShownOf text names logs.log view one bytes → AreShown names text words before after one bytes
+    are_shown one bytes is = record { files = kept.files; read = ends; log = logs.log; says = kept.log.log; view = view; given = given; is = is }
+
+    pub none_shown : IsNoneShown text names logs.log view → HaveNoCalls names text words before after
+    none_shown none = record { files = kept.files; read = ends; log = logs.log; says = kept.log.log; view = view; given = given; none = none }
+
+  -- or why not
+  pub not_viewed : (error : AuditError) → IsNotRead error → HasNothingShown names text words before after error
+  not_viewed (audit.Refused why) is = absurd is
+  not_viewed (audit.Unopened name error) is = tt
+  not_viewed (audit.Read name) is = tt
+  not_viewed (audit.Unsaved name error) is = tt
+  not_viewed (audit.NoDrift words) is = tt
+  not_viewed (audit.NoView words fault) is = tt
+  not_viewed audit.NoCalls is = absurd is
+  not_viewed audit.Write is = absurd is
+  not_viewed audit.Memory is = tt
+
+  pub not_read : (error : AuditError) → AreNotJudged names before after error → HasNothingShown names text words before after error
+  not_read (audit.Refused why) is = is
+  not_read (audit.Unopened name error) is = tt
+  not_read (audit.Read name) is = tt
+  not_read (audit.Unsaved name error) is = tt
+  not_read (audit.NoDrift words) is = tt
+  not_read (audit.NoView words fault) is = tt
+  not_read audit.NoCalls is = absurd is
+  not_read audit.Write is = absurd is
+  not_read audit.Memory is = tt
+
+  pub unwritten : (held holds : Option (List ℕ)) (error : AuditError) → HasNothingShown names text words before after error → Keeps held holds
+      → IsUnshown names text words before after held holds error
+  unwritten held holds (audit.Refused why) is kept = (is, kept)
+  unwritten held holds (audit.Unopened name error) is kept = (is, kept)
+  unwritten held holds (audit.Read name) is kept = (is, kept)
+  unwritten held holds (audit.Unsaved name error) is kept = (is, kept)
+  unwritten held holds (audit.NoDrift words) is kept = (is, kept)
+  unwritten held holds (audit.NoView words fault) is kept = (is, kept)
+  unwritten held holds audit.NoCalls is kept = (is, kept)
+  unwritten held holds audit.Write is kept = absurd is
+  unwritten held holds audit.Memory is kept = (is, kept)
+
+  -- it is written, or a first part of it
+  module _ (held holds : Option (List ℕ)) (told bytes : List ℕ) (is : told ≡ bytes) (one : Bool) (shown : AreShown names text words before after one bytes) where
+    pub shown_written : Appends held holds told → IsShowing names text words before after held holds one
+    shown_written written = record { text = bytes; is = shown; wrote = subst (Appends held holds) is written }
+
+    pub shown_cut : (len : ℕ) → Appends held holds (take len told) → IsCut (AreSomehowShown names text words before after) held holds
+    shown_cut len written = record { text = bytes; is = (one, shown); len = len; wrote = subst (λ (t : List ℕ). Appends held holds (take len t)) is written }

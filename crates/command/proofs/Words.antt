@@ -1,8 +1,8 @@
 -- What clap's matches say of the words.
-use Rattle.std.proofs.Common.{◌≡◌, ◌≢◌, ◌∙◌, Bool, true, false, List, [], Option, Some, None, option_map, unwrap_or, codes, slice_index, refl, sym, ap, ap₂, arith, subst}
+use Rattle.std.proofs.Common.{◌≡◌, ◌≢◌, ◌∙◌, Bool, true, false, List, [], ◌∷◌, Option, Some, None, option_map, unwrap_or, length, map, ◌==◌, codes, slice_index, refl, sym, ap, ap₂, arith, subst}
 use Rattle.std.specs.Prelude.{Box}
 use Rattle.std.specs.Box.{box_value}
-use Rattle.std.specs.Option.{option_map_or}
+use Rattle.std.specs.Option.{option_map_or, option_or}
 use Rattle.clap.specs.Built.{AddsArg, AddsSubcommand, IsParsedFrom}
 use Rattle.clap.specs.Faults.{fault_of, is_simple_and_free}
 use Rattle.clap.specs.Kinds.{HasKind}
@@ -19,7 +19,9 @@ use Rattle.clap.specs.declared.parser.matches.MatchedArg.{MatchedArg}
 use Rattle.clap.specs.declared.parser.matches.SubCommand.{SubCommand}
 use Rattle.clap.proofs.WalkLemmas.{first_value-rows, one_text-rows, raw_values-rows}
 use Rattle.command.specs.declared.arguments.Asked.{Asked}
-use Rattle.command.specs.Words.{Asks, AsksAudit, AsksExplain, AsksRun, AsksSession, AsksStore, AsksTimeline, IsArgument, IsFlag, IsReadAs, WordsAsk, hourstable, leaf, word_faults}
+use Rattle.command.specs.declared.arguments.LogText.{LogText}
+use Rattle.command.specs.declared.arguments.Subcommand.{Subcommand}
+use Rattle.command.specs.Words.{Asks, AsksAudit, AsksExplain, AsksRun, AsksSession, AsksStore, AsksTimeline, IsArgument, IsFlag, IsOfEither, IsOfLogs, IsOfScript, IsReadAs, WordsAsk, hourstable, leaf, logs_named, word_faults}
 
 -- ---- an argument
 
@@ -40,6 +42,23 @@ by_match (Some m) = refl
 
 pub all_given : (f : Found) (name : Text) → option_map_or raw_values (matched_of f name) [] ≡ unwrap_or (all_of name (rows_of f)) []
 all_given f name = by_match (matched_of f name) ∙ ap (λ (x : Option (List Text)). unwrap_or x []) (raw_values-rows f name)
+
+-- ---- logs or a script
+
+pub map_or : {N M : Type 0} (now : N → M) (a b : Option N) → option_map now (option_or a b) ≡ option_or (option_map now a) (option_map now b)
+map_or now None b = refl
+map_or now (Some x) b = refl
+
+module _ (log_option : Option Text) (subcommand : Subcommand) (text : LogText) (rows : List Row) (asked : Asked) {N : Type 0} (now : N → Text) where
+  pub of_logs : (logs : List N) → (length logs == 0) ≡ false → map now logs ≡ logs_named rows → IsOfLogs (map now logs) text rows asked
+      → IsOfEither (logs_named rows) log_option subcommand text rows asked
+  of_logs [] some same is = absurd (cc)
+  of_logs (log ∷ logs) some same is = subst (λ names. IsOfEither names log_option subcommand text rows asked) same is
+
+  pub of_script : (logs : List N) → length logs ≡ 0 → map now logs ≡ logs_named rows → IsOfScript log_option subcommand rows asked
+      → IsOfEither (logs_named rows) log_option subcommand text rows asked
+  of_script [] none same is = subst (λ names. IsOfEither names log_option subcommand text rows asked) same is
+  of_script (log ∷ logs) none same is = absurd (omega (arith, none))
 
 -- ---- the subcommand
 

@@ -1,5 +1,5 @@
 -- What `hourstable audit` writes, and the status that it exits with.
-use Rattle.std.specs.Prelude.{◌≡◌, ◌≢◌, ◌⊎◌, ◌+◌, ◌<◌, ◌++◌, ◌&&◌, ℕ, Bool, List, [], ◌∷◌, All, length, codes, decimal, string_bytes, Option, Some, None}
+use Rattle.std.specs.Prelude.{◌≡◌, ◌≢◌, ◌⊎◌, ◌+◌, ◌<◌, ◌^◌, ◌++◌, ◌&&◌, ℕ, Bool, List, [], ◌∷◌, All, length, codes, decimal, string_bytes, Option, Some, None}
 use Rattle.std.specs.Prelude.{Result, Ok, Err, ⊤, if◌then◌else◌}
 use Rattle.std.specs.Borrow.{Bor}
 use Rattle.std.specs.Io.{IsEmptyOrEndsWith}
@@ -9,8 +9,9 @@ use Rattle.program_io.specs.declared.line.TheConstants.{MOST_LINE_BYTES}
 use Rattle.program_io.specs.Endings.{IsCut, IsWritten}
 use Rattle.clocks.specs.declared.drift.Drift.{Drift}
 use Rattle.call_log.specs.Audits.{IsAudited}
-use Rattle.call_log.specs.Readers.{IsReading}
+use Rattle.call_log.specs.Readers.{IsReading, IsReadLog}
 use Rattle.call_log.specs.declared.log_reader.LogReader.{LogReader}
+use Rattle.call_log.specs.declared.log_reader.ReadLog.{ReadLog}
 use Rattle.call_log.specs.declared.auditing.AuditOptions.{AuditOptions}
 use Rattle.call_log.specs.declared.auditing.LogReport.{LogReport}
 use Rattle.call_log.specs.Files.{IsUnread, lines_from}
@@ -19,11 +20,14 @@ use Rattle.command.specs.declared.arguments.AuditFlags.{AuditFlags}
 use Rattle.command.specs.declared.log_audit.AuditError.{AuditError}
 use Rattle.command.specs.declared.log_audit.AuditError.TheVariants as audit
 
--- the status where logs are not judged: 2 where one cannot be opened or says no calls, or the drift is none, and else 3
+-- the status where logs are not judged or shown: 2 where one cannot be opened or says no calls, where the drift or the view is none, and where
+-- there is nothing to show; and else 3
 abbrev pub status_of : AuditError → ℕ
 status_of (audit.Unopened name error) = 2
 status_of (audit.Refused why) = 2
 status_of (audit.NoDrift words) = 2
+status_of (audit.NoView words fault) = 2
+status_of audit.NoCalls = 2
 status_of _ = 3
 
 -- the status where they are: 0 for one run, and else 1
@@ -81,9 +85,16 @@ pub record AreLogsTaken (keeps : Bool) (names : List (List ℕ)) (before after :
   pub read : AreLogsRead IsLogBytes names before after files
   pub reading : IsReading keeps files [] reader
 
--- a log was not read: no log was refused, and nothing was to be written
+-- the logs of these names were read, and this is their log
+pub record AreLogsKept (keeps : Bool) (names : List (List ℕ)) (before after : Option (List ℕ)) (read_log : ReadLog) : Type 0 where
+  pub files : List (List ℕ)
+  pub read : AreLogsRead IsLogBytes names before after files
+  pub log : IsReadLog keeps (lines_from 0 files) read_log
+
+-- a log was not read: no log was refused, and nothing was to be shown or written
 abbrev pub IsNotRead : AuditError → Type 0
 IsNotRead (audit.Refused why) = ⊥
+IsNotRead audit.NoCalls = ⊥
 IsNotRead audit.Write = ⊥
 IsNotRead _ = ⊤
 
@@ -96,6 +107,11 @@ IsNotAudited files _ = ⊥
 -- a drift as it is written: `EXTRA/PER/GRAIN`
 abbrev pub drift_words : Drift → List ℕ
 drift_words drift = decimal drift.extra ++ (codes "/" ++ (decimal drift.per ++ (codes "/" ++ decimal drift.grain)))
+
+-- the drift that the words are; or they are none whose numbers are below 2^64
+abbrev pub IsDriftOrNone : List ℕ → Option Drift → Type 0
+IsDriftOrNone words (Some drift) = words ≡ drift_words drift
+IsDriftOrNone words None = (drift : Drift) → drift.extra < 2 ^ 64 → drift.per < 2 ^ 64 → drift.grain < 2 ^ 64 → words ≢ drift_words drift
 
 -- the drift that is given, if one is
 abbrev pub IsDriftGiven : Option (Bor (List ℕ)) → Option Drift → Type 0
@@ -124,6 +140,7 @@ pub record SayNoCalls (names : List (List ℕ)) (before after : Option (List ℕ
 -- or nothing is known of them: one was not read, or memory ran out
 abbrev pub AreNotJudged : List (List ℕ) → (before after : Option (List ℕ)) → AuditError → Type 0
 AreNotJudged names before after (audit.Refused why) = SayNoCalls names before after why
+AreNotJudged names before after audit.NoCalls = ⊥
 AreNotJudged names before after audit.Write = ⊥
 AreNotJudged names before after _ = ⊤
 

@@ -17,6 +17,7 @@ use Rattle.session.specs.declared.answer.ReplyForm.{ReplyForm}
 use Rattle.session.specs.Talks.{IsTalked, IsBroken}
 use Rattle.command.specs.Runs.{IsAnswered, IsFailed}
 use Rattle.command.specs.Audits.{IsAuditEnd}
+use Rattle.command.specs.Shows.{IsShowEnd}
 use Rattle.command.specs.Sources.{IsReadFrom, IsUnopened}
 use Rattle.command.specs.Tables.{EndsKeep, IsSeeEnd}
 use Rattle.table_store.specs.declared.store.Stored.{Stored}
@@ -71,18 +72,21 @@ abbrev pub EndsBy : Request → (before after held holds : Option (List ℕ)) �
 EndsBy request before after held holds code =
     EndsWithInput request before after held holds code ⊎ IsUnopened request.source before after held holds code
 
--- a word names no action, and nothing was read or written
+-- a word names no action, or words do not go together, and nothing was read or written
 abbrev pub IsUnknown : (before after held holds : Option (List ℕ)) → ℕ → Type 0
 IsUnknown before after held holds code = (code ≡ 2) × Keeps before after × Keeps held holds
 
 module _ {S : Type 0} (opens : List ℕ → List ℕ → Result S FileError → Type 0) (is_honest : S → Type 0) (may_leave : S → Stored → Type 0) {F : Type 0}
     (may_fail : S → F → Type 0) (sees : List ℕ → Result (Seen × S) FileError → Type 0) where
-  -- how the command ends, for what was asked: a request, an audit of the logs of these names, all of them, a session over the table in a file,
-  -- or a look at what a file has
+  -- how the command ends, for what was asked: a request, an audit of the logs of these names, all of them, what is shown of such logs, a session
+  -- over the table in a file, or a look at what a file has
   abbrev pub EndsFor : Asked → (before after held holds : Option (List ℕ)) → ℕ → Type 0
   EndsFor (asked.Answer request) before after held holds code = EndsBy request before after held holds code
   EndsFor (asked.Audit names progress flags until) before after held holds code =
       IsAuditEnd (map (λ n. n.now) names.items) flags before after held holds code
+  EndsFor (asked.Show names text view) before after held holds code =
+      IsShowEnd (map (λ n. n.now) names.items) text view before after held holds code
+  EndsFor (asked.Misused misuse) before after held holds code = IsUnknown before after held holds code
   EndsFor (asked.Keep keep) before after held holds code = EndsKeep opens is_honest may_leave may_fail keep before after held holds code
   EndsFor (asked.See action file) before after held holds code = IsSeeEnd sees action file.now held holds code × Keeps before after
   EndsFor (asked.Unknown action) before after held holds code = IsUnknown before after held holds code

@@ -1,9 +1,11 @@
 -- What the words of a command line ask for.
-use Rattle.std.specs.Prelude.{◌≡◌, ◌≢◌, ◌⊎◌, Bool, true, false, List, [], ◌∷◌, map, codes, Option, Some, None, option_map, unwrap_or, if◌then◌else◌}
+use Rattle.std.specs.Prelude.{◌≡◌, ◌≢◌, ◌⊎◌, Bool, true, false, List, [], ◌∷◌, ◌++◌, map, codes, Option, Some, None, MatchOption}
+use Rattle.std.specs.Prelude.{option_map, unwrap_or, if◌then◌else◌}
+use Rattle.std.specs.Option.{option_or}
 use Rattle.clap.specs.Faults.{fault_of}
 use Rattle.clap.specs.Kinds.{Kinds}
 use Rattle.clap.specs.Lexer.{usize_max}
-use Rattle.clap.specs.Simple.{App, Shape, app_of, new_rule, new_shape, subcommand_of}
+use Rattle.clap.specs.Simple.{App, Shape, app_of, new_rule, new_shape, subcommand_of, with_rule}
 use Rattle.clap.specs.Walk.{Row, Rule, Text, all_of, first_of, one_of, rule_of}
 use Rattle.clap.specs.declared.builder.arg.Arg.{Arg}
 use Rattle.clap.specs.declared.builder.command.Command.{Command}
@@ -13,6 +15,9 @@ use Rattle.session.specs.declared.answer.ReplyForm.{ReplyForm}
 use Rattle.session.specs.declared.answer.ReplyForm.TheVariants as form
 use Rattle.command.specs.declared.arguments.Asked.{Asked}
 use Rattle.command.specs.declared.arguments.Asked.TheVariants as asked
+use Rattle.command.specs.declared.arguments.LogText.{LogText}
+use Rattle.command.specs.declared.arguments.LogText.TheVariants as logged
+use Rattle.command.specs.declared.arguments.Misuse.TheVariants as misuse
 use Rattle.command.specs.declared.arguments.ScriptText.TheVariants as show
 use Rattle.command.specs.declared.arguments.Source.{Source}
 use Rattle.command.specs.declared.arguments.Source.TheVariants as source
@@ -20,6 +25,7 @@ use Rattle.command.specs.declared.arguments.StoreAction.{StoreAction}
 use Rattle.command.specs.declared.arguments.StoreAction.TheVariants as act
 use Rattle.command.specs.declared.arguments.Subcommand.{Subcommand}
 use Rattle.command.specs.declared.arguments.Subcommand.TheVariants as command
+use Rattle.command.specs.declared.arguments.ViewWords.{ViewWords}
 
 -- ---- the subcommands, with their options and arguments
 
@@ -83,11 +89,31 @@ abbrev pub audit_words : Shape
 audit_words = subcommand (codes "audit") (flag (codes "progress") ∷ flag (codes "strict") ∷ flag (codes "all") ∷ option (codes "drift")
     ∷ option (codes "from") ∷ option (codes "until") ∷ logs ∷ [])
 
+-- `--logs LOG..`, one or more, which may be left out
+abbrev pub shown_logs : Rule
+shown_logs = record (new_rule (codes "logs")) {
+  long = Some (codes "logs");
+  action = Some Append;
+  range = Some (record { start_inclusive = 1; end_inclusive = usize_max });
+  value_names = 1;
+}
+
+-- what says which logs are shown, and which of their calls
+abbrev pub view_rules : List Rule
+view_rules = shown_logs ∷ option (codes "around") ∷ option (codes "readings") ∷ option (codes "key") ∷ option (codes "slice-key") ∷ []
+
+-- `explain` and `timeline`, first before the logs
+abbrev pub explain_flags : Shape
+explain_flags = subcommand (codes "explain") (flag (codes "number") ∷ [])
+
 abbrev pub explain_words : Shape
-explain_words = subcommand (codes "explain") (flag (codes "number") ∷ file ∷ [])
+explain_words = subcommand (codes "explain") ((flag (codes "number") ∷ view_rules) ++ file ∷ [])
+
+abbrev pub timeline_flags : Shape
+timeline_flags = subcommand (codes "timeline") (flag (codes "clerks") ∷ [])
 
 abbrev pub timeline_words : Shape
-timeline_words = subcommand (codes "timeline") (option (codes "key") ∷ flag (codes "clerks") ∷ file ∷ [])
+timeline_words = subcommand (codes "timeline") ((flag (codes "clerks") ∷ view_rules) ++ file ∷ [])
 
 abbrev pub store_words : Shape
 store_words = subcommand (codes "store") (action ∷ stored_file ∷ [])
@@ -122,9 +148,58 @@ abbrev pub AsksRun : List Row → Asked → Type 0
 AsksRun rows asked = (number : Bool) × IsFlag (codes "number") rows number
     × IsRequest (command.Play (if number then show.Numbered else show.Lines)) rows asked
 
--- `explain [--number] [FILE]`
+-- the name of an option, where it was given
+abbrev pub option_given : Text → List Row → Option Text
+option_given name rows = option_map (λ value. name) (first_of name rows)
+
+-- the first that was given of the options that say which calls of logs are shown
+abbrev pub log_option_given : List Row → Option Text
+log_option_given rows =
+    option_or (option_or (option_given (codes "around") rows) (option_given (codes "readings") rows)) (option_given (codes "slice-key") rows)
+
+-- nothing is done: this option is for logs
+abbrev pub IsForLogs : Text → Asked → Type 0
+IsForLogs option (asked.Misused (misuse.ForLogs given)) = given.now ≡ option
+IsForLogs option _ = ⊥
+
+-- a script, unless this option is given, which is for logs
+abbrev pub IsOfScript : Option Text → Subcommand → List Row → Asked → Type 0
+IsOfScript log_option subcommand rows asked = MatchOption log_option (IsRequest subcommand rows asked) (λ option. IsForLogs option asked)
+
+-- the words that say which calls of logs are shown
+pub record AreViewWords (rows : List Row) (view : ViewWords) : Type 0 where
+  pub around : option_map (λ w. w.now) view.around ≡ first_of (codes "around") rows
+  pub readings : option_map (λ w. w.now) view.readings ≡ first_of (codes "readings") rows
+  pub key : option_map (λ w. w.now) view.key ≡ first_of (codes "key") rows
+  pub slice_key : option_map (λ w. w.now) view.slice_key ≡ first_of (codes "slice-key") rows
+
+-- this is written about these logs
+abbrev pub IsShow : List Text → LogText → List Row → Asked → Type 0
+IsShow logs text rows (asked.Show names shown view) = (map (λ n. n.now) names.items ≡ logs) × (shown ≡ text) × AreViewWords rows view
+IsShow logs text rows _ = ⊥
+
+-- nothing is done: this script is given beside logs
+abbrev pub IsBeside : Text → Asked → Type 0
+IsBeside file (asked.Misused (misuse.ScriptAndLogs given)) = given.now ≡ file
+IsBeside file _ = ⊥
+
+-- logs, unless a script is given too
+abbrev pub IsOfLogs : List Text → LogText → List Row → Asked → Type 0
+IsOfLogs logs text rows asked = MatchOption (first_of (codes "FILE") rows) (IsShow logs text rows asked) (λ file. IsBeside file asked)
+
+-- logs where some are named, and else a script
+abbrev pub IsOfEither : List Text → Option Text → Subcommand → LogText → List Row → Asked → Type 0
+IsOfEither [] log_option subcommand text rows asked = IsOfScript log_option subcommand rows asked
+IsOfEither (log ∷ logs) log_option subcommand text rows asked = IsOfLogs (log ∷ logs) text rows asked
+
+-- the logs that `--logs` names
+abbrev pub logs_named : List Row → List Text
+logs_named rows = unwrap_or (all_of (codes "logs") rows) []
+
+-- `explain [--number] [--logs LOG..] [--around LOG:LINE] [--readings A..B] [--key KEY] [--slice-key NUMBER] [FILE]`
 abbrev pub AsksExplain : List Row → Asked → Type 0
-AsksExplain rows asked = (number : Bool) × IsFlag (codes "number") rows number × IsRequest (command.Play (show.Explained number)) rows asked
+AsksExplain rows asked = (number : Bool) × IsFlag (codes "number") rows number
+    × IsOfEither (logs_named rows) (option_or (log_option_given rows) (option_given (codes "key") rows)) (command.Play (show.Explained number)) logged.Reasons rows asked
 
 -- a session over the table in this file, for the job that `--job` names
 abbrev pub IsKeep : ReplyForm → Text → List Row → Asked → Type 0
@@ -158,15 +233,16 @@ IsActionNamed word name _ = ⊥
 abbrev pub AsksStore : List Row → Asked → Type 0
 AsksStore rows asked = IsActionNamed (unwrap_or (first_of (codes "ACTION") rows) []) (unwrap_or (first_of (codes "FILE") rows) []) asked
 
--- a picture of the key that `--key` names, with clerks for `--clerks`
-abbrev pub IsPicture : List Row → Subcommand → Type 0
-IsPicture rows (command.Play (show.Picture key clerks)) =
-    (option_map (λ k. k.now) key ≡ first_of (codes "key") rows) × IsFlag (codes "clerks") rows clerks
-IsPicture rows _ = ⊥
+-- a picture of the key that `--key` names, with these clerks or without
+abbrev pub IsPicture : List Row → Bool → Subcommand → Type 0
+IsPicture rows with_clerks (command.Play (show.Picture key clerks)) =
+    (option_map (λ k. k.now) key ≡ first_of (codes "key") rows) × (clerks ≡ with_clerks)
+IsPicture rows with_clerks _ = ⊥
 
--- `timeline [--key KEY] [--clerks] [FILE]`
+-- `timeline [--clerks] [--logs LOG..] [--around LOG:LINE] [--readings A..B] [--key KEY] [--slice-key NUMBER] [FILE]`
 abbrev pub AsksTimeline : List Row → Asked → Type 0
-AsksTimeline rows asked = (picture : Subcommand) × IsPicture rows picture × IsRequest picture rows asked
+AsksTimeline rows asked = (clerks : Bool) × IsFlag (codes "clerks") rows clerks × (picture : Subcommand) × IsPicture rows clerks picture
+    × IsOfEither (logs_named rows) (log_option_given rows) picture (logged.Picture clerks) rows asked
 
 -- names with one before them, if there is one
 abbrev pub with_first : Option Text → List Text → List Text
@@ -215,6 +291,11 @@ IsReadAs app command = (app_of command ≡ app) × ((out-Command command).has_gl
 -- a command with no subcommands
 abbrev pub leaf : Shape → App
 leaf shape = record { top = shape; subs = [] }
+
+-- a command with these options and arguments more
+abbrev pub with_rules : App → List Rule → App
+with_rules app [] = app
+with_rules app (rule ∷ rules) = with_rules (with_rule app rule) rules
 
 -- the command before its subcommands are added
 abbrev pub bare_hourstable : App

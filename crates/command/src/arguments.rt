@@ -3,11 +3,12 @@
 ghost use Rattle.std.specs.Prelude.{◌≡◌, [], IfOk, codes, if◌then◌else◌, map, option_map, string_bytes, unwrap_or};
 ghost use Rattle.clap.specs.Kinds.{FailsBy};
 ghost use Rattle.clap.specs.Matches.{found_of};
+ghost use Rattle.clap.specs.Simple.{App};
 ghost use Rattle.clap.specs.Walk.{first_of, rows_of};
-ghost use Rattle.command.specs.Words.{Asks, AsksAudit, AsksExplain, AsksRun, AsksSession, AsksStore, AsksTimeline};
-ghost use Rattle.command.specs.Words.{IsActionNamed, IsHeldOver, IsRequest, IsSource, with_first};
-ghost use Rattle.command.specs.Words.{audit_drift, audit_flags, audit_from, audit_until, audit_words, explain_words, run_words, session_options};
-ghost use Rattle.command.specs.Words.{session_words, store_words, timeline_words};
+ghost use Rattle.command.specs.Words.{Asks, AsksAudit, AsksExplain, AsksRun, AsksSession, AsksStore, AsksTimeline, AreViewWords};
+ghost use Rattle.command.specs.Words.{IsActionNamed, IsHeldOver, IsOfLogs, IsOfScript, IsRequest, IsSource, log_option_given, option_given, with_first};
+ghost use Rattle.command.specs.Words.{audit_drift, audit_flags, audit_from, audit_until, audit_words, explain_flags, explain_words, run_words};
+ghost use Rattle.command.specs.Words.{session_options, session_words, shown_logs, store_words, timeline_flags, timeline_words, view_rules, with_rules};
 ghost use Rattle.command.specs.Words.{IsArgument, IsReadAs, WordsAsk, action, bare_hourstable, file, flag, hourstable, leaf, logs, option};
 ghost use Rattle.command.specs.Words.{stored_file, word_faults};
 ghost use Rattle.command.specs.declared.arguments.ScriptText.TheVariants as show;
@@ -31,6 +32,12 @@ const STATUSES: &str = "Exit statuses:
 const SCRIPT_STATUSES: &str = "Exit statuses:
   0  done
   2  the arguments or the script are refused, or the file cannot be opened
+  3  reading or writing failed, or memory ran out";
+
+const SHOWN_STATUSES: &str = "Exit statuses:
+  0  done; of logs: the calls are one run
+  1  of logs: the calls are not one run
+  2  the arguments, the script or a log are refused, or a file cannot be opened
   3  reading or writing failed, or memory ran out";
 
 const SESSION_STATUSES: &str = "Exit statuses:
@@ -128,6 +135,38 @@ pub struct AuditFlags<'a> {
     pub drift: Option<&'a str>,
 }
 
+/// What is written about logs.
+#[derive(Clone, Copy, Debug, PartialEq, Eq)]
+pub enum LogText {
+    /// A line for each call that is shown, with the reason for its reply, and then the report of an
+    /// audit.
+    Reasons,
+    /// A picture, with clerks or without.
+    Picture { clerks: bool },
+}
+
+/// Which calls of logs are shown, as it was written.
+#[derive(Clone, Copy, Debug, PartialEq, Eq)]
+pub struct ViewWords<'a> {
+    /// `LOG:LINE`: the calls around the one that stands there.
+    pub around: Option<&'a str>,
+    /// `A..B`: the calls in which clocks read these ticks.
+    pub readings: Option<&'a str>,
+    /// Of requests those for this key.
+    pub key: Option<&'a str>,
+    /// The same, by the number that the key is hashed to.
+    pub slice_key: Option<&'a str>,
+}
+
+/// Words that do not go together.
+#[derive(Clone, Copy, Debug, PartialEq, Eq)]
+pub enum Misuse<'a> {
+    /// This option is for logs, and a script is asked for.
+    ForLogs(&'a str),
+    /// Logs are asked for, and this script too.
+    ScriptAndLogs(&'a str),
+}
+
 /// What a command line asks for.
 #[derive(Debug, Drop)]
 pub enum Asked<'a> {
@@ -143,6 +182,15 @@ pub enum Asked<'a> {
         /// The file to save the state in that the logs leave.
         until: Option<&'a str>,
     },
+    /// Write this about the logs with these names, where `-` is standard input.
+    Show {
+        names: Vec<&'a str>,
+        text: LogText,
+        /// Which calls are shown.
+        view: ViewWords<'a>,
+    },
+    /// Do nothing, for this reason.
+    Misused(Misuse<'a>),
     /// Hold a session over the table in a file.
     Keep(Keep<'a>),
     /// Do this with the file of this name, which has a table.
@@ -185,67 +233,98 @@ fn run_command<'a>(alloc: Global) -> Result<Command<'a>, AllocError>
         .arg(file_argument(alloc, SCRIPT))
 }
 
+// Returns an option with one value.
+fn value_argument<'a>(
+    alloc: Global,
+    name: &'static str,
+    value: &'static str,
+    help: &'static str,
+) -> Arg<'a>
+    ensures { IsArgument (option name.now) result }
+{
+    Arg::new(alloc, name)
+        .long(name)
+        .value_name(value)
+        .help(help)
+        .action(ArgAction::Set)
+}
+
+fn shown_logs_argument<'a>(alloc: Global) -> Arg<'a>
+    ensures { IsArgument shown_logs result }
+{
+    Arg::new(alloc, "logs")
+        .long("logs")
+        .value_name("LOG")
+        .help("Show these logs in place of a script, as audit reads them; - is standard input")
+        .num_args(1..)
+        .action(ArgAction::Append)
+}
+
+// Adds the options for logs to a command.
+fn with_view<'a>(
+    alloc: Global,
+    command: Command<'a>,
+    key_help: &'static str,
+) -> Result<Command<'a>, AllocError>
+    ensures { (app : App) → IsReadAs app command.entry → IfOk result (IsReadAs (with_rules app view_rules)) }
+{
+    let around = "Of logs, the 50 calls before and after the one that stands at this line";
+    let readings = "Of logs, the calls from the first to the last that reads a clock in this range";
+    let slice_key = "Of logs, as --key, by the number that the key is hashed to";
+    command
+        .arg(shown_logs_argument(alloc))?
+        .arg(value_argument(alloc, "around", "LOG:LINE", around))?
+        .arg(value_argument(alloc, "readings", "A..B", readings))?
+        .arg(value_argument(alloc, "key", "KEY", key_help))?
+        .arg(value_argument(alloc, "slice-key", "NUMBER", slice_key))
+}
+
+// Returns the command for reasons, before its options for logs are added.
+fn explain_flags<'a>(alloc: Global) -> Result<Command<'a>, AllocError>
+    ensures { IfOk result (IsReadAs (leaf explain_flags)) }
+{
+    Command::new(alloc, "explain")
+        .about("Write the replies of a script, or with --logs of a service's calls, with reasons")
+        .after_help(SHOWN_STATUSES)
+        .arg(flag(alloc, "number", NUMBER))
+}
+
 fn explain_command<'a>(alloc: Global) -> Result<Command<'a>, AllocError>
     ensures { IfOk result (IsReadAs (leaf explain_words)) }
 {
-    Command::new(alloc, "explain")
-        .about("Play a script as run does, and write a reason after each line that needs one")
-        .after_help(SCRIPT_STATUSES)
-        .arg(flag(alloc, "number", NUMBER))?
-        .arg(file_argument(alloc, SCRIPT))
+    let key = "Of the requests of logs, those for this key alone";
+    with_view(alloc, explain_flags(alloc)?, key)?.arg(file_argument(alloc, SCRIPT))
 }
 
-fn key_argument<'a>(alloc: Global) -> Arg<'a>
-    ensures { IsArgument (option (codes "key")) result }
+// Returns the command for pictures, before its options for logs are added.
+fn timeline_flags<'a>(alloc: Global) -> Result<Command<'a>, AllocError>
+    ensures { IfOk result (IsReadAs (leaf timeline_flags)) }
 {
-    Arg::new(alloc, "key")
-        .long("key")
-        .value_name("KEY")
-        .help("Colour the readings at which each task may serve this key")
-        .action(ArgAction::Set)
+    Command::new(alloc, "timeline")
+        .about("Draw a script, or with --logs a service's calls, as an SVG picture")
+        .after_help(SHOWN_STATUSES)
+        .arg(flag(alloc, "clerks", "Draw the clerks too"))
 }
 
 fn timeline_command<'a>(alloc: Global) -> Result<Command<'a>, AllocError>
     ensures { IfOk result (IsReadAs (leaf timeline_words)) }
 {
-    Command::new(alloc, "timeline")
-        .about("Play a script, and draw it as an SVG picture")
-        .after_help(SCRIPT_STATUSES)
-        .arg(key_argument(alloc))?
-        .arg(flag(alloc, "clerks", "Draw the clerks too"))?
-        .arg(file_argument(alloc, SCRIPT))
-}
-
-fn store_argument<'a>(alloc: Global) -> Arg<'a>
-    ensures { IsArgument (option (codes "store")) result }
-{
-    Arg::new(alloc, "store")
-        .long("store")
-        .value_name("STORE")
-        .help("Keep the table in this file, and go on with the table that it has")
-        .action(ArgAction::Set)
-}
-
-fn job_argument<'a>(alloc: Global) -> Arg<'a>
-    ensures { IsArgument (option (codes "job")) result }
-{
-    Arg::new(alloc, "job")
-        .long("job")
-        .value_name("NAME")
-        .help("The name of the job in the file of --store; empty if missing")
-        .action(ArgAction::Set)
+    let key = "Colour the readings at which each task may serve this key";
+    with_view(alloc, timeline_flags(alloc)?, key)?.arg(file_argument(alloc, SCRIPT))
 }
 
 // Returns the command for sessions, before its file is added.
 fn session_options<'a>(alloc: Global) -> Result<Command<'a>, AllocError>
     ensures { IfOk result (IsReadAs (leaf session_options)) }
 {
+    let store = "Keep the table in this file, and go on with the table that it has";
+    let job = "The name of the job in the file of --store; empty if missing";
     Command::new(alloc, "session")
         .about("Read steps line by line, and write the reply to each step at once")
         .after_help(SESSION_STATUSES)
         .arg(flag(alloc, "json", "Write replies as JSON objects"))?
-        .arg(store_argument(alloc))?
-        .arg(job_argument(alloc))
+        .arg(value_argument(alloc, "store", "STORE", store))?
+        .arg(value_argument(alloc, "job", "NAME", job))
 }
 
 fn session_command<'a>(alloc: Global) -> Result<Command<'a>, AllocError>
@@ -264,26 +343,6 @@ fn logs_argument<'a>(alloc: Global) -> Arg<'a>
         .required(true)
         .num_args(1..)
         .action(ArgAction::Append)
-}
-
-fn drift_argument<'a>(alloc: Global) -> Arg<'a>
-    ensures { IsArgument (option (codes "drift")) result }
-{
-    Arg::new(alloc, "drift")
-        .long("drift")
-        .value_name("EXTRA/PER/GRAIN")
-        .help("Judge the samples of task clocks by this drift, and report whether they keep it")
-        .action(ArgAction::Set)
-}
-
-fn state_argument<'a>(alloc: Global, name: &'static str, help: &'static str) -> Arg<'a>
-    ensures { IsArgument (option name.now) result }
-{
-    Arg::new(alloc, name)
-        .long(name)
-        .value_name("STATE")
-        .help(help)
-        .action(ArgAction::Set)
 }
 
 // Returns the command for audits with its flags.
@@ -305,7 +364,8 @@ fn audit_flags<'a>(alloc: Global) -> Result<Command<'a>, AllocError>
 fn audit_drift<'a>(alloc: Global) -> Result<Command<'a>, AllocError>
     ensures { IfOk result (IsReadAs (leaf audit_drift)) }
 {
-    audit_flags(alloc)?.arg(drift_argument(alloc))
+    let help = "Judge the samples of task clocks by this drift, and report whether they keep it";
+    audit_flags(alloc)?.arg(value_argument(alloc, "drift", "EXTRA/PER/GRAIN", help))
 }
 
 // Returns the same with the state to go on from.
@@ -313,7 +373,7 @@ fn audit_from<'a>(alloc: Global) -> Result<Command<'a>, AllocError>
     ensures { IfOk result (IsReadAs (leaf audit_from)) }
 {
     let help = "A state that an earlier audit saved, to go on from";
-    audit_drift(alloc)?.arg(state_argument(alloc, "from", help))
+    audit_drift(alloc)?.arg(value_argument(alloc, "from", "STATE", help))
 }
 
 // Returns the same with the file of the state to save.
@@ -321,7 +381,7 @@ fn audit_until<'a>(alloc: Global) -> Result<Command<'a>, AllocError>
     ensures { IfOk result (IsReadAs (leaf audit_until)) }
 {
     let help = "Save the state that the logs leave in this file, if they are one run";
-    audit_from(alloc)?.arg(state_argument(alloc, "until", help))
+    audit_from(alloc)?.arg(value_argument(alloc, "until", "STATE", help))
 }
 
 fn audit_command<'a>(alloc: Global) -> Result<Command<'a>, AllocError>
@@ -432,19 +492,98 @@ fn run_request<'a>(matches: &ArgMatches<'a>) -> Asked<'a>
     play_request(matches, lines_text(number))
 }
 
-fn explain_request<'a>(matches: &ArgMatches<'a>) -> Asked<'a>
-    ensures { AsksExplain (rows_of (found_of matches.now)) result }
+// Returns the name of an option, if it was given.
+fn option_given(matches: &ArgMatches<'_>, name: &'static str) -> Option<&'static str>
+    ensures { option_map (λ n. n.now) result ≡ option_given name.now (rows_of (found_of matches.now)) }
 {
-    let numbered = matches.get_flag("number");
-    play_request(matches, ScriptText::Explained { numbered })
+    match matches.get_str(name) {
+        Some(_value) => Some(name),
+        None => None,
+    }
 }
 
-fn timeline_request<'a>(matches: &ArgMatches<'a>) -> Asked<'a>
-    ensures { AsksTimeline (rows_of (found_of matches.now)) result }
+// Returns the name of the first option that was given of those that say which calls of logs are
+// shown.
+fn log_option_given(matches: &ArgMatches<'_>) -> Option<&'static str>
+    ensures { option_map (λ n. n.now) result ≡ log_option_given (rows_of (found_of matches.now)) }
 {
-    let key = matches.get_str("key");
+    let around = option_given(matches, "around");
+    let readings = option_given(matches, "readings");
+    let slice_key = option_given(matches, "slice-key");
+    around.or(readings).or(slice_key)
+}
+
+// Returns a request to play a script, unless this option was given, which is for logs.
+fn script_request<'a>(
+    matches: &ArgMatches<'a>,
+    log_option: Option<&'static str>,
+    text: ScriptText<'a>,
+) -> Asked<'a>
+    ensures { IsOfScript (option_map (λ n. n.now) log_option.entry) (command.Play text.entry) (rows_of (found_of matches.now)) result }
+{
+    match log_option {
+        Some(option) => Asked::Misused(Misuse::ForLogs(option)),
+        None => play_request(matches, text),
+    }
+}
+
+// Returns the words that say which calls of logs are shown.
+fn view_words<'a>(matches: &ArgMatches<'a>) -> ViewWords<'a>
+    ensures { AreViewWords (rows_of (found_of matches.now)) result }
+{
+    ViewWords {
+        around: matches.get_str("around"),
+        readings: matches.get_str("readings"),
+        key: matches.get_str("key"),
+        slice_key: matches.get_str("slice-key"),
+    }
+}
+
+// Returns a request to show logs, unless a script was given too.
+fn show_request<'a>(
+    alloc: Global,
+    matches: &ArgMatches<'a>,
+    given: &[&'a str],
+    text: LogText,
+) -> Result<Asked<'a>, AllocError>
+    ensures { IfOk result (IsOfLogs (map (λ n. n.now) given.now) text (rows_of (found_of matches.now))) }
+{
+    if let Some(file) = matches.get_str("FILE") {
+        return Ok(Asked::Misused(Misuse::ScriptAndLogs(file)));
+    }
+    Ok(Asked::Show {
+        names: names_of(alloc, None, given)?,
+        text,
+        view: view_words(matches),
+    })
+}
+
+fn explain_request<'a>(alloc: Global, matches: &ArgMatches<'a>) -> Result<Asked<'a>, AllocError>
+    ensures { IfOk result (AsksExplain (rows_of (found_of matches.now))) }
+{
+    let numbered = matches.get_flag("number");
+    let logs = matches.get_strs("logs").unwrap_or(&[]);
+    if !logs.is_empty() {
+        return show_request(alloc, matches, logs, LogText::Reasons);
+    }
+    let log_option = log_option_given(matches).or(option_given(matches, "key"));
+    Ok(script_request(matches, log_option, ScriptText::Explained { numbered }))
+}
+
+fn timeline_request<'a>(alloc: Global, matches: &ArgMatches<'a>) -> Result<Asked<'a>, AllocError>
+    ensures { IfOk result (AsksTimeline (rows_of (found_of matches.now))) }
+{
     let clerks = matches.get_flag("clerks");
-    play_request(matches, ScriptText::Picture { key, clerks })
+    let key = matches.get_str("key");
+    let logs = matches.get_strs("logs").unwrap_or(&[]);
+    if !logs.is_empty() {
+        return show_request(alloc, matches, logs, LogText::Picture { clerks });
+    }
+    Ok(script_request(
+        matches,
+        log_option_given(matches),
+        ScriptText::Picture { key, clerks },
+    ))
 }
 
 // Returns how replies are written.
@@ -569,9 +708,9 @@ fn asked_by<'a>(
     match name {
         "audit" => audited(alloc, matches),
         "session" => Ok(session_request(matches)),
-        "explain" => Ok(explain_request(matches)),
+        "explain" => explain_request(alloc, matches),
         "store" => Ok(store_request(matches)),
-        "timeline" => Ok(timeline_request(matches)),
+        "timeline" => timeline_request(alloc, matches),
         _ => Ok(run_request(matches)),
     }
 }

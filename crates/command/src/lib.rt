@@ -2,14 +2,19 @@
 #![tactic(auto)]
 
 mod arguments;
+mod audit_options;
 mod log_audit;
+mod log_showing;
 mod program;
 mod script_run;
 mod table_file;
+mod view_words;
 
 pub use arguments::{
-    Asked, Keep, Request, ScriptText, Source, StoreAction, Subcommand, parse_words,
+    Asked, AuditFlags, Keep, LogText, Misuse, Request, ScriptText, Source, StoreAction, Subcommand,
+    ViewWords, parse_words,
 };
-pub use log_audit::{AuditError, LogAudit, audit_named};
+pub use log_audit::{AuditError, LogAudit, ViewFault, audit_named};
+pub use log_showing::{LogShowing, show_named};
 pub use program::{do_words, hourstable};
 pub use script_run::run_lines;

@@ -1,17 +1,15 @@
 //! `hourstable audit`: reads logs, and writes a report.
 
-ghost use Rattle.std.specs.Prelude.{◌≡◌, ◌+◌, ◌++◌, ◌<◌, ◌^◌, [], ℕ, Bool, List, length, IfErr, IfOk, MatchOption, map, ⊤};
+ghost use Rattle.std.specs.Prelude.{◌≡◌, ◌+◌, ◌++◌, ◌<◌, ◌^◌, [], ℕ, Bool, List, length, IfErr, IfOk, map};
 ghost use Rattle.call_log.specs.Files.{lines_from};
 ghost use Rattle.call_log.specs.Readers.{IsReading, IsReadLog};
 ghost use Rattle.command.specs.declared.log_audit.AuditError.TheVariants as fault;
-ghost use Rattle.command.specs.Audits.{AreJudged, AreLogsTaken, AreNotJudged, IsJudged, IsLogBytes, IsLogRead, IsLogTaken, IsNotAudited, IsNotRead};
-ghost use Rattle.command.specs.Audits.{AreOptionsOf, EndsInLine, IsDriftGiven, drift_words, IsNotSaved, IsOneMore, IsUnjudged, passes, status_of};
+ghost use Rattle.command.specs.Audits.{AreJudged, AreLogsKept, AreLogsTaken, AreNotJudged, IsJudged, IsLogBytes, IsLogRead, IsLogTaken, IsNotAudited, IsNotRead};
+ghost use Rattle.command.specs.Audits.{EndsInLine, IsNotSaved, IsOneMore, IsUnjudged, passes, status_of};
 
 use crate::arguments::AuditFlags;
-use call_log::{
-    AuditOptions, LinePosition, LogError, LogReader, LogReport, Progress, ReadLog, audit_log,
-};
-use clocks::Drift;
+use crate::audit_options::options_of;
+use call_log::{LinePosition, LogError, LogReader, LogReport, Progress, ReadLog, audit_log};
 use diagnosis::{Escaped, LONG_WORDS, say_about, say_memory, say_write};
 use memchr::memrchr;
 use program_io::{MOST_LINE_BYTES, ReadError, WriteError, write_all};
@@ -20,7 +18,22 @@ use std::fs::{self, File};
 use std::io::{Error, Read, Write};
 use std::rt::Files;
 
-/// Why logs are not audited.
+/// Why words do not say which calls of logs are shown.
+#[derive(Clone, Copy, Debug, PartialEq, Eq)]
+pub enum ViewFault {
+    /// `--around` is not `LOG:LINE` with one of the logs.
+    NoPlace,
+    /// `--readings` is not `A..B`.
+    NoReadings,
+    /// `--slice-key` is not a number below 2^63.
+    NoSliceKey,
+    /// `--around` and `--readings` are both given.
+    TwoWindows,
+    /// `--key` and `--slice-key` are both given.
+    TwoKeys,
+}
+
+/// Why logs are not audited or shown.
 #[derive(Debug, Drop)]
 pub enum AuditError<'a> {
     /// The log with this name cannot be opened.
@@ -31,6 +44,10 @@ pub enum AuditError<'a> {
     Refused(LogError),
     /// This is not a drift, `EXTRA/PER/GRAIN`.
     NoDrift(&'a str),
+    /// These words of an option are no view of the logs.
+    NoView { words: &'a str, fault: ViewFault },
+    /// There are no calls such as are to be shown.
+    NoCalls,
     /// The state cannot be saved in the file of this name.
     Unsaved { name: &'a str, error: Error },
     /// The report cannot be written.
@@ -40,13 +57,17 @@ pub enum AuditError<'a> {
 }
 
 impl AuditError<'_> {
-    /// Returns the exit status: 2 if a log cannot be opened or is refused, or the drift is, otherwise
-    /// 3.
+    /// Returns the exit status: 2 if a log cannot be opened, if a log, the drift or a view is
+    /// refused, or if there is nothing to show, otherwise 3.
     pub fn status(&self) -> u8
         ensures { result ≡ status_of self.now }
     {
         match self {
-            AuditError::Unopened { .. } | AuditError::Refused(_) | AuditError::NoDrift(_) => 2,
+            AuditError::Unopened { .. }
+            | AuditError::Refused(_)
+            | AuditError::NoDrift(_)
+            | AuditError::NoView { .. }
+            | AuditError::NoCalls => 2,
             AuditError::Read { .. }
             | AuditError::Unsaved { .. }
             | AuditError::Write
@@ -81,9 +102,9 @@ impl From<WriteError> for AuditError<'_> {
 
 /// Reports the progress of an audit, if that is wanted.
 #[derive(Drop)]
-struct Counting<'a, E: Write> {
-    errors: &'a mut E,
-    is_wanted: bool,
+pub(crate) struct Counting<'a, E: Write> {
+    pub(crate) errors: &'a mut E,
+    pub(crate) is_wanted: bool,
 }
 
 /// How many bytes are read at a time.
@@ -248,57 +269,21 @@ fn finished<'a>(log: LogReader) -> Result<ReadLog, AuditError<'a>>
     }
 }
 
-// Returns the drift that is written `EXTRA/PER/GRAIN`.
-fn drift_in(alloc: Global, words: &str) -> Result<Option<Drift>, AllocError>
-    ensures { IfOk result (λ drift. MatchOption drift ⊤ (λ d. words.now ≡ drift_words d)) }
+/// Reads the logs with these names, in their order, and returns their log; with the state that it
+/// leaves if `keeps`.
+pub(crate) fn read_all<'a, R: Read, P: Progress>(
+    rt: &(impl Files + AllocGlobal),
+    names: &[&'a str],
+    input: &mut R,
+    keeps: bool,
+    progress: &mut P,
+) -> Result<ReadLog, AuditError<'a>>
+    ensures ok { IfOk result (AreLogsKept keeps (map (λ n. n.now) names.now) (R.remaining input.old) (R.remaining input.new)) }
+    ensures err { IfErr result (AreNotJudged (map (λ n. n.now) names.now) (R.remaining input.old) (R.remaining input.new)) }
 {
-    let Some((extra, rest)) = words.split_once("/") else {
-        return Ok(None);
-    };
-    let Some((per, grain)) = rest.split_once("/") else {
-        return Ok(None);
-    };
-    let (Ok(extra), Ok(per), Ok(grain)) = (
-        extra.parse::<u64>(),
-        per.parse::<u64>(),
-        grain.parse::<u64>(),
-    ) else {
-        return Ok(None);
-    };
-    let Some(drift) = Drift::new(extra, per, grain) else {
-        return Ok(None);
-    };
-    let written = format!(in alloc; "{}/{}/{}", drift.extra, drift.per, drift.grain)?;
-    if written.as_str() == words {
-        Ok(Some(drift))
-    } else {
-        Ok(None)
-    }
-}
-
-// Returns the drift that is given, if one is.
-fn drift_given<'a>(alloc: Global, given: Option<&'a str>) -> Result<Option<Drift>, AuditError<'a>>
-    ensures ok { IfOk result (IsDriftGiven given.entry) }
-    ensures err { IfErr result IsNotRead }
-{
-    let Some(words) = given else {
-        return Ok(None);
-    };
-    match drift_in(alloc, words)? {
-        Some(drift) => Ok(Some(drift)),
-        None => Err(AuditError::NoDrift(words)),
-    }
-}
-
-// Returns how the logs are to be judged.
-fn options_of<'a>(alloc: Global, flags: AuditFlags<'a>) -> Result<AuditOptions, AuditError<'a>>
-    ensures ok { IfOk result (AreOptionsOf flags.entry) }
-    ensures err { IfErr result IsNotRead }
-{
-    Ok(AuditOptions {
-        all: flags.all,
-        drift: drift_given(alloc, flags.drift)?,
-    })
+    let log = LogReader::new(rt.alloc(), keeps);
+    let log = read_logs(rt, names, input, log, progress)?;
+    finished(log)
 }
 
 // Reads the logs, and judges them.
@@ -318,9 +303,8 @@ fn judge<'a, R: Read, E: Write>(
         is_wanted: audit.progress,
     };
     let options = options_of(rt.alloc(), audit.flags)?;
-    let log = LogReader::new(rt.alloc(), audit.until.is_some());
-    let log = read_logs(rt, audit.names, input, log, &mut progress)?;
-    let ReadLog { log, state } = finished(log)?;
+    let keeps = audit.until.is_some();
+    let ReadLog { log, state } = read_all(rt, audit.names, input, keeps, &mut progress)?;
     let report = audit_log(rt.alloc(), audit.names, log, options, &mut progress)?;
     Ok(Judged { report, state })
 }
@@ -402,8 +386,8 @@ fn say_line<E: Write>(errors: &mut E, names: &[&str], place: LinePosition, words
     let _ = writeln!(errors, "hourstable: {name}:{}: {words}", place.line);
 }
 
-// Reports the last lines that are left out.
-fn say_torn<E: Write>(errors: &mut E, names: &[&str], torn: &[LinePosition]) {
+/// Reports the last lines that are left out.
+pub(crate) fn say_torn<E: Write>(errors: &mut E, names: &[&str], torn: &[LinePosition]) {
     for place in torn {
         say_line(errors, names, *place, TORN_WORDS);
     }
@@ -425,7 +409,55 @@ fn say_other_job<E: Write>(
     );
 }
 
-/// Reports why logs are not audited.
+// Reports why logs are refused.
+fn say_refused<E: Write>(errors: &mut E, names: &[&str], error: &LogError) {
+    match error {
+        LogError::NoJob { place, faults } => {
+            for fault in faults {
+                let name = told_name(names, place.file);
+                let _ = writeln!(errors, "hourstable: {name}:{}: {fault}", place.line);
+            }
+        }
+        LogError::OtherJob { first, second } => say_other_job(errors, names, *first, *second),
+        LogError::LongLine(place) => say_line(errors, names, *place, LONG_WORDS),
+        LogError::BadLine { place, mend, .. } => say_line(errors, names, *place, mend.as_str()),
+        LogError::Empty | LogError::Memory => {
+            let _ = writeln!(
+                errors,
+                "hourstable: the logs are empty; the first line must be the job line"
+            );
+        }
+    }
+}
+
+// Reports why words do not say which calls of logs are shown.
+fn say_no_view<E: Write>(errors: &mut E, words: &str, fault: ViewFault) {
+    let words = Escaped(words);
+    let _ = match fault {
+        ViewFault::NoPlace => writeln!(
+            errors,
+            "hourstable: --around {words}: it must be LOG:LINE, one of the logs and the number of a line in it"
+        ),
+        ViewFault::NoReadings => writeln!(
+            errors,
+            "hourstable: --readings {words}: it must be A..B, two numbers below 2^64"
+        ),
+        ViewFault::NoSliceKey => writeln!(
+            errors,
+            "hourstable: --slice-key {words}: it must be a number below 2^63"
+        ),
+        ViewFault::TwoWindows => writeln!(
+            errors,
+            "hourstable: --readings {words}: it cannot be given with --around"
+        ),
+        ViewFault::TwoKeys => writeln!(
+            errors,
+            "hourstable: --slice-key {words}: it cannot be given with --key"
+        ),
+    };
+}
+
+/// Reports why logs are not audited or shown.
 pub fn say_error<E: Write>(errors: &mut E, names: &[&str], error: &AuditError) {
     match error {
         AuditError::Unopened { name, error } => {
@@ -442,31 +474,18 @@ pub fn say_error<E: Write>(errors: &mut E, names: &[&str], error: &AuditError) {
                 "hourstable: --drift {words}: it must be EXTRA/PER/GRAIN, three numbers below 2^64, and PER not 0"
             );
         }
+        AuditError::NoView { words, fault } => say_no_view(errors, words, *fault),
+        AuditError::NoCalls => {
+            let _ = writeln!(
+                errors,
+                "hourstable: nothing to show: no call stands at that line, or no clock reads in that range"
+            );
+        }
         AuditError::Unsaved { name, error } => {
             let name = Escaped(name);
             let _ = writeln!(errors, "hourstable: {name}: not saved: {error}");
         }
-        AuditError::Refused(LogError::NoJob { place, faults }) => {
-            for fault in faults {
-                let name = told_name(names, place.file);
-                let _ = writeln!(errors, "hourstable: {name}:{}: {fault}", place.line);
-            }
-        }
-        AuditError::Refused(LogError::OtherJob { first, second }) => {
-            say_other_job(errors, names, *first, *second);
-        }
-        AuditError::Refused(LogError::LongLine(place)) => {
-            say_line(errors, names, *place, LONG_WORDS);
-        }
-        AuditError::Refused(LogError::BadLine { place, mend, .. }) => {
-            say_line(errors, names, *place, mend.as_str());
-        }
-        AuditError::Refused(LogError::Empty | LogError::Memory) => {
-            let _ = writeln!(
-                errors,
-                "hourstable: the logs are empty; the first line must be the job line"
-            );
-        }
+        AuditError::Refused(error) => say_refused(errors, names, error),
         AuditError::Write => {
             let _ = say_write(errors);
         }

@@ -4,11 +4,13 @@ ghost use Rattle.std.specs.Prelude.{◌≡◌, ℕ, List, Option, map, string_by
 ghost use Rattle.std.specs.Process.{exit_status};
 ghost use Rattle.program_io.specs.Status.{status_after};
 ghost use Rattle.command.specs.Audits.{IsAuditEnd};
+ghost use Rattle.command.specs.Shows.{IsShowEnd};
 ghost use Rattle.clap.specs.Values.{kind_of};
 ghost use Rattle.command.specs.Endings.{Ends, EndsBy, EndsFor, IsHelped, IsOutcome, IsTold};
 
-use crate::arguments::{Asked, Request, Source, Subcommand, parse_words, version_text};
+use crate::arguments::{Asked, Misuse, Request, Source, Subcommand, parse_words, version_text};
 use crate::log_audit::{LogAudit, audit_named, say_error};
+use crate::log_showing::{LogShowing, show_named};
 use crate::script_run::run_lines;
 use crate::table_file::{keep_table, say_unknown, see_table};
 use clap::Error;
@@ -132,6 +134,49 @@ fn judge_logs<R: Read, W: Write, E: Write>(
     }
 }
 
+// Shows logs, reports why they cannot be shown, and returns the exit status.
+fn show_logs<R: Read, W: Write, E: Write>(
+    rt: &(impl Files + AllocGlobal),
+    showing: LogShowing<'_, '_>,
+    input: &mut R,
+    output: &mut W,
+    errors: &mut E,
+) -> u8
+    ensures { IsShowEnd (map (λ n. n.now) showing.entry.names.now) showing.entry.text showing.entry.view
+        (R.remaining input.old) (R.remaining input.new) (W.contents output.old) (W.contents output.new) result }
+{
+    match show_named(rt, showing, input, output, errors) {
+        Ok(true) => DONE,
+        Ok(false) => FAULT,
+        Err(error) => {
+            say_error(errors, showing.names, &error);
+            error.status()
+        }
+    }
+}
+
+// Reports words that do not go together, and returns the exit status.
+fn say_misuse<E: Write>(errors: &mut E, misuse: Misuse<'_>) -> u8
+    ensures { result ≡ 2 }
+{
+    let _ = match misuse {
+        Misuse::ForLogs(option) => {
+            writeln!(
+                errors,
+                "hourstable: error: --{option} is for logs, and needs --logs"
+            )
+        }
+        Misuse::ScriptAndLogs(file) => {
+            let file = Escaped(file);
+            writeln!(
+                errors,
+                "hourstable: error: {file} cannot be given with --logs"
+            )
+        }
+    };
+    REFUSED
+}
+
 // Does what is asked for and returns the exit status.
 fn do_asked<T: TableFiles, R: BufRead, W: Write, E: Write>(
     rt: &(impl Files + AllocGlobal),
@@ -161,6 +206,12 @@ fn do_asked<T: TableFiles, R: BufRead, W: Write, E: Write>(
             };
             judge_logs(rt, audit, input, output, errors)
         }
+        Asked::Show { names, text, view } => {
+            let names = names.as_slice();
+            let showing = LogShowing { names, text, view };
+            show_logs(rt, showing, input, output, errors)
+        }
+        Asked::Misused(misuse) => say_misuse(errors, misuse),
         Asked::Keep(keep) => keep_table(rt, tables, keep, input, output, errors),
         Asked::See { action, file } => {
             see_table(rt.alloc(), tables, action, file, output, errors)
@@ -208,7 +259,7 @@ fn tell<W: Write, E: Write>(alloc: Global, error: &Error, output: &mut W, errors
 ///
 /// The first word is the name of the program. Only results are written to `output`; failures are
 /// written to `errors`, each line after the name of the program. The status is 0 if the request is
-/// done, 1 if an audit finds that the calls are not one run, 2 if the words or the input are
+/// done, 1 if the calls of logs are not one run, 2 if the words or the input are
 /// refused or a file cannot be opened, and 3 if a stream or a save fails or memory runs out.
 pub fn do_words<T: TableFiles, R: BufRead, W: Write, E: Write>(
     rt: &(impl Files + AllocGlobal),

@@ -4,4 +4,4 @@ use Rattle.command.proofs.arguments.audit_from.Goals as goal
 
 pub returns : goal.returns
 returns c =
-    IfOk-weaker c.arg.result _ _ (λ r adds. one_argument _ _ _ _ _ c.in_ok-audit_drift.ensures c.state_argument.ensures adds) c.arg.ensures
+    IfOk-weaker c.arg.result _ _ (λ r adds. one_argument _ _ _ _ _ c.in_ok-audit_drift.ensures c.value_argument.ensures adds) c.arg.ensures
