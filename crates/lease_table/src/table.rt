@@ -11,6 +11,7 @@ ghost use Rattle.lease_table.specs.Steps.{grant_checks, standing_at, propose_che
 
 pub(crate) mod checks;
 mod keeping;
+mod resuming;
 
 use self::checks::any_written_has_more_owners;
 use crate::error::TableError;
