@@ -29,6 +29,8 @@ mod plans;
 #[cfg(test)]
 mod samples;
 #[cfg(test)]
+mod snapshots;
+#[cfg(test)]
 mod stamps;
 #[cfg(test)]
 mod task_calls;
