@@ -16,6 +16,7 @@ use Rattle.cluster.specs.Timing.{IsTimely}
 use Rattle.cluster.specs.Deliveries.{is_given}
 use Rattle.cluster.specs.Replies.{check_reply, reply_to}
 use Rattle.cluster.specs.Runs.{IsOutcome, IsReply, IsRun}
+use Rattle.cluster.specs.continued.Jobs.{from_start}
 use Rattle.cluster.proofs.Ruling.{run_before}
 use Rattle.cluster.proofs.LaterPoints.{timely_at_point}
 use Rattle.audit.specs.OneRun.{Turn, Fits, IsEventOf, IsPastOf}
@@ -99,7 +100,7 @@ point_of job before later turn past told run =
         whole = whole;
         told = s.told;
         fits = s.is.fits;
-        answered = run_before job s.later (event turn.call s.at.reply ∷ s.earlier) (subst (IsRun job) whole run);
+        answered = run_before (from_start job) s.later (event turn.call s.at.reply ∷ s.earlier) (subst (IsRun job) whole run);
         clocks = λ timely. timely_at_point job.policy.skew s.later (event turn.call s.at.reply ∷ s.earlier) (subst (λ (p : Past). IsTimely job.policy.skew (readings p)) whole timely);
       },
     )

@@ -7,7 +7,7 @@ use Rattle.std.proofs.lemmas.List.{get_or-set_other}
 use Rattle.std.proofs.lemmas.Grind.{get_or-set_at}
 use Rattle.std.proofs.lemmas.Option.{slice_get_within, get_or_from_slice_get, slice_get-get_or}
 use Rattle.machines.specs.Numbers.{is_within}
-use Rattle.cluster.specs.Clusters.{AreActors}
+use Rattle.cluster.specs.ActorLists.{AreActors}
 
 -- an actor at a place of its list is of the job
 pub within_at : (place number most : ℕ) → place + 1 ≡ number → place < most → is_within number most ≡ true

@@ -12,7 +12,7 @@ use Rattle.cluster.specs.declared.call.ClusterCall.TheVariants as call
 use Rattle.cluster.specs.declared.reply.ClusterReply.{ClusterReply}
 use Rattle.cluster.specs.declared.reply.ClusterReply.TheVariants as reply
 use Rattle.cluster.specs.Pasts.{Event, event, Past, is_accepted, table_calls, task_calls}
-use Rattle.cluster.specs.Deliveries.{notes_made}
+use Rattle.cluster.specs.Made.{notes_made}
 
 -- an event is an accepted call of the table
 pub record AddsTableCall (past : Past) (e : Event) : Type 0 where

@@ -9,13 +9,13 @@ use Rattle.slicelet.specs.declared.call.SliceletCall.{SliceletCall}
 use Rattle.slicelet.specs.declared.call.SliceletCall.TheVariants.{Start, Hear, Release, Resume}
 use Rattle.slicelet.specs.Rules.{covers_key}
 use Rattle.slicelet.specs.Laws.{AgreeOnCall, AgreeOnHeard}
-use Rattle.cluster.specs.Jobs.{Job}
+use Rattle.cluster.specs.continued.Jobs.{Continued}
 use Rattle.cluster.specs.Pasts.{Past, table_calls, task_calls}
-use Rattle.cluster.specs.Replies.{covers}
-use Rattle.cluster.specs.Runs.{IsRun}
+use Rattle.cluster.specs.Answers.{covers}
+use Rattle.cluster.specs.continued.Runs.{IsRun}
 use Rattle.cluster.proofs.Sending.{HearsSent, all_heard_sent}
 
-pub agree : (job : Job) (past : Past) (task key : ℕ) → IsRun job past
+pub agree : (job : Continued) (past : Past) (task key : ℕ) → IsRun job past
     → ((grant : Grant) → IsSent (table_calls past) grant → has grant.lease.ranges key ≡ covers_by_owners (table_calls past) key grant)
     → AgreeOnHeard (covers_key key) (covers past key) (task_calls task past)
 agree job past task key run same =

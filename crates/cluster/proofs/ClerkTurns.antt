@@ -21,7 +21,7 @@ use Rattle.clerk.specs.Calls.{clerk_step}
 use Rattle.clerk.specs.Memory.{takes_memory}
 use Rattle.clerk.specs.Knowledge.{accepted_with, greater, greatest_of}
 use Rattle.std.specs.declared.alloc.AllocError.{AllocError}
-use Rattle.cluster.specs.Jobs.{Job}
+use Rattle.cluster.specs.continued.Jobs.{Continued, Counts}
 use Rattle.cluster.specs.declared.error.ClusterError.{ClusterError}
 use Rattle.cluster.specs.declared.error.ClusterError.TheVariants as error
 use Rattle.cluster.specs.declared.call.ClusterCall.TheVariants as call
@@ -29,11 +29,14 @@ use Rattle.cluster.specs.declared.reply.ClusterReply.{ClusterReply}
 use Rattle.cluster.specs.declared.reply.ClusterReply.TheVariants as reply
 use Rattle.cluster.specs.declared.cluster.Cluster.{Cluster}
 use Rattle.cluster.specs.Pasts.{event, Past, history, learnt_by, newest_learnt}
-use Rattle.cluster.specs.Deliveries.{clerk_refusal}
-use Rattle.cluster.specs.Replies.{unless, from_machine, look_reply, reply_to}
-use Rattle.cluster.specs.Clusters.{AreActors, LeadsTo, IsPlayed}
+use Rattle.cluster.specs.continued.Deliveries.{clerk_refusal}
+use Rattle.cluster.specs.Answers.{unless, from_machine, look_reply}
+use Rattle.cluster.specs.continued.Replies.{reply_to}
+use Rattle.cluster.specs.ActorLists.{AreActors}
+use Rattle.cluster.specs.continued.Clusters.{LeadsTo, IsPlayed}
 use Rattle.cluster.specs.internals.Turns.{told_as}
 use Rattle.cluster.proofs.ActorLists.{of_job, actor_at, actors_set}
+use Rattle.cluster.proofs.Keeping.{after_same, since_same, steady_same, steady_next, note_known, handle_known}
 use Rattle.cluster.proofs.Playing.{IsSameBesideClerks, taken, untaken, only_told}
 use Rattle.cluster.proofs.TaskTurns.{by_own}
 use Rattle.cluster.proofs.Turning.{stays, left_is}
@@ -67,7 +70,7 @@ other_next : (past : Past) (clerk n : ℕ) (c : ClerkCall) (told : ClerkReply) �
     → newest_learnt n past ≡ newest_learnt n (event (call.Clerk clerk c) (reply.Clerk told) ∷ past)
 other_next past clerk n c told other = let test : (clerk == n) ≡ false = grind (arith, nat_tests) in rw test refl
 
-module _ (job : Job) (past : Past) (clerk place : ℕ) (c : ClerkCall) (old new : Cluster) (number : place + 1 ≡ clerk) (came : clerk_refusal past c ≡ None) (k : LeadsTo job past old)
+module _ (job : Continued) (past : Past) (clerk place : ℕ) (c : ClerkCall) (old new : Cluster) (number : place + 1 ≡ clerk) (came : clerk_refusal job.forgotten past c ≡ None) (k : LeadsTo job past old)
     (before after : Option Slicing) (found : before ≡ get_or old.clerks.items place before) (within : place < length old.clerks.items) where
   at_place : before ≡ newest_learnt clerk past
   unfolding LeadsTo
@@ -98,17 +101,22 @@ module _ (job : Job) (past : Past) (clerk place : ℕ) (c : ClerkCall) (old new 
         clerks = subst (λ (xs : List (Option Slicing)). AreActors (λ n. newest_learnt n past_now) job.clerks xs) (sym clerks)
             (actors_set (λ n. newest_learnt n past) (λ n. newest_learnt n past_now) job.clerks old.clerks.items k.clerks place within after now
             (λ i other. other_next past clerk (i + 1) c told (λ same. other (omega arith))));
-        grants = same.grants ∙ k.grants;
-        notes = same.notes ∙ k.notes;
-        handles = same.handles ∙ k.handles;
-        known_notes = λ note. same.known_notes note ∙ k.known_notes note;
-        known_handles = λ handle. same.known_handles handle ∙ k.known_handles handle;
-        proposals = same.proposals ∙ k.proposals;
+        grants = after_same _ _ _ _ _ (ap (λ (c : Counts). c.grants) same.earlier) same.grants k.grants;
+        notes = since_same _ _ _ _ _ (ap (λ (c : Counts). c.notes) same.earlier) same.notes k.notes;
+        handles = since_same _ _ _ _ _ (ap (λ (c : Counts). c.handles) same.earlier) same.handles k.handles;
+        proposals = after_same _ _ _ _ _ (ap (λ (c : Counts). c.proposals) same.earlier) same.proposals k.proposals;
+        earlier_notes = ap (λ (c : Counts). c.notes) same.earlier ∙ k.earlier_notes;
+        earlier_handles = ap (λ (c : Counts). c.handles) same.earlier ∙ k.earlier_handles;
+        known_notes = λ note. same.known_notes note ∙ k.known_notes note ∙ sym (note_known job past old.earlier k.steady (call.Clerk clerk c) (reply.Clerk told) note refl);
+        known_handles = λ handle.
+            same.known_handles handle ∙ k.known_handles handle ∙ sym (handle_known job past old.earlier k.steady (call.Clerk clerk c) (reply.Clerk told) handle refl);
+        steady = steady_same job past_now old.earlier (steady_next job past old.earlier k.steady (event (call.Clerk clerk c) (reply.Clerk told))) new.earlier same.earlier;
       }
   clerk_played (Err trouble) took memory clerks same =
       untaken job past (call.Clerk clerk c) error.Clerk reply.Clerk (clerk_step (newest_learnt clerk past) c) reply_is tt old new before after trouble k
       (record {
         job = same.job;
+        earlier = same.earlier;
         table = same.table;
         tasks = same.tasks;
         clerks = clerks ∙ ap (set old.clerks.items place) (stays (clerk_step before c) before after trouble took ∙ found) ∙ set-get_or old.clerks.items place before;
@@ -121,7 +129,7 @@ module _ (job : Job) (past : Past) (clerk place : ℕ) (c : ClerkCall) (old new 
       }) (subst (λ (s : Option Slicing). Takes (clerk_step s c) before (Err trouble) after) at_place took) memory (λ r. refl)
 
 -- a call that comes to its clerk
-pub clerk_turn : (job : Job) (past : Past) (clerk place : ℕ) (c : ClerkCall) (old new : Cluster) → place + 1 ≡ clerk → clerk_refusal past c ≡ None → LeadsTo job past old
+pub clerk_turn : (job : Continued) (past : Past) (clerk place : ℕ) (c : ClerkCall) (old new : Cluster) → place + 1 ≡ clerk → clerk_refusal job.forgotten past c ≡ None → LeadsTo job past old
     → (before after : Option Slicing) → before ≡ get_or old.clerks.items place before → place < length old.clerks.items
     → (answer : Result ClerkReply (Trouble ClerkError)) → Takes (clerk_step before c) before answer after → IfErr answer (λ trouble. trouble ≡ NoMemory → takes_memory c ≡ true)
     → new.clerks.items ≡ set old.clerks.items place after → IsSameBesideClerks old new
@@ -131,13 +139,13 @@ clerk_turn job past clerk place c old new number came k before after found withi
     (clerk_played job past clerk place c old new number came k before after found within answer took memory clerks same)
 
 -- the clerk of a place is of the job
-pub inside_job : (job : Job) (past : Past) (clerk place : ℕ) (cluster : Cluster) → LeadsTo job past cluster → place + 1 ≡ clerk → place < length cluster.clerks.items
+pub inside_job : (job : Continued) (past : Past) (clerk place : ℕ) (cluster : Cluster) → LeadsTo job past cluster → place + 1 ≡ clerk → place < length cluster.clerks.items
     → is_within clerk job.clerks ≡ true
 unfolding LeadsTo
 inside_job job past clerk place cluster k number within = of_job (λ n. newest_learnt n past) job.clerks cluster.clerks.items k.clerks place clerk number within
 
 -- a clerk is asked for a key
-pub look_played : (job : Job) (past : Past) (clerk key place : ℕ) (cluster : Cluster) → LeadsTo job past cluster → place + 1 ≡ clerk → place < length cluster.clerks.items
+pub look_played : (job : Continued) (past : Past) (clerk key place : ℕ) (cluster : Cluster) → LeadsTo job past cluster → place + 1 ≡ clerk → place < length cluster.clerks.items
     → (known : Option Slicing) → known ≡ get_or cluster.clerks.items place known → (told : ClusterReply) → told ≡ look_reply (look_at known key)
     → IsPlayed job past (call.Look clerk key) (Ok told) cluster
 unfolding LeadsTo

@@ -48,6 +48,16 @@ module _ (grants : List Grant) (place : (i : ℕ) → grant_numbered (i + 1) gra
       let same : grant.number - 1 ≡ i = omega (arith, number) in
       rw (some, same) here
 
+  -- a grant has the number by which it is found
+  pub numbered_as : (number : ℕ) (grant : Grant) → with_number number grants ≡ Some grant → grant.number ≡ number
+  numbered_as number grant e = by_test (number == 0) refl e
+    where
+      by_test : (b : Bool) → (number == 0) ≡ b → (if b then None else slice_get grants (number - 1)) ≡ Some grant → grant.number ≡ number
+      by_test true is e = absurd (cc)
+      by_test false is e =
+          let next : number - 1 + 1 ≡ number = grind (arith, nat_tests, is) in
+          (found (number - 1 + 1) grant (place (number - 1) ∙ e)).1 ∙ next
+
   pub sent_by_number : (grant : Grant) → is_grant grant (with_number grant.number grants) ≡ list_any (grant_eq grant) grants
   sent_by_number grant = by_test (list_any (grant_eq grant) grants) refl
     where
@@ -70,3 +80,8 @@ module _ (grants : List Grant) (place : (i : ℕ) → grant_numbered (i + 1) gra
           let among : Contains grants grant = is_member grant_eq equal_grants grant grants (sym t) in
           ap (is_grant grant) (numbered_own grant among) ∙ same_grant grant
       by_test false t = by_found (with_number grant.number grants) refl t
+
+  -- the same of a grant that is kept or not
+  pub known_by_number : (b : Bool) (grant : Grant) → is_grant grant (if b then None else with_number grant.number grants) ≡ (if b then false else list_any (grant_eq grant) grants)
+  known_by_number true grant = refl
+  known_by_number false grant = sent_by_number grant

@@ -14,15 +14,15 @@ use Rattle.slicelet.specs.States.{SliceletState}
 use Rattle.slicelet.specs.Rules.{is_permitted}
 use Rattle.slicelet.specs.Continuity.{handle_on, held_by, IsContinuous, is_strange, next_reading}
 use Rattle.slicelet.specs.Laws.{AgreeOnHeard}
-use Rattle.cluster.specs.Jobs.{Job}
+use Rattle.cluster.specs.continued.Jobs.{Continued, job_in}
 use Rattle.cluster.specs.declared.error.ClusterError.TheVariants as error
 use Rattle.cluster.specs.declared.call.ClusterCall.TheVariants as call
 use Rattle.cluster.specs.declared.reply.ClusterReply.TheVariants as reply
 use Rattle.cluster.specs.Timing.{IsTimely}
 use Rattle.cluster.specs.Pasts.{Event, event, Past, readings, task_calls, history}
-use Rattle.cluster.specs.Deliveries.{is_given}
-use Rattle.cluster.specs.Replies.{covers, rule_in, hold_reply, check_reply}
-use Rattle.cluster.specs.Runs.{IsReply, IsRun}
+use Rattle.cluster.specs.continued.Deliveries.{knows_handle}
+use Rattle.cluster.specs.Answers.{covers, rule_in, hold_reply, check_reply}
+use Rattle.cluster.specs.continued.Runs.{IsReply, IsRun}
 use Rattle.cluster.specs.Headline.{MayServe, IsWhileHeld}
 use Rattle.slicelet.proofs.Processes.{IsWithinLife, continuous_in_life}
 use Rattle.cluster.proofs.TaskAcceptance.{accepted_calls}
@@ -38,7 +38,7 @@ Agreeing = (covers other : Grant → Bool) (h : List SliceletCall) (at : ℕ) �
     → is_permitted covers h at ≡ is_permitted other h at
 
 -- what the laws say that the interval rests on
-pub record HasLaws (job : Job) : Type 0 where
+pub record HasLaws (job : Continued) : Type 0 where
   pub between : Between
   pub agreeing : Agreeing
   pub keeps : KeepsGenerations job
@@ -46,13 +46,13 @@ pub record HasLaws (job : Job) : Type 0 where
 -- A HANDLE THAT IS CONTINUOUS AT A LATER POINT
 
 -- a task took a handle after an earlier past, and finds it continuous after a whole one, at a reading near to it
-record IsKept (job : Job) (whole before : Past) (task at : ℕ) (handle : KeyHandle) : Type 0 where
+record IsKept (job : Continued) (whole before : Past) (task at : ℕ) (handle : KeyHandle) : Type 0 where
   life : handle.life ≡ life_of (task_calls task before)
   position : handle.position ≡ count_of (task_calls task before)
   continuous : IsContinuous (covers whole handle.key) (task_calls task whole) handle at
   near : IsNearTo job.policy.skew whole at
 
-module _ (job : Job) (laws : HasLaws job) (rest since before : Past) (task at : ℕ) (handle : KeyHandle) (run : IsRun job (rest ++ (since ++ before))) where
+module _ (job : Continued) (laws : HasLaws job) (rest since before : Past) (task at : ℕ) (handle : KeyHandle) (run : IsRun job (rest ++ (since ++ before))) where
   abbrev point : Past
   point = since ++ before
 
@@ -73,7 +73,7 @@ module _ (job : Job) (laws : HasLaws job) (rest since before : Past) (task at : 
       let seen_later = subst (λ (calls : List SliceletCall). is_permitted covering calls r ≡ true) (sym past.parts) kept in
       (of_life.later_calls, sym (laws.agreeing covering (covers point handle.key) now r (agree_later job laws.keeps rest point handle.key run task)) ∙ seen_later)
 
-  serves_there : IsKept job (rest ++ point) before task at handle → IsTimely job.policy.skew (readings (rest ++ point)) → MayServe job point task handle.key
+  serves_there : IsKept job (rest ++ point) before task at handle → IsTimely job.policy.skew (readings (rest ++ point)) → MayServe (job_in job) point task handle.key
   serves_there k timely =
       let skew = job.policy.skew in
       let near = near_before skew at rest point k.near in
@@ -90,7 +90,7 @@ hold_told true (Deny why) made handle e = absurd (cc)
 hold_told false v made handle e = absurd (cc)
 
 -- a `hold` that is told a handle is told the one that its task takes
-hold_taken : (job : Job) (past : Past) (task key at : ℕ) (handle : KeyHandle) → IsReply job past (event (call.Hold task key at) (reply.Holding handle))
+hold_taken : (job : Continued) (past : Past) (task key at : ℕ) (handle : KeyHandle) → IsReply job past (event (call.Hold task key at) (reply.Holding handle))
     → handle_on key (history task past) ≡ handle
 hold_taken job past task key at handle h = hold_told (is_within task job.tasks) (rule_in past task key at) (handle_on key (history task past)) handle h.2
 
@@ -118,13 +118,13 @@ record IsFound (past : Past) (task at : ℕ) (handle : KeyHandle) : Type 0 where
   own : handle.task ≡ task
   continuous : IsContinuous (covers past handle.key) (task_calls task past) handle at
 
-check_found : (job : Job) (past : Past) (task at : ℕ) (handle : KeyHandle) → IsReply job past (event (call.Check task handle at) reply.Continuous)
+check_found : (job : Continued) (past : Past) (task at : ℕ) (handle : KeyHandle) → IsReply job past (event (call.Check task handle at) reply.Continuous)
     → IsFound past task at handle
 check_found job past task at handle h =
-    let told = check_told (is_within task job.tasks) (is_given past handle) (is_strange (history task past) handle) h.0 h.2 in
+    let told = check_told (is_within task job.tasks) (knows_handle job.forgotten past handle) (is_strange (history task past) handle) h.0 h.2 in
     record { own = familiar_task (history task past) handle told.2; continuous = (h.1 told.0 told.1 told.2).0 told.3 }
 
-module _ (job : Job) (task by key from at : ℕ) (handle : KeyHandle) (between before : Past) where
+module _ (job : Continued) (task by key from at : ℕ) (handle : KeyHandle) (between before : Past) where
   abbrev made : Past
   made = event (call.Hold by key from) (reply.Holding handle) ∷ before
 
@@ -143,7 +143,7 @@ module _ (job : Job) (task by key from at : ℕ) (handle : KeyHandle) (between b
         near = (tt, timely.0);
       }
 
-module _ (job : Job) (run past : Past) (task : ℕ) (handle : KeyHandle) (held : IsWhileHeld run past task handle) where
+module _ (job : Continued) (run past : Past) (task : ℕ) (handle : KeyHandle) (held : IsWhileHeld run past task handle) where
   whole : run ≡ held.later ++ (held.rest ++ past)
   whole = held.whole ∙ ap (λ (p : Past). held.later ++ p) held.up_to_check
 
@@ -163,7 +163,7 @@ module _ (job : Job) (run past : Past) (task : ℕ) (handle : KeyHandle) (held :
       ∙ ap (λ (e : Event). event (call.Check task handle held.checks.at) reply.Continuous ∷ (held.between ++ e ∷ held.before)) held.holds.is)
       ∙ (held.up_to_check ∙ ap (λ (p : Past). held.rest ++ p) held.from_hold)
 
-  pub serves_between : HasLaws job → IsRun job run → IsTimely job.policy.skew (readings run) → MayServe job past task handle.key
+  pub serves_between : HasLaws job → IsRun job run → IsTimely job.policy.skew (readings run) → MayServe (job_in job) past task handle.key
   serves_between laws is_run timely =
       let skew = job.policy.skew in
       let h = held.holds in
@@ -173,5 +173,5 @@ module _ (job : Job) (run past : Past) (task : ℕ) (handle : KeyHandle) (held :
       let k = kept job task h.task h.key h.at held.checks.at handle held.between held.before
       (subst (IsRun job) (sym same_run) to_check) (subst (λ (p : Past). IsTimely skew (readings p)) (sym same_run) on_time) in
       let there = subst (λ (p : Past). IsKept job p held.before task held.checks.at handle) same_run k in
-      subst (λ (p : Past). MayServe job p task handle.key) (sym held.from_hold)
+      subst (λ (p : Past). MayServe (job_in job) p task handle.key) (sym held.from_hold)
       (serves_there job laws held.rest held.since held.before task held.checks.at handle to_check there on_time)

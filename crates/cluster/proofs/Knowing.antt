@@ -8,7 +8,7 @@ use Rattle.lease_rule.specs.declared.lease.Kind.TheVariants.{Guard, Bridge}
 use Rattle.lease_rule.specs.Leases.{same_kind}
 use Rattle.lease_table.specs.declared.values.ReleaseNote.{ReleaseNote}
 use Rattle.slicelet.specs.declared.handle.KeyHandle.{KeyHandle}
-use Rattle.cluster.specs.Deliveries.{same_note, same_handle}
+use Rattle.cluster.specs.Made.{same_note, same_handle}
 
 four : (a b c d p q r s : Bool) → a ≡ p → b ≡ q → c ≡ r → d ≡ s → (a && (b && (c && d))) ≡ (p && (q && (r && s)))
 four a b c d p q r s e f g h = rw (e, f, g, h) refl

@@ -18,13 +18,13 @@ use Rattle.slicelet.specs.declared.call.SliceletCall.TheVariants.{Start, Hear, R
 use Rattle.slicelet.specs.Calls.{ends_life, clock_reading, reading_of}
 use Rattle.slicelet.specs.Continuity.{next_reading}
 use Rattle.slicelet.specs.Laws.{AgreeOnCall, AgreeOnHeard}
-use Rattle.cluster.specs.Jobs.{Job}
+use Rattle.cluster.specs.continued.Jobs.{Continued}
 use Rattle.cluster.specs.declared.timing.Reading.{Reading}
 use Rattle.cluster.specs.declared.timing.Reading.TheVariants.{TaskClock}
 use Rattle.cluster.specs.Timing.{IsNear, IsTimely}
 use Rattle.cluster.specs.Pasts.{Event, Past, at_task, reading, readings, table_calls, task_calls}
-use Rattle.cluster.specs.Replies.{covers}
-use Rattle.cluster.specs.Runs.{IsRun}
+use Rattle.cluster.specs.Answers.{covers}
+use Rattle.cluster.specs.continued.Runs.{IsRun}
 use Rattle.slicelet.proofs.Processes.{IsWithinLife}
 use Rattle.cluster.proofs.Adding.{AddsTaskCall, adds_to_task}
 use Rattle.cluster.proofs.Sending.{HearsSent, all_heard_sent}
@@ -123,12 +123,12 @@ module _ (calls other : List AnsweredTableCall) (key : ℕ) (grant : Grant)
       ∙ ap (λ (b : Bool). owns_in other (grant.lease.generation - 1) key grant.task && b) (same_owner grant.lease.generation (omega arith))
 
 -- the slices of a known generation never change, and a grant that was sent is of one
-pub record KeepsGenerations (job : Job) : Type 0 where
+pub record KeepsGenerations (job : Continued) : Type 0 where
   pub known : (later past : Past) (generation : ℕ) → IsRun job (later ++ past) → generation ≤ newest_generation (table_calls past)
       → assignment_in generation (table_calls (later ++ past)) ≡ assignment_in generation (table_calls past)
   pub newest : (past : Past) (grant : Grant) → IsRun job past → IsSent (table_calls past) grant → grant.lease.generation ≤ newest_generation (table_calls past)
 
-module _ (job : Job) (keeps : KeepsGenerations job) (more past : Past) (key : ℕ) (run : IsRun job (more ++ past)) where
+module _ (job : Continued) (keeps : KeepsGenerations job) (more past : Past) (key : ℕ) (run : IsRun job (more ++ past)) where
   agree_heard : (c : SliceletCall) → HearsSent (table_calls past) c → AgreeOnCall (covers (more ++ past) key) (covers past key) c
   agree_heard (Start life at) h = tt
   agree_heard (Hear grant at) h =

@@ -15,7 +15,10 @@ pub mod Holding
 pub mod ActorLists
 pub mod Publishing
 pub mod Knowing
+pub mod Keeping
 pub mod Playing
+pub mod KeptNumbers
+pub mod Remembering
 pub mod Turning
 pub mod TableTurns
 pub mod TaskStates
@@ -26,3 +29,5 @@ pub mod Looking
 pub mod Stopping
 pub mod Readings
 pub mod Numbering
+pub mod SnapshotChecks
+pub mod Rebuilding

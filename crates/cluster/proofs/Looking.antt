@@ -14,19 +14,24 @@ use Rattle.slicelet.specs.Accepted.{StandsAfter}
 use Rattle.slicelet.specs.Rules.{covers_key, rule_after}
 use Rattle.slicelet.specs.Laws.{AgreeOnHeard}
 use Rattle.slicelet.specs.Continuity.{handle_on, held_by, is_strange, IsChecked, IsContinuous}
-use Rattle.cluster.specs.Jobs.{Job}
+use Rattle.cluster.specs.continued.Jobs.{Continued, Counts}
 use Rattle.cluster.specs.declared.error.ClusterError.TheVariants as error
 use Rattle.cluster.specs.declared.call.ClusterCall.TheVariants as call
 use Rattle.cluster.specs.declared.reply.ClusterReply.{ClusterReply}
 use Rattle.cluster.specs.declared.reply.ClusterReply.TheVariants as reply
 use Rattle.cluster.specs.declared.cluster.Cluster.{Cluster}
 use Rattle.cluster.specs.Pasts.{event, Past, task_calls, history, newest_learnt}
-use Rattle.cluster.specs.Deliveries.{handles_made, same_handle, is_given}
-use Rattle.cluster.specs.Replies.{covers, rule_in, hold_reply, familiar, check_reply, reply_to}
-use Rattle.cluster.specs.Memory.{gives_handle, MayRunOut}
-use Rattle.cluster.specs.Runs.{IsReply}
-use Rattle.cluster.specs.Clusters.{AreActors, LeadsTo}
+use Rattle.cluster.specs.Made.{same_handle}
+use Rattle.cluster.specs.continued.Deliveries.{knows_handle}
+use Rattle.cluster.specs.Answers.{covers, rule_in, hold_reply, familiar, check_reply}
+use Rattle.cluster.specs.continued.Replies.{reply_to}
+use Rattle.cluster.specs.TakingMemory.{gives_handle}
+use Rattle.cluster.specs.continued.Memory.{MayRunOut}
+use Rattle.cluster.specs.continued.Runs.{IsReply}
+use Rattle.cluster.specs.ActorLists.{AreActors}
+use Rattle.cluster.specs.continued.Clusters.{LeadsTo}
 use Rattle.cluster.proofs.Knowing.{same_handle_turned}
+use Rattle.cluster.proofs.Keeping.{after_same, since_same, since_front, steady_same, steady_next, note_known}
 use Rattle.cluster.proofs.Playing.{IsSame, IsSameBesideHandles, kept_same}
 use Rattle.cluster.proofs.Turning.{reversed_more}
 use Rattle.cluster.proofs.ActorLists.{of_job, actor_at}
@@ -34,12 +39,12 @@ use Rattle.cluster.proofs.TaskAcceptance.{accepted_calls}
 use Rattle.cluster.proofs.TaskTurns.{by_own}
 
 -- the slicelet at a place is that of its task, which is of the job
-pub record OwnTask (job : Job) (past : Past) (task : ℕ) (s : SliceletState) : Type 0 where
+pub record OwnTask (job : Continued) (past : Past) (task : ℕ) (s : SliceletState) : Type 0 where
   pub inside : is_within task job.tasks ≡ true
   pub is : s ≡ history task past
   pub stands : StandsAfter (task_calls task past) s
 
-pub own_task : (job : Job) (past : Past) (task place : ℕ) (cluster : Cluster) (s : SliceletState) → LeadsTo job past cluster → place + 1 ≡ task
+pub own_task : (job : Continued) (past : Past) (task place : ℕ) (cluster : Cluster) (s : SliceletState) → LeadsTo job past cluster → place + 1 ≡ task
     → place < length cluster.tasks.items → s ≡ get_or cluster.tasks.items place s → OwnTask job past task s
 unfolding LeadsTo
 own_task job past task place cluster s k number within found =
@@ -52,7 +57,7 @@ own_task job past task place cluster s k number within found =
     }
 
 -- the rule of a slicelet is that of the owners
-module _ (job : Job) (past : Past) (task key at : ℕ) (s : SliceletState) (own : OwnTask job past task s) (same : AgreeOnHeard (covers_key key) (covers past key) (task_calls task past))
+module _ (job : Continued) (past : Past) (task key at : ℕ) (s : SliceletState) (own : OwnTask job past task s) (same : AgreeOnHeard (covers_key key) (covers past key) (task_calls task past))
     (law : AgreeOnHeard (covers_key key) (covers past key) (task_calls task past)
     → rule_after (covers_key key) (task_calls task past) at ≡ rule_after (covers past key) (task_calls task past) at) where
   rule_is : rule_in_state (covers_key key) s at ≡ rule_in past task key at
@@ -69,7 +74,7 @@ module _ (job : Job) (past : Past) (task key at : ℕ) (s : SliceletState) (own 
       ∙ sym (ap hold_reply e ∙ ap (λ (v : Verdict). hold_reply (held_by v (handle_on key s))) rule_is ∙ ap (λ (x : SliceletState). hold_reply (held_by (rule_in past task key at) (handle_on key x))) own.is)
 
 -- a check of a handle
-module _ (job : Job) (past : Past) (task at : ℕ) (handle : KeyHandle) (s : SliceletState) (own : OwnTask job past task s) (given : is_given past handle ≡ true) (kept : Result Bool Stranger)
+module _ (job : Continued) (past : Past) (task at : ℕ) (handle : KeyHandle) (s : SliceletState) (own : OwnTask job past task s) (given : knows_handle job.forgotten past handle ≡ true) (kept : Result Bool Stranger)
     (found : IsChecked s.task (task_calls task past) handle at kept) where
   found_by_task : IsChecked task (task_calls task past) handle at kept
   found_by_task = subst (λ (n : ℕ). IsChecked n (task_calls task past) handle at kept) (ap (λ (x : SliceletState). x.task) own.is) found
@@ -95,12 +100,17 @@ module _ (job : Job) (past : Past) (task at : ℕ) (handle : KeyHandle) (s : Sli
       let h : IsChecked task (task_calls task past) handle at (Err why) = subst (λ (r : Result Bool Stranger). IsChecked task (task_calls task past) handle at r) is found_by_task in
       (false, λ within made known. absurd (let f : true ≡ false = sym h ∙ known in cc), sym (check_is true false h))
 
-given_more : (handle other : KeyHandle) (before : Bool) (handles : List KeyHandle) → before ≡ list_any (same_handle other) handles
-    → (same_handle handle other || before) ≡ list_any (same_handle other) (handle ∷ handles)
-given_more handle other before handles e = rw (e, same_handle_turned handle other) refl
+given_more : (handle other : KeyHandle) (before after : Bool) → before ≡ after → (same_handle handle other || before) ≡ (list_any (same_handle other) (handle ∷ []) || after)
+given_more handle other before after e = ap (λ (b : Bool). same_handle handle other || b) e ∙ by_test (same_handle handle other) (same_handle other handle) (same_handle_turned handle other)
+  where
+    by_test : (a b : Bool) → a ≡ b → (a || after) ≡ ((b || false) || after)
+    by_test true true same = refl
+    by_test false false same = refl
+    by_test true false same = absurd (cc)
+    by_test false true same = absurd (cc)
 
 -- a handle that is taken is one more
-pub held_leads : (job : Job) (past : Past) (task key at : ℕ) (handle : KeyHandle) (old new : Cluster) → LeadsTo job past old
+pub held_leads : (job : Continued) (past : Past) (task key at : ℕ) (handle : KeyHandle) (old new : Cluster) → LeadsTo job past old
     → new.handles.items ≡ old.handles.items ++ handle ∷ [] → IsSameBesideHandles old new
     → ((other : KeyHandle) → contains same_handle new.known_handles other ≡ (same_handle handle other || contains same_handle old.known_handles other)) → reply.Holding handle ≡ reply_to job past (call.Hold task key at) true
     → LeadsTo job (event (call.Hold task key at) (reply.Holding handle) ∷ past) new
@@ -112,16 +122,24 @@ held_leads job past task key at handle old new k more same known is = record {
   table = same.table ∙ k.table;
   tasks = subst (λ (xs : List SliceletState). AreActors (λ n. history n past) job.tasks xs) (sym same.tasks) k.tasks;
   clerks = subst (λ (xs : List (Option Slicing)). AreActors (λ n. newest_learnt n past) job.clerks xs) (sym same.clerks) k.clerks;
-  grants = same.grants ∙ k.grants;
-  notes = same.notes ∙ k.notes;
-  handles = ap (λ (xs : List KeyHandle). reverse xs) more ∙ reversed_more old.handles.items handle ∙ ap (λ (xs : List KeyHandle). handle ∷ xs) k.handles;
-  known_notes = λ note. same.known_notes note ∙ k.known_notes note;
-  known_handles = λ other. known other ∙ given_more handle other (contains same_handle old.known_handles other) (handles_made past) (k.known_handles other);
-  proposals = same.proposals ∙ k.proposals;
+  grants = after_same _ _ _ _ _ (ap (λ (c : Counts). c.grants) same.earlier) same.grants k.grants;
+  notes = since_same _ _ _ _ _ (ap (λ (c : Counts). c.notes) same.earlier) same.notes k.notes;
+  handles = since_same _ _ _ _ _ (ap (λ (c : Counts). c.handles) same.earlier)
+      (ap (λ (xs : List KeyHandle). reverse xs) more ∙ reversed_more old.handles.items handle) (since_front _ _ _ (handle ∷ []) k.handles);
+  proposals = after_same _ _ _ _ _ (ap (λ (c : Counts). c.proposals) same.earlier) same.proposals k.proposals;
+  earlier_notes = ap (λ (c : Counts). c.notes) same.earlier ∙ k.earlier_notes;
+  earlier_handles = ap (λ (c : Counts). c.handles) same.earlier ∙ k.earlier_handles;
+  known_notes = λ note.
+      same.known_notes note ∙ k.known_notes note ∙ sym (note_known job past old.earlier k.steady (call.Hold task key at) (reply.Holding handle) note refl);
+  known_handles = λ other.
+      known other ∙ given_more handle other (contains same_handle old.known_handles other) (knows_handle job.forgotten past other) (k.known_handles other)
+      ∙ sym (k.steady.handles [] (event (call.Hold task key at) (reply.Holding handle)) other);
+  steady = steady_same job (event (call.Hold task key at) (reply.Holding handle) ∷ past) old.earlier
+      (steady_next job past old.earlier k.steady (event (call.Hold task key at) (reply.Holding handle))) new.earlier same.earlier;
 }
 
 -- where there is no memory for it, nothing changed
-pub hold_out_of_memory : (job : Job) (past : Past) (task key at : ℕ) (handle : KeyHandle) (old new : Cluster) → LeadsTo job past old → IsSame old new
+pub hold_out_of_memory : (job : Continued) (past : Past) (task key at : ℕ) (handle : KeyHandle) (old new : Cluster) → LeadsTo job past old → IsSame old new
     → ((kept : Bool) → reply_to job past (call.Hold task key at) kept ≡ reply.Holding handle)
     → LeadsTo job past new × MayRunOut job past (call.Hold task key at)
 unfolding LeadsTo

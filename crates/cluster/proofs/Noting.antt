@@ -21,16 +21,17 @@ use Rattle.lease_rule.specs.declared.lease.Kind.TheVariants.{Guard, Bridge}
 use Rattle.slicelet.specs.Steps.{ended_note}
 use Rattle.slicelet.specs.Accepted.{notes_of, notes_after, notes_sent}
 use Rattle.slicelet.proofs.Standing.{SendsNotes, sends_notes}
-use Rattle.cluster.specs.Jobs.{Job}
+use Rattle.cluster.specs.continued.Jobs.{Continued}
 use Rattle.cluster.specs.declared.error.ClusterError.TheVariants as error
 use Rattle.cluster.specs.declared.call.ClusterCall.TheVariants as call
 use Rattle.cluster.specs.declared.reply.ClusterReply.TheVariants as reply
 use Rattle.cluster.specs.Pasts.{Event, event, Past, table_calls, task_calls, history}
-use Rattle.cluster.specs.Deliveries.{notes_made, same_note, is_made, table_refusal}
-use Rattle.cluster.specs.Runs.{IsReply, IsRun}
+use Rattle.cluster.specs.Made.{notes_made, same_note, is_made}
+use Rattle.cluster.specs.continued.Deliveries.{knows_note, table_refusal}
+use Rattle.cluster.specs.continued.Runs.{IsReply, IsRun}
 use Rattle.cluster.specs.Promises.{IsNoteOf}
 use Rattle.cluster.proofs.Sameness.{equal_notes, is_member}
-use Rattle.cluster.proofs.Taking.{unless_true, table_taken, task_taken}
+use Rattle.cluster.proofs.Taking.{known_made, unless_true, table_taken, task_taken}
 use Rattle.cluster.proofs.Adding.{adds_to_table, adds_to_task, adds_to_notes}
 
 pub member : {X : Type 0} (P : X → Type 0) (xs : List X) (x : X) → AllByRecursion P xs → Contains xs x → P x
@@ -80,7 +81,7 @@ new_notes past task c told (note ∷ notes) front sent own =
       new_notes past task c told notes (front ++ note ∷ []) (sent ∙ ap (λ (xs : List ReleaseNote). xs ++ calls) (sym (append_assoc front (note ∷ []) notes))) own.1,
     )
 
-made_now : (job : Job) (past : Past) (task : ℕ) (c : SliceletCall) (told : SliceletReply) → IsReply job past (event (call.Task task c) (reply.Task told))
+made_now : (job : Continued) (past : Past) (task : ℕ) (c : SliceletCall) (told : SliceletReply) → IsReply job past (event (call.Task task c) (reply.Task told))
     → AllByRecursion (IsNoteOf (event (call.Task task c) (reply.Task told) ∷ past)) (notes_of told)
 made_now job past task c told h =
     let t = task_taken job past task c (reply.Task told) h refl in
@@ -93,7 +94,7 @@ all_with : {X : Type 0} (P : X → Type 0) (xs ys : List X) → AllByRecursion P
 all_with P [] ys first rest = rest
 all_with P (x ∷ xs) ys first rest = (first.0, all_with P xs ys first.1 rest)
 
-all_made_sent : (job : Job) (past : Past) → IsRun job past → AllByRecursion (IsNoteOf past) (notes_made past)
+all_made_sent : (job : Continued) (past : Past) → IsRun job past → AllByRecursion (IsNoteOf past) (notes_made past)
 all_made_sent job [] run = tt
 all_made_sent job (e ∷ past) run =
     let before = all_weaker (IsNoteOf past) (IsNoteOf (e ∷ past)) (notes_made past) (note_later e past) (all_made_sent job past run.1) in
@@ -106,7 +107,7 @@ all_made_sent job (e ∷ past) run =
     ]
 
 -- every note that can be delivered was sent by its task
-pub made_note_sent : (job : Job) (past : Past) (note : ReleaseNote) → IsRun job past → Contains (notes_made past) note → IsNoteOf past note
+pub made_note_sent : (job : Continued) (past : Past) (note : ReleaseNote) → IsRun job past → Contains (notes_made past) note → IsNoteOf past note
 made_note_sent job past note run i = member (IsNoteOf past) (notes_made past) note (all_made_sent job past run) i
 
 -- WHAT WAS FREED WAS SENT
@@ -120,15 +121,15 @@ frees_later : (e : Event) (past : Past) (c : TableCall) → FreesSent past c →
 frees_later e past (Free note at) h = note_later e past note h
 frees_later e past _ h = tt
 
-frees_now : (job : Job) (past : Past) (c : TableCall) → IsRun job past → table_refusal job past c ≡ None → FreesSent past c
+frees_now : (job : Continued) (past : Past) (c : TableCall) → IsRun job past → table_refusal job past c ≡ None → FreesSent past c
 frees_now job past (Free note at) run came =
-    made_note_sent job past note run (is_member same_note equal_notes note (notes_made past) (unless_true (is_made past note) error.NotSent came))
+    made_note_sent job past note run (is_member same_note equal_notes note (notes_made past) (known_made (job.forgotten.note past note) (is_made past note) (unless_true (knows_note job.forgotten past note) error.NotSent came)))
 frees_now job past _ run came = tt
 
 abbrev FreesOnlySent : Past → AnsweredTableCall → Type 0
 FreesOnlySent past a = FreesSent past a.call
 
-all_freed_sent : (job : Job) (past : Past) → IsRun job past → AllByRecursion (FreesOnlySent past) (table_calls past)
+all_freed_sent : (job : Continued) (past : Past) → IsRun job past → AllByRecursion (FreesOnlySent past) (table_calls past)
 all_freed_sent job [] run = tt
 all_freed_sent job (e ∷ past) run =
     let before = all_freed_sent job past run.1 in
@@ -141,6 +142,6 @@ all_freed_sent job (e ∷ past) run =
     ])
 
 -- every note that was freed was sent by its task
-pub freed_note_sent : (job : Job) (past : Past) (note : ReleaseNote) (at : ℕ) (answer : Result TableReply TableError) → IsRun job past
+pub freed_note_sent : (job : Continued) (past : Past) (note : ReleaseNote) (at : ℕ) (answer : Result TableReply TableError) → IsRun job past
     → Contains (table_calls past) (answered_call (Free note at) answer) → IsNoteOf past note
 freed_note_sent job past note at answer run i = member (FreesOnlySent past) (table_calls past) (answered_call (Free note at) answer) (all_freed_sent job past run) i

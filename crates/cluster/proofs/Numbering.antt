@@ -1,6 +1,6 @@
 -- A call that delivers what has a number.
 use Rattle.std.proofs.Common.{◌≡◌, ℕ, ◌≤◌, Bool, true, false, List, not, refl, sym, ◌∙◌, ap, subst, length}
-use Rattle.std.specs.Prelude.{Option, Some, None, Result, Ok, Err, IfErr, option_map}
+use Rattle.std.specs.Prelude.{Option, Some, None, Result, Ok, Err, IfErr, option_map, if◌then◌else◌}
 use Rattle.std.specs.declared.alloc.AllocError.{AllocError}
 use Rattle.machines.specs.Numbers.{is_within}
 use Rattle.machines.specs.declared.machine.Trouble.{Trouble}
@@ -20,17 +20,18 @@ use Rattle.lease_table.specs.declared.values.Grant.{Grant}
 use Rattle.slicelet.specs.declared.call.SliceletCall.TheVariants.{Hear}
 use Rattle.slicelet.specs.declared.call.SliceletReply.{SliceletReply}
 use Rattle.slicelet.specs.declared.error.SliceletError.{SliceletError}
-use Rattle.cluster.specs.Jobs.{Job}
+use Rattle.cluster.specs.continued.Jobs.{Continued, Forgotten}
 use Rattle.cluster.specs.declared.call.ClusterCall.TheVariants as asked
 use Rattle.cluster.specs.declared.error.ClusterError.TheVariants as error
 use Rattle.cluster.specs.declared.reply.ClusterReply.{ClusterReply}
 use Rattle.cluster.specs.declared.reply.ClusterReply.TheVariants as reply
 use Rattle.cluster.specs.declared.cluster.Cluster.{Cluster}
 use Rattle.cluster.specs.Pasts.{Past, table_calls, grants, published}
-use Rattle.cluster.specs.Deliveries.{is_sent, is_published, is_published_as, task_refusal, clerk_refusal}
-use Rattle.cluster.specs.Replies.{by_actor}
-use Rattle.cluster.specs.Memory.{task_takes_memory}
-use Rattle.cluster.specs.Clusters.{LeadsTo, IsPlayed, IsPlayedOr}
+use Rattle.cluster.specs.Made.{is_sent, is_published, is_published_as}
+use Rattle.cluster.specs.continued.Deliveries.{knows_grant, knows_slicing, known_grant, known_slicing, task_refusal, clerk_refusal}
+use Rattle.cluster.specs.Answers.{by_actor}
+use Rattle.cluster.specs.TakingMemory.{task_takes_memory}
+use Rattle.cluster.specs.continued.Clusters.{LeadsTo, IsPlayed, IsPlayedOr}
 use Rattle.cluster.specs.Numbers.{with_number}
 use Rattle.cluster.proofs.Finding.{numbered_sent}
 use Rattle.cluster.proofs.Publishing.{known_generation}
@@ -40,7 +41,7 @@ use Rattle.cluster.proofs.TaskTurns.{by_own, by_none}
 none_told : (told answer : ClusterReply) → answer ≡ told → (let r : Result ClusterReply AllocError = Ok told in r) ≡ Ok answer
 none_told told answer e = ap (λ (x : ClusterReply). let r : Result ClusterReply AllocError = Ok x in r) (sym e)
 
-module _ (job : Job) (past : Past) (cluster : Cluster) (k : LeadsTo job past cluster) where
+module _ (job : Continued) (past : Past) (cluster : Cluster) (k : LeadsTo job past cluster) where
   pub hear_of_none : (task at : ℕ) (o : Option Grant) → is_within task (length cluster.tasks.items) ≡ false
       → IsPlayedOr job past (option_map (λ grant. asked.Task task (Hear grant at)) o) (by_actor task job.tasks (reply.Refused error.NotSent)) (Ok (reply.Refused error.NoActor)) cluster
   hear_of_none task at None e = (none_told _ _ (by_none task job.tasks _ (few_tasks job past cluster k task e)), k)
@@ -66,11 +67,19 @@ unrefused : {E : Type 0} (b : Bool) (why : E) → b ≡ true → when (not b) wh
 unrefused true why e = refl
 unrefused false why e = absurd (cc)
 
-pub sent_comes : (past : Past) (number : ℕ) (grant : Grant) (at : ℕ) → with_number number (grants past) ≡ Some grant → task_refusal past (Hear grant at) ≡ None
-sent_comes past number grant at e = unrefused (is_sent past grant) error.NotSent (numbered_sent (grants past) number grant e)
+pub sent_comes : (forgotten : Forgotten) (past : Past) (number : ℕ) (grant : Grant) (at : ℕ) → ((n : ℕ) (g : Grant) → with_number n (grants past) ≡ Some g → g.number ≡ n)
+    → known_grant forgotten past number ≡ Some grant → task_refusal forgotten past (Hear grant at) ≡ None
+sent_comes forgotten past number grant at own e = by_test (forgotten.grant past number) refl e
+  where
+    by_test : (b : Bool) → forgotten.grant past number ≡ b → (if b then None else with_number number (grants past)) ≡ Some grant → task_refusal forgotten past (Hear grant at) ≡ None
+    by_test true is e = absurd (cc)
+    by_test false is e =
+        let known : forgotten.grant past grant.number ≡ false = ap (forgotten.grant past) (own number grant e) ∙ is in
+        unrefused (knows_grant forgotten past grant) error.NotSent
+        (ap (λ (b : Bool). if b then false else is_sent past grant) known ∙ numbered_sent (grants past) number grant e)
 
 -- a grant that has the number is heard
-pub hear_played : (job : Job) (past : Past) (task at : ℕ) (grant : Grant) (o : Option Grant) (none : ClusterReply) (result : Result ClusterReply AllocError) (new : Cluster) → Some grant ≡ o
+pub hear_played : (job : Continued) (past : Past) (task at : ℕ) (grant : Grant) (o : Option Grant) (none : ClusterReply) (result : Result ClusterReply AllocError) (new : Cluster) → Some grant ≡ o
     → IsPlayed job past (asked.Task task (Hear grant at)) result new → IsPlayedOr job past (option_map (λ grant. asked.Task task (Hear grant at)) o) none result new
 hear_played job past task at grant o none result new e played =
     subst (λ (o : Option Grant). IsPlayedOr job past (option_map (λ grant. asked.Task task (Hear grant at)) o) none result new) e played
@@ -81,18 +90,25 @@ hear_takes grant at (Ok told) = tt
 hear_takes grant at (Err trouble) = λ e. refl
 
 -- a published assignment comes to a clerk
-pub published_comes : (job : Job) (past : Past) (generation : ℕ) (slicing : Slicing) → IsTableRun job.policy (table_calls past)
+pub published_comes : (job : Continued) (past : Past) (generation : ℕ) (slicing : Slicing) → IsTableRun job.policy (table_calls past)
     → ((calls : List AnsweredTableCall) (generation : ℕ) → generation ≤ commits_in calls → assignment_in generation calls ≡ published_in generation calls)
     → ((policy : Terms) (calls : List AnsweredTableCall) (generation : ℕ) (slicing : Slicing) → IsTableRun policy calls → assignment_in generation calls ≡ Some slicing → slicing.generation ≡ generation)
-    → published generation past ≡ Some slicing → clerk_refusal past (Learn slicing) ≡ None
-published_comes job past generation slicing run known named e =
-    let calls = table_calls past in
-    let same : slicing.generation ≡ generation = named job.policy calls generation slicing run (known calls generation (known_generation job.policy calls run generation slicing e) ∙ e) in
-    unrefused (is_published past slicing) error.NotSent
-    (ap (λ (n : ℕ). is_published_as slicing (published n past)) same ∙ (ap (is_published_as slicing) e ∙ slicing_equivalence.refl slicing))
+    → known_slicing job.forgotten past generation ≡ Some slicing → clerk_refusal job.forgotten past (Learn slicing) ≡ None
+published_comes job past generation slicing run known named e = by_test (job.forgotten.generation past generation) refl e
+  where
+    by_test : (b : Bool) → job.forgotten.generation past generation ≡ b → (if b then None else published generation past) ≡ Some slicing
+        → clerk_refusal job.forgotten past (Learn slicing) ≡ None
+    by_test true is e = absurd (cc)
+    by_test false is e =
+        let calls = table_calls past in
+        let same : slicing.generation ≡ generation = named job.policy calls generation slicing run (known calls generation (known_generation job.policy calls run generation slicing e) ∙ e) in
+        let kept : job.forgotten.generation past slicing.generation ≡ false = ap (job.forgotten.generation past) same ∙ is in
+        unrefused (knows_slicing job.forgotten past slicing) error.NotSent
+        (ap (λ (b : Bool). if b then false else is_published past slicing) kept
+        ∙ (ap (λ (n : ℕ). is_published_as slicing (published n past)) same ∙ (ap (is_published_as slicing) e ∙ slicing_equivalence.refl slicing)))
 
 -- it is learnt
-pub learn_played : (job : Job) (past : Past) (clerk : ℕ) (slicing : Slicing) (o : Option Slicing) (none : ClusterReply) (result : Result ClusterReply AllocError) (new : Cluster) → Some slicing ≡ o
+pub learn_played : (job : Continued) (past : Past) (clerk : ℕ) (slicing : Slicing) (o : Option Slicing) (none : ClusterReply) (result : Result ClusterReply AllocError) (new : Cluster) → Some slicing ≡ o
     → IsPlayed job past (asked.Clerk clerk (Learn slicing)) result new → IsPlayedOr job past (option_map (λ slicing. asked.Clerk clerk (Learn slicing)) o) none result new
 learn_played job past clerk slicing o none result new e played =
     subst (λ (o : Option Slicing). IsPlayedOr job past (option_map (λ slicing. asked.Clerk clerk (Learn slicing)) o) none result new) e played

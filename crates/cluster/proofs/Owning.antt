@@ -5,12 +5,12 @@ use Rattle.std.specs.List.{AllByRecursion}
 use Rattle.lease_table.specs.Calls.{last_reading}
 use Rattle.slicelet.specs.Accepted.{notes_sent}
 use Rattle.slicelet.specs.Laws.{HoldsOwnLeases}
-use Rattle.cluster.specs.Jobs.{Job}
+use Rattle.cluster.specs.continued.Jobs.{Continued, job_in}
 use Rattle.cluster.specs.declared.timing.Reading.TheVariants.{TableClock, TaskClock}
 use Rattle.cluster.specs.Timing.{IsNear}
 use Rattle.cluster.specs.Pasts.{Past, readings, table_calls, task_calls}
-use Rattle.cluster.specs.Replies.{covers, rule_in}
-use Rattle.cluster.specs.Runs.{IsRun}
+use Rattle.cluster.specs.Answers.{covers, rule_in}
+use Rattle.cluster.specs.continued.Runs.{IsRun}
 use Rattle.cluster.specs.Headline.{MayServe, IsOwner}
 use Rattle.cluster.proofs.Noting.{member, freed_note_sent}
 use Rattle.cluster.proofs.TableReadings.{last_read}
@@ -26,12 +26,12 @@ last_near past skew at all =
     ]
 
 -- each note of a task that was freed is one of those that it sent
-frees_sent_notes : (job : Job) (past : Past) (task : ℕ) → IsRun job past → FreesSentNotes (table_calls past) task (task_calls task past)
+frees_sent_notes : (job : Continued) (past : Past) (task : ℕ) → IsRun job past → FreesSentNotes (table_calls past) task (task_calls task past)
 frees_sent_notes job past task run note at answer of_task i =
     subst (λ (t : ℕ). Contains (notes_sent t (task_calls t past)) note) of_task (freed_note_sent job past note at answer run i)
 
-pub owner : Covering → (job : Job) (past : Past) (task key : ℕ) → IsRun job past → TableFacts job.policy.skew (table_calls past)
-    → HoldsOwnLeases task (task_calls task past) → MayServe job past task key → IsOwner past task key
+pub owner : Covering → (job : Continued) (past : Past) (task key : ℕ) → IsRun job past → TableFacts job.policy.skew (table_calls past)
+    → HoldsOwnLeases task (task_calls task past) → MayServe (job_in job) past task key → IsOwner past task key
 owner covering job past task key run table own may =
     let at = may.0 in
     let by = by_verdict covering (covers past key) (task_calls task past) at (rule_in past task key at) refl may.2 in

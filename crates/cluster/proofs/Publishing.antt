@@ -1,6 +1,7 @@
 -- The committed assignments are the proposals, in order.
 use Rattle.std.proofs.Common.{◌≡◌, ℕ, zero, suc, ◌+◌, ◌-◌, ◌<◌, ◌≤◌, Bool, true, false, List, [], ◌∷◌, ◌++◌, length, refl, sym, ◌∙◌, ap, subst, arith, length-append}
 use Rattle.std.specs.Prelude.{Option, Some, None, Ok, Err, is_ok, is_none, ◌==◌, nat_le, slice_get, if◌then◌else◌}
+use Rattle.std.specs.Option.{option_or}
 use Rattle.std.proofs.lemmas.Bool.Decides.{nat_tests}
 use Rattle.std.proofs.lemmas.Option.{slice_get_past}
 use Rattle.machines.specs.Calls.{answered_call}
@@ -16,7 +17,11 @@ use Rattle.lease_table.specs.Runs.{IsRun, commits_in}
 use Rattle.lease_table.specs.Generations.{published_in}
 use Rattle.lease_table.proofs.Acceptance.{IsAccepted}
 use Rattle.lease_table.proofs.Induction.{after_run}
-use Rattle.cluster.specs.Numbers.{with_number}
+use Rattle.lease_table.proofs.Assignments.{counted}
+use Rattle.machines.specs.Numbers.{is_within}
+use Rattle.cluster.specs.Numbers.{with_number, kept_with_number}
+use Rattle.cluster.specs.continued.Clusters.{AreAfter}
+use Rattle.cluster.proofs.Keeping.{kept_number}
 use Rattle.cluster.proofs.ActorLists.{get_left, get_last}
 use Rattle.cluster.specs.internals.Proposals.{proposals_in, published_of}
 
@@ -132,26 +137,32 @@ numbered_past xs (suc i) l =
     let place : suc i - 1 ≡ i = omega arith in
     rw (here, place) (slice_get_past xs i (omega arith))
 
+either : (b : Bool) → (if b then (let none : Option Slicing = None in none) else None) ≡ None
+either true = refl
+either false = refl
+
 pub published_is : (policy : Terms) (calls : List AnsweredTableCall) → IsRun policy calls → generation_of (committed_in calls) ≡ commits_in calls
-    → (generation : ℕ)
-    → published_of generation (standing_after policy calls) (proposals_in calls) ≡ published_in generation calls
-published_is policy calls run counted generation = by_test (nat_le generation (generation_of (committed_in calls))) refl
+    → (generation first : ℕ) (kept : List Slicing) → AreAfter first (proposals_in calls) kept
+    → published_of generation (standing_after policy calls) first kept ≡ (if is_within generation first then None else published_in generation calls)
+published_is policy calls run counted generation first kept are = by_test (nat_le generation (generation_of (committed_in calls))) refl
   where
     h : IsPublished calls
     h = are_published policy calls run
 
     by_test : (b : Bool) → b ≡ nat_le generation (generation_of (committed_in calls))
-        → (if b then with_number generation (proposals_in calls) else None) ≡ published_in generation calls
+        → (if b then kept_with_number generation first kept else None) ≡ (if is_within generation first then None else published_in generation calls)
     by_test true t =
         let low : generation ≤ generation_of (committed_in calls) = grind (arith, nat_tests) in
         let many : length (published_list calls) ≡ commits_in calls = h.many in
         let few : generation ≤ length (published_list calls) = omega (arith, low, counted, many) in
-        ap (with_number generation) h.all ∙ numbered_left (published_list calls) (waiting (pending_in calls)) generation few ∙ sym (h.each generation)
+        kept_number first (proposals_in calls) kept generation are
+        ∙ ap (λ (o : Option Slicing). if is_within generation first then None else o) (ap (with_number generation) h.all ∙ numbered_left (published_list calls) (waiting (pending_in calls)) generation few ∙ sym (h.each generation))
     by_test false t =
         let high : generation_of (committed_in calls) < generation = grind (arith, nat_tests) in
         let many : length (published_list calls) ≡ commits_in calls = h.many in
         let beyond : length (published_list calls) < generation = omega (arith, high, counted, many) in
-        sym (h.each generation ∙ numbered_past (published_list calls) generation beyond)
+        sym (ap (λ (o : Option Slicing). if is_within generation first then None else o) (h.each generation ∙ numbered_past (published_list calls) generation beyond)
+        ∙ either (is_within generation first))
 
 -- a published generation is one of the commits
 pub known_generation : (policy : Terms) (calls : List AnsweredTableCall) → IsRun policy calls → (generation : ℕ) (slicing : Slicing) → published_in generation calls ≡ Some slicing
@@ -168,3 +179,19 @@ known_generation policy calls run generation slicing e = by_test (nat_le generat
         let many : length (published_list calls) ≡ commits_in calls = h.many in
         let beyond : length (published_list calls) < generation = omega (arith, high, many) in
         absurd (let none : None ≡ Some slicing = sym (numbered_past (published_list calls) generation beyond) ∙ (sym (h.each generation) ∙ e) in cc)
+
+-- there are as many proposals as generations
+pub proposals_counted : (policy : Terms) (calls : List AnsweredTableCall) → IsRun policy calls
+    → length (proposals_in calls) ≡ generation_of (option_or (pending_in calls) (committed_in calls))
+proposals_counted policy calls run = by_pending (pending_in calls) refl
+  where
+    h : IsPublished calls
+    h = are_published policy calls run
+
+    by_pending : (p : Option Slicing) → p ≡ pending_in calls → length (proposals_in calls) ≡ generation_of (option_or p (committed_in calls))
+    by_pending None e =
+        ap (λ (xs : List Slicing). length xs) (h.all ∙ ap (λ (p : Option Slicing). published_list calls ++ waiting p) (sym e) ∙ append_nil (published_list calls))
+        ∙ h.many ∙ sym (counted policy calls run).committed
+    by_pending (Some next) e =
+        ap (λ (xs : List Slicing). length xs) (h.all ∙ ap (λ (p : Option Slicing). published_list calls ++ waiting p) (sym e))
+        ∙ length-append (published_list calls) (next ∷ []) ∙ ap (λ (n : ℕ). n + 1) h.many ∙ sym ((counted policy calls run).pending next (sym e))

@@ -4,19 +4,19 @@ use Rattle.std.specs.Prelude.{IsTrue, ◌↔◌, if◌then◌else◌}
 use Rattle.slicelet.specs.declared.handle.KeyHandle.{KeyHandle}
 use Rattle.machines.specs.Numbers.{is_within}
 use Rattle.slicelet.specs.Continuity.{handle_on, held_by, IsContinuous, is_strange}
-use Rattle.cluster.specs.Jobs.{Job}
+use Rattle.cluster.specs.continued.Jobs.{Continued, job_in}
 use Rattle.cluster.specs.declared.error.ClusterError.TheVariants as error
 use Rattle.cluster.specs.declared.call.ClusterCall.TheVariants as call
 use Rattle.cluster.specs.declared.reply.ClusterReply.{ClusterReply}
 use Rattle.cluster.specs.declared.reply.ClusterReply.TheVariants as reply
 use Rattle.cluster.specs.Pasts.{event, Past, task_calls, history}
-use Rattle.cluster.specs.Deliveries.{is_given}
-use Rattle.cluster.specs.Replies.{covers, rule_in, hold_reply, check_reply}
-use Rattle.cluster.specs.Runs.{IsReply, IsRun}
+use Rattle.cluster.specs.continued.Deliveries.{knows_handle}
+use Rattle.cluster.specs.Answers.{covers, rule_in, hold_reply, check_reply}
+use Rattle.cluster.specs.continued.Runs.{IsReply, IsRun}
 use Rattle.cluster.specs.Promises.{IsServedByRule, IsHeldByRule, IsCheckedByHistory}
 
 -- what came before a point of a run is a run
-pub run_before : (job : Job) (later past : Past) → IsRun job (later ++ past) → IsRun job past
+pub run_before : (job : Continued) (later past : Past) → IsRun job (later ++ past) → IsRun job past
 run_before job [] past run = run
 run_before job (e ∷ later) past run = run_before job later past run.1
 
@@ -25,16 +25,16 @@ pub own_answer : (b : Bool) (answer : ClusterReply) → b ≡ true → (if b the
 own_answer true answer e = refl
 own_answer false answer e = absurd (let f : false ≡ true = e in cc)
 
-pub served_by_rule : (job : Job) (past : Past) (task key at : ℕ) (told : ClusterReply) → IsReply job past (event (call.Serve task key at) told)
-    → IsServedByRule job past task key at told
+pub served_by_rule : (job : Continued) (past : Past) (task key at : ℕ) (told : ClusterReply) → IsReply job past (event (call.Serve task key at) told)
+    → IsServedByRule (job_in job) past task key at told
 served_by_rule job past task key at told h inside = h.2 ∙ own_answer (is_within task job.tasks) (reply.Verdict (rule_in past task key at)) inside
 
-pub held_by_rule : (job : Job) (past : Past) (task key at : ℕ) (told : ClusterReply) → IsReply job past (event (call.Hold task key at) told)
-    → IsHeldByRule job past task key at told
+pub held_by_rule : (job : Continued) (past : Past) (task key at : ℕ) (told : ClusterReply) → IsReply job past (event (call.Hold task key at) told)
+    → IsHeldByRule (job_in job) past task key at told
 held_by_rule job past task key at told h inside =
     h.2 ∙ own_answer (is_within task job.tasks) (hold_reply (held_by (rule_in past task key at) (handle_on key (history task past)))) inside
 
-module _ (job : Job) (past : Past) (task : ℕ) (handle : KeyHandle) (at : ℕ) where
+module _ (job : Continued) (past : Past) (task : ℕ) (handle : KeyHandle) (at : ℕ) where
   told_as : (told : ClusterReply) (kept : Bool) → (IsTrue kept ↔ IsContinuous (covers past handle.key) (task_calls task past) handle at)
       → told ≡ check_reply true false kept → IsCheckedByHistory past task handle at told
   told_as told true same e = record { continuous = (λ q. same.0 refl, λ k. e); broken = (λ q. absurd (cc), λ n. absurd (n (same.0 refl))) }
@@ -44,9 +44,9 @@ module _ (job : Job) (past : Past) (task : ℕ) (handle : KeyHandle) (at : ℕ) 
   }
 
   pub checked_by_history : (told : ClusterReply) → IsReply job past (event (call.Check task handle at) told)
-      → IsTrue (is_within task job.tasks) → is_given past handle ≡ true → is_strange (history task past) handle ≡ false
+      → IsTrue (is_within task job.tasks) → knows_handle job.forgotten past handle ≡ true → is_strange (history task past) handle ≡ false
       → IsCheckedByHistory past task handle at told
   checked_by_history told h inside given familiar =
       told_as told h.0 (h.1 inside given familiar)
-      (h.2 ∙ (own_answer (is_within task job.tasks) (check_reply (is_given past handle) (is_strange (history task past) handle) h.0) inside
+      (h.2 ∙ (own_answer (is_within task job.tasks) (check_reply (knows_handle job.forgotten past handle) (is_strange (history task past) handle) h.0) inside
       ∙ (ap (λ (b : Bool). check_reply b (is_strange (history task past) handle) h.0) given ∙ ap (λ (b : Bool). check_reply true b h.0) familiar)))

@@ -11,7 +11,7 @@ use Rattle.lease_table.specs.declared.values.ReleaseNote.{ReleaseNote}
 use Rattle.lease_table.specs.Equality.{grant_eq}
 use Rattle.lease_table.proofs.Members.{here, there}
 use Rattle.slicelet.proofs.OwnLeases.{equal_kinds}
-use Rattle.cluster.specs.Deliveries.{same_note}
+use Rattle.cluster.specs.Made.{same_note}
 
 equal_leases : (a b : Lease) → lease_eq a b ≡ true → a ≡ b
 equal_leases a b e =

@@ -16,13 +16,14 @@ use Rattle.slicelet.specs.declared.call.SliceletCall.{SliceletCall}
 use Rattle.slicelet.specs.declared.call.SliceletCall.TheVariants.{Start, Hear, Release, Resume}
 use Rattle.slicelet.specs.Calls.{held_grant}
 use Rattle.slicelet.proofs.Hearing.{held_heard, all_at_heard}
-use Rattle.cluster.specs.Jobs.{Job}
+use Rattle.cluster.specs.continued.Jobs.{Continued, Forgotten}
 use Rattle.cluster.specs.declared.error.ClusterError.TheVariants as error
 use Rattle.cluster.specs.Pasts.{Event, Past, table_calls, grants, task_calls}
-use Rattle.cluster.specs.Deliveries.{is_sent, task_refusal}
-use Rattle.cluster.specs.Runs.{IsReply, IsRun}
+use Rattle.cluster.specs.Made.{is_sent}
+use Rattle.cluster.specs.continued.Deliveries.{knows_grant, task_refusal}
+use Rattle.cluster.specs.continued.Runs.{IsReply, IsRun}
 use Rattle.cluster.proofs.Sameness.{equal_grants, is_member}
-use Rattle.cluster.proofs.Taking.{unless_true, task_taken}
+use Rattle.cluster.proofs.Taking.{known_made, unless_true, task_taken}
 use Rattle.cluster.proofs.Adding.{adds_to_table, adds_to_task}
 
 -- grants stay sent
@@ -50,13 +51,15 @@ hears_later e past (Hear grant at) h = sent_later e past grant h
 hears_later e past (Release kind at) h = tt
 hears_later e past (Resume life) h = tt
 
-hears_now : (past : Past) (c : SliceletCall) → task_refusal past c ≡ None → HearsSent (table_calls past) c
-hears_now past (Start life at) came = tt
-hears_now past (Hear grant at) came = is_member grant_eq equal_grants grant (grants past) (unless_true (is_sent past grant) error.NotSent came)
-hears_now past (Release kind at) came = tt
-hears_now past (Resume life) came = tt
+hears_now : (forgotten : Forgotten) (past : Past) (c : SliceletCall) → task_refusal forgotten past c ≡ None → HearsSent (table_calls past) c
+hears_now forgotten past (Start life at) came = tt
+hears_now forgotten past (Hear grant at) came =
+    is_member grant_eq equal_grants grant (grants past)
+    (known_made (forgotten.grant past grant.number) (is_sent past grant) (unless_true (knows_grant forgotten past grant) error.NotSent came))
+hears_now forgotten past (Release kind at) came = tt
+hears_now forgotten past (Resume life) came = tt
 
-pub all_heard_sent : (job : Job) (task : ℕ) (past : Past) → IsRun job past → AllByRecursion (HearsSent (table_calls past)) (task_calls task past)
+pub all_heard_sent : (job : Continued) (task : ℕ) (past : Past) → IsRun job past → AllByRecursion (HearsSent (table_calls past)) (task_calls task past)
 all_heard_sent job task [] run = tt
 all_heard_sent job task (e ∷ past) run =
     let sent = HearsSent (table_calls past) in
@@ -66,11 +69,11 @@ all_heard_sent job task (e ∷ past) run =
       | inl same ↦ subst (λ (calls : List SliceletCall). AllByRecursion sent calls) (sym same) before
       | inr new ↦ (
           let t = task_taken job past task new.made new.told (subst (λ (x : Event). IsReply job past x) new.is run.0) new.accepted in
-          subst (λ (calls : List SliceletCall). AllByRecursion sent calls) (sym new.added) (hears_now past new.made t.came, before))
+          subst (λ (calls : List SliceletCall). AllByRecursion sent calls) (sym new.added) (hears_now job.forgotten past new.made t.came, before))
     ])
 
 -- every lease that a task holds was sent
-pub held_sent : (job : Job) (task : ℕ) (past : Past) (kind : Kind) (grant : Grant) → IsRun job past → held_grant kind (task_calls task past) ≡ Some grant
+pub held_sent : (job : Continued) (task : ℕ) (past : Past) (kind : Kind) (grant : Grant) → IsRun job past → held_grant kind (task_calls task past) ≡ Some grant
     → IsSent (table_calls past) grant
 held_sent job task past kind grant run e =
     let h = task_calls task past in

@@ -10,20 +10,20 @@ use Rattle.slicelet.specs.Steps.{slicelet_step}
 use Rattle.slicelet.specs.Continuity.{is_strange}
 use Rattle.clerk.specs.Calls.{clerk_step}
 use Rattle.clerk.specs.declared.call.ClerkCall.{ClerkCall}
-use Rattle.cluster.specs.Jobs.{Job}
+use Rattle.cluster.specs.continued.Jobs.{Continued}
 use Rattle.cluster.specs.declared.error.ClusterError.{ClusterError}
 use Rattle.cluster.specs.declared.error.ClusterError.TheVariants as error
 use Rattle.cluster.specs.declared.call.ClusterCall.TheVariants as call
 use Rattle.cluster.specs.declared.reply.ClusterReply.TheVariants as reply
 use Rattle.cluster.specs.declared.cluster.Cluster.{Cluster}
 use Rattle.cluster.specs.Pasts.{Past, standing, history, newest_learnt}
-use Rattle.cluster.specs.Deliveries.{table_refusal, task_refusal, clerk_refusal, is_given}
-use Rattle.cluster.specs.Replies.{unless, check_reply, from_machine}
-use Rattle.cluster.specs.Clusters.{LeadsTo, IsPlayed}
+use Rattle.cluster.specs.continued.Deliveries.{knows_handle, table_refusal, task_refusal, clerk_refusal}
+use Rattle.cluster.specs.Answers.{unless, check_reply, from_machine}
+use Rattle.cluster.specs.continued.Clusters.{LeadsTo, IsPlayed}
 use Rattle.cluster.proofs.Playing.{stopped}
 use Rattle.cluster.proofs.TaskTurns.{by_own, by_none}
 
-module _ (job : Job) (past : Past) (cluster : Cluster) (k : LeadsTo job past cluster) where
+module _ (job : Continued) (past : Past) (cluster : Cluster) (k : LeadsTo job past cluster) where
   pub few_tasks : (task : ℕ) → is_within task (length cluster.tasks.items) ≡ false → is_within task job.tasks ≡ false
   unfolding LeadsTo
   few_tasks task e = subst (λ (n : ℕ). is_within task n ≡ false) k.tasks.0 e
@@ -57,19 +57,19 @@ module _ (job : Job) (past : Past) (cluster : Cluster) (k : LeadsTo job past clu
   table_stopped c why e =
       stopped job past (call.Table c) why cluster k (λ kept. ap (λ (o : Option ClusterError). unless o (from_machine error.Table reply.Table (table_step (standing job.policy past) c))) (sym e)) tt
 
-  pub task_stopped : (task : ℕ) (c : SliceletCall) (why : ClusterError) → is_within task job.tasks ≡ true → Some why ≡ task_refusal past c
+  pub task_stopped : (task : ℕ) (c : SliceletCall) (why : ClusterError) → is_within task job.tasks ≡ true → Some why ≡ task_refusal job.forgotten past c
       → IsPlayed job past (call.Task task c) (Ok (reply.Refused why)) cluster
   task_stopped task c why own e =
       stopped job past (call.Task task c) why cluster k (λ kept. by_own task job.tasks _ own
       ∙ ap (λ (o : Option ClusterError). unless o (from_machine error.Slicelet reply.Task (slicelet_step (history task past) c))) (sym e)) tt
 
-  pub clerk_stopped : (clerk : ℕ) (c : ClerkCall) (why : ClusterError) → is_within clerk job.clerks ≡ true → Some why ≡ clerk_refusal past c
+  pub clerk_stopped : (clerk : ℕ) (c : ClerkCall) (why : ClusterError) → is_within clerk job.clerks ≡ true → Some why ≡ clerk_refusal job.forgotten past c
       → IsPlayed job past (call.Clerk clerk c) (Ok (reply.Refused why)) cluster
   clerk_stopped clerk c why own e =
       stopped job past (call.Clerk clerk c) why cluster k (λ kept. by_own clerk job.clerks _ own
       ∙ ap (λ (o : Option ClusterError). unless o (from_machine error.Clerk reply.Clerk (clerk_step (newest_learnt clerk past) c))) (sym e)) tt
 
-  pub not_given : (task : ℕ) (handle : KeyHandle) (at : ℕ) → is_within task job.tasks ≡ true → is_given past handle ≡ false
+  pub not_given : (task : ℕ) (handle : KeyHandle) (at : ℕ) → is_within task job.tasks ≡ true → knows_handle job.forgotten past handle ≡ false
       → IsPlayed job past (call.Check task handle at) (Ok (reply.Refused error.NotSent)) cluster
   not_given task handle at own e =
       stopped job past (call.Check task handle at) error.NotSent cluster k (λ kept. by_own task job.tasks _ own ∙ ap (λ (b : Bool). check_reply b (is_strange (history task past) handle) kept) e)

@@ -4,13 +4,13 @@ use Rattle.std.specs.Prelude.{Ok}
 use Rattle.machines.specs.Calls.{answered_call}
 use Rattle.lease_table.specs.Calls.{AnsweredTableCall}
 use Rattle.lease_table.specs.Runs.{IsRun as IsTableRun}
-use Rattle.cluster.specs.Jobs.{Job}
+use Rattle.cluster.specs.continued.Jobs.{Continued}
 use Rattle.cluster.specs.Pasts.{Event, Past, table_calls}
-use Rattle.cluster.specs.Runs.{IsReply, IsRun}
+use Rattle.cluster.specs.continued.Runs.{IsReply, IsRun}
 use Rattle.cluster.proofs.Taking.{table_answer}
 use Rattle.cluster.proofs.Adding.{adds_to_table}
 
-pub table_run : (job : Job) (past : Past) → IsRun job past → IsTableRun job.policy (table_calls past)
+pub table_run : (job : Continued) (past : Past) → IsRun job past → IsTableRun job.policy (table_calls past)
 table_run job [] run = tt
 table_run job (e ∷ past) run =
     let before = table_run job past run.1 in

@@ -1,5 +1,5 @@
 -- A call of the table.
-use Rattle.std.proofs.Common.{◌≡◌, true, List, refl, sym, ◌∙◌, ap, subst}
+use Rattle.std.proofs.Common.{◌≡◌, ◌∷◌, true, List, refl, sym, ◌∙◌, ap, subst}
 use Rattle.std.specs.Prelude.{Bool, Option, None, Result, Ok, Err, reverse}
 use Rattle.lease_table.specs.declared.values.ReleaseNote.{ReleaseNote}
 use Rattle.slicelet.specs.declared.handle.KeyHandle.{KeyHandle}
@@ -12,28 +12,30 @@ use Rattle.lease_table.specs.declared.call.TableCall.{TableCall}
 use Rattle.lease_table.specs.declared.call.TableReply.{TableReply}
 use Rattle.lease_table.specs.declared.error.TableError.{TableError}
 use Rattle.lease_table.specs.Tables.{Standing}
-use Rattle.lease_table.specs.Calls.{AnsweredTableCall, table_step, standing_after, grants_after, LeadsTo as LeadsTable}
+use Rattle.lease_table.specs.Calls.{AnsweredTableCall, table_step, standing_after, LeadsTo as LeadsTable}
 use Rattle.slicelet.specs.States.{SliceletState}
 use Rattle.std.specs.declared.alloc.AllocError.{AllocError}
 use Rattle.lease_table.specs.Policies.{Terms, is_policy}
-use Rattle.cluster.specs.Jobs.{Job}
+use Rattle.cluster.specs.continued.Jobs.{Continued, Counts}
 use Rattle.cluster.specs.declared.error.ClusterError.{ClusterError}
 use Rattle.cluster.specs.declared.error.ClusterError.TheVariants as error
 use Rattle.cluster.specs.declared.call.ClusterCall.TheVariants as call
 use Rattle.cluster.specs.declared.reply.ClusterReply.{ClusterReply}
 use Rattle.cluster.specs.declared.reply.ClusterReply.TheVariants as reply
 use Rattle.cluster.specs.declared.cluster.Cluster.{Cluster}
-use Rattle.cluster.specs.Pasts.{Past, table_calls, standing, history, newest_learnt}
-use Rattle.cluster.specs.Deliveries.{table_refusal}
-use Rattle.cluster.specs.Replies.{unless, from_machine, reply_to}
-use Rattle.cluster.specs.Clusters.{AreActors, LeadsTo, IsPlayed}
-use Rattle.cluster.specs.Deliveries.{same_note, same_handle}
-use Rattle.cluster.specs.internals.Proposals.{proposals_with}
+use Rattle.cluster.specs.Pasts.{event, Past, table_calls, standing, history, newest_learnt}
+use Rattle.cluster.specs.continued.Deliveries.{table_refusal}
+use Rattle.cluster.specs.Answers.{unless, from_machine}
+use Rattle.cluster.specs.continued.Replies.{reply_to}
+use Rattle.cluster.specs.ActorLists.{AreActors}
+use Rattle.cluster.specs.continued.Clusters.{LeadsTo, IsPlayed}
+use Rattle.cluster.specs.Made.{same_note, same_handle}
 use Rattle.cluster.specs.internals.Turns.{told_as, grants_kept, proposals_kept, OnlyTakes, IsSameBesideTable}
+use Rattle.cluster.proofs.Keeping.{after_same, after_grants, after_proposals, since_same, steady_same, steady_next, note_known, handle_known}
 use Rattle.cluster.proofs.Playing.{taken, untaken}
 use Rattle.cluster.proofs.Turning.{stays}
 
-module _ (job : Job) (past : Past) (c : TableCall) (old new : Cluster) (came : table_refusal job past c ≡ None)
+module _ (job : Continued) (past : Past) (c : TableCall) (old new : Cluster) (came : table_refusal job past c ≡ None)
     (next : LeadsOn (LeadsTable job.policy) (table_calls past) (standing job.policy past) c (table_step (standing job.policy past) c)) where
   reply_is : (kept : Bool) → reply_to job past (call.Table c) kept ≡ from_machine error.Table reply.Table (table_step (standing job.policy past) c)
   reply_is kept = ap (λ (o : Option ClusterError). unless o (from_machine error.Table reply.Table (table_step (standing job.policy past) c))) came
@@ -52,16 +54,24 @@ module _ (job : Job) (past : Past) (c : TableCall) (old new : Cluster) (came : t
         table = sym (subst (LeadsOn (LeadsTable job.policy) (table_calls past) (standing job.policy past) c) done next);
         tasks = subst (λ (xs : List SliceletState). AreActors (λ n. history n past) job.tasks xs) (sym others.1) k.tasks;
         clerks = subst (λ (xs : List (Option Slicing)). AreActors (λ n. newest_learnt n past) job.clerks xs) (sym others.2) k.clerks;
-        grants = grants ∙ ap (grants_after (Ok told)) k.grants;
-        notes = ap (λ (xs : List ReleaseNote). reverse xs) others.3 ∙ k.notes;
-        handles = ap (λ (xs : List KeyHandle). reverse xs) others.4 ∙ k.handles;
-        known_notes = λ note. ap (λ known. contains same_note known note) others.5 ∙ k.known_notes note;
-        known_handles = λ handle. ap (λ known. contains same_handle known handle) others.6 ∙ k.known_handles handle;
-        proposals = proposals ∙ ap (proposals_with c true) k.proposals;
+        grants = after_same _ _ _ _ _ (ap (λ (n : Counts). n.grants) others.7) grants (after_grants _ _ _ (Ok told) k.grants);
+        notes = since_same _ _ _ _ _ (ap (λ (n : Counts). n.notes) others.7) (ap (λ (xs : List ReleaseNote). reverse xs) others.3) k.notes;
+        handles = since_same _ _ _ _ _ (ap (λ (n : Counts). n.handles) others.7) (ap (λ (xs : List KeyHandle). reverse xs) others.4) k.handles;
+        proposals = after_same _ _ _ _ _ (ap (λ (n : Counts). n.proposals) others.7) proposals (after_proposals _ _ _ c k.proposals);
+        earlier_notes = ap (λ (n : Counts). n.notes) others.7 ∙ k.earlier_notes;
+        earlier_handles = ap (λ (n : Counts). n.handles) others.7 ∙ k.earlier_handles;
+        known_notes = λ note.
+            ap (λ known. contains same_note known note) others.5 ∙ k.known_notes note ∙ sym (note_known job past old.earlier k.steady (call.Table c) (reply.Table told) note refl);
+        known_handles = λ handle.
+            ap (λ known. contains same_handle known handle) others.6 ∙ k.known_handles handle
+            ∙ sym (handle_known job past old.earlier k.steady (call.Table c) (reply.Table told) handle refl);
+        steady = steady_same job (event (call.Table c) (reply.Table told) ∷ past) old.earlier
+            (steady_next job past old.earlier k.steady (event (call.Table c) (reply.Table told))) new.earlier others.7;
       }
   table_played (Err trouble) k took memory grants proposals others =
       untaken job past (call.Table c) error.Table reply.Table (table_step (standing job.policy past) c) reply_is tt old new old.table new.table trouble k (record {
         job = others.0;
+        earlier = others.7;
         table = stays (table_step old.table c) old.table new.table trouble took;
         tasks = others.1;
         clerks = others.2;
@@ -74,7 +84,7 @@ module _ (job : Job) (past : Past) (c : TableCall) (old new : Cluster) (came : t
       }) (subst (λ (t : Standing). Takes (table_step t c) old.table (Err trouble) new.table) k.table took) memory (λ r. refl)
 
 -- a call that comes to the table, with the law of its steps
-pub table_turn : (job : Job) (past : Past) (c : TableCall) (old new : Cluster) → LeadsTo job past old → table_refusal job past c ≡ None
+pub table_turn : (job : Continued) (past : Past) (c : TableCall) (old new : Cluster) → LeadsTo job past old → table_refusal job past c ≡ None
     → ((policy : Terms) (calls : List AnsweredTableCall) (asked : TableCall) → is_policy policy ≡ true
     → LeadsOn (LeadsTable policy) calls (standing_after policy calls) asked (table_step (standing_after policy calls) asked))
     → (answer : Result TableReply (Trouble TableError)) → Takes (table_step old.table c) old.table answer new.table → OnlyTakes c answer

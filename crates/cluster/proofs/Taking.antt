@@ -16,16 +16,16 @@ use Rattle.slicelet.specs.declared.call.SliceletReply.TheVariants.{Started, Hear
 use Rattle.slicelet.specs.States.{SliceletState}
 use Rattle.slicelet.specs.Steps.{start_checks, hear_checks, release_checks, resume_checks, slicelet_step}
 use Rattle.slicelet.specs.Accepted.{checks_of}
-use Rattle.cluster.specs.Jobs.{Job}
+use Rattle.cluster.specs.continued.Jobs.{Continued}
 use Rattle.cluster.specs.declared.error.ClusterError.{ClusterError}
 use Rattle.cluster.specs.declared.error.ClusterError.TheVariants as error
 use Rattle.cluster.specs.declared.call.ClusterCall.TheVariants as call
 use Rattle.cluster.specs.declared.reply.ClusterReply.{ClusterReply}
 use Rattle.cluster.specs.declared.reply.ClusterReply.TheVariants as reply
 use Rattle.cluster.specs.Pasts.{event, Past, is_accepted, standing, history}
-use Rattle.cluster.specs.Deliveries.{table_refusal, task_refusal}
-use Rattle.cluster.specs.Replies.{unless, from_machine}
-use Rattle.cluster.specs.Runs.{IsReply}
+use Rattle.cluster.specs.continued.Deliveries.{table_refusal, task_refusal}
+use Rattle.cluster.specs.Answers.{unless, from_machine}
+use Rattle.cluster.specs.continued.Runs.{IsReply}
 
 refused_unaccepted : {X : Type 0} (told : ClusterReply) (why : ClusterError) → told ≡ reply.Refused why → is_accepted told ≡ true → X
 refused_unaccepted told why e a = absurd (let f : is_accepted (reply.Refused why) ≡ true = subst (λ (t : ClusterReply). is_accepted t ≡ true) e a in let g : false ≡ true = f in cc)
@@ -34,6 +34,11 @@ refused_unaccepted told why e a = absurd (let f : is_accepted (reply.Refused why
 pub unless_true : {E : Type 0} (b : Bool) (why : E) → when (not b) why ≡ None → b ≡ true
 unless_true true why e = refl
 unless_true false why e = absurd (cc)
+
+-- what is known was made
+pub known_made : (forgotten made : Bool) → (if forgotten then false else made) ≡ true → made ≡ true
+known_made true made e = absurd (cc)
+known_made false made e = e
 
 -- an accepted call is by an actor of the job
 of_actor : (b : Bool) (told answer : ClusterReply) → told ≡ (if b then answer else reply.Refused error.NoActor) → is_accepted told ≡ true
@@ -54,18 +59,18 @@ of_machine refused name (Some why) step told e a = refused_unaccepted told why e
 of_machine refused name None (Ok p) told e a = record { came = refl; left = p; taken = refl; is = e }
 of_machine refused name None (Err why) told e a = refused_unaccepted told (refused why) e a
 
-pub table_taken : (job : Job) (past : Past) (c : TableCall) (told : ClusterReply) → IsReply job past (event (call.Table c) told) → is_accepted told ≡ true
+pub table_taken : (job : Continued) (past : Past) (c : TableCall) (told : ClusterReply) → IsReply job past (event (call.Table c) told) → is_accepted told ≡ true
     → IsTaken reply.Table (table_refusal job past c) (table_step (standing job.policy past) c) told
 table_taken job past c told h a = of_machine error.Table reply.Table (table_refusal job past c) (table_step (standing job.policy past) c) told h.2 a
 
-pub task_taken : (job : Job) (past : Past) (task : ℕ) (c : SliceletCall) (told : ClusterReply) → IsReply job past (event (call.Task task c) told) → is_accepted told ≡ true
-    → IsTaken reply.Task (task_refusal past c) (slicelet_step (history task past) c) told
+pub task_taken : (job : Continued) (past : Past) (task : ℕ) (c : SliceletCall) (told : ClusterReply) → IsReply job past (event (call.Task task c) told) → is_accepted told ≡ true
+    → IsTaken reply.Task (task_refusal job.forgotten past c) (slicelet_step (history task past) c) told
 task_taken job past task c told h a =
-    let own = of_actor (is_within task job.tasks) told (unless (task_refusal past c) (from_machine error.Slicelet reply.Task (slicelet_step (history task past) c))) h.2 a in
-    of_machine error.Slicelet reply.Task (task_refusal past c) (slicelet_step (history task past) c) told own.1 a
+    let own = of_actor (is_within task job.tasks) told (unless (task_refusal job.forgotten past c) (from_machine error.Slicelet reply.Task (slicelet_step (history task past) c))) h.2 a in
+    of_machine error.Slicelet reply.Task (task_refusal job.forgotten past c) (slicelet_step (history task past) c) told own.1 a
 
 -- the table answers by its step
-pub table_answer : (job : Job) (past : Past) (c : TableCall) (r : TableReply) → IsReply job past (event (call.Table c) (reply.Table r))
+pub table_answer : (job : Continued) (past : Past) (c : TableCall) (r : TableReply) → IsReply job past (event (call.Table c) (reply.Table r))
     → Ok r ≡ answer_of (table_step (standing job.policy past) c)
 table_answer job past c r h =
     let t = table_taken job past c (reply.Table r) h refl in

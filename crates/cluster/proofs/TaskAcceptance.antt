@@ -2,13 +2,13 @@
 use Rattle.std.proofs.Common.{ℕ, List, [], ◌∷◌, sym, subst, inl, inr}
 use Rattle.slicelet.specs.declared.call.SliceletCall.{SliceletCall}
 use Rattle.slicelet.specs.Accepted.{AreAccepted}
-use Rattle.cluster.specs.Jobs.{Job}
+use Rattle.cluster.specs.continued.Jobs.{Continued}
 use Rattle.cluster.specs.Pasts.{Event, Past, task_calls, history}
-use Rattle.cluster.specs.Runs.{IsReply, IsRun}
+use Rattle.cluster.specs.continued.Runs.{IsReply, IsRun}
 use Rattle.cluster.proofs.Taking.{task_taken, step_unrefused}
 use Rattle.cluster.proofs.Adding.{adds_to_task}
 
-pub accepted_calls : (job : Job) (past : Past) (task : ℕ) → IsRun job past → AreAccepted task (task_calls task past)
+pub accepted_calls : (job : Continued) (past : Past) (task : ℕ) → IsRun job past → AreAccepted task (task_calls task past)
 accepted_calls job [] task run = tt
 accepted_calls job (e ∷ past) task run =
     let before = accepted_calls job past task run.1 in

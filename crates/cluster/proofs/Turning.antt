@@ -14,7 +14,7 @@ use Rattle.slicelet.specs.declared.error.SliceletError.{SliceletError}
 use Rattle.slicelet.specs.States.{SliceletState}
 use Rattle.slicelet.specs.Steps.{hear_step, slicelet_step}
 use Rattle.cluster.specs.declared.reply.ClusterReply.TheVariants as reply
-use Rattle.cluster.specs.Deliveries.{note_told}
+use Rattle.cluster.specs.Made.{note_told}
 use Rattle.cluster.specs.internals.Turns.{notes_kept, known_after}
 
 -- a machine that does not take a call stays as it is

@@ -1,94 +1,23 @@
--- What was made so far, and which calls deliver nothing else.
-use Rattle.std.specs.Prelude.{Bool, false, not, ◌&&◌, nat_eq, List, [], ◌∷◌, ◌++◌, Option, Some, None}
-use Rattle.std.specs.List.{list_any}
-use Rattle.machines.specs.Refusals.{when}
-use Rattle.machines.specs.Numbers.{is_within}
-use Rattle.lease_rule.specs.Leases.{same_kind}
-use Rattle.assignment.specs.Slices.{Slicing}
-use Rattle.assignment.specs.Equality.{slicing_eq}
+-- Which calls deliver what was not made.
+use Rattle.std.specs.Prelude.{Option}
 use Rattle.lease_table.specs.declared.call.TableCall.{TableCall}
-use Rattle.lease_table.specs.declared.call.TableCall.TheVariants.{JobTake, Grant as Ask, Free}
-use Rattle.lease_table.specs.declared.values.Grant.{Grant}
-use Rattle.lease_table.specs.declared.values.ReleaseNote.{ReleaseNote}
-use Rattle.lease_table.specs.Equality.{grant_eq}
-use Rattle.slicelet.specs.declared.handle.KeyHandle.{KeyHandle}
 use Rattle.slicelet.specs.declared.call.SliceletCall.{SliceletCall}
-use Rattle.slicelet.specs.declared.call.SliceletCall.TheVariants.{Hear}
-use Rattle.slicelet.specs.Accepted.{notes_of}
 use Rattle.clerk.specs.declared.call.ClerkCall.{ClerkCall}
-use Rattle.clerk.specs.declared.call.ClerkCall.TheVariants.{Learn}
 use Rattle.cluster.specs.Jobs.{Job}
 use Rattle.cluster.specs.declared.error.ClusterError.{ClusterError}
-use Rattle.cluster.specs.declared.error.ClusterError.TheVariants.{NoActor, NotSent}
-use Rattle.cluster.specs.declared.call.ClusterCall.{ClusterCall}
-use Rattle.cluster.specs.declared.call.ClusterCall.TheVariants as call
-use Rattle.cluster.specs.declared.reply.ClusterReply.{ClusterReply}
-use Rattle.cluster.specs.declared.reply.ClusterReply.TheVariants as reply
-use Rattle.cluster.specs.Pasts.{Past, grants, published}
-
--- the notes made so far, the last one first
-abbrev pub note_told : ClusterReply → List ReleaseNote → List ReleaseNote
-note_told (reply.Task told) before = notes_of told ++ before
-note_told _ before = before
-
-abbrev pub with_note : ClusterCall → ClusterReply → List ReleaseNote → List ReleaseNote
-with_note (call.Task task c) told before = note_told told before
-with_note _ told before = before
-
-abbrev pub notes_made : Past → List ReleaseNote
-notes_made [] = []
-notes_made (e ∷ past) = with_note e.call e.reply (notes_made past)
-
--- the handles made so far, the last one first
-abbrev pub handle_told : ClusterReply → List KeyHandle → List KeyHandle
-handle_told (reply.Holding handle) before = handle ∷ before
-handle_told _ before = before
-
-abbrev pub with_handle : ClusterCall → ClusterReply → List KeyHandle → List KeyHandle
-with_handle (call.Hold task key at) told before = handle_told told before
-with_handle _ told before = before
-
-abbrev pub handles_made : Past → List KeyHandle
-handles_made [] = []
-handles_made (e ∷ past) = with_handle e.call e.reply (handles_made past)
-
--- notes and handles are the same where all their parts are
-abbrev pub same_note : ReleaseNote → ReleaseNote → Bool
-same_note a b = nat_eq a.task b.task && (nat_eq a.life b.life && (same_kind a.kind b.kind && nat_eq a.number b.number))
-
-abbrev pub same_handle : KeyHandle → KeyHandle → Bool
-same_handle a b = nat_eq a.task b.task && (nat_eq a.life b.life && (nat_eq a.key b.key && nat_eq a.position b.position))
-
--- what a call delivers was made
-abbrev pub is_sent : Past → Grant → Bool
-is_sent past grant = list_any (grant_eq grant) (grants past)
-
-abbrev pub is_made : Past → ReleaseNote → Bool
-is_made past note = list_any (same_note note) (notes_made past)
-
-abbrev pub is_given : Past → KeyHandle → Bool
-is_given past handle = list_any (same_handle handle) (handles_made past)
-
-abbrev pub is_published_as : Slicing → Option Slicing → Bool
-is_published_as slicing None = false
-is_published_as slicing (Some other) = slicing_eq slicing other
-
-abbrev pub is_published : Past → Slicing → Bool
-is_published past slicing = is_published_as slicing (published slicing.generation past)
+use Rattle.cluster.specs.Pasts.{Past}
+use Rattle.cluster.specs.continued.Jobs.{from_start, nothing}
+use Rattle.cluster.specs.continued.Deliveries as continued
+pub use Rattle.cluster.specs.Made.{note_told, with_note, notes_made, handle_told, with_handle, handles_made, same_note, same_handle, is_sent, is_made, is_given, is_published_as, is_published}
 
 -- why a call does not come to the table: its assigner or its task is not of the job, or its note was not made
 abbrev pub table_refusal : Job → Past → TableCall → Option ClusterError
-table_refusal job past (JobTake assigner at) = when (not (is_within assigner job.assigners)) NoActor
-table_refusal job past (Ask task life at) = when (not (is_within task job.tasks)) NoActor
-table_refusal job past (Free note at) = when (not (is_made past note)) NotSent
-table_refusal job past _ = None
+table_refusal job past c = continued.table_refusal (from_start job) past c
 
 -- why a call does not come to a task of the job: its grant was not sent
 abbrev pub task_refusal : Past → SliceletCall → Option ClusterError
-task_refusal past (Hear grant at) = when (not (is_sent past grant)) NotSent
-task_refusal past _ = None
+task_refusal past c = continued.task_refusal nothing past c
 
 -- why a call does not come to a clerk of the job: its assignment was not published
 abbrev pub clerk_refusal : Past → ClerkCall → Option ClusterError
-clerk_refusal past (Learn slicing) = when (not (is_published past slicing)) NotSent
-clerk_refusal past _ = None
+clerk_refusal past c = continued.clerk_refusal nothing past c

@@ -1,41 +1,11 @@
 -- When a call may be out of memory.
-use Rattle.std.specs.Prelude.{◌≡◌, Bool, true, false}
-use Rattle.lease_table.specs.Memory.{takes_memory as table_takes_memory}
-use Rattle.slicelet.specs.declared.call.SliceletCall.{SliceletCall}
-use Rattle.slicelet.specs.declared.call.SliceletCall.TheVariants.{Resume}
-use Rattle.slicelet.specs.Memory.{takes_memory as slicelet_takes_memory}
-use Rattle.clerk.specs.Memory.{takes_memory as clerk_takes_memory}
 use Rattle.cluster.specs.Jobs.{Job}
 use Rattle.cluster.specs.declared.call.ClusterCall.{ClusterCall}
-use Rattle.cluster.specs.declared.call.ClusterCall.TheVariants as call
-use Rattle.cluster.specs.declared.reply.ClusterReply.{ClusterReply}
-use Rattle.cluster.specs.declared.reply.ClusterReply.TheVariants as reply
-use Rattle.cluster.specs.Pasts.{Past, is_accepted}
-use Rattle.cluster.specs.Replies.{reply_to}
-
--- a call of a task takes the memory of its slicelet, or that for the notes of a life that ended
-abbrev pub task_takes_memory : SliceletCall → Bool
-task_takes_memory (Resume life) = true
-task_takes_memory c = slicelet_takes_memory c
-
--- a call takes memory
-abbrev pub takes_memory : ClusterCall → Bool
-takes_memory (call.Table c) = table_takes_memory c
-takes_memory (call.Task task c) = task_takes_memory c
-takes_memory (call.Clerk clerk c) = clerk_takes_memory c
-takes_memory call.Rows = true
-takes_memory (call.Hold task key at) = true
-takes_memory _ = false
-
--- a reply needs memory where it accepts its call; that of a `hold` only where it gives a handle, and a denial needs none
-abbrev pub gives_handle : ClusterReply → Bool
-gives_handle (reply.Holding handle) = true
-gives_handle _ = false
-
-abbrev pub needs_memory : ClusterCall → ClusterReply → Bool
-needs_memory (call.Hold task key at) told = gives_handle told
-needs_memory _ told = is_accepted told
+use Rattle.cluster.specs.Pasts.{Past}
+use Rattle.cluster.specs.continued.Jobs.{from_start}
+use Rattle.cluster.specs.continued.Memory as continued
+pub use Rattle.cluster.specs.TakingMemory.{task_takes_memory, takes_memory, gives_handle, needs_memory}
 
 -- a call may be out of memory: it takes some, and its reply would need some, whatever that reply rests on
 abbrev pub MayRunOut : Job → Past → ClusterCall → Type 0
-MayRunOut job past c = (takes_memory c ≡ true) × ((kept : Bool) → needs_memory c (reply_to job past c kept) ≡ true)
+MayRunOut job past c = continued.MayRunOut (from_start job) past c

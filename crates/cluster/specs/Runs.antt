@@ -1,26 +1,19 @@
 -- Runs: each call is answered by the calls before it.
-use Rattle.std.specs.Prelude.{◌≡◌, Bool, true, false, IsTrue, [], ◌∷◌, ⊤, ◌↔◌}
-use Rattle.machines.specs.Numbers.{is_within}
-use Rattle.slicelet.specs.Continuity.{IsContinuous, is_strange}
+use Rattle.std.specs.Prelude.{Bool}
 use Rattle.cluster.specs.Jobs.{Job}
 use Rattle.cluster.specs.declared.call.ClusterCall.{ClusterCall}
-use Rattle.cluster.specs.declared.call.ClusterCall.TheVariants as call
-use Rattle.cluster.specs.Pasts.{Event, Past, task_calls, history}
-use Rattle.cluster.specs.Deliveries.{is_given}
-use Rattle.cluster.specs.Replies.{covers, reply_to}
+use Rattle.cluster.specs.Pasts.{Event, Past}
+use Rattle.cluster.specs.continued.Jobs.{from_start}
+use Rattle.cluster.specs.continued.Runs as continued
 
 -- whether the handle of a `check` is continuous, where it was given, and the task can have given it; another call rests on nothing of the kind
 abbrev pub IsOutcome : Job → Past → ClusterCall → Bool → Type 0
-IsOutcome job past (call.Check task handle at) kept =
-    is_within task job.tasks ≡ true → is_given past handle ≡ true → is_strange (history task past) handle ≡ false
-    → IsTrue kept ↔ IsContinuous (covers past handle.key) (task_calls task past) handle at
-IsOutcome job past _ kept = ⊤
+IsOutcome job past c kept = continued.IsOutcome (from_start job) past c kept
 
 -- a reply is the one that the calls before it give
 abbrev pub IsReply : Job → Past → Event → Type 0
-IsReply job past e = (kept : Bool) × IsOutcome job past e.call kept × (e.reply ≡ reply_to job past e.call kept)
+IsReply job past e = continued.IsReply (from_start job) past e
 
 -- a call that is out of memory changes nothing, and is no event of a run
 abbrev pub IsRun : Job → Past → Type 0
-IsRun job [] = ⊤
-IsRun job (e ∷ past) = IsReply job past e × IsRun job past
+IsRun job past = continued.IsRun (from_start job) past

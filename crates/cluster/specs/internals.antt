@@ -1,2 +1,3 @@
 pub mod Proposals
 pub mod Turns
+pub mod Resuming

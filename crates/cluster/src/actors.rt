@@ -3,7 +3,7 @@
 ghost use Rattle.std.specs.Prelude.{◌≡◌, ◌+◌, ◌<◌, false, not, length, MatchOption, option_map};
 ghost use Rattle.machines.specs.Numbers.{is_within};
 ghost use Rattle.machines.specs.Refusals.{when};
-ghost use Rattle.cluster.specs.Numbers.{with_number};
+ghost use Rattle.cluster.specs.Numbers.{kept_with_number, with_number};
 
 use crate::error::ClusterError;
 
@@ -37,6 +37,17 @@ pub(crate) fn with_number<T>(number: u64, made: &[T]) -> Option<&T>
         return None;
     }
     made.get((number - 1) as usize)
+}
+
+/// Returns the thing with this number among those that are kept of those that were made, without the
+/// first ones, so many, or `None` if it is not kept.
+pub(crate) fn kept_with_number<T>(number: u64, before: u64, kept: &[T]) -> Option<&T>
+    ensures { option_map (λ thing. thing.now) result ≡ kept_with_number number before kept.now }
+{
+    if is_within(number, before) {
+        return None;
+    }
+    with_number(number.saturating_sub(before), kept)
 }
 
 /// Returns no refusal if `holds`, otherwise `why`.

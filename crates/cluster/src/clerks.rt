@@ -1,13 +1,13 @@
 //! Calls of clerks.
 
 ghost use Rattle.std.specs.Prelude.{◌≡◌, ◌∷◌, Ok};
-ghost use Rattle.cluster.specs.Jobs.{Job};
+ghost use Rattle.cluster.specs.continued.Jobs.{Continued};
+ghost use Rattle.cluster.specs.continued.Clusters as continued;
 ghost use Rattle.cluster.specs.declared.call.ClusterCall.TheVariants as asked;
 ghost use Rattle.cluster.specs.declared.error.ClusterError.TheVariants as error;
 ghost use Rattle.cluster.specs.declared.reply.ClusterReply.TheVariants as reply;
 ghost use Rattle.cluster.specs.Pasts.{Past, event};
-ghost use Rattle.cluster.specs.Deliveries.{clerk_refusal};
-ghost use Rattle.cluster.specs.Clusters.{LeadsTo, IsPlayed};
+ghost use Rattle.cluster.specs.continued.Deliveries.{clerk_refusal};
 ghost use Rattle.cluster.specs.internals.Turns.{told_as};
 
 use crate::actors::{place_of, unless};
@@ -41,8 +41,8 @@ impl Cluster {
     /// published, and those of the clerk. Out of memory comes last and leaves the cluster
     /// unchanged.
     pub fn call_clerk(&mut self, clerk: u64, call: &ClerkCall) -> Result<ClusterReply, AllocError>
-        ensures { (job : Job) (past : Past) → LeadsTo job past self.old
-            → IsPlayed job past (asked.Clerk clerk call.now) result self.new }
+        ensures { (job : Continued) (past : Past) → continued.LeadsTo job past self.old
+            → continued.IsPlayed job past (asked.Clerk clerk call.now) result self.new }
     {
         let Some(place) = place_of(clerk, self.clerks.as_slice()) else {
             return Ok(ClusterReply::Refused(ClusterError::NoActor));
@@ -55,7 +55,7 @@ impl Cluster {
 
     // Returns why a call is refused before it reaches the clerk, if it is.
     fn clerk_refusal(&self, call: &ClerkCall) -> Option<ClusterError>
-        ensures { (job : Job) (past : Past) → LeadsTo job past self.now → result ≡ clerk_refusal past call.now }
+        ensures { (job : Continued) (past : Past) → continued.LeadsTo job past self.now → result ≡ clerk_refusal job.forgotten past call.now }
     {
         match call {
             ClerkCall::Learn(assignment) => {
@@ -67,8 +67,8 @@ impl Cluster {
 
     /// Plays `look` of a clerk.
     pub(crate) fn look(&self, clerk: u64, key: SliceKey) -> ClusterReply
-        ensures { (job : Job) (past : Past) → LeadsTo job past self.now
-            → IsPlayed job past (asked.Look clerk key) (Ok result) self.now }
+        ensures { (job : Continued) (past : Past) → continued.LeadsTo job past self.now
+            → continued.IsPlayed job past (asked.Look clerk key) (Ok result) self.now }
     {
         let Some(place) = place_of(clerk, self.clerks.as_slice()) else {
             return ClusterReply::Refused(ClusterError::NoActor);

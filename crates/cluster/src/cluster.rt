@@ -7,6 +7,9 @@ ghost use Rattle.lease_table.specs.Policies.{is_policy};
 ghost use Rattle.slicelet.specs.Continuity.{is_strange};
 ghost use Rattle.slicelet.specs.States.{opening};
 ghost use Rattle.cluster.specs.Jobs.{Job};
+ghost use Rattle.cluster.specs.continued.Jobs.{Continued};
+ghost use Rattle.cluster.specs.continued.Runs as continued_run;
+ghost use Rattle.cluster.specs.continued.Clusters as continued;
 ghost use Rattle.cluster.specs.declared.call.ClusterCall.{ClusterCall};
 ghost use Rattle.cluster.specs.declared.call.ClusterCall.TheVariants as asked;
 ghost use Rattle.cluster.specs.declared.error.ClusterError.{ClusterError};
@@ -14,13 +17,13 @@ ghost use Rattle.cluster.specs.declared.reply.ClusterReply.{ClusterReply};
 ghost use Rattle.cluster.specs.declared.reply.ClusterReply.TheVariants as reply;
 ghost use Rattle.cluster.specs.Timing.{IsTimely};
 ghost use Rattle.cluster.specs.Pasts.{Past, event, readings, history};
-ghost use Rattle.cluster.specs.Deliveries.{is_given};
-ghost use Rattle.cluster.specs.Runs.{IsReply, IsRun};
+ghost use Rattle.cluster.specs.Made.{is_given};
 ghost use Rattle.cluster.specs.Headline.{MayServe, IsOwner, IsWhileHeld};
 ghost use Rattle.cluster.specs.Promises.{IsServedByRule, IsCheckedByHistory};
-ghost use Rattle.cluster.specs.Clusters.{AreActors, LeadsTo, IsPlayed};
+ghost use Rattle.cluster.specs.Clusters.{AreActors, LeadsTo};
 
 use crate::call::ClusterCall;
+use crate::counts::Counts;
 use crate::job::Job;
 use crate::known::{KnownHandle, KnownNote};
 use crate::laws::{handle_law, interval_law, owner_law, rule_law};
@@ -34,8 +37,9 @@ use std::alloc::{AllocError, Global};
 
 /// The machines of one job, its lease table, slicelets and clerks, with everything that they made.
 ///
-/// A cluster keeps all grants, notes, handles and published assignments that were made so far. Each
-/// of them may be delivered later, more than once and in any order.
+/// A cluster keeps all grants, notes, handles and published assignments that were made so far; one
+/// that goes on from a snapshot ([`Cluster::resume`]), those that the snapshot remembers and those
+/// that were made since. Each of them may be delivered later, more than once and in any order.
 #[derive(Drop)]
 pub struct Cluster {
     pub(crate) alloc: Global,
@@ -46,7 +50,9 @@ pub struct Cluster {
     pub(crate) grants: Vec<Grant>,
     pub(crate) notes: Vec<ReleaseNote>,
     pub(crate) handles: Vec<KeyHandle>,
-    // The same notes and handles, found by their values.
+    // How many of each were made before those that are kept.
+    pub(crate) earlier: Counts,
+    // The same notes and handles, and those that are remembered of earlier ones, found by their values.
     pub(crate) known_notes: IndexSet<KnownNote>,
     pub(crate) known_handles: IndexSet<KnownHandle>,
     pub(crate) proposals: Vec<Assignment>,
@@ -74,7 +80,7 @@ fn clerks_of(alloc: Global, job: Job) -> Result<Vec<Clerk>, AllocError>
 
 impl Cluster {
     /// Creates the machines of a job before their first call.
-    #[tactic(auto, unfolding(crate::specs::Clusters::LeadsTo))]
+    #[tactic(auto, unfolding(crate::specs::continued::Clusters::LeadsTo))]
     pub fn new(alloc: Global, job: Job) -> Result<Self, AllocError>
         ensures { IfOk result (λ cluster. LeadsTo job [] cluster) }
     {
@@ -89,6 +95,7 @@ impl Cluster {
             grants: Vec::new(alloc),
             notes: Vec::new(alloc),
             handles: Vec::new(alloc),
+            earlier: Counts::none(),
             known_notes: IndexSet::new(alloc),
             known_handles: IndexSet::new(alloc),
             proposals: Vec::new(alloc),
@@ -100,7 +107,7 @@ impl Cluster {
     /// A refused call changes nothing. Out of memory comes last, is returned only for a call that
     /// would not be refused, and leaves the cluster unchanged.
     pub fn play(&mut self, call: &ClusterCall) -> Result<ClusterReply, AllocError>
-        ensures { (job : Job) (past : Past) → LeadsTo job past self.old → IsPlayed job past call.now result self.new }
+        ensures { (job : Continued) (past : Past) → continued.LeadsTo job past self.old → continued.IsPlayed job past call.now result self.new }
     {
         match call {
             ClusterCall::Table(call) => self.call_table(call),
@@ -118,18 +125,18 @@ impl Cluster {
     /// States that every past that leads to a cluster is a run.
     ///
     /// The policy of the run's job is within its limits.
-    #[tactic(auto, unfolding(crate::specs::Clusters::LeadsTo))]
+    #[tactic(auto, unfolding(crate::specs::continued::Clusters::LeadsTo))]
     pub fn run_law(&self)
-        ensures run { (job : Job) (past : Past) → LeadsTo job past self.now → IsRun job past }
-        ensures within { (job : Job) (past : Past) → LeadsTo job past self.now → is_policy job.policy ≡ true }
+        ensures run { (job : Continued) (past : Past) → continued.LeadsTo job past self.now → continued_run.IsRun job past }
+        ensures within { (job : Continued) (past : Past) → continued.LeadsTo job past self.now → is_policy job.policy ≡ true }
     {}
 
     /// States that a refused call leaves the cluster unchanged.
     ///
     /// The past with the refused call added leads to the same cluster.
     pub fn refusal_law(&self)
-        ensures { (job : Job) (past : Past) (call : ClusterCall) (why : ClusterError) → LeadsTo job past self.now
-            → IsReply job past (event call (reply.Refused why)) → LeadsTo job (event call (reply.Refused why) ∷ past) self.now }
+        ensures { (job : Continued) (past : Past) (call : ClusterCall) (why : ClusterError) → continued.LeadsTo job past self.now
+            → continued_run.IsReply job past (event call (reply.Refused why)) → continued.LeadsTo job (event call (reply.Refused why) ∷ past) self.now }
     {}
 
     /// States what holds at every point of the past that led to this cluster.

@@ -1,69 +1,73 @@
 //! Whether what a call delivers was ever made.
 
 ghost use Rattle.std.specs.Prelude.{◌≡◌, option_map};
-ghost use Rattle.cluster.specs.Jobs.{Job};
+ghost use Rattle.cluster.specs.continued.Jobs.{Continued};
+ghost use Rattle.cluster.specs.continued.Clusters as continued;
 ghost use Rattle.cluster.specs.Pasts.{Past};
-ghost use Rattle.cluster.specs.Deliveries.{is_given, is_made, is_published, is_sent};
-ghost use Rattle.cluster.specs.Clusters.{LeadsTo};
+ghost use Rattle.cluster.specs.continued.Deliveries.{knows_grant, knows_handle, knows_note, knows_slicing};
 ghost use Rattle.cluster.specs.internals.Proposals.{published_of};
 
-use crate::actors::with_number;
+use crate::actors::kept_with_number;
 use crate::cluster::Cluster;
 use crate::known::{KnownHandle, KnownNote};
 use assignment::Assignment;
 use lease_table::{Grant, LeaseTable, Phase, ReleaseNote};
 use slicelet::KeyHandle;
 
-// Returns the committed assignment of a generation, which is the proposal kept at that place.
+// Returns the committed assignment of a generation, which is the proposal of that number, if it is
+// kept. The proposals before those that are kept are so many.
 pub(crate) fn published<'a>(
     generation: u64,
     table: &LeaseTable,
+    before: u64,
     proposals: &'a [Assignment],
 ) -> Option<&'a Assignment>
-    ensures { option_map (λ slicing. slicing.now) result ≡ published_of generation table.now proposals.now }
+    ensures { option_map (λ slicing. slicing.now) result ≡ published_of generation table.now before proposals.now }
 {
     let (Phase::Steady(committed) | Phase::Bridging(committed, _)) = table.phase();
     if generation <= committed {
-        with_number(generation, proposals)
+        kept_with_number(generation, before, proposals)
     } else {
         None
     }
 }
 
 impl Cluster {
-    /// Whether the table sent this grant.
+    /// Whether the table sent this grant, and it is not forgotten.
     pub(crate) fn is_sent(&self, grant: &Grant) -> bool
-        ensures { (job : Job) (past : Past) → LeadsTo job past self.now → result ≡ is_sent past grant.now }
+        ensures { (job : Continued) (past : Past) → continued.LeadsTo job past self.now → result ≡ knows_grant job.forgotten past grant.now }
     {
         lease_table::numbers_law();
-        match with_number(grant.number, self.grants.as_slice()) {
+        let before = self.earlier.grants();
+        match kept_with_number(grant.number, before, self.grants.as_slice()) {
             Some(sent) => grant == sent,
             None => false,
         }
     }
 
-    /// Whether a task made this note.
+    /// Whether a task made this note, and it is not forgotten.
     pub(crate) fn is_made(&self, note: &ReleaseNote) -> bool
-        ensures { (job : Job) (past : Past) → LeadsTo job past self.now → result ≡ is_made past note.now }
+        ensures { (job : Continued) (past : Past) → continued.LeadsTo job past self.now → result ≡ knows_note job.forgotten past note.now }
     {
         self.known_notes.contains(&KnownNote::new(note))
     }
 
-    /// Whether a task returned this handle.
+    /// Whether a task returned this handle, and it is not forgotten.
     pub(crate) fn is_given(&self, handle: &KeyHandle) -> bool
-        ensures { (job : Job) (past : Past) → LeadsTo job past self.now → result ≡ is_given past handle.now }
+        ensures { (job : Continued) (past : Past) → continued.LeadsTo job past self.now → result ≡ knows_handle job.forgotten past handle.now }
     {
         self.known_handles.contains(&KnownHandle::new(handle))
     }
 
-    /// Whether this assignment was published.
+    /// Whether this assignment was published, and it is not forgotten.
     pub(crate) fn is_published(&self, assignment: &Assignment) -> bool
-        ensures { (job : Job) (past : Past) → LeadsTo job past self.now → result ≡ is_published past assignment.now }
+        ensures { (job : Continued) (past : Past) → continued.LeadsTo job past self.now → result ≡ knows_slicing job.forgotten past assignment.now }
     {
         lease_table::generations_law();
         match published(
             assignment.generation(),
             &self.table,
+            self.earlier.proposals(),
             self.proposals.as_slice(),
         ) {
             Some(known) => assignment == known,

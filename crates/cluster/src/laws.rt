@@ -22,6 +22,9 @@ ghost use Rattle.slicelet.specs.Accepted.{AreAccepted};
 ghost use Rattle.slicelet.specs.Continuity.{is_strange};
 ghost use Rattle.slicelet.specs.Laws.{AgreeOnHeard};
 ghost use Rattle.cluster.specs.Jobs.{Job};
+ghost use Rattle.cluster.specs.continued.Jobs.{Continued};
+ghost use Rattle.cluster.specs.continued.Runs as continued;
+ghost use Rattle.cluster.specs.continued.Snapshots.{Remembered, IsAllSent, continued_from};
 ghost use Rattle.cluster.specs.declared.call.ClusterCall.TheVariants as call;
 ghost use Rattle.cluster.specs.declared.reply.ClusterReply.{ClusterReply};
 ghost use Rattle.cluster.specs.Timing.{IsTimely};
@@ -63,11 +66,23 @@ pub fn sent_law()
 ///
 /// A key is in the ranges exactly if the task owns it in the generations that the lease is for.
 pub fn covers_law()
-    ensures { (job : Job) (past : Past) (task key : ℕ) → is_policy job.policy ≡ true → IsRun job past → key < KEYS
+    ensures { (job : Continued) (past : Past) (task key : ℕ) → is_policy job.policy ≡ true → continued.IsRun job past → key < KEYS
         → AgreeOnHeard (covers_key key) (covers past key) (task_calls task past) }
 {
     lease_table::covers_law();
 }
+
+/// States what a run tells that goes on from earlier calls of which some things are forgotten.
+///
+/// The earlier calls are a run, and so are all calls, if no reply since was that something was not
+/// sent: whatever is remembered, each of these replies is the one that all earlier calls give.
+pub fn continued_law()
+    ensures earlier { (job : Job) (past : Past) (remembered : Remembered) → IsRun job past
+        → continued.IsRun (continued_from job past remembered) past }
+    ensures whole { (job : Job) (past later : Past) (remembered : Remembered) → IsRun job past
+        → continued.IsRun (continued_from job past remembered) (later ++ past) → IsAllSent later
+        → IsRun job (later ++ past) }
+{}
 
 /// States that the slices of a known generation, committed or proposed, never change.
 pub fn known_generations_law()

@@ -9,6 +9,7 @@ mod actors;
 mod call;
 mod clerks;
 mod cluster;
+mod counts;
 mod deliveries;
 mod error;
 mod job;
@@ -17,6 +18,8 @@ mod laws;
 mod numbers;
 mod record;
 mod reply;
+mod resuming;
+mod snapshot;
 mod table;
 mod tasks;
 mod timeliness;
@@ -28,10 +31,11 @@ pub use call::ClusterCall;
 pub use error::ClusterError;
 pub use job::{Job, MOST_ASSIGNERS, MOST_CLERKS};
 pub use laws::{
-    covers_law, handle_law, interval_law, known_generations_law, owner_law, rule_law, sent_law,
-    told_law,
+    continued_law, covers_law, handle_law, interval_law, known_generations_law, owner_law,
+    rule_law, sent_law, told_law,
 };
 pub use record::CallRecord;
 pub use reply::ClusterReply;
+pub use snapshot::{ClusterSnapshot, ResumeFault, TaskSnapshot};
 pub use timeliness::Timeliness;
 pub use timing::Reading;

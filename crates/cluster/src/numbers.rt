@@ -2,8 +2,11 @@
 
 ghost use Rattle.std.specs.Prelude.{◌≡◌, ◌+◌, length, option_map, reverse};
 ghost use Rattle.cluster.specs.Jobs.{Job};
-ghost use Rattle.cluster.specs.Pasts.{Past, standing, grants, published};
-ghost use Rattle.cluster.specs.Deliveries.{notes_made, handles_made};
+ghost use Rattle.cluster.specs.continued.Jobs.{Continued, job_in};
+ghost use Rattle.cluster.specs.continued.Deliveries.{known_grant, known_slicing};
+ghost use Rattle.cluster.specs.continued.Clusters as continued;
+ghost use Rattle.cluster.specs.Pasts.{Past, standing};
+ghost use Rattle.cluster.specs.Made.{notes_made, handles_made};
 ghost use Rattle.cluster.specs.Numbers.{with_number};
 ghost use Rattle.machines.specs.Answers.{Takes};
 ghost use Rattle.machines.specs.Refusals.{first_of};
@@ -17,9 +20,9 @@ ghost use Rattle.cluster.specs.declared.call.ClusterCall.TheVariants as asked;
 ghost use Rattle.cluster.specs.declared.error.ClusterError.TheVariants as error;
 ghost use Rattle.cluster.specs.declared.reply.ClusterReply.TheVariants as reply;
 ghost use Rattle.cluster.specs.Replies.{by_actor};
-ghost use Rattle.cluster.specs.Clusters.{LeadsTo, IsPlayedOr, slicelet_of};
+ghost use Rattle.cluster.specs.Clusters.{LeadsTo, slicelet_of};
 
-use crate::actors::{place_of, with_number};
+use crate::actors::{kept_with_number, place_of};
 use crate::clerks::told_by_clerk;
 use crate::cluster::Cluster;
 use crate::deliveries::published;
@@ -34,15 +37,15 @@ use slicelet::{KeyHandle, Slicelet, SliceletError, SliceletReply};
 use std::alloc::AllocError;
 
 impl Cluster {
-    /// Returns the grant with this number, or `None` if it was not made.
+    /// Returns the grant with this number, or `None` if it was not made or is forgotten.
     ///
     /// Grants, notes and handles are each numbered 1, 2, and so on, in the order in which they were
     /// made.
     pub fn grant(&self, number: u64) -> Option<&Grant>
-        ensures { (job : Job) (past : Past) → LeadsTo job past self.now
-            → option_map (λ grant. grant.now) result ≡ with_number number (grants past) }
+        ensures { (job : Continued) (past : Past) → continued.LeadsTo job past self.now
+            → option_map (λ grant. grant.now) result ≡ known_grant job.forgotten past number }
     {
-        with_number(number, self.grants.as_slice())
+        kept_with_number(number, self.earlier.grants(), self.grants.as_slice())
     }
 
     /// Returns the note with this number, or `None` if it was not made.
@@ -50,7 +53,7 @@ impl Cluster {
         ensures { (job : Job) (past : Past) → LeadsTo job past self.now
             → option_map (λ note. note.now) result ≡ with_number number (reverse (notes_made past)) }
     {
-        with_number(number, self.notes.as_slice())
+        kept_with_number(number, self.earlier.notes(), self.notes.as_slice())
     }
 
     /// Returns the handle with this number, or `None` if it was not made.
@@ -58,44 +61,46 @@ impl Cluster {
         ensures { (job : Job) (past : Past) → LeadsTo job past self.now
             → option_map (λ handle. handle.now) result ≡ with_number number (reverse (handles_made past)) }
     {
-        with_number(number, self.handles.as_slice())
+        kept_with_number(number, self.earlier.handles(), self.handles.as_slice())
     }
 
-    /// Returns the published assignment of this generation, or `None` if there is none.
+    /// Returns the published assignment of this generation, or `None` if there is none or it is
+    /// forgotten.
     pub fn published(&self, generation: u64) -> Option<&Assignment>
-        ensures { (job : Job) (past : Past) → LeadsTo job past self.now
-            → option_map (λ assignment. assignment.now) result ≡ published generation past }
+        ensures { (job : Continued) (past : Past) → continued.LeadsTo job past self.now
+            → option_map (λ assignment. assignment.now) result ≡ known_slicing job.forgotten past generation }
     {
         lease_table::generations_law();
-        published(generation, &self.table, self.proposals.as_slice())
+        let before = self.earlier.proposals();
+        published(generation, &self.table, before, self.proposals.as_slice())
     }
 
     /// Returns the number that the next note will get.
     pub fn next_note(&self) -> u64
-        ensures { (job : Job) (past : Past) → LeadsTo job past self.now → result ≡ length (notes_made past) + 1 }
+        ensures { (job : Continued) (past : Past) → continued.LeadsTo job past self.now → result ≡ length (notes_made past) + 1 }
     {
-        self.notes.as_slice().len() as u64 + 1
+        self.earlier.notes() + self.notes.as_slice().len() as u64 + 1
     }
 
     /// Returns the number that the next handle will get.
     pub fn next_handle(&self) -> u64
-        ensures { (job : Job) (past : Past) → LeadsTo job past self.now → result ≡ length (handles_made past) + 1 }
+        ensures { (job : Continued) (past : Past) → continued.LeadsTo job past self.now → result ≡ length (handles_made past) + 1 }
     {
-        self.handles.as_slice().len() as u64 + 1
+        self.earlier.handles() + self.handles.as_slice().len() as u64 + 1
     }
 
     /// Returns the lease table.
-    #[tactic(auto, unfolding(crate::specs::Clusters::LeadsTo))]
+    #[tactic(auto, unfolding(crate::specs::continued::Clusters::LeadsTo))]
     pub fn table(&self) -> &LeaseTable
-        ensures { (job : Job) (past : Past) → LeadsTo job past self.now → result.now ≡ standing job.policy past }
+        ensures { (job : Continued) (past : Past) → continued.LeadsTo job past self.now → result.now ≡ standing job.policy past }
     {
         &self.table
     }
 
     /// Returns the slicelet of a task, or `None` if the job has no task with this number.
     pub fn slicelet(&self, task: u64) -> Option<&Slicelet>
-        ensures { (job : Job) (past : Past) → LeadsTo job past self.now
-            → option_map (λ slicelet. slicelet.now) result ≡ slicelet_of job past task }
+        ensures { (job : Continued) (past : Past) → continued.LeadsTo job past self.now
+            → option_map (λ slicelet. slicelet.now) result ≡ slicelet_of (job_in job) past task }
     {
         let Some(place) = place_of(task, self.tasks.as_slice()) else {
             return None;
@@ -105,7 +110,7 @@ impl Cluster {
 
     /// Returns the table's phase.
     pub fn phase(&self) -> Phase
-        ensures { (job : Job) (past : Past) → LeadsTo job past self.now → result ≡ phase_of (standing job.policy past) }
+        ensures { (job : Continued) (past : Past) → continued.LeadsTo job past self.now → result ≡ phase_of (standing job.policy past) }
     {
         self.table.phase()
     }
@@ -122,7 +127,7 @@ impl Cluster {
         slices: &[Slice],
         at: u64,
     ) -> Option<TableError>
-        ensures { (job : Job) (past : Past) → LeadsTo job past self.now → result ≡ first_of (propose_checks
+        ensures { (job : Continued) (past : Past) → continued.LeadsTo job past self.now → result ≡ first_of (propose_checks
             (standing job.policy past) number (record { generation = generation; slices = slices.now }) at) }
     {
         self.table.propose_refusal(number, generation, slices, at)
@@ -131,22 +136,24 @@ impl Cluster {
     /// Delivers the grant with this number to a task, at a reading of the task's clock in ticks.
     ///
     /// Returns the reply of the call that carries the grant, without copying the grant. `NoActor`
-    /// comes before `NotSent`, which is returned if there is no grant with this number.
+    /// comes before `NotSent`, which is returned if there is no grant with this number or it is
+    /// forgotten.
     pub fn hear_numbered(
         &mut self,
         task: u64,
         number: u64,
         at: u64,
     ) -> Result<ClusterReply, AllocError>
-        ensures { (job : Job) (past : Past) → LeadsTo job past self.old → IsPlayedOr job past
-            (option_map (λ grant. asked.Task task (Hear grant at)) (with_number number (grants past)))
+        ensures { (job : Continued) (past : Past) → continued.LeadsTo job past self.old → continued.IsPlayedOr job past
+            (option_map (λ grant. asked.Task task (Hear grant at)) (known_grant job.forgotten past number))
             (by_actor task job.tasks (reply.Refused error.NotSent)) result self.new }
     {
         lease_table::numbers_law();
         let Some(place) = place_of(task, self.tasks.as_slice()) else {
             return Ok(ClusterReply::Refused(ClusterError::NoActor));
         };
-        let Some(grant) = with_number(number, self.grants.as_slice()) else {
+        let before = self.earlier.grants();
+        let Some(grant) = kept_with_number(number, before, self.grants.as_slice()) else {
             return Ok(ClusterReply::Refused(ClusterError::NotSent));
         };
         told_by_task(hear(&mut self.tasks[place], grant, at))
@@ -156,14 +163,14 @@ impl Cluster {
     ///
     /// Returns the reply of the call that carries the assignment, without copying the assignment.
     /// `NoActor` comes before `NotSent`, which is returned if no assignment of this generation was
-    /// published.
+    /// published or it is forgotten.
     pub fn learn_published(
         &mut self,
         clerk: u64,
         generation: u64,
     ) -> Result<ClusterReply, AllocError>
-        ensures { (job : Job) (past : Past) → LeadsTo job past self.old → IsPlayedOr job past
-            (option_map (λ slicing. asked.Clerk clerk (Learn slicing)) (published generation past))
+        ensures { (job : Continued) (past : Past) → continued.LeadsTo job past self.old → continued.IsPlayedOr job past
+            (option_map (λ slicing. asked.Clerk clerk (Learn slicing)) (known_slicing job.forgotten past generation))
             (by_actor clerk job.clerks (reply.Refused error.NotSent)) result self.new }
     {
         lease_table::generations_law();
@@ -171,7 +178,9 @@ impl Cluster {
         let Some(place) = place_of(clerk, self.clerks.as_slice()) else {
             return Ok(ClusterReply::Refused(ClusterError::NoActor));
         };
-        let Some(assignment) = published(generation, &self.table, self.proposals.as_slice()) else {
+        let before = self.earlier.proposals();
+        let proposals = self.proposals.as_slice();
+        let Some(assignment) = published(generation, &self.table, before, proposals) else {
             return Ok(ClusterReply::Refused(ClusterError::NotSent));
         };
         told_by_clerk(learn(&mut self.clerks[place], assignment))

@@ -4,13 +4,13 @@ ghost use Rattle.std.specs.Prelude.{◌≡◌, ◌∷◌, ◌++◌, [], true, Ok
 ghost use Rattle.machines.specs.Answers.{Takes};
 ghost use Rattle.lease_table.specs.Steps.{propose_step, grant_step};
 ghost use Rattle.lease_table.specs.Calls.{table_step};
-ghost use Rattle.cluster.specs.Jobs.{Job};
+ghost use Rattle.cluster.specs.continued.Jobs.{Continued};
+ghost use Rattle.cluster.specs.continued.Clusters as continued;
 ghost use Rattle.cluster.specs.declared.call.ClusterCall.TheVariants as asked;
 ghost use Rattle.cluster.specs.declared.error.ClusterError.TheVariants as error;
 ghost use Rattle.cluster.specs.declared.reply.ClusterReply.TheVariants as reply;
 ghost use Rattle.cluster.specs.Pasts.{Past, event};
-ghost use Rattle.cluster.specs.Deliveries.{table_refusal};
-ghost use Rattle.cluster.specs.Clusters.{LeadsTo, IsPlayed};
+ghost use Rattle.cluster.specs.continued.Deliveries.{table_refusal};
 ghost use Rattle.cluster.specs.internals.Turns.{told_as, makes_nothing, grants_kept, proposals_kept, OnlyTakes, IsSameBesideTable};
 
 use crate::actors::{is_within, unless};
@@ -44,8 +44,8 @@ impl Cluster {
     /// `NotSent` for a note that was never made, and those of the table. Out of memory comes last
     /// and leaves the cluster unchanged.
     pub fn call_table(&mut self, call: &TableCall) -> Result<ClusterReply, AllocError>
-        ensures { (job : Job) (past : Past) → LeadsTo job past self.old
-            → IsPlayed job past (asked.Table call.now) result self.new }
+        ensures { (job : Continued) (past : Past) → continued.LeadsTo job past self.old
+            → continued.IsPlayed job past (asked.Table call.now) result self.new }
     {
         lease_table::standing_law();
         if let Some(why) = self.table_refusal(call) {
@@ -56,7 +56,7 @@ impl Cluster {
 
     // Returns why a call is refused before it reaches the table, if it is.
     fn table_refusal(&self, call: &TableCall) -> Option<ClusterError>
-        ensures { (job : Job) (past : Past) → LeadsTo job past self.now → result ≡ table_refusal job past call.now }
+        ensures { (job : Continued) (past : Past) → continued.LeadsTo job past self.now → result ≡ table_refusal job past call.now }
     {
         match call {
             TableCall::JobTake { assigner, .. } => unless(
@@ -157,16 +157,16 @@ impl Cluster {
 
     /// Returns the reply to a call that asks for the phase.
     pub(crate) fn phase_reply(&self) -> ClusterReply
-        ensures { (job : Job) (past : Past) → LeadsTo job past self.now
-            → IsPlayed job past asked.Phase (Ok result) self.now }
+        ensures { (job : Continued) (past : Past) → continued.LeadsTo job past self.now
+            → continued.IsPlayed job past asked.Phase (Ok result) self.now }
     {
         ClusterReply::Phase(self.table.phase())
     }
 
     /// Returns the table's open rows.
     pub(crate) fn rows(&self) -> Result<ClusterReply, AllocError>
-        ensures { (job : Job) (past : Past) → LeadsTo job past self.now
-            → IsPlayed job past asked.Rows result self.now }
+        ensures { (job : Continued) (past : Past) → continued.LeadsTo job past self.now
+            → continued.IsPlayed job past asked.Rows result self.now }
     {
         Ok(ClusterReply::Rows(Listed::from_vec(self.table.rows()?)))
     }

@@ -5,16 +5,16 @@ ghost use Rattle.machines.specs.declared.machine.Trouble.TheVariants.{NoMemory};
 ghost use Rattle.machines.specs.Answers.{Takes};
 ghost use Rattle.cluster.specs.Memory.{task_takes_memory};
 ghost use Rattle.slicelet.specs.Steps.{release_step, resume_step, slicelet_step};
-ghost use Rattle.cluster.specs.Jobs.{Job};
+ghost use Rattle.cluster.specs.continued.Jobs.{Continued};
+ghost use Rattle.cluster.specs.continued.Clusters as continued;
 ghost use Rattle.cluster.specs.declared.call.ClusterCall.TheVariants as asked;
 ghost use Rattle.cluster.specs.declared.error.ClusterError.TheVariants as error;
 ghost use Rattle.cluster.specs.declared.reply.ClusterReply.TheVariants as reply;
 ghost use Rattle.cluster.specs.Pasts.{Past, event};
-ghost use Rattle.cluster.specs.Deliveries.{task_refusal};
-ghost use Rattle.cluster.specs.Clusters.{LeadsTo, IsPlayed};
+ghost use Rattle.cluster.specs.continued.Deliveries.{task_refusal};
 ghost use Rattle.cluster.specs.internals.Turns.{told_as, notes_kept};
 ghost use Rattle.indexmap.specs.IndexSet.{contains};
-ghost use Rattle.cluster.specs.Deliveries.{same_note, same_handle};
+ghost use Rattle.cluster.specs.Made.{same_note, same_handle};
 ghost use Rattle.cluster.specs.internals.Turns.{known_after};
 ghost use Rattle.lease_table.specs.declared.values.ReleaseNote.{ReleaseNote as Note};
 ghost use Rattle.slicelet.specs.declared.handle.KeyHandle.{KeyHandle as Handle};
@@ -159,8 +159,8 @@ impl Cluster {
     /// The refusals, in this order: `NoActor`, `NotSent` for a grant that the table never sent, and
     /// those of the slicelet. Out of memory comes last and leaves the cluster unchanged.
     pub fn call_task(&mut self, task: u64, call: &SliceletCall) -> Result<ClusterReply, AllocError>
-        ensures { (job : Job) (past : Past) → LeadsTo job past self.old
-            → IsPlayed job past (asked.Task task call.now) result self.new }
+        ensures { (job : Continued) (past : Past) → continued.LeadsTo job past self.old
+            → continued.IsPlayed job past (asked.Task task call.now) result self.new }
     {
         let Some(place) = place_of(task, self.tasks.as_slice()) else {
             return Ok(ClusterReply::Refused(ClusterError::NoActor));
@@ -178,7 +178,7 @@ impl Cluster {
 
     // Returns why a call is refused before it reaches the task, if it is.
     fn task_refusal(&self, call: &SliceletCall) -> Option<ClusterError>
-        ensures { (job : Job) (past : Past) → LeadsTo job past self.now → result ≡ task_refusal past call.now }
+        ensures { (job : Continued) (past : Past) → continued.LeadsTo job past self.now → result ≡ task_refusal job.forgotten past call.now }
     {
         match call {
             SliceletCall::Hear { grant, .. } => unless(self.is_sent(grant), ClusterError::NotSent),
@@ -188,8 +188,8 @@ impl Cluster {
 
     /// Plays `serve` of a task.
     pub(crate) fn serve(&self, task: u64, key: SliceKey, at: u64) -> ClusterReply
-        ensures { (job : Job) (past : Past) → LeadsTo job past self.now
-            → IsPlayed job past (asked.Serve task key at) (Ok result) self.now }
+        ensures { (job : Continued) (past : Past) → continued.LeadsTo job past self.now
+            → continued.IsPlayed job past (asked.Serve task key at) (Ok result) self.now }
     {
         covers_law();
         slicelet::agreement_law();
@@ -207,8 +207,8 @@ impl Cluster {
         key: SliceKey,
         at: u64,
     ) -> Result<ClusterReply, AllocError>
-        ensures { (job : Job) (past : Past) → LeadsTo job past self.old
-            → IsPlayed job past (asked.Hold task key at) result self.new }
+        ensures { (job : Continued) (past : Past) → continued.LeadsTo job past self.old
+            → continued.IsPlayed job past (asked.Hold task key at) result self.new }
     {
         covers_law();
         slicelet::agreement_law();
@@ -229,8 +229,8 @@ impl Cluster {
 
     /// Plays `check` of a task.
     pub(crate) fn check(&self, task: u64, handle: &KeyHandle, at: u64) -> ClusterReply
-        ensures { (job : Job) (past : Past) → LeadsTo job past self.now
-            → IsPlayed job past (asked.Check task handle.now at) (Ok result) self.now }
+        ensures { (job : Continued) (past : Past) → continued.LeadsTo job past self.now
+            → continued.IsPlayed job past (asked.Check task handle.now at) (Ok result) self.now }
     {
         covers_law();
         slicelet::agreement_law();

@@ -5,7 +5,7 @@ use Rattle.lease_table.specs.declared.call.TableCall.{TableCall}
 use Rattle.lease_table.specs.declared.call.TableCall.TheVariants as call
 use Rattle.lease_table.specs.Tables.{Standing, generation_of}
 use Rattle.lease_table.specs.Calls.{AnsweredTableCall}
-use Rattle.cluster.specs.Numbers.{with_number}
+use Rattle.cluster.specs.Numbers.{kept_with_number}
 
 -- the assignments of the accepted proposals, in order
 abbrev pub proposals_with : TableCall → Bool → List Slicing → List Slicing
@@ -16,6 +16,6 @@ abbrev pub proposals_in : List AnsweredTableCall → List Slicing
 proposals_in [] = []
 proposals_in (e ∷ past) = proposals_with e.call (is_ok e.answer) (proposals_in past)
 
--- the committed assignment of a generation: that of the proposal of this place
-abbrev pub published_of : ℕ → Standing → List Slicing → Option Slicing
-published_of generation t proposals = if nat_le generation (generation_of t.committed) then with_number generation proposals else None
+-- the committed assignment of a generation: that of the proposal of this number, if it is kept
+abbrev pub published_of : ℕ → Standing → ℕ → List Slicing → Option Slicing
+published_of generation t before kept = if nat_le generation (generation_of t.committed) then kept_with_number generation before kept else None

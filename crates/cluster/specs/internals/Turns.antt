@@ -18,7 +18,7 @@ use Rattle.cluster.specs.declared.error.ClusterError.{ClusterError}
 use Rattle.cluster.specs.declared.reply.ClusterReply.{ClusterReply}
 use Rattle.cluster.specs.declared.reply.ClusterReply.TheVariants as reply
 use Rattle.cluster.specs.declared.cluster.Cluster.{Cluster}
-use Rattle.cluster.specs.Deliveries.{note_told, same_note}
+use Rattle.cluster.specs.Made.{note_told, same_note}
 use Rattle.cluster.specs.internals.Proposals.{proposals_with}
 
 -- what a machine answers, as the reply of the cluster
@@ -54,7 +54,7 @@ OnlyTakes c answer = IfErr answer (λ trouble. trouble ≡ NoMemory → takes_me
 abbrev pub IsSameBesideTable : Cluster → Cluster → Type 0
 IsSameBesideTable old new =
     (new.job ≡ old.job) × (new.tasks.items ≡ old.tasks.items) × (new.clerks.items ≡ old.clerks.items) × (new.notes.items ≡ old.notes.items) × (new.handles.items ≡ old.handles.items)
-    × (new.known_notes ≡ old.known_notes) × (new.known_handles ≡ old.known_handles)
+    × (new.known_notes ≡ old.known_notes) × (new.known_handles ≡ old.known_handles) × (new.earlier ≡ old.earlier)
 
 -- a call by which the table makes nothing that is kept
 abbrev pub makes_nothing : TableCall → Bool

@@ -4,6 +4,7 @@ use Rattle.lease_table.specs.Policies.{Terms}
 use Rattle.cluster.specs.declared.timing.Reading.{Reading}
 use Rattle.cluster.specs.Pasts.{readings}
 use Rattle.cluster.specs.Timeliness.{IsTimelinessOf}
+use Rattle.cluster.specs.continued.Jobs.{from_start}
 use Rattle.audit.specs.declared.points.Point.{Point}
 use Rattle.audit.specs.Shown.{turn_of}
 use Rattle.audit.proofs.Replaying.{IsPlayedTo, played_more, breaks_here, one_run}
@@ -23,7 +24,7 @@ returns-in-Some c =
     let leads = c.in_ok-reply.ensures c.args.job known.past known.leads in
     rw c.ticket-ticket.ensures
     (breaks_here turn_of c.args.points.now c.loop-point.point-index c.point-item.result c.point-item.result c.loop-point-test.true c.point-item.is
-    c.args.job known.past c.in_ok-reply.reply c.in-Some.why known.told (c.run_law.ensures.run c.args.job _ leads) (rw c.told.ensures at c.in-Some.ensures))
+    c.args.job known.past c.in_ok-reply.reply c.in-Some.why known.told (c.run_law.ensures.run (from_start c.args.job) _ leads) (rw c.told.ensures at c.in-Some.ensures))
 
 pub loop-point-preserved : goal.loop-point-preserved
 loop-point-preserved c =
@@ -39,6 +40,6 @@ returns c =
     let known = subst (λ (ps : List Point). IsPlayedTo c.args.job (map turn_of ps) c.loop-point.cluster c.loop-point.timeliness)
     (take_all c.loop-point.point-index c.args.points.now c.loop-point-test.false) c.loop-point.invariant in
     one_run c.args.job (map turn_of c.args.points.now) c.loop-point.cluster c.loop-point.timeliness _ c.is_timely-timely.result known
-    (c.run_law-2.ensures.run c.args.job known.past known.leads)
+    (c.run_law-2.ensures.run (from_start c.args.job) known.past known.leads)
     (let n = length-map c.args.points.now turn_of in omega (arith, n))
     (c.is_timely-timely.ensures c.args.job.policy.skew _ known.clocks)

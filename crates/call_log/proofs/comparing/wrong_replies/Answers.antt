@@ -3,6 +3,7 @@ use Rattle.call_log.specs.declared.comparing.WrongReply.{WrongReply}
 use Rattle.call_log.specs.WrongReplies.{AreWrongReplies}
 use Rattle.call_log.proofs.Compared.{right_more, wrong_more}
 use Rattle.call_log.proofs.comparing.wrong_replies.Goals as goal
+use Rattle.cluster.specs.continued.Jobs.{from_start}
 use Rattle.call_log.proofs.comparing.wrong_replies.Goals.{in-Some+in_ok-push+else-len-eq-MOST_WRONG_REPLIES, in_default}
 
 pub returns-then-len-eq-MOST_WRONG_REPLIES : goal.returns-then-len-eq-MOST_WRONG_REPLIES
@@ -16,7 +17,7 @@ returns-then-len-eq-MOST_WRONG_REPLIES c =
       past = more.past;
       are = subst (λ (rs : List WrongReply). AreWrongReplies c.args.job c.args.entries.now (reverse (take (c.loop-index.index + 1) c.args.entries.now)) more.past (reverse rs))
           (sym c.in_ok-push.ensures.items) more.are;
-      answered = c.run_law.ensures.run c.args.job more.past more.leads;
+      answered = c.run_law.ensures.run (from_start c.args.job) more.past more.leads;
       enough = inr (search rules);
     }
 
@@ -42,6 +43,6 @@ returns c =
       judged = c.loop-index.index;
       past = known.past;
       are = known.are;
-      answered = c.run_law-2.ensures.run c.args.job known.past known.leads;
+      answered = c.run_law-2.ensures.run (from_start c.args.job) known.past known.leads;
       enough = inl (omega arith);
     }

@@ -4,6 +4,7 @@ use Rattle.call_log.specs.Calls.{held_by_asked}
 use Rattle.call_log.specs.Hints.{with_open}
 use Rattle.call_log.proofs.Opening.{all_of}
 use Rattle.call_log.proofs.Replaying.{IsPlayedTo, played_more, breaks_here}
+use Rattle.cluster.specs.continued.Jobs.{from_start}
 use Rattle.call_log.proofs.hint.is_run_with.Goals as goal
 
 pub loop-index-init : goal.loop-index-init
@@ -18,7 +19,7 @@ returns-in-Some c =
       c.in-Some._wanted,
       held_by_asked c.args.job answered.played.after c.entry_with-entry.result.now.line.call,
       breaks_here all c.loop-index.index c.entry_with-entry.result.now c.entry_with-entry.ensures.0 c.entry_with-entry.ensures.1
-          c.args.job known.past c.answer.new.cluster c.in-Some._wanted _ known.told answered (c.run_law.ensures.run c.args.job _ answered.played.leads) refl,
+          c.args.job known.past c.answer.new.cluster c.in-Some._wanted _ known.told answered (c.run_law.ensures.run (from_start c.args.job) _ answered.played.leads) refl,
     )
 
 pub loop-index-preserved : goal.loop-index-preserved
@@ -33,4 +34,4 @@ pub returns : goal.returns
 returns c =
     let known = subst (λ (es : List LogEntry). IsPlayedTo c.args.job es c.loop-index.cluster)
     (all_of c.args.entries.now c.args.place c.args.line.now c.requires c.loop-index.index (omega arith)) c.loop-index.invariant in
-    record { past = known.past; told = known.told; answered = c.run_law-2.ensures.run c.args.job known.past known.leads }
+    record { past = known.past; told = known.told; answered = c.run_law-2.ensures.run (from_start c.args.job) known.past known.leads }

@@ -4,6 +4,7 @@ use Rattle.call_log.specs.declared.entry.LogEntry.{LogEntry}
 use Rattle.lease_table.specs.Policies.{Terms}
 use Rattle.call_log.specs.Late.{AreWatched}
 use Rattle.call_log.proofs.Replaying.{IsPlayedTo, caused_here, one_run, played_more}
+use Rattle.cluster.specs.continued.Jobs.{from_start}
 use Rattle.call_log.proofs.judging.replay.Goals as goal
 
 pub loop-index-init : goal.loop-index-init
@@ -15,7 +16,7 @@ returns-in-Some g c =
     let answered = rw c.in-Some.is at (c.in_ok-other.ensures c.args.job known.past known.leads) in
     caused_here c.args.entries.now c.loop-index.index c.index-entries-index.result c.loop-index-test.true c.index-entries-index.is
     c.args.job known.past c.answer.new.cluster c.in-Some.wanted c.held_by_asked-held.result c.in_ok-cause.cause known.told answered
-    (c.run_law.ensures.run c.args.job _ answered.played.leads) (c.held_by_asked-held.ensures c.args.job _ answered.played.leads)
+    (c.run_law.ensures.run (from_start c.args.job) _ answered.played.leads) (c.held_by_asked-held.ensures c.args.job _ answered.played.leads)
     (c.in_ok-cause.ensures _ answered.played.leads)
 
 pub loop-index-preserved : goal.loop-index-preserved
@@ -30,6 +31,6 @@ returns g c =
     let known = subst (λ (es : List LogEntry). IsPlayedTo c.args.job es c.loop-index.cluster)
     (take_all c.loop-index.index c.args.entries.now c.loop-index-test.false) c.loop-index.invariant in
     one_run c.args.job c.args.entries.now c.loop-index.cluster _ c.late_reading.result known
-    (c.run_law-2.ensures.run c.args.job known.past known.leads)
+    (c.run_law-2.ensures.run (from_start c.args.job) known.past known.leads)
     (omega arith)
     (subst (λ (n : ℕ). AreWatched n c.args.entries.now c.late_reading.result) (c.skew.ensures ∙ ap (λ (p : Terms). p.skew) c.policy.ensures) c.late_reading.ensures)

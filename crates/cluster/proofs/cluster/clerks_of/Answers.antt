@@ -1,7 +1,7 @@
 use Rattle.std.proofs.Common.{List, ◌+◌, sym, subst}
 use Rattle.std.specs.Prelude.{Option, None}
 use Rattle.assignment.specs.Slices.{Slicing}
-use Rattle.cluster.specs.Clusters.{AreActors}
+use Rattle.cluster.specs.ActorLists.{AreActors}
 use Rattle.cluster.proofs.ActorLists.{actors_push}
 use Rattle.cluster.proofs.cluster.clerks_of.Goals as goal
 

@@ -1,6 +1,6 @@
 use Rattle.std.specs.Prelude.{Option, None}
 use Rattle.assignment.specs.Slices.{Slicing}
-use Rattle.cluster.specs.Clusters.{AreActors}
+use Rattle.cluster.specs.ActorLists.{AreActors}
 use Rattle.cluster.proofs.cluster.clerks_of.Given as goal
 
 -- the actors so far

@@ -1,5 +1,5 @@
 use Rattle.slicelet.specs.States.{opening}
-use Rattle.cluster.specs.Clusters.{AreActors}
+use Rattle.cluster.specs.ActorLists.{AreActors}
 use Rattle.cluster.proofs.cluster.tasks_of.Given as goal
 
 -- the actors so far

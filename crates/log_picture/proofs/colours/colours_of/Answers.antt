@@ -9,6 +9,7 @@ use Rattle.timeline.specs.declared.stretch.Stretch.{Stretch}
 use Rattle.timeline.specs.Tasks.{AreTaskStretches, Each, IsKeptOf}
 use Rattle.log_picture.specs.internals.Playing.{ArePlayed}
 use Rattle.log_picture.proofs.Playing.{one_more}
+use Rattle.cluster.specs.continued.Jobs.{from_start}
 use Rattle.log_picture.proofs.colours.colours_of.Goals as goal
 
 pub loop-entry-init : goal.loop-entry-init
@@ -35,6 +36,6 @@ returns c =
     IfOk-weaker c.cut_all.result _ _ (λ tasks are. record {
       past = played.past;
       calls = subst (λ (done : List LogEntry). AreCallsOf c.args.job (reverse done) played.past) all played.calls;
-      run = c.run_law.ensures.run c.args.job played.past played.leads;
+      run = c.run_law.ensures.run (from_start c.args.job) played.past played.leads;
       stretches = are;
     }) (c.cut_all.ensures c.args.job played.past c.args.key own)

@@ -4,6 +4,7 @@ use Rattle.std.proofs.lemmas.List.{take_all}
 use Rattle.call_log.specs.declared.entry.LogEntry.{LogEntry}
 use Rattle.log_picture.specs.Shots.{shot_of}
 use Rattle.log_picture.specs.Warnings.{AreWarned}
+use Rattle.cluster.specs.continued.Jobs.{from_start}
 use Rattle.log_picture.proofs.story.story_of.Goals as goal
 
 pub loop-index-init : goal.loop-index-init
@@ -27,5 +28,5 @@ returns c =
       past = played.past;
       warned = subst (λ (done : List LogEntry). AreWarned (shot_of c.args.scene.now) c.args.job (reverse done) played.past c.loop-index.watch.alarms.items) all
           played.warned;
-      run = c.run_law.ensures.run c.args.job played.past played.leads;
+      run = c.run_law.ensures.run (from_start c.args.job) played.past played.leads;
     }

@@ -3,6 +3,7 @@ use Rattle.std.specs.Prelude.{Some, None, string_bytes}
 use denote.Ref.{Bor}
 use Rattle.log_view.specs.Windows.{is_shown}
 use Rattle.log_view.specs.internals.Playing.{IsLineIf}
+use Rattle.cluster.specs.continued.Jobs.{from_start}
 use Rattle.log_view.proofs.lines.line_at.Goals as goal
 
 pub returns-then-not-is_shown : goal.returns-then-not-is_shown
@@ -16,7 +17,7 @@ returns-then-not-is_shown c = λ past leads.
       here = c.index-log-index.is;
       told = c.in_ok-wanted.wanted;
       played = played;
-      answered = c.run_law.ensures.run c.args.job played.after played.leads;
+      answered = c.run_law.ensures.run (from_start c.args.job) played.after played.leads;
       words = subst (λ (is : Bool). IsLineIf is c.args.job played.after names c.args.log.entries.now c.args.index entry.line.call c.in_ok-wanted.wanted None) hidden refl;
     }
 
@@ -32,7 +33,7 @@ returns c = λ past leads.
       here = c.index-log-index.is;
       told = c.in_ok-wanted.wanted;
       played = played;
-      answered = c.run_law.ensures.run c.args.job played.after played.leads;
+      answered = c.run_law.ensures.run (from_start c.args.job) played.after played.leads;
       words = subst (λ (is : Bool). IsLineIf is c.args.job played.after names c.args.log.entries.now c.args.index entry.line.call c.in_ok-wanted.wanted
           (Some (string_bytes c.in_ok-line.line))) shown line;
     }

@@ -3,6 +3,7 @@ use Rattle.std.specs.Prelude.{Some, None, Result, Ok, Err, OnOk, if◌then◌els
 use Rattle.machines.specs.Numbers.{is_within}
 use Rattle.slicelet.specs.States.{SliceletState}
 use Rattle.cluster.specs.Pasts.{task_calls, history}
+use Rattle.cluster.specs.continued.Jobs.{from_start}
 use Rattle.timeline.proofs.Tasks.{stands}
 use Rattle.timeline.proofs.task_stretches.observe_task.Goals as goal
 
@@ -20,12 +21,12 @@ none_of_job false own e is = cc
 
 pub returns-in-Some : goal.returns-in-Some
 returns-in-Some c job before after key k next inside kept =
-    let accepted = c.told_law.ensures.tasks job after c.args.task (c.run_law.ensures.run job after k) in
-    let own = of_job (is_within c.args.task job.tasks) c.in-Some.slicelet.now (history c.args.task after) inside (c.in-Some.ensures job after k) in
+    let accepted = c.told_law.ensures.tasks job after c.args.task (c.run_law.ensures.run (from_start job) after k) in
+    let own = of_job (is_within c.args.task job.tasks) c.in-Some.slicelet.now (history c.args.task after) inside (c.in-Some.ensures (from_start job) after k) in
     let observed = c.observe.ensures.kept (task_calls c.args.task before) (task_calls c.args.task after) kept.1
     (stands c.args.task after c.in-Some.slicelet.now own accepted) (next c.args.task) in
     both (λ same is. (same ∙ kept.0, is)) c.observe.result c.observe.ensures.key observed
 
 pub returns-in-None : goal.returns-in-None
 returns-in-None c job before after key k next inside kept =
-    absurd (none_of_job (is_within c.args.task job.tasks) (history c.args.task after) inside (c.in-None.ensures job after k))
+    absurd (none_of_job (is_within c.args.task job.tasks) (history c.args.task after) inside (c.in-None.ensures (from_start job) after k))

@@ -20,4 +20,4 @@ pub returns : goal.returns
 returns c = λ job past k.
     let inside = subst (λ (xs : List (Option Slicing)). c.in-Some.place < length xs) c.as_slice.ensures.value c.in-Some.ensures.1 in
     clerk_turn job past c.args.clerk c.in-Some.place c.args.call.now c.args.self.now _ c.in-Some.ensures.0 (sym (c.in_default-clerk_refusal.ensures job past k)) k c.index_mut.result.now c.call.new.self
-    c.index_mut.ensures.value inside c.call.result c.call.ensures.step c.call.ensures.memory refl (record { job = refl; table = refl; tasks = refl; grants = refl; notes = refl; handles = refl; known_notes = λ key. refl; known_handles = λ key. refl; proposals = refl }) _ c.told_by_clerk.ensures
+    c.index_mut.ensures.value inside c.call.result c.call.ensures.step c.call.ensures.memory refl (record { job = refl; earlier = refl; table = refl; tasks = refl; grants = refl; notes = refl; handles = refl; known_notes = λ key. refl; known_handles = λ key. refl; proposals = refl }) _ c.told_by_clerk.ensures

@@ -20,5 +20,5 @@ pub returns : goal.returns
 returns c = λ job past k.
     let inside = subst (λ (xs : List SliceletState). c.in-Some.place < length xs) c.as_slice.ensures.value c.in-Some.ensures.1 in
     task_turn job past c.args.task c.in-Some.place c.args.call.now c.args.self.now _ c.in-Some.ensures.0 (sym (c.in_default-task_refusal.ensures job past k)) k c.index_mut.result.now c.take.new.slicelet
-    c.index_mut.ensures.value inside refl (record { job = refl; table = refl; clerks = refl; grants = refl; handles = refl; known_handles = λ key. refl; proposals = refl }) c.take.result c.take.ensures.step c.take.ensures.memory c.take.ensures.notes c.take.ensures.known _
+    c.index_mut.ensures.value inside refl (record { job = refl; earlier = refl; table = refl; clerks = refl; grants = refl; handles = refl; known_handles = λ key. refl; proposals = refl }) c.take.result c.take.ensures.step c.take.ensures.memory c.take.ensures.notes c.take.ensures.known _
     c.told_by_task.ensures

@@ -8,8 +8,8 @@ use Rattle.cluster.specs.declared.call.ClusterCall.TheVariants as call
 use Rattle.cluster.specs.declared.error.ClusterError.TheVariants as error
 use Rattle.cluster.specs.declared.reply.ClusterReply.TheVariants as reply
 use Rattle.cluster.specs.Pasts.{task_calls}
-use Rattle.cluster.specs.Replies.{covers}
-use Rattle.cluster.specs.Clusters.{LeadsTo}
+use Rattle.cluster.specs.Answers.{covers}
+use Rattle.cluster.specs.continued.Clusters.{LeadsTo}
 use Rattle.cluster.proofs.Playing.{only_told}
 use Rattle.cluster.proofs.TaskTurns.{inside_job}
 use Rattle.cluster.proofs.Looking.{own_task, kept_reply, broken_reply, stranger_reply}

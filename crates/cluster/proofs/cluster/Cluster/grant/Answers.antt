@@ -1,9 +1,9 @@
-use Rattle.std.proofs.Common.{List, ◌∙◌, ap}
-use Rattle.lease_table.specs.declared.values.Grant.{Grant}
-use Rattle.cluster.specs.Numbers.{with_number}
-use Rattle.cluster.specs.Clusters.{LeadsTo}
+use Rattle.std.proofs.Common.{ℕ, ◌∙◌, ap}
+use Rattle.cluster.specs.Numbers.{kept_with_number}
+use Rattle.cluster.proofs.KeptNumbers.{kept_grant}
 use Rattle.cluster.proofs.cluster.Cluster.grant.Goals as goal
 
 pub returns : goal.returns
-unfolding LeadsTo
-returns c = λ job past k. c.with_number.ensures ∙ ap (λ (xs : List Grant). with_number c.args.number xs) (c.as_slice.ensures.value ∙ k.grants)
+returns c = λ job past k.
+    c.kept_with_number.ensures ∙ ap (λ (n : ℕ). kept_with_number c.args.number n c.as_slice.result.now) c.grants.ensures
+    ∙ kept_grant job past c.args.self.now k c.args.number c.as_slice.result.now c.as_slice.ensures.value

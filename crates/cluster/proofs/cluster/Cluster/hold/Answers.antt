@@ -8,8 +8,8 @@ use Rattle.slicelet.specs.States.{SliceletState}
 use Rattle.cluster.specs.declared.call.ClusterCall.TheVariants as call
 use Rattle.cluster.specs.declared.reply.ClusterReply.TheVariants as reply
 use Rattle.cluster.specs.Pasts.{task_calls}
-use Rattle.cluster.specs.Replies.{covers}
-use Rattle.cluster.specs.Clusters.{LeadsTo}
+use Rattle.cluster.specs.Answers.{covers}
+use Rattle.cluster.specs.continued.Clusters.{LeadsTo}
 use Rattle.cluster.proofs.Playing.{only_told}
 use Rattle.cluster.proofs.Looking.{own_task, hold_answer, held_leads, hold_out_of_memory}
 use Rattle.cluster.proofs.Stopping.{hold_of_none}
@@ -41,6 +41,7 @@ returns-in-Err-keep c = λ job past k.
     (c.agreement_law.ensures.rule (covers_key c.args.key) (covers past c.args.key) (task_calls c.args.task past) c.args.at) (Ok c.in-Ok.handle) c.in-Ok.ensures.state in
     hold_out_of_memory job past c.args.task c.args.key c.args.at c.in-Ok.handle c.args.self.now _ k (record {
       job = refl;
+      earlier = refl;
       table = refl;
       tasks = refl;
       clerks = refl;
@@ -62,4 +63,4 @@ returns-in-Ok-keep c = λ job past k.
     let is = hold_answer job past c.args.task c.args.key c.args.at c.index.result.now own agree
     (c.agreement_law.ensures.rule (covers_key c.args.key) (covers past c.args.key) (task_calls c.args.task past) c.args.at) (Ok c.in-Ok.handle) c.in-Ok.ensures.state in
     held_leads job past c.args.task c.args.key c.args.at c.in-Ok.handle c.args.self.now _ k c.in-Ok-keep.ensures.ok
-    (record { job = refl; table = refl; tasks = refl; clerks = refl; grants = refl; notes = refl; known_notes = λ key. refl; proposals = refl }) c.in-Ok-keep.ensures.known_ok (sym (is true))
+    (record { job = refl; earlier = refl; table = refl; tasks = refl; clerks = refl; grants = refl; notes = refl; known_notes = λ key. refl; proposals = refl }) c.in-Ok-keep.ensures.known_ok (sym (is true))

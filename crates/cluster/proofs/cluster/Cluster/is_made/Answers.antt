@@ -1,7 +1,7 @@
 use Rattle.std.proofs.Common.{◌∙◌, ap}
 use Rattle.indexmap.specs.IndexSet.{contains}
-use Rattle.cluster.specs.Deliveries.{same_note}
-use Rattle.cluster.specs.Clusters.{LeadsTo}
+use Rattle.cluster.specs.Made.{same_note}
+use Rattle.cluster.specs.continued.Clusters.{LeadsTo}
 use Rattle.cluster.proofs.cluster.Cluster.is_made.Goals as goal
 
 pub returns : goal.returns

@@ -4,7 +4,7 @@ use Rattle.machines.specs.Numbers.{is_within}
 use Rattle.assignment.specs.Slices.{Slicing}
 use Rattle.cluster.specs.declared.error.ClusterError.TheVariants as error
 use Rattle.cluster.specs.declared.reply.ClusterReply.TheVariants as reply
-use Rattle.cluster.specs.Replies.{look_reply}
+use Rattle.cluster.specs.Answers.{look_reply}
 use Rattle.cluster.proofs.ClerkTurns.{look_played}
 use Rattle.cluster.proofs.Stopping.{look_of_none}
 use Rattle.cluster.proofs.cluster.Cluster.look.Goals as goal

@@ -1,8 +1,12 @@
-use Rattle.std.proofs.Common.{ℕ, ◌+◌, length, sym, ◌∙◌, ap}
-use Rattle.std.proofs.lemmas.List.{length-reverse}
-use Rattle.cluster.specs.Clusters.{LeadsTo}
+use Rattle.std.proofs.Common.{ℕ, ◌+◌, ◌∙◌, ap, length}
+use Rattle.cluster.specs.Made.{notes_made}
+use Rattle.cluster.specs.continued.Clusters.{LeadsTo}
+use Rattle.cluster.proofs.KeptNumbers.{count_since}
 use Rattle.cluster.proofs.cluster.Cluster.next_note.Goals as goal
 
 pub returns : goal.returns
 unfolding LeadsTo
-returns c = λ job past k. ap (λ (n : ℕ). n + 1) (ap length c.as_slice.ensures.value ∙ sym (length-reverse c.args.self.now.notes.items) ∙ ap length k.notes)
+returns c = λ job past k.
+    let many = count_since (notes_made past) c.args.self.now.notes.items c.args.self.now.earlier.notes k.notes in
+    ap (λ (n : ℕ). n + 1) (ap (λ (n : ℕ). n + length c.as_slice.result.now) c.notes.ensures.value
+    ∙ ap (λ (n : ℕ). c.args.self.now.earlier.notes + n) (ap length c.as_slice.ensures.value) ∙ many)

@@ -2,7 +2,7 @@ use Rattle.std.proofs.Common.{◌∙◌, ap}
 use Rattle.machines.specs.Refusals.{first_of}
 use Rattle.lease_table.specs.Tables.{Standing}
 use Rattle.lease_table.specs.Steps.{propose_checks}
-use Rattle.cluster.specs.Clusters.{LeadsTo}
+use Rattle.cluster.specs.continued.Clusters.{LeadsTo}
 use Rattle.cluster.proofs.cluster.Cluster.proposal_refusal.Goals as goal
 
 pub returns : goal.returns

@@ -1,4 +1,4 @@
-use Rattle.cluster.specs.Clusters.{LeadsTo}
+use Rattle.cluster.specs.continued.Clusters.{LeadsTo}
 use Rattle.cluster.proofs.Playing.{refused_leads}
 use Rattle.cluster.proofs.cluster.Cluster.refusal_law.Goals as goal
 

@@ -6,8 +6,8 @@ use Rattle.slicelet.specs.States.{SliceletState}
 use Rattle.cluster.specs.declared.call.ClusterCall.TheVariants as call
 use Rattle.cluster.specs.declared.reply.ClusterReply.TheVariants as reply
 use Rattle.cluster.specs.Pasts.{task_calls}
-use Rattle.cluster.specs.Replies.{covers}
-use Rattle.cluster.specs.Clusters.{LeadsTo}
+use Rattle.cluster.specs.Answers.{covers}
+use Rattle.cluster.specs.continued.Clusters.{LeadsTo}
 use Rattle.cluster.proofs.Playing.{only_told}
 use Rattle.cluster.proofs.Looking.{own_task, serve_reply}
 use Rattle.cluster.proofs.Stopping.{serve_of_none}

@@ -6,6 +6,7 @@ use Rattle.cluster.specs.declared.call.ClusterCall.TheVariants as call
 use Rattle.cluster.specs.declared.error.ClusterError.TheVariants as error
 use Rattle.cluster.specs.declared.reply.ClusterReply.TheVariants as machine
 use Rattle.cluster.specs.Replies.{by_actor}
+use Rattle.cluster.specs.continued.Jobs.{from_start}
 use Rattle.cluster.proofs.TaskTurns.{by_own}
 use Rattle.world.specs.Jobs.{Job}
 use Rattle.world.specs.declared.step.Step.TheVariants as step
@@ -23,6 +24,6 @@ returns c = λ job past k.
     let most : c.clerks.result ≡ job.clerks = c.clerks.ensures.value ∙ ap (λ (j : Job). j.clerks) k.same_job in
     let inside : is_within c.args.clerk job.clerks ≡ true = subst (λ (n : ℕ). is_within c.args.clerk n ≡ true) most c.in_ok-check_actor.ensures in
     let told = c.told_of.ensures ∙ ap (λ (next : NextNumbers). told_of s next c.learn_published-answer.result) (c.of-next.ensures job calls k.cluster) in
-    delivered_on job past s c.args.self.now _ k (record { job = refl; draft = refl; shares = refl; book = refl }) refl c.run_law.ensures.run (λ none. unsent_reply job past s none refl (λ h. h)) (published c.args.generation calls) (λ slicing. call.Clerk c.args.clerk (Learn slicing))
+    delivered_on job past s c.args.self.now _ k (record { job = refl; draft = refl; shares = refl; book = refl }) refl (λ job. c.run_law.ensures.run (from_start job)) (λ none. unsent_reply job past s none refl (λ h. h)) (published c.args.generation calls) (λ slicing. call.Clerk c.args.clerk (Learn slicing))
     (actor_call c.args.clerk job.clerks _ inside) (λ x. fits s _ (λ t. refl) (λ r. refl) (λ r. refl))
-    (by_actor c.args.clerk job.clerks (machine.Refused error.NotSent)) (by_own c.args.clerk job.clerks _ inside) c.learn_published-answer.result (c.learn_published-answer.ensures job calls k.cluster) c.told_of.result told (λ n before. refl)
+    (by_actor c.args.clerk job.clerks (machine.Refused error.NotSent)) (by_own c.args.clerk job.clerks _ inside) c.learn_published-answer.result (c.learn_published-answer.ensures (from_start job) calls k.cluster) c.told_of.result told (λ n before. refl)
