@@ -1,6 +1,6 @@
 //! Clerks.
 
-ghost use Rattle.std.specs.Prelude.{◌≡◌, None, IfOk};
+ghost use Rattle.std.specs.Prelude.{◌≡◌, None, IfOk, option_map};
 ghost use Rattle.machines.specs.Answers.{Takes};
 ghost use Rattle.clerk.specs.Steps.{learn_step, look_at};
 
@@ -79,6 +79,13 @@ impl Clerk {
         }
         self.assignment = Some(assignment.copy()?);
         Ok(())
+    }
+
+    /// Returns the assignment that the clerk keeps, if any.
+    pub fn kept(&self) -> Option<&Assignment>
+        ensures { option_map (λ assignment. assignment.now) result ≡ self.now }
+    {
+        self.assignment.as_ref()
     }
 
     /// Returns the tasks that own a key in the kept assignment, and the generation of the

@@ -36,15 +36,15 @@ unfolding kept_of
 kept_read kept policy term committed pending last granted deadline =
     rw (policy_read kept.policy policy, digits_read kept.last last, term, digits_read kept.granted granted, digits_read kept.deadline deadline, committed, pending) refl
 
-assignment_whole : (o : Option Slicing) → has_float (or_null (assignment_data Quoted) o) ≡ false
+pub assignment_whole : (o : Option Slicing) → has_float (or_null (assignment_data Quoted) o) ≡ false
 assignment_whole None = refl
 assignment_whole (Some a) = rw (slices_whole a.slices) refl
 
-assignment_shallow : (o : Option Slicing) → depth (or_null (assignment_data Quoted) o) ≤ 4
+pub assignment_shallow : (o : Option Slicing) → depth (or_null (assignment_data Quoted) o) ≤ 4
 assignment_shallow None = omega arith
 assignment_shallow (Some a) = omega (arith, slices_shallow a.slices)
 
-assignment_once : (o : Option Slicing) → first_repeated (outline (or_null (assignment_data Quoted) o)) ≡ None
+pub assignment_once : (o : Option Slicing) → first_repeated (outline (or_null (assignment_data Quoted) o)) ≡ None
 assignment_once None = refl
 assignment_once (Some a) = rw (slices_once a.slices) refl
 

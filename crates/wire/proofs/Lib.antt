@@ -11,4 +11,6 @@ pub mod TableReplies
 pub mod TaskCalls
 pub mod ClerkCalls
 pub mod KeptValues
+pub mod Clerks
+pub mod Rows
 pub mod Decoding

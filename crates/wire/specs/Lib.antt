@@ -13,4 +13,6 @@ pub mod TableReplies
 pub mod TaskCalls
 pub mod ClerkCalls
 pub mod Kept
+pub mod Clerks
+pub mod Rows
 pub mod Messages

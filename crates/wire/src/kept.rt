@@ -100,7 +100,8 @@ fn term_or_null_at(
     Ok(Some(job_term_of(numerals, term)?))
 }
 
-fn assignment_or_null(
+/// Writes the assignment as JSON, or null if there is none.
+pub fn assignment_or_null(
     alloc: Global,
     numerals: Numerals,
     assignment: Option<&Assignment>,
@@ -113,8 +114,8 @@ fn assignment_or_null(
     }
 }
 
-// Reads an assignment, unless null is written.
-fn unless_null(
+/// Reads an assignment, unless null is written.
+pub fn unless_null(
     alloc: Global,
     numerals: Numerals,
     value: &Value,

@@ -8,6 +8,7 @@
 #![tactic(auto)]
 
 mod clerk_call;
+mod clerk_value;
 mod fault;
 mod grant;
 mod handle;
@@ -18,6 +19,7 @@ mod message;
 mod note;
 mod numerals;
 mod ranges;
+mod row;
 mod slicing;
 mod table_call;
 mod table_reply;
