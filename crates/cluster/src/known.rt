@@ -5,7 +5,7 @@ ghost use Rattle.std.proofs.Common.{rules};
 ghost use Rattle.std.specs.Cmp.Rules.{comparing, hashing};
 ghost use Rattle.std.specs.Hash as fed;
 ghost use Rattle.indexmap.specs.IndexSet.{contains, spare};
-ghost use Rattle.cluster.specs.Deliveries.{same_note, same_handle};
+ghost use Rattle.cluster.specs.Made.{same_note, same_handle};
 
 use indexmap::IndexSet;
 use lease_table::ReleaseNote;
@@ -76,8 +76,8 @@ impl Hash for KnownNote {
     }
 }
 
-/// A handle that was returned. Contracts see the handle.
-pub(crate) struct KnownHandle {
+/// A handle as a member of a set. Contracts see the handle.
+pub struct KnownHandle {
     handle: KeyHandle,
 }
 
@@ -92,10 +92,18 @@ impl Model for KnownHandle {
 }
 
 impl KnownHandle {
-    pub(crate) fn new(handle: &KeyHandle) -> Self
+    /// Creates the member that is this handle.
+    pub fn new(handle: &KeyHandle) -> Self
         ensures { result ≡ handle.now }
     {
         KnownHandle { handle: *handle }
+    }
+
+    /// Returns the handle.
+    pub fn handle(&self) -> KeyHandle
+        ensures { result ≡ self.now }
+    {
+        self.handle
     }
 }
 

@@ -30,6 +30,7 @@ pub use actors::{is_within, place_of};
 pub use call::ClusterCall;
 pub use error::ClusterError;
 pub use job::{Job, MOST_ASSIGNERS, MOST_CLERKS};
+pub use known::KnownHandle;
 pub use laws::{
     continued_law, covers_law, handle_law, interval_law, known_generations_law, owner_law,
     rule_law, sent_law, told_law,
