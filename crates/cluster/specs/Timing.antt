@@ -1,5 +1,5 @@
 -- Whether clocks were timely.
-use Rattle.std.specs.Prelude.{ℕ, ◌+◌, ◌≤◌, List, [], ◌∷◌, ⊤}
+use Rattle.std.specs.Prelude.{ℕ, ◌+◌, ◌≤◌, max, List, [], ◌∷◌, ⊤}
 use Rattle.std.specs.List.{AllByRecursion}
 use Rattle.cluster.specs.declared.timing.Reading.{Reading}
 use Rattle.cluster.specs.declared.timing.Reading.TheVariants.{TableClock, TaskClock}
@@ -13,3 +13,12 @@ IsNear skew _ _ = ⊤
 abbrev pub IsTimely : ℕ → List Reading → Type 0
 IsTimely skew [] = ⊤
 IsTimely skew (late ∷ before) = AllByRecursion (IsNear skew late) before × IsTimely skew before
+
+-- the greatest reading of the table's clock, 0 if there is none
+abbrev pub greater_reading : Reading → ℕ → ℕ
+greater_reading (TableClock at) greatest = max at greatest
+greater_reading _ greatest = greatest
+
+abbrev pub greatest_reading : List Reading → ℕ
+greatest_reading [] = 0
+greatest_reading (reading ∷ before) = greater_reading reading (greatest_reading before)

@@ -39,6 +39,9 @@ pub struct ClusterSnapshot {
     pub notes_made: u64,
     /// How many handles were returned.
     pub handles_made: u64,
+    /// The greatest reading of the table's clock, in ticks, also of a refused call; 0 if there is
+    /// none.
+    pub table_reading: u64,
 }
 
 /// Why no machines of a job stand at a snapshot, in the order of the checks.

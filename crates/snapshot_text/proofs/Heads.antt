@@ -10,9 +10,11 @@ use Rattle.snapshot_text.specs.declared.head.Head.{Head}
 use Rattle.snapshot_text.specs.declared.task_head.TaskHead.{TaskHead}
 use Rattle.snapshot_text.specs.Heads.{head_data, head_of, task_head_data, task_head_of}
 
-pub head_read : (head : Head) → head.grace < 2 ^ 64 → head.notes_made < 2 ^ 64 → head.handles_made < 2 ^ 64 → head_of Quoted (head_data Quoted head) ≡ Ok head
+pub head_read : (head : Head) → head.grace < 2 ^ 64 → head.notes_made < 2 ^ 64 → head.handles_made < 2 ^ 64 → head.table_reading < 2 ^ 64
+    → head_of Quoted (head_data Quoted head) ≡ Ok head
 unfolding head_of
-head_read head grace notes handles = rw (digits_read head.grace grace, digits_read head.notes_made notes, digits_read head.handles_made handles) refl
+head_read head grace notes handles reading =
+    rw (digits_read head.grace grace, digits_read head.notes_made notes, digits_read head.handles_made handles, digits_read head.table_reading reading) refl
 
 pub head_written : (head : Head) (d : Data) → d ≡ head_data Quoted head → head_of Quoted (head_data Quoted head) ≡ Ok head → IsWritten head_data (λ numerals d. or_wrong (head_of numerals d)) head d
 head_written head d is reads = record {

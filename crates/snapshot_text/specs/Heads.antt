@@ -19,6 +19,7 @@ head_in s = record {
   grace = s.table.grace;
   notes_made = s.notes_made;
   handles_made = s.handles_made;
+  table_reading = s.table_reading;
   rows = length s.table.rows.items;
   tasks = length s.tasks.items;
   clerks = length s.clerks.items;
@@ -28,7 +29,7 @@ head_in s = record {
   handles = length s.handles.items;
 }
 
--- `{"assignments":A,"clerks":C,"grace":TICKS,"grants":G,"handles":H,"handles_made":M,"notes":N,"notes_made":M,"rows":R,"tasks":T}`
+-- `{"assignments":A,"clerks":C,"grace":TICKS,"grants":G,"handles":H,"handles_made":M,"notes":N,"notes_made":M,"rows":R,"table_reading":TICKS,"tasks":T}`
 abbrev pub head_data : Numerals → Head → Data
 head_data numerals head = object_data
     ((codes "assignments", number_data head.assignments) ∷
@@ -40,11 +41,12 @@ head_data numerals head = object_data
     (codes "notes", number_data head.notes) ∷
     (codes "notes_made", numeral_data numerals head.notes_made) ∷
     (codes "rows", number_data head.rows) ∷
+    (codes "table_reading", numeral_data numerals head.table_reading) ∷
     (codes "tasks", number_data head.tasks) ∷ [])
 
 abbrev pub head_members : List (List ℕ)
 head_members = codes "assignments" ∷ codes "clerks" ∷ codes "grace" ∷ codes "grants" ∷ codes "handles" ∷ codes "handles_made"
-    ∷ codes "notes" ∷ codes "notes_made" ∷ codes "rows" ∷ codes "tasks" ∷ []
+    ∷ codes "notes" ∷ codes "notes_made" ∷ codes "rows" ∷ codes "table_reading" ∷ codes "tasks" ∷ []
 
 -- a head has each of these members
 unfoldable pub head_of : Numerals → Data → Result Head WrongForm
@@ -53,6 +55,7 @@ head_of numerals d = do
   grace ← numeral_at numerals (codes "grace") d
   notes_made ← numeral_at numerals (codes "notes_made") d
   handles_made ← numeral_at numerals (codes "handles_made") d
+  table_reading ← numeral_at numerals (codes "table_reading") d
   rows ← number_at (codes "rows") d
   tasks ← number_at (codes "tasks") d
   clerks ← number_at (codes "clerks") d
@@ -64,6 +67,7 @@ head_of numerals d = do
     grace = grace;
     notes_made = notes_made;
     handles_made = handles_made;
+    table_reading = table_reading;
     rows = rows;
     tasks = tasks;
     clerks = clerks;

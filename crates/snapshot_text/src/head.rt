@@ -22,6 +22,8 @@ pub struct Head {
     pub notes_made: u64,
     /// How many handles were returned.
     pub handles_made: u64,
+    /// The greatest reading of the table's clock, in ticks.
+    pub table_reading: u64,
     /// How many rows follow.
     pub rows: u64,
     /// How many tasks follow.
@@ -47,6 +49,7 @@ impl Head {
             grace: snapshot.table.grace,
             notes_made: snapshot.notes_made,
             handles_made: snapshot.handles_made,
+            table_reading: snapshot.table_reading,
             rows: snapshot.table.rows.len() as u64,
             tasks: snapshot.tasks.len() as u64,
             clerks: snapshot.clerks.len() as u64,
@@ -71,6 +74,7 @@ fn head_json(alloc: Global, head: &Head) -> Result<Value, AllocError>
         "notes": head.notes,
         "notes_made": numeral_json(alloc, Numerals::Quoted, head.notes_made)?,
         "rows": head.rows,
+        "table_reading": numeral_json(alloc, Numerals::Quoted, head.table_reading)?,
         "tasks": head.tasks
     })
 }
@@ -90,6 +94,7 @@ fn head_of(numerals: Numerals, value: &Value) -> Result<Head, WrongForm>
             "notes",
             "notes_made",
             "rows",
+            "table_reading",
             "tasks",
         ],
         value,
@@ -98,6 +103,7 @@ fn head_of(numerals: Numerals, value: &Value) -> Result<Head, WrongForm>
         grace: numeral_at(numerals, "grace", value)?,
         notes_made: numeral_at(numerals, "notes_made", value)?,
         handles_made: numeral_at(numerals, "handles_made", value)?,
+        table_reading: numeral_at(numerals, "table_reading", value)?,
         rows: number_at("rows", value)?,
         tasks: number_at("tasks", value)?,
         clerks: number_at("clerks", value)?,
@@ -116,6 +122,7 @@ fn head_law(head: &Head)
     let _grace = head.grace;
     let _notes_made = head.notes_made;
     let _handles_made = head.handles_made;
+    let _table_reading = head.table_reading;
 }
 
 impl Wire for Head {

@@ -10,10 +10,9 @@ mod head;
 mod lines;
 mod reading;
 mod task_head;
-#[cfg(test)]
-mod tests;
 mod writing;
 
 pub use error::SnapshotError;
+pub use lines::first_line;
 pub use reading::snapshot_of;
 pub use writing::snapshot_text;

@@ -6,8 +6,9 @@ ghost use Rattle.snapshot_text.specs.Lines.{IsTaken, first_line, is_empty, place
 use memchr::memchr;
 use std::marker::Model;
 
-// Cuts a text at its first line end: the bytes before it, and those after it.
-fn first_line(text: &[u8]) -> Option<(&[u8], &[u8])>
+/// Cuts a text at its first line end: returns the bytes before it and those after it; `None` if the
+/// text has none.
+pub fn first_line(text: &[u8]) -> Option<(&[u8], &[u8])>
     ensures { option_map (λ cut. (cut.0.now, cut.1.now)) result ≡ first_line text.now }
 {
     match memchr(b'\n', text) {

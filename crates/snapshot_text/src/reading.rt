@@ -113,6 +113,7 @@ fn parts_of(alloc: Global, job: &JobName, text: &[u8]) -> Result<ClusterSnapshot
         handles,
         notes_made: head.notes_made,
         handles_made: head.handles_made,
+        table_reading: head.table_reading,
     })
 }
 

@@ -21,8 +21,9 @@ use Rattle.cluster.specs.declared.snapshot.ResumeFault.{ResumeFault}
 use Rattle.cluster.specs.declared.snapshot.ResumeFault.TheVariants as fault
 use Rattle.cluster.specs.ActorLists.{AreActors}
 use Rattle.cluster.specs.Made.{with_note, with_handle, notes_made, handles_made, same_note, same_handle, is_made, is_given}
-use Rattle.cluster.specs.Pasts.{Past, table_calls, standing, grants, history, newest_learnt}
+use Rattle.cluster.specs.Pasts.{Past, table_calls, standing, grants, history, newest_learnt, readings}
 use Rattle.cluster.specs.Runs.{IsRun}
+use Rattle.cluster.specs.Timing.{greatest_reading}
 use Rattle.cluster.specs.internals.Proposals.{proposals_in}
 use Rattle.cluster.specs.continued.Jobs.{Continued, Forgotten}
 use Rattle.cluster.specs.continued.Clusters.{AreAfter}
@@ -105,6 +106,7 @@ pub record IsSnapshotOf (job : Job) (past : Past) (s : ClusterSnapshot) : Type 0
   pub handles : (handle : KeyHandle) → list_any (same_handle handle) s.handles.items ≡ true → is_given past handle ≡ true
   pub many_notes : s.notes_made ≡ length (notes_made past)
   pub many_handles : s.handles_made ≡ length (handles_made past)
+  pub reading : s.table_reading ≡ greatest_reading (readings past)
 
 -- THE CHECKS
 
