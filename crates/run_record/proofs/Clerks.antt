@@ -59,7 +59,7 @@ record IsTaken (step : Result (Option Slicing × ClerkReply) ClerkError) (told :
   taken : step ≡ Ok left
   is : told ≡ reply.Clerk left.1
 
-refused_unaccepted : {X : Type 0} (told : ClusterReply) (why : ClusterError) → told ≡ reply.Refused why → is_accepted told ≡ true → X
+pub refused_unaccepted : {X : Type 0} (told : ClusterReply) (why : ClusterError) → told ≡ reply.Refused why → is_accepted told ≡ true → X
 refused_unaccepted told why e a = absurd (let f : is_accepted (reply.Refused why) ≡ true = subst (λ (t : ClusterReply). is_accepted t ≡ true) e a in let g : false ≡ true = f in cc)
 
 of_clerk : (own : Bool) (refusal : Option ClusterError) (step : Result (Option Slicing × ClerkReply) ClerkError) (told : ClusterReply)

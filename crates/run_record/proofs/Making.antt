@@ -21,18 +21,20 @@ use Rattle.cluster.specs.declared.reply.ClusterReply.TheVariants as reply
 use Rattle.cluster.specs.declared.snapshot.ClusterSnapshot.{ClusterSnapshot}
 use Rattle.cluster.specs.ActorLists.{AreActors}
 use Rattle.cluster.specs.Jobs.{Job}
-use Rattle.cluster.specs.Made.{with_note, with_handle, notes_made, handles_made, same_note, same_handle, is_made, is_given}
-use Rattle.cluster.specs.Pasts.{event, Past, with_table_call, table_calls, standing, grants, newest_learnt}
+use Rattle.cluster.specs.Made.{with_note, notes_made, handles_made, same_note, same_handle, is_made, is_given}
+use Rattle.cluster.specs.Pasts.{event, Past, with_table_call, table_calls, standing, grants, newest_learnt, reading, readings}
 use Rattle.cluster.specs.Runs.{IsRun}
+use Rattle.cluster.specs.Timing.{greater_reading, greatest_reading}
 use Rattle.cluster.specs.continued.Clusters.{AreAfter}
 use Rattle.cluster.specs.continued.Jobs.{from_start}
 use Rattle.cluster.specs.continued.Snapshots.{IsSnapshotOf}
 use Rattle.cluster.specs.internals.Proposals.{proposals_in}
-use Rattle.cluster.proofs.Keeping.{notes_in_front, handles_in_front}
+use Rattle.cluster.proofs.Keeping.{notes_in_front}
 use Rattle.cluster.proofs.Publishing.{proposals_counted}
 use Rattle.cluster.proofs.TableRuns.{table_run}
-use Rattle.run_record.specs.Records.{AreTasksAt, AreLast, IsRecordOf, RemembersMore, IsTakenOver, HasParts}
+use Rattle.run_record.specs.Records.{AreTasksAt, AreLast, IsRecordOf, RemembersMore, IsTakenOver, HasParts, handles_shown}
 use Rattle.run_record.specs.declared.run_record.RunRecord.{RunRecord}
+use Rattle.run_record.proofs.Handles.{given_later, from_inserted}
 
 -- what follows where a call was answered
 pub on_ok : {A E P Q : Type 0} (result : Result A E) → (P → Q) → OnOk result P → OnOk result Q
@@ -118,7 +120,7 @@ proposals_more : (c : ClusterCall) (told : ClusterReply) (before : List Answered
 proposals_more (call.Table c) told before = proposals_told told c before
 proposals_more _ told before = sym (append-nil (proposals_in before))
 
--- NOTES AND HANDLES
+-- NOTES
 
 or_turned : (a b : Bool) → (b || (a || false)) ≡ (a || b)
 or_turned true true = refl
@@ -147,34 +149,42 @@ any_more p made next kept new found more made_now kept_now same known e =
 
 -- THE RECORD
 
-pub record_next : (job : Job) (past : Past) (c : ClusterCall) (told : ClusterReply) (old new : RunRecord) → IsRecordOf job past old → RemembersMore c told old new
-    → AreTasksAt (event c told ∷ past) job.tasks new.tasks.items → AreActors (λ n. newest_learnt n (event c told ∷ past)) job.clerks new.clerks.items
+pub record_next : (job : Job) (past : Past) (c : ClusterCall) (told : ClusterReply) (old new : RunRecord) → IsRecordOf job past old
+    → RemembersMore c told old new → AreTasksAt (event c told ∷ past) job.tasks new.tasks.items
+    → AreActors (λ n. newest_learnt n (event c told ∷ past)) job.clerks new.clerks.items
+    → ((handle : KeyHandle) → list_any (same_handle handle) (handles_shown c told) ≡ true → is_given (event c told ∷ past) handle ≡ true)
     → IsRecordOf job (event c told ∷ past) new
-record_next job past c told old new is more tasks clerks = record {
+record_next job past c told old new is more tasks clerks shown = record {
   tasks = tasks;
   clerks = clerks;
   grants = last_more (grants past) _ old.grants.items new.grants.items _ (grants_more c told (table_calls past)) more.grants is.grants;
   assignments =
-      last_more (proposals_in (table_calls past)) _ old.assignments.items new.assignments.items _ (proposals_more c told (table_calls past)) more.assignments is.assignments;
-  notes = λ note. any_more (same_note note) (notes_made past) _ old.notes.items new.notes.items _ (with_note c told []) (notes_in_front c told (notes_made past)) more.notes
-      (any_reversed (same_note note) (with_note c told [])) (is.notes note);
-  handles = λ handle. any_more (same_handle handle) (handles_made past) _ old.handles.items new.handles.items _ (with_handle c told []) (handles_in_front c told (handles_made past))
-      more.handles refl (is.handles handle);
+      last_more (proposals_in (table_calls past)) _ old.assignments.items new.assignments.items _ (proposals_more c told (table_calls past))
+      more.assignments is.assignments;
+  notes = λ note. any_more (same_note note) (notes_made past) _ old.notes.items new.notes.items _ (with_note c told [])
+      (notes_in_front c told (notes_made past)) more.notes (any_reversed (same_note note) (with_note c told [])) (is.notes note);
+  handles = λ handle found.
+      from_inserted (same_handle handle) same_handle (handles_shown c told) old.handles.keys (is_given (event c told ∷ past) handle)
+      (λ kept. given_later past c told handle (is.handles handle kept)) (shown handle)
+      (subst (λ (xs : List KeyHandle). list_any (same_handle handle) xs ≡ true) more.handles found);
+  reading = more.reading ∙ ap (greater_reading (reading c)) is.reading;
 }
 
 any_none : {A : Type 0} (p : A → Bool) (xs : List A) (b : Bool) → xs ≡ [] → list_any p xs ≡ true → b ≡ true
 any_none p xs b none e = absurd (let f : list_any p [] ≡ true = subst (λ (ys : List _). list_any p ys ≡ true) none e in let g : false ≡ true = f in cc)
 
 -- a record remembers nothing of what was made
-pub record_empty : (job : Job) (past : Past) (r : RunRecord) → AreTasksAt past job.tasks r.tasks.items → AreActors (λ n. newest_learnt n past) job.clerks r.clerks.items
-    → AreLast (proposals_in (table_calls past)) r.assignments.items → r.grants.items ≡ [] → r.notes.items ≡ [] → r.handles.items ≡ [] → IsRecordOf job past r
-record_empty job past r tasks clerks assignments no_grants no_notes no_handles = record {
+pub record_empty : (job : Job) (past : Past) (r : RunRecord) → AreTasksAt past job.tasks r.tasks.items
+    → AreActors (λ n. newest_learnt n past) job.clerks r.clerks.items → AreLast (proposals_in (table_calls past)) r.assignments.items
+    → r.grants.items ≡ [] → r.notes.items ≡ [] → r.handles.keys ≡ [] → r.table_reading ≡ greatest_reading (readings past) → IsRecordOf job past r
+record_empty job past r tasks clerks assignments no_grants no_notes no_handles last = record {
   tasks = tasks;
   clerks = clerks;
   grants = none_last (grants past) r.grants.items no_grants;
   assignments = assignments;
   notes = λ note. any_none (same_note note) r.notes.items (is_made past note) no_notes;
-  handles = λ handle. any_none (same_handle handle) r.handles.items (is_given past handle) no_handles;
+  handles = λ handle. any_none (same_handle handle) r.handles.keys (is_given past handle) no_handles;
+  reading = last;
 }
 
 -- a record that takes over what a snapshot has
@@ -183,6 +193,7 @@ record_taken job past s r is taken =
     record_empty job past r (subst (λ (xs : List _). AreTasksAt past job.tasks xs) (sym taken.tasks) (record { all = is.all_tasks; each = is.tasks }))
     (subst (λ (xs : List (Option Slicing)). AreActors (λ n. newest_learnt n past) job.clerks xs) (sym taken.clerks) is.clerks)
     (fewer_last _ s.assignments.items r.assignments.items _ taken.assignments (_, is.proposals)) taken.grants taken.notes taken.handles
+    (taken.reading ∙ is.reading)
 
 -- the snapshot that has what a record has
 pub snapshot_is : (job : Job) (past : Past) (r : RunRecord) (s : ClusterSnapshot) → IsRun job past → IsRecordOf job past r → IsTableSnapshotOf (standing job.policy past) s.table → HasParts r s
@@ -200,6 +211,7 @@ snapshot_is job past r s run is table has notes handles = record {
   handles = λ handle. subst (λ (xs : List KeyHandle). list_any (same_handle handle) xs ≡ true → is_given past handle ≡ true) (sym has.handles) (is.handles handle);
   many_notes = notes;
   many_handles = handles;
+  reading = has.reading ∙ is.reading;
 }
   where
     granted_count : s.table.kept.granted ≡ length (grants past)

@@ -6,8 +6,7 @@
 
 mod actors;
 mod made;
+mod reading;
 mod run_record;
-#[cfg(test)]
-mod tests;
 
 pub use crate::run_record::RunRecord;

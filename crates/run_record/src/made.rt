@@ -1,13 +1,16 @@
 //! What a record keeps of all that a run made.
 
-ghost use Rattle.std.specs.Prelude.{◌≡◌, ◌++◌, [], ◌-◌, IfOk, OnOk, drop, length, reverse};
+ghost use Rattle.std.specs.Prelude.{◌≡◌, ◌++◌, [], ◌-◌, IfOk, OnOk, drop, length, option_to_list, reverse};
 ghost use Rattle.lease_table.specs.Calls.{grants_sent};
 ghost use Rattle.cluster.specs.Pasts.{with_table_call};
-ghost use Rattle.cluster.specs.Made.{with_handle, with_note};
+ghost use Rattle.cluster.specs.Made.{same_handle, with_note};
 ghost use Rattle.cluster.specs.internals.Proposals.{proposals_in};
+ghost use Rattle.indexmap.specs.IndexSet.{insert_all};
+ghost use Rattle.run_record.specs.Records.{handles_shown};
 
 use assignment::Assignment;
-use cluster::{ClusterCall, ClusterReply};
+use cluster::{ClusterCall, ClusterReply, KnownHandle};
+use indexmap::IndexSet;
 use lease_table::{Grant, ReleaseNote, TableCall, TableReply};
 use slicelet::{KeyHandle, SliceletReply};
 use std::alloc::{AllocError, Global};
@@ -86,18 +89,43 @@ pub(crate) fn record_notes(
     Ok(())
 }
 
-/// Records the handle that a call returned, if it returned one.
+// Returns the handle that a call returned, or that it found continuous or broken.
+fn handle_shown(call: &ClusterCall, reply: &ClusterReply) -> Option<KeyHandle>
+    ensures { option_to_list result ≡ handles_shown call.now reply.now }
+{
+    match (call, reply) {
+        (ClusterCall::Hold { .. }, ClusterReply::Holding(handle)) => Some(*handle),
+        (ClusterCall::Check { handle, .. }, ClusterReply::Continuous | ClusterReply::Broken) => {
+            Some(*handle)
+        }
+        _ => None,
+    }
+}
+
+/// Records the handle that a call returned, or that it found continuous or broken, once.
 pub(crate) fn record_handle(
-    handles: &mut Vec<KeyHandle>,
+    handles: &mut IndexSet<KnownHandle>,
     call: &ClusterCall,
     reply: &ClusterReply,
 ) -> Result<(), AllocError>
-    ensures { OnOk result (handles.new.items ≡ handles.old.items ++ with_handle call.now reply.now []) }
+    ensures { OnOk result (handles.new.keys ≡ insert_all same_handle handles.old.keys (handles_shown call.now reply.now)) }
 {
-    if let ClusterCall::Hold { .. } = call
-        && let ClusterReply::Holding(handle) = reply
-    {
-        handles.push(*handle)?;
+    if let Some(handle) = handle_shown(call, reply) {
+        handles.insert(KnownHandle::new(&handle))?;
     }
     Ok(())
+}
+
+/// Returns the handles of a set, in order.
+pub(crate) fn handles_in(
+    alloc: Global,
+    known: &IndexSet<KnownHandle>,
+) -> Result<Vec<KeyHandle>, AllocError>
+    ensures { IfOk result (λ handles. handles.items ≡ known.now.keys) }
+{
+    let mut handles = Vec::new(alloc);
+    for member in known.as_slice() {
+        handles.push(member.handle())?;
+    }
+    Ok(handles)
 }

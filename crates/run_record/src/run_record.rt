@@ -1,6 +1,11 @@
 //! The record of a run.
 
-ghost use Rattle.std.specs.Prelude.{◌≡◌, [], ◌∷◌, IfOk};
+ghost use Rattle.std.specs.Prelude.{◌≡◌, ℕ, [], ◌∷◌, IfOk};
+ghost use Rattle.slicelet.specs.declared.call.SliceletCall.{SliceletCall};
+ghost use Rattle.clerk.specs.declared.call.ClerkCall.{ClerkCall};
+ghost use Rattle.cluster.specs.declared.call.ClusterCall.TheVariants as asked;
+ghost use Rattle.cluster.specs.declared.error.ClusterError.{ClusterError};
+ghost use Rattle.cluster.specs.declared.reply.ClusterReply.TheVariants as reply;
 ghost use Rattle.cluster.specs.continued.Clusters as continued_cluster;
 ghost use Rattle.cluster.specs.continued.Jobs.{Continued, job_in};
 ghost use Rattle.cluster.specs.continued.Runs as continued;
@@ -12,19 +17,23 @@ ghost use Rattle.run_record.specs.Records.{HasParts, IsRecordOf, IsTakenOver, Re
 
 use crate::actors::{clerk_copies, new_clerks, new_tasks, record_clerk, record_task, task_copies};
 use crate::made::{
-    assignment_copies, last_of, record_grant, record_handle, record_notes, record_proposal,
+    assignment_copies, handles_in, last_of, record_grant, record_handle, record_notes,
+    record_proposal,
 };
+use crate::reading::greater_reading;
 use assignment::Assignment;
 use clerk::Clerk;
-use cluster::{Cluster, ClusterCall, ClusterReply, ClusterSnapshot, Job, TaskSnapshot};
+use cluster::{
+    Cluster, ClusterCall, ClusterReply, ClusterSnapshot, Job, KnownHandle, TaskSnapshot,
+};
+use indexmap::IndexSet;
 use lease_table::{Grant, ReleaseNote};
-use slicelet::KeyHandle;
 use std::alloc::{AllocError, Global};
 
 /// A record of a run, kept beside its machines: what a snapshot of them has and they do not show.
 ///
-/// It has the calls of each task's process, a copy of each clerk, and what the run made since the
-/// record began.
+/// It has the calls of each task's process, a copy of each clerk, what the run made since the record
+/// began, the handles that were checked since, and the greatest reading of the table's clock.
 #[derive(Drop)]
 pub struct RunRecord {
     alloc: Global,
@@ -34,7 +43,9 @@ pub struct RunRecord {
     grants: Vec<Grant>,
     assignments: Vec<Assignment>,
     notes: Vec<ReleaseNote>,
-    handles: Vec<KeyHandle>,
+    handles: IndexSet<KnownHandle>,
+    // The greatest reading of the table's clock, 0 if there is none.
+    table_reading: u64,
 }
 
 impl RunRecord {
@@ -49,15 +60,16 @@ impl RunRecord {
             grants: Vec::new(alloc),
             assignments: Vec::new(alloc),
             notes: Vec::new(alloc),
-            handles: Vec::new(alloc),
+            handles: IndexSet::new(alloc),
+            table_reading: 0,
         })
     }
 
     /// Creates the record of the run that led to a snapshot.
     ///
-    /// It takes over the tasks, the clerks, and the assignments from the committed one on. The other
-    /// assignments and all grants, notes and handles are left out: a later snapshot does not
-    /// remember them. The only error is out of memory.
+    /// It takes over the tasks, the clerks, the greatest reading of the table's clock, and the
+    /// assignments from the committed one on. The other assignments and all grants, notes and handles
+    /// are left out: a later snapshot does not remember them. The only error is out of memory.
     pub fn of(alloc: Global, snapshot: &ClusterSnapshot) -> Result<Self, AllocError>
         ensures leads { (job : JobTerms) (past : Past) → IsSnapshotOf job past snapshot.now → IfOk result (λ run. IsRecordOf job past run) }
         ensures kept { IfOk result (λ run. IsTakenOver snapshot.now run) }
@@ -72,7 +84,8 @@ impl RunRecord {
             grants: Vec::new(alloc),
             assignments: assignment_copies(alloc, assignments)?,
             notes: Vec::new(alloc),
-            handles: Vec::new(alloc),
+            handles: IndexSet::new(alloc),
+            table_reading: snapshot.table_reading,
         })
     }
 
@@ -90,8 +103,17 @@ impl RunRecord {
         record_proposal(&mut self.assignments, call, reply)?;
         record_notes(&mut self.notes, call, reply)?;
         record_handle(&mut self.handles, call, reply)?;
+        self.table_reading = greater_reading(call.reading(), self.table_reading);
         Ok(self)
     }
+
+    /// States that a refused call of a task or of a clerk changes nothing that is recorded.
+    pub fn refused_law(&self)
+        ensures task { (job : Continued) (past : Past) (task : ℕ) (c : SliceletCall) (why : ClusterError) → IsRecordOf (job_in job) past self.now
+            → IsRecordOf (job_in job) (event (asked.Task task c) (reply.Refused why) ∷ past) self.now }
+        ensures clerk { (job : Continued) (past : Past) (clerk : ℕ) (c : ClerkCall) (why : ClusterError) → IsRecordOf (job_in job) past self.now
+            → IsRecordOf (job_in job) (event (asked.Clerk clerk c) (reply.Refused why) ∷ past) self.now }
+    {}
 
     /// Returns the snapshot of the machines after the run.
     ///
@@ -110,9 +132,10 @@ impl RunRecord {
             grants: self.grants,
             assignments: self.assignments,
             notes: self.notes,
-            handles: self.handles,
+            handles: handles_in(self.alloc, &self.handles)?,
             notes_made: machines.next_note().saturating_sub(1),
             handles_made: machines.next_handle().saturating_sub(1),
+            table_reading: self.table_reading,
         })
     }
 }

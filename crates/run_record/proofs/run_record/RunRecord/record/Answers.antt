@@ -1,4 +1,6 @@
+use Rattle.std.proofs.Common.{rules}
 use Rattle.cluster.specs.continued.Jobs.{job_in}
+use Rattle.run_record.proofs.Handles.{shown_given}
 use Rattle.run_record.proofs.Making.{record_next}
 use Rattle.run_record.proofs.run_record.RunRecord.record.Goals as goal
 
@@ -10,4 +12,6 @@ returns-clause-leads c = λ job past is answered.
       assignments = c.in_ok-record_proposal.ensures;
       notes = c.in_ok-record_notes.ensures;
       handles = c.in_ok-record_handle.ensures;
+      reading = search rules;
     }) (c.in_ok-record_task.ensures job past answered is.tasks) (c.in_ok-record_clerk.ensures job past answered is.clerks)
+    (shown_given job past c.args.call.now c.args.reply.now answered)
