@@ -1,42 +1,47 @@
 -- Calls that are played one after another, until one takes the key of a handle away.
 use Rattle.std.proofs.Common.{◌≡◌, ℕ, ◌+◌, ◌<◌, ◌≤◌, Bool, true, false, List, [], length, get_or, take, reverse, inl, inr, refl, sym, subst, arith}
-use Rattle.std.specs.Prelude.{Option}
+use Rattle.std.specs.Prelude.{Option, option_map}
 use Rattle.std.proofs.lemmas.Bool.{cases_lt}
 use Rattle.slicelet.specs.declared.handle.KeyHandle.{KeyHandle}
-use Rattle.cluster.specs.Jobs.{Job}
-use Rattle.cluster.specs.declared.cluster.Cluster.{Cluster}
+use Rattle.cluster.specs.continued.Jobs.{Continued, job_in}
+use Rattle.cluster.specs.declared.call.ClusterCall.TheVariants as call
 use Rattle.cluster.specs.Pasts.{Past}
-use Rattle.cluster.specs.Runs.{IsRun}
-use Rattle.cluster.specs.Clusters.{LeadsTo}
+use Rattle.cluster.specs.continued.Runs.{IsRun}
+use Rattle.call_log.specs.declared.log_machines.LogMachines.{LogMachines}
 use Rattle.call_log.specs.declared.told.CallerReply.{CallerReply}
 use Rattle.call_log.specs.declared.entry.LogEntry.{LogEntry}
 use Rattle.call_log.specs.Played.{AreCallsOf}
-use Rattle.call_log.specs.Broken.{is_taken_away, IsKeptTo, IsLostBy, IsTaking}
+use Rattle.call_log.specs.declared.cause.Cause.{Cause}
+use Rattle.call_log.specs.declared.cause.Cause.TheVariants.{TakenAway}
+use Rattle.call_log.specs.declared.line.LoggedCall.{LoggedCall}
+use Rattle.call_log.specs.declared.line.LoggedCall.TheVariants.{Whole}
+use Rattle.call_log.specs.Broken.{is_taken_away, IsBreakCause, IsKeptTo, IsLostBy, IsTaking, IsTakingOr}
 use Rattle.call_log.specs.internals.Answers.{IsAnswered}
+use Rattle.call_log.specs.internals.Machines.{HavePlayed}
 use Rattle.call_log.proofs.Replaying.{one_more}
 
 -- what is known once so many calls were played, none of which took the key away
-pub record IsPlayedWith (job : Job) (entries : List LogEntry) (i task : ℕ) (handle : KeyHandle) (cluster : Cluster) : Type 0 where
+pub record IsPlayedWith (job : Continued) (entries : List LogEntry) (i task : ℕ) (handle : KeyHandle) (machines : LogMachines) : Type 0 where
   pub past : Past
   pub made : AreCallsOf job (reverse (take i entries)) past
-  pub leads : LeadsTo job past cluster
+  pub played : HavePlayed job past machines
   pub kept : IsKeptTo job entries task handle i
 
-pub first_played : (job : Job) (entries : List LogEntry) (task : ℕ) (handle : KeyHandle) (cluster : Cluster) → LeadsTo job [] cluster
-    → IsPlayedWith job entries 0 task handle cluster
-first_played job entries task handle cluster leads = record { past = []; made = refl; leads = leads; kept = λ before less. absurd (omega (arith, less)) }
+pub first_played : (job : Continued) (entries : List LogEntry) (task : ℕ) (handle : KeyHandle) (machines : LogMachines) → HavePlayed job job.earlier machines
+    → IsPlayedWith job entries 0 task handle machines
+first_played job entries task handle machines played = record { past = job.earlier; made = refl; played = played; kept = λ before less. absurd (omega (arith, less)) }
 
 module _ (entries : List LogEntry) (i : ℕ) (entry : LogEntry) (low : i < length entries) (here : entry ≡ get_or entries i entry) where
-  made_more : (job : Job) (past : Past) (next : Cluster) (other : Option CallerReply) → AreCallsOf job (reverse (take i entries)) past
+  made_more : (job : Continued) (past : Past) (next : LogMachines) (other : Option CallerReply) → AreCallsOf job (reverse (take i entries)) past
       → (answered : IsAnswered job past entry.line other next) → AreCallsOf job (reverse (take (i + 1) entries)) answered.played.after
   made_more job past next other made answered =
       subst (λ (es : List LogEntry). AreCallsOf job es answered.played.after) (sym (one_more entries i entry low here))
       (past, answered.told, answered.played.stands, made)
 
-  lost_by : (job : Job) (task : ℕ) (handle : KeyHandle) (lost : Bool) (cluster next : Cluster) (known : IsPlayedWith job entries i task handle cluster)
+  lost_by : (job : Continued) (task : ℕ) (handle : KeyHandle) (lost : Bool) (machines next : LogMachines) (known : IsPlayedWith job entries i task handle machines)
       (other : Option CallerReply) (answered : IsAnswered job known.past entry.line other next) → IsRun job answered.played.after
-      → is_taken_away job answered.played.after task handle ≡ lost → IsLostBy job entries task handle i lost
-  lost_by job task handle lost cluster next known other answered run is = record {
+      → is_taken_away (job_in job) answered.played.after task handle ≡ lost → IsLostBy job entries task handle i lost
+  lost_by job task handle lost machines next known other answered run is = record {
     past = answered.played.after;
     made = made_more job known.past next other known.made answered;
     answered = run;
@@ -44,31 +49,37 @@ module _ (entries : List LogEntry) (i : ℕ) (entry : LogEntry) (low : i < lengt
   }
 
   -- a call that takes the key away
-  pub takes_here : (job : Job) (task : ℕ) (handle : KeyHandle) (cluster next : Cluster) (known : IsPlayedWith job entries i task handle cluster)
+  pub takes_here : (job : Continued) (task : ℕ) (handle : KeyHandle) (machines next : LogMachines) (known : IsPlayedWith job entries i task handle machines)
       (other : Option CallerReply) (answered : IsAnswered job known.past entry.line other next) → IsRun job answered.played.after
-      → is_taken_away job answered.played.after task handle ≡ true → IsTaking job entries task handle i
-  takes_here job task handle cluster next known other answered run is = record {
+      → is_taken_away (job_in job) answered.played.after task handle ≡ true → IsTaking job entries task handle i
+  takes_here job task handle machines next known other answered run is = record {
     within = low;
     kept = known.kept;
-    lost = lost_by job task handle true cluster next known other answered run is;
+    lost = lost_by job task handle true machines next known other answered run is;
   }
 
   -- a call that does not
-  pub kept_more : (job : Job) (task : ℕ) (handle : KeyHandle) (cluster next : Cluster) (known : IsPlayedWith job entries i task handle cluster)
+  pub kept_more : (job : Continued) (task : ℕ) (handle : KeyHandle) (machines next : LogMachines) (known : IsPlayedWith job entries i task handle machines)
       (other : Option CallerReply) (answered : IsAnswered job known.past entry.line other next) → IsRun job answered.played.after
-      → is_taken_away job answered.played.after task handle ≡ false → IsPlayedWith job entries (i + 1) task handle next
-  kept_more job task handle cluster next known other answered run is = record {
+      → is_taken_away (job_in job) answered.played.after task handle ≡ false → IsPlayedWith job entries (i + 1) task handle next
+  kept_more job task handle machines next known other answered run is = record {
     past = answered.played.after;
     made = made_more job known.past next other known.made answered;
-    leads = answered.played.leads;
+    played = answered.played.played;
     kept = λ before less. elim (cases_lt before i) [
       | inl lower ↦ known.kept before lower
       | inr higher ↦ subst (λ (n : ℕ). IsLostBy job entries task handle n false) (let last : i ≡ before = omega (arith, less, higher) in last)
-          (lost_by job task handle false cluster next known other answered run is)
+          (lost_by job task handle false machines next known other answered run is)
     ];
   }
 
 -- none of the calls does
-pub none_takes : (job : Job) (entries : List LogEntry) (i task : ℕ) (handle : KeyHandle) (cluster : Cluster) → IsPlayedWith job entries i task handle cluster
+pub none_takes : (job : Continued) (entries : List LogEntry) (i task : ℕ) (handle : KeyHandle) (machines : LogMachines) → IsPlayedWith job entries i task handle machines
     → length entries ≤ i → IsKeptTo job entries task handle (length entries)
-none_takes job entries i task handle cluster known all = λ before less. known.kept before (omega (arith, less, all))
+none_takes job entries i task handle machines known all = λ before less. known.kept before (omega (arith, less, all))
+
+-- why the handle of a check is broken
+pub check_cause : (job : Continued) (before : List LogEntry) (c : LoggedCall) (task : ℕ) (handle : KeyHandle) (at : ℕ) (place : Option ℕ) (cause : Option Cause)
+    → c ≡ Whole (call.Check task handle at) → IsTakingOr job before task handle place → cause ≡ option_map (λ (p : ℕ). TakenAway p) place
+    → IsBreakCause job before c cause
+check_cause job before c task handle at place cause is taking same = subst (λ (k : LoggedCall). IsBreakCause job before k cause) (sym is) (place, taking, same)

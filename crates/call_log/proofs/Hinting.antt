@@ -1,12 +1,12 @@
 -- Where a hint is for.
 use Rattle.std.proofs.Common.{◌≡◌, ℕ, true, false, List, refl, sym, subst, inl, inr}
 use Rattle.std.specs.Prelude.{Option, Some, None, is_some}
-use Rattle.cluster.specs.Jobs.{Job}
+use Rattle.cluster.specs.continued.Jobs.{Continued}
 use Rattle.call_log.specs.declared.entry.LogEntry.{LogEntry}
 use Rattle.call_log.specs.declared.hint.Hint.{Hint}
 use Rattle.call_log.specs.Hints.{IsHintOf, IsTried}
 
-module _ (job : Job) (entries : List LogEntry) (task index : ℕ) (found : Option ℕ) where
+module _ (job : Continued) (entries : List LogEntry) (task index : ℕ) (found : Option ℕ) where
   -- there is no start
   pub hint_alone : (hint : Option Hint) → found ≡ None → IsTried job entries task index hint → IsHintOf job entries task found index hint
   hint_alone hint none tried = subst (λ (f : Option ℕ). IsHintOf job entries task f index hint) (sym none) tried

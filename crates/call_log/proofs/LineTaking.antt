@@ -14,12 +14,10 @@ use Rattle.call_log.specs.declared.job_lines.JobLines.{JobLines}
 use Rattle.call_log.specs.declared.lines.KeptLine.{KeptLine}
 use Rattle.call_log.specs.declared.log_reader.LogReader.{LogReader}
 use Rattle.call_log.specs.declared.log_reader.TakenLines.{TakenLines}
-use Rattle.call_log.specs.Days.{IsLasting, ended}
 use Rattle.call_log.specs.Files.{PlacedLine, AreParted, AreSaid, IsBadLine, IsJobLine, counted, line_with, lines_from, lines_in, numbered}
-use Rattle.call_log.specs.Readers.{AreCallLines, AreCallsUpTo, AreJobLines, AreShortLines, AreTaken, AreTakenUpTo, IsFirst, IsLastingText, IsReading, IsStateOr, file_after, kept, others_with}
+use Rattle.call_log.specs.Readers.{AreCallLines, AreCallsUpTo, AreJobLines, AreShortLines, AreTaken, AreTakenUpTo, IsFirst, IsReading, file_after, kept, others_with}
 use Rattle.call_log.specs.internals.Parts.{AreFewer, EndsLine, IsFollowedBy, IsPartRead, IsUnended, line_read}
 use Rattle.call_log.proofs.LineSplitting.{files_more, line_ends, line_stays, unended_more}
-use Rattle.call_log.proofs.Lasting.{lasts_after, left_after, text_after}
 use Rattle.call_log.proofs.Parting.{file_more, job_after, other_after}
 use Rattle.call_log.proofs.Saying.{bad_after, counts_none, counts_one, long_after, short_after}
 
@@ -55,27 +53,18 @@ no_bad None none = refl
 no_bad (Some bad) none = absurd (cc)
 
 pub calls_so_far : (lines : List PlacedLine) (taken : CallLines) (bad : Option BadLine) → taken.bad ≡ bad → bad ≡ None → AreCallLines lines taken
-    → AreSaid lines taken.entries.items taken.torn.items × IsLastingText lines taken.lasting
+    → AreSaid lines taken.entries.items taken.torn.items
 calls_so_far lines taken (Some bad) is none are = absurd (cc)
 calls_so_far lines taken None is none are = subst (AreCallsUpTo lines taken) is are
 
-pub calls_are : (lines : List PlacedLine) (taken : CallLines) → taken.bad ≡ None → AreSaid lines taken.entries.items taken.torn.items → IsLastingText lines taken.lasting → AreCallLines lines taken
-calls_are lines taken is said text = subst (AreCallsUpTo lines taken) (sym is) (said, text)
+pub calls_are : (lines : List PlacedLine) (taken : CallLines) → taken.bad ≡ None → AreSaid lines taken.entries.items taken.torn.items → AreCallLines lines taken
+calls_are lines taken is said = subst (AreCallsUpTo lines taken) (sym is) said
 
 pub bad_stays : (lines : List PlacedLine) (line : PlacedLine) (taken : CallLines) (bad : Option BadLine) → taken.bad ≡ bad → is_some bad ≡ true → AreCallLines lines taken
     → AreCallLines (lines ++ line ∷ []) taken
 bad_stays lines line taken None is some are = absurd (cc)
 bad_stays lines line taken (Some bad) is some are =
     subst (AreCallsUpTo (lines ++ line ∷ []) taken) (sym is) (bad_after lines line bad.place bad.why (subst (AreCallsUpTo lines taken) is are))
-
-pub text_left : (lines : List PlacedLine) (line : PlacedLine) (text : Option (Vec ℕ)) → IsLastingText lines text → IsLasting line.bytes false → IsLastingText (lines ++ line ∷ []) text
-text_left lines line None are is = tt
-text_left lines line (Some text) are is = (are.0, left_after lines are.0 line are.1 is, are.2)
-
-pub text_more : (lines : List PlacedLine) (line : PlacedLine) (old new : Vec ℕ) → IsLastingText lines (Some old) → IsLasting line.bytes true → new.items ≡ (old.items ++ line.bytes) ++ 10 ∷ []
-    → IsLastingText (lines ++ line ∷ []) (Some new)
-text_more lines line old new are is added =
-    (are.0 ++ line ∷ [], lasts_after lines are.0 line are.1 is, text_after are.0 line old.items new.items are.2 (added ∙ append_assoc old.items line.bytes (10 ∷ [])))
 
 -- SHORT LINES AND LONG ONES
 
@@ -112,28 +101,6 @@ module _ (lines : List PlacedLine) (line : PlacedLine) (taken : TakenLines) (are
     calls = calls;
   }
 
--- the state that lines leave
-pub state_is : (lines others : List PlacedLine) (jobs : List KeptLine) (lasting state : Option (Vec ℕ)) → AreParted None (counted lines) (map kept jobs) others → IsLastingText others lasting
-    → option_map (λ (t : Vec ℕ). t.items) state ≡ option_map (λ (t : Vec ℕ). flat_map ended (take 1 (map kept jobs)) ++ t.items) lasting → IsStateOr lines state
-state_is lines others jobs lasting None parted text is = tt
-state_is lines others jobs None (Some state) parted text is = absurd (cc)
-state_is lines others jobs (Some lasting) (Some state) parted text is =
-    let same : state.items ≡ flat_map ended (take 1 (map kept jobs)) ++ lasting.items = cc in
-    record {
-      jobs = map kept jobs;
-      others = others;
-      parted = parted;
-      those = text.0;
-      lasting_are = text.1;
-      text_is = same ∙ ap (λ (t : List ℕ). flat_map ended (take 1 (map kept jobs)) ++ t) text.2 ∙ sym (flat_map-append ended (take 1 (map kept jobs)) text.0);
-    }
-
-pub keeps_so : (lasting state : Option (Vec ℕ)) (front : List ℕ) → option_map (λ (t : Vec ℕ). t.items) state ≡ option_map (λ (t : Vec ℕ). front ++ t.items) lasting → is_some state ≡ is_some lasting
-keeps_so None None front is = refl
-keeps_so (Some lasting) (Some state) front is = refl
-keeps_so None (Some state) front is = absurd (cc)
-keeps_so (Some lasting) None front is = absurd (cc)
-
 pub first_line : (lines : List PlacedLine) (first : Option KeptLine) (this : KeptLine) → first ≡ Some this → IsFirst lines first → (later : List PlacedLine) × (lines ≡ kept this ∷ later)
 first_line lines None this is are = absurd (cc)
 first_line lines (Some first) this is are = let same : first ≡ this = cc in subst (λ (f : KeptLine). IsFirst lines (Some f)) same are
@@ -151,10 +118,10 @@ nothing_before : (done part : List ℕ) → [] ≡ done ++ part → part ≡ []
 nothing_before [] part is = sym is
 nothing_before (b ∷ done) part is = absurd (cc)
 
-module _ (keeps : Bool) (files : List (List ℕ)) (before : List ℕ) (r : LogReader) (known : IsReading keeps files before r) where
+module _ (files : List (List ℕ)) (before : List ℕ) (r : LogReader) (known : IsReading files before r) where
   -- more bytes of a line
   pub part_more : (s : LogReader) (more : List ℕ) → IsUnended more → s.file ≡ r.file → s.number ≡ r.number → s.taken ≡ r.taken → s.part.items ≡ r.part.items ++ more
-      → IsReading keeps files (before ++ more) s
+      → IsReading files (before ++ more) s
   part_more s more unended file number taken part = record {
     count = file ∙ known.count;
     ended = known.ended;
@@ -166,11 +133,10 @@ module _ (keeps : Bool) (files : List (List ℕ)) (before : List ℕ) (r : LogRe
         ap (λ (bs : List ℕ). lines_from 0 (files ++ bs ∷ [])) (append_assoc before more next) ∙ known.ahead (more ++ next)
         ∙ ap (λ (bs : List ℕ). known.lines ++ numbered r.file r.number (lines_in bs)) (sym (append_assoc r.part.items more next))
         ∙ rw (file, number, part) refl;
-    keeps_state = rw taken known.keeps_state;
   }
 
   -- the end of a line
-  pub line_more : (s : LogReader) → EndsLine r true s → IsReading keeps files (before ++ 10 ∷ []) s
+  pub line_more : (s : LogReader) → EndsLine r true s → IsReading files (before ++ 10 ∷ []) s
   line_more s is = record {
     count = is.file ∙ known.count;
     ended = before ++ 10 ∷ [];
@@ -183,13 +149,12 @@ module _ (keeps : Bool) (files : List (List ℕ)) (before : List ℕ) (r : LogRe
         ∙ ap (λ ls. known.lines ++ numbered r.file r.number ls) (line_ends r.part.items next known.unended)
         ∙ sym (append_assoc known.lines (line_read r true ∷ []) (numbered r.file (r.number + 1) (lines_in next)))
         ∙ rw (is.file, is.number, is.part) refl;
-    keeps_state = is.wanted ∙ known.keeps_state;
   }
 
   -- the end of a file, whose lines these are
   file_ends : (s : LogReader) (lines : List PlacedLine) → lines ≡ lines_from 0 (files ++ before ∷ []) → AreTaken lines s.taken → s.file ≡ r.file + 1 → s.number ≡ 1 → s.part.items ≡ []
-      → is_some s.taken.calls.lasting ≡ keeps → IsReading keeps (files ++ before ∷ []) [] s
-  file_ends s lines whole taken file number part wanted =
+      → IsReading (files ++ before ∷ []) [] s
+  file_ends s lines whole taken file number part =
       let count : s.file ≡ length (files ++ before ∷ []) =
       (let l = length-append files (before ∷ []) in let c = known.count in omega (arith, l, c, file)) in
       record {
@@ -204,34 +169,33 @@ module _ (keeps : Bool) (files : List (List ℕ)) (before : List ℕ) (r : LogRe
             ∙ ap (λ (n : ℕ). lines_from 0 (files ++ before ∷ []) ++ numbered n 1 (lines_in next)) (let same : 0 + length (files ++ before ∷ []) ≡ s.file = omega (arith, count) in same)
             ∙ ap (λ (ls : List PlacedLine). ls ++ numbered s.file 1 (lines_in next)) (sym whole)
             ∙ rw (number, part) refl;
-        keeps_state = wanted;
       }
 
   pub file_ends_whole : (s : LogReader) → r.part.items ≡ [] → s.file ≡ r.file + 1 → s.number ≡ 1 → s.part.items ≡ r.part.items → s.taken ≡ r.taken
-      → IsReading keeps (files ++ before ∷ []) [] s
+      → IsReading (files ++ before ∷ []) [] s
   file_ends_whole s none file number same taken =
       let part = same ∙ none in
       let all = known.ahead [] in
       file_ends s known.lines
       (sym (ap (λ (bs : List ℕ). lines_from 0 (files ++ bs ∷ [])) (sym (append-nil before)) ∙ rw none at all ∙ append-nil known.lines))
-      (rw taken known.taken) file number part (rw taken known.keeps_state)
+      (rw taken known.taken) file number part
 
   module _ (m s : LogReader) (is : EndsLine r false m) (file : s.file ≡ m.file + 1) (number : s.number ≡ 1) (part : s.part.items ≡ m.part.items) (taken : s.taken ≡ m.taken) where
     last_line : (part : List ℕ) → r.part.items ≡ part → (part ≡ [] → ⊥) → lines_in r.part.items ≡ line_with r.part.items false ∷ []
     last_line [] same some = absurd (some refl)
     last_line (byte ∷ bytes) same some = rw same (line_stays byte bytes (rw same at known.unended))
 
-    pub file_ends_in : (r.part.items ≡ [] → ⊥) → IsReading keeps (files ++ before ∷ []) [] s
+    pub file_ends_in : (r.part.items ≡ [] → ⊥) → IsReading (files ++ before ∷ []) [] s
     file_ends_in some =
         file_ends s (known.lines ++ line_read r false ∷ [])
         (sym (ap (λ (bs : List ℕ). lines_from 0 (files ++ bs ∷ [])) (sym (append-nil before)) ∙ known.ahead []
         ∙ ap (λ (bs : List ℕ). known.lines ++ numbered r.file r.number (lines_in bs)) (append-nil r.part.items)
         ∙ ap (λ ls. known.lines ++ numbered r.file r.number ls) (last_line r.part.items refl some)))
-        (rw taken (is.taken known.lines known.taken)) (file ∙ ap (λ (n : ℕ). n + 1) is.file) number (part ∙ is.part) (rw taken (is.wanted ∙ known.keeps_state))
+        (rw taken (is.taken known.lines known.taken)) (file ∙ ap (λ (n : ℕ). n + 1) is.file) number (part ∙ is.part)
 
 -- what was read where all files have ended
-pub all_read : (keeps : Bool) (files : List (List ℕ)) (r : LogReader) (known : IsReading keeps files [] r) → AreTaken (lines_from 0 files) r.taken
-all_read keeps files r known =
+pub all_read : (files : List (List ℕ)) (r : LogReader) (known : IsReading files [] r) → AreTaken (lines_from 0 files) r.taken
+all_read files r known =
     let none : r.part.items ≡ [] = nothing_before known.ended r.part.items known.parts in
     let all = rw none at known.ahead [] in
     let same : known.lines ≡ lines_from 0 files =
@@ -239,16 +203,16 @@ all_read keeps files r known =
     subst (λ (ls : List PlacedLine). AreTaken ls r.taken) same known.taken
 
 -- what was read up to the first end of a line, or to the end
-pub line_read_to : (keeps : Bool) (files : List (List ℕ)) (before bytes part : List ℕ) (rest : Option (Bor (List ℕ))) (s : LogReader) → is_some rest ≡ true → IsFollowedBy bytes part rest
-    → IsReading keeps files ((before ++ part) ++ 10 ∷ []) s → IsPartRead keeps files before bytes rest s
-line_read_to keeps files before bytes part None s some whole known = absurd (cc)
-line_read_to keeps files before bytes part (Some rest) s some whole known =
-    (part, whole, subst (λ (bs : List ℕ). IsReading keeps files bs s) (append_assoc before part (10 ∷ [])) known)
+pub line_read_to : (files : List (List ℕ)) (before bytes part : List ℕ) (rest : Option (Bor (List ℕ))) (s : LogReader) → is_some rest ≡ true → IsFollowedBy bytes part rest
+    → IsReading files ((before ++ part) ++ 10 ∷ []) s → IsPartRead files before bytes rest s
+line_read_to files before bytes part None s some whole known = absurd (cc)
+line_read_to files before bytes part (Some rest) s some whole known =
+    (part, whole, subst (λ (bs : List ℕ). IsReading files bs s) (append_assoc before part (10 ∷ [])) known)
 
-pub all_of_it : (keeps : Bool) (files : List (List ℕ)) (before bytes part : List ℕ) (rest : Option (Bor (List ℕ))) (s : LogReader) → is_some rest ≡ false → IsFollowedBy bytes part rest
-    → IsReading keeps files (before ++ part) s → IsPartRead keeps files before bytes rest s
-all_of_it keeps files before bytes part None s none whole known = subst (λ (bs : List ℕ). IsReading keeps files (before ++ bs) s) (sym whole) known
-all_of_it keeps files before bytes part (Some rest) s none whole known = absurd (cc)
+pub all_of_it : (files : List (List ℕ)) (before bytes part : List ℕ) (rest : Option (Bor (List ℕ))) (s : LogReader) → is_some rest ≡ false → IsFollowedBy bytes part rest
+    → IsReading files (before ++ part) s → IsPartRead files before bytes rest s
+all_of_it files before bytes part None s none whole known = subst (λ (bs : List ℕ). IsReading files (before ++ bs) s) (sym whole) known
+all_of_it files before bytes part (Some rest) s none whole known = absurd (cc)
 
 pub fewer : (bytes part : List ℕ) (rest : Option (Bor (List ℕ))) → IsFollowedBy bytes part rest → AreFewer bytes rest
 fewer bytes part None whole = tt
@@ -258,19 +222,19 @@ fewer bytes part (Some rest) whole =
     omega (arith, sum, same)
 
 -- a piece, of which a part was read, and then some more of it
-module _ (keeps : Bool) (files : List (List ℕ)) (before piece done bytes : List ℕ) (whole : piece ≡ done ++ bytes) (s : LogReader) where
-  pub more_read : (left : Option (Bor (List ℕ))) (rest : Bor (List ℕ)) → left ≡ Some rest → IsPartRead keeps files (before ++ done) bytes left s
-      → (so_far : List ℕ) × (piece ≡ so_far ++ rest.now) × IsReading keeps files (before ++ so_far) s
+module _ (files : List (List ℕ)) (before piece done bytes : List ℕ) (whole : piece ≡ done ++ bytes) (s : LogReader) where
+  pub more_read : (left : Option (Bor (List ℕ))) (rest : Bor (List ℕ)) → left ≡ Some rest → IsPartRead files (before ++ done) bytes left s
+      → (so_far : List ℕ) × (piece ≡ so_far ++ rest.now) × IsReading files (before ++ so_far) s
   more_read None rest is read = absurd (cc)
   more_read (Some other) rest is read =
       let same : other ≡ rest = cc in (
         done ++ (read.0 ++ 10 ∷ []),
         whole ∙ ap (λ (bs : List ℕ). done ++ bs) (read.1 ∙ ap (λ (r : Bor (List ℕ)). read.0 ++ 10 ∷ r.now) same ∙ sym (append_assoc read.0 (10 ∷ []) rest.now))
             ∙ sym (append_assoc done (read.0 ++ 10 ∷ []) rest.now),
-        subst (λ (bs : List ℕ). IsReading keeps files bs s) (append_assoc before done (read.0 ++ 10 ∷ [])) read.2,
+        subst (λ (bs : List ℕ). IsReading files bs s) (append_assoc before done (read.0 ++ 10 ∷ [])) read.2,
       )
 
-  pub all_read_of_it : (left : Option (Bor (List ℕ))) → is_some left ≡ false → IsPartRead keeps files (before ++ done) bytes left s → IsReading keeps files (before ++ piece) s
+  pub all_read_of_it : (left : Option (Bor (List ℕ))) → is_some left ≡ false → IsPartRead files (before ++ done) bytes left s → IsReading files (before ++ piece) s
   all_read_of_it (Some rest) none read = absurd (cc)
   all_read_of_it None none read =
-      subst (λ (bs : List ℕ). IsReading keeps files bs s) (append_assoc before done bytes ∙ ap (λ (bs : List ℕ). before ++ bs) (sym whole)) read
+      subst (λ (bs : List ℕ). IsReading files bs s) (append_assoc before done bytes ∙ ap (λ (bs : List ℕ). before ++ bs) (sym whole)) read

@@ -1,17 +1,17 @@
 -- Calls of a log that are played one after another.
-use Rattle.std.proofs.Common.{◌≡◌, ℕ, ◌+◌, ◌<◌, false, List, [], ◌∷◌, ◌++◌, map, length, get_or, take, reverse, sym, ◌∙◌, ap, subst}
+use Rattle.std.proofs.Common.{◌≡◌, ℕ, ◌+◌, ◌<◌, ◌≤◌, max, false, List, [], ◌∷◌, ◌++◌, map, length, get_or, take, reverse, sym, ◌∙◌, ap, subst, arith}
 use Rattle.std.specs.Prelude.{Option, Some, None}
 use Rattle.std.specs.List.{AllByRecursion}
 use Rattle.std.proofs.lemmas.List.{take_more, reverse-append}
 use Rattle.std.proofs.lemmas.Option.{slice_get-get_or}
 use Rattle.cluster.specs.Jobs.{Job}
-use Rattle.cluster.specs.declared.cluster.Cluster.{Cluster}
+use Rattle.cluster.specs.continued.Jobs.{Continued, job_in}
 use Rattle.cluster.specs.declared.timing.Reading.{Reading}
 use Rattle.cluster.specs.declared.timing.Reading.TheVariants.{TableClock, TaskClock, NoClock}
 use Rattle.cluster.specs.Pasts.{Past, reading, readings}
-use Rattle.cluster.specs.Timing.{IsNear, IsTimely}
-use Rattle.cluster.specs.Runs.{IsRun}
-use Rattle.cluster.specs.Clusters.{LeadsTo}
+use Rattle.cluster.specs.Timing.{IsNear, IsTimely, greatest_reading}
+use Rattle.cluster.specs.continued.Runs.{IsRun}
+use Rattle.call_log.specs.declared.log_machines.LogMachines.{LogMachines}
 use Rattle.call_log.specs.declared.told.CallerReply.{CallerReply}
 use Rattle.call_log.specs.declared.cause.Cause.{Cause}
 use Rattle.call_log.specs.declared.entry.LogEntry.{LogEntry}
@@ -28,13 +28,14 @@ use Rattle.call_log.specs.Told.{is_worded}
 use Rattle.call_log.specs.Audited.{StandsFor, IsPastOf, Tells, IsOneRun, IsBreak, IsCausedBreak}
 use Rattle.call_log.specs.Questions.{IsCauseOf}
 use Rattle.call_log.specs.internals.Answers.{IsAnswered}
+use Rattle.call_log.specs.internals.Machines.{HavePlayed}
 use Rattle.call_log.proofs.Watching.{free_of_clock, free_of_table}
 
 -- what is known once some calls were played
-pub record IsPlayedTo (job : Job) (entries : List LogEntry) (cluster : Cluster) : Type 0 where
+pub record IsPlayedTo (job : Continued) (entries : List LogEntry) (machines : LogMachines) : Type 0 where
   pub past : Past
   pub told : IsPastOf job (reverse entries) past
-  pub leads : LeadsTo job past cluster
+  pub played : HavePlayed job past machines
 
 module _ (entries : List LogEntry) (i : ℕ) (entry : LogEntry) (low : i < length entries) (here : entry ≡ get_or entries i entry) where
   pub one_more : reverse (take (i + 1) entries) ≡ entry ∷ reverse (take i entries)
@@ -43,19 +44,19 @@ module _ (entries : List LogEntry) (i : ℕ) (entry : LogEntry) (low : i < lengt
       ∙ reverse-append (take i entries) (entry ∷ [])
 
   -- a line whose caller was told the machines' reply
-  pub played_more : (job : Job) (cluster next : Cluster) (known : IsPlayedTo job (take i entries) cluster)
+  pub played_more : (job : Continued) (machines next : LogMachines) (known : IsPlayedTo job (take i entries) machines)
       → IsAnswered job known.past entry.line None next → IsPlayedTo job (take (i + 1) entries) next
-  played_more job cluster next known answered = record {
+  played_more job machines next known answered = record {
     past = answered.played.after;
     told = subst (λ (es : List LogEntry). IsPastOf job es answered.played.after) (sym one_more)
         (known.past, answered.told, answered.played.stands, answered.compared, known.told);
-    leads = answered.played.leads;
+    played = answered.played.played;
   }
 
   -- a line whose caller was told otherwise
-  pub breaks_here : (job : Job) (past : Past) (next : Cluster) (wanted : CallerReply) (held : Option HeldLeases) → IsPastOf job (reverse (take i entries)) past
+  pub breaks_here : (job : Continued) (past : Past) (next : LogMachines) (wanted : CallerReply) (held : Option HeldLeases) → IsPastOf job (reverse (take i entries)) past
       → (answered : IsAnswered job past entry.line (Some wanted) next) → IsRun job answered.played.after
-      → held ≡ held_by_asked job answered.played.after entry.line.call → IsBreak job entries i wanted held
+      → held ≡ held_by_asked (job_in job) answered.played.after entry.line.call → IsBreak job entries i wanted held
   breaks_here job past next wanted held told answered run leases =
       let is : answered.told ≡ wanted = sym answered.compared.0 in
       record {
@@ -64,16 +65,16 @@ module _ (entries : List LogEntry) (i : ℕ) (entry : LogEntry) (low : i < lengt
         past = past;
         told = told;
         after = answered.played.after;
-        stands = subst (λ (t : CallerReply). StandsFor job past entry.line.call t answered.played.after) is answered.played.stands;
+        stands = subst (λ (t : CallerReply). StandsFor (job_in job) past entry.line.call t answered.played.after) is answered.played.stands;
         answered = run;
         other = subst (λ (t : CallerReply). is_worded entry.line.reply t ≡ false) is answered.compared.1;
         leases = leases;
       }
 
   -- the same, with the cause
-  pub caused_here : (job : Job) (past : Past) (next : Cluster) (wanted : CallerReply) (held : Option HeldLeases) (cause : Option Cause)
+  pub caused_here : (job : Continued) (past : Past) (next : LogMachines) (wanted : CallerReply) (held : Option HeldLeases) (cause : Option Cause)
       → IsPastOf job (reverse (take i entries)) past → (answered : IsAnswered job past entry.line (Some wanted) next) → IsRun job answered.played.after
-      → held ≡ held_by_asked job answered.played.after entry.line.call → IsCauseOf job answered.played.after entries i entry.line.call wanted cause
+      → held ≡ held_by_asked (job_in job) answered.played.after entry.line.call → IsCauseOf job answered.played.after entries i entry.line.call wanted cause
       → IsCausedBreak job entries i wanted held cause
   unfolding breaks_here
   caused_here job past next wanted held cause told answered run leases because = record {
@@ -134,29 +135,47 @@ module _ (skew : ℕ) where
   timely_one job before after (Restore numbers) told s near timely = timely_taken s.fault _ numbers before after s.taken timely
   timely_one job before after (Sample taken) told s near timely = subst (λ (p : Past). IsTimely skew (readings p)) (sym s.made) timely
 
-  near_all : (job : Job) (late : Reading) (entries : List LogEntry) (past : Past) → IsPastOf job entries past
-      → AreNear late (map (λ (e : LogEntry). reading_in e.line.call) entries) → AreNear late (readings past)
-  near_all job late [] past told near = subst (λ (p : Past). AreNear late (readings p)) (sym told) tt
-  near_all job late (entry ∷ entries) past told near =
-      near_one job late told.0 past entry.line.call told.1 told.2 near.0 (near_all job late entries told.0 told.4 near.1)
+  -- near to the greatest reading of the table's clock is near to all
+  near_max : (at table greatest : ℕ) → max table greatest ≤ at + skew → (table ≤ at + skew) × (greatest ≤ at + skew)
+  near_max at table greatest near = (grind (arith, near), grind (arith, near))
 
-  timely_all : (job : Job) (entries : List LogEntry) (past : Past) → IsPastOf job entries past → IsTimely skew (map (λ (e : LogEntry). reading_in e.line.call) entries)
-      → IsTimely skew (readings past)
-  timely_all job [] past told timely = subst (λ (p : Past). IsTimely skew (readings p)) (sym told) tt
-  timely_all job (entry ∷ entries) past told timely =
-      timely_one job told.0 past entry.line.call told.1 told.2 (near_all job (reading_in entry.line.call) entries told.0 told.4 timely.0)
-      (timely_all job entries told.0 told.4 timely.1)
+  near_earlier : (late : Reading) (rs : List Reading) → IsNear skew late (TableClock (greatest_reading rs)) → AreNear late rs
+  near_earlier late [] near = tt
+  near_earlier (TaskClock at) (TableClock table ∷ rs) near =
+      let both = near_max at table (greatest_reading rs) near in
+      (both.0, near_earlier (TaskClock at) rs both.1)
+  near_earlier (TaskClock at) (TaskClock other ∷ rs) near = (tt, near_earlier (TaskClock at) rs near)
+  near_earlier (TaskClock at) (NoClock ∷ rs) near = (tt, near_earlier (TaskClock at) rs near)
+  near_earlier (TableClock at) (r ∷ rs) near = free_of_table skew at (r ∷ rs)
+  near_earlier NoClock (r ∷ rs) near = free_of_clock skew (r ∷ rs)
 
-tells : (job : Job) (entries : List LogEntry) (past : Past) (late : Option Late) → IsPastOf job (reverse entries) past → AreWatched job.policy.skew entries late
-    → Tells job entries past late
-tells job entries past None told watched = timely_all job.policy.skew job (reverse entries) past told watched
+  module _ (job : Continued) where
+    -- the readings of lines, after the greatest one of the table's clock in the calls before
+    abbrev lines_read : List LogEntry → List Reading
+    lines_read entries = map (λ (e : LogEntry). reading_in e.line.call) entries ++ TableClock (greatest_reading (readings job.earlier)) ∷ []
+
+    near_all : (late : Reading) (entries : List LogEntry) (past : Past) → IsPastOf job entries past → AreNear late (lines_read entries) → AreNear late (readings past)
+    near_all late [] past told near = subst (λ (p : Past). AreNear late (readings p)) (sym told) (near_earlier late (readings job.earlier) near.0)
+    near_all late (entry ∷ entries) past told near =
+        near_one (job_in job) late told.0 past entry.line.call told.1 told.2 near.0 (near_all late entries told.0 told.4 near.1)
+
+    timely_all : (entries : List LogEntry) (past : Past) → IsPastOf job entries past → IsTimely skew (lines_read entries) → IsTimely skew (readings job.earlier)
+        → IsTimely skew (readings past)
+    timely_all [] past told timely before = subst (λ (p : Past). IsTimely skew (readings p)) (sym told) before
+    timely_all (entry ∷ entries) past told timely before =
+        timely_one (job_in job) told.0 past entry.line.call told.1 told.2 (near_all (reading_in entry.line.call) entries told.0 told.4 timely.0)
+        (timely_all entries told.0 told.4 timely.1 before)
+
+tells : (job : Continued) (entries : List LogEntry) (past : Past) (late : Option Late) → IsPastOf job (reverse entries) past
+    → AreWatched job.policy.skew (greatest_reading (readings job.earlier)) entries late → Tells job entries past late
+tells job entries past None told watched = λ before. timely_all job.policy.skew job (reverse entries) past told watched before
 tells job entries past (Some late) told watched = watched
 
 -- all callers were told the machines' replies
-pub one_run : (job : Job) (entries : List LogEntry) (cluster : Cluster) (steps : ℕ) (late : Option Late) → (known : IsPlayedTo job entries cluster)
-    → IsRun job known.past → steps ≡ length entries → AreWatched job.policy.skew entries late
+pub one_run : (job : Continued) (entries : List LogEntry) (machines : LogMachines) (steps : ℕ) (late : Option Late) → (known : IsPlayedTo job entries machines)
+    → IsRun job known.past → steps ≡ length entries → AreWatched job.policy.skew (greatest_reading (readings job.earlier)) entries late
     → IsOneRun job entries steps late
-one_run job entries cluster steps late known answered count watched = record {
+one_run job entries machines steps late known answered count watched = record {
   past = known.past;
   told = known.told;
   answered = answered;

@@ -4,13 +4,12 @@ use Rattle.std.specs.Prelude.{Some, None}
 use Rattle.lease_table.specs.declared.call.TableCall.TheVariants as table_call
 use Rattle.lease_table.specs.declared.kept.Kept.{Kept}
 use Rattle.lease_table.specs.KeptValues.{kept_of, Covers}
-use Rattle.cluster.specs.Jobs.{Job}
+use Rattle.cluster.specs.continued.Jobs.{Continued}
 use Rattle.cluster.specs.declared.call.ClusterCall.{ClusterCall}
 use Rattle.cluster.specs.declared.call.ClusterCall.TheVariants as call
-use Rattle.cluster.specs.declared.cluster.Cluster.{Cluster}
 use Rattle.cluster.specs.declared.reply.ClusterReply.{ClusterReply}
 use Rattle.cluster.specs.Pasts.{event, Past, standing}
-use Rattle.cluster.specs.Clusters.{LeadsTo}
+use Rattle.call_log.specs.declared.log_machines.LogMachines.{LogMachines}
 use Rattle.call_log.specs.declared.line.BareGrant.{BareGrant}
 use Rattle.call_log.specs.declared.line.LoggedCall.{LoggedCall}
 use Rattle.call_log.specs.declared.line.LoggedCall.TheVariants.{Whole, HearBare, LearnBare, Restore}
@@ -19,43 +18,44 @@ use Rattle.call_log.specs.declared.restored.RestoreFault.{RestoreFault}
 use Rattle.call_log.specs.declared.told.CallerReply.{CallerReply}
 use Rattle.call_log.specs.Restores.{IsChecked, grant_to_nobody, kept_with, numbers_of, restore_told}
 use Rattle.call_log.specs.internals.Answers.{HasGranted, IsMade, IsPlayed}
+use Rattle.call_log.specs.internals.Machines.{HavePlayed}
 
 -- a line with a call stands for it
-pub whole_played : (job : Job) (past : Past) (line : LoggedCall) (w : ClusterCall) (told : CallerReply) (cluster : Cluster) → line ≡ Whole w
-    → IsMade job past line told cluster → IsPlayed job past line told cluster
-whole_played job past line w told cluster is made =
-    let here : IsMade job past (Whole w) told cluster = subst (λ (l : LoggedCall). IsMade job past l told cluster) is made in
-    subst (λ (l : LoggedCall). IsPlayed job past l told cluster) (sym is) (record { after = here.after; stands = here.called; leads = here.leads })
+pub whole_played : (job : Continued) (past : Past) (line : LoggedCall) (w : ClusterCall) (told : CallerReply) (machines : LogMachines) → line ≡ Whole w
+    → IsMade job past line told machines → IsPlayed job past line told machines
+whole_played job past line w told machines is made =
+    let here : IsMade job past (Whole w) told machines = subst (λ (l : LoggedCall). IsMade job past l told machines) is made in
+    subst (λ (l : LoggedCall). IsPlayed job past l told machines) (sym is) (record { after = here.after; stands = here.called; played = here.played })
 
-pub heard_played : (job : Job) (past : Past) (line : LoggedCall) (task : ℕ) (grant : BareGrant) (at : ℕ) (told : CallerReply) (cluster : Cluster) → line ≡ HearBare task grant at
-    → IsMade job past line told cluster → IsPlayed job past line told cluster
-heard_played job past line task grant at told cluster is made =
-    let here : IsMade job past (HearBare task grant at) told cluster = subst (λ (l : LoggedCall). IsMade job past l told cluster) is made in
-    subst (λ (l : LoggedCall). IsPlayed job past l told cluster) (sym is) (record { after = here.after; stands = here.called; leads = here.leads })
+pub heard_played : (job : Continued) (past : Past) (line : LoggedCall) (task : ℕ) (grant : BareGrant) (at : ℕ) (told : CallerReply) (machines : LogMachines) → line ≡ HearBare task grant at
+    → IsMade job past line told machines → IsPlayed job past line told machines
+heard_played job past line task grant at told machines is made =
+    let here : IsMade job past (HearBare task grant at) told machines = subst (λ (l : LoggedCall). IsMade job past l told machines) is made in
+    subst (λ (l : LoggedCall). IsPlayed job past l told machines) (sym is) (record { after = here.after; stands = here.called; played = here.played })
 
-pub learnt_played : (job : Job) (past : Past) (line : LoggedCall) (clerk generation : ℕ) (told : CallerReply) (cluster : Cluster) → line ≡ LearnBare clerk generation
-    → IsMade job past line told cluster → IsPlayed job past line told cluster
-learnt_played job past line clerk generation told cluster is made =
-    let here : IsMade job past (LearnBare clerk generation) told cluster = subst (λ (l : LoggedCall). IsMade job past l told cluster) is made in
-    subst (λ (l : LoggedCall). IsPlayed job past l told cluster) (sym is) (record { after = here.after; stands = here.called; leads = here.leads })
+pub learnt_played : (job : Continued) (past : Past) (line : LoggedCall) (clerk generation : ℕ) (told : CallerReply) (machines : LogMachines) → line ≡ LearnBare clerk generation
+    → IsMade job past line told machines → IsPlayed job past line told machines
+learnt_played job past line clerk generation told machines is made =
+    let here : IsMade job past (LearnBare clerk generation) told machines = subst (λ (l : LoggedCall). IsMade job past l told machines) is made in
+    subst (λ (l : LoggedCall). IsPlayed job past l told machines) (sym is) (record { after = here.after; stands = here.called; played = here.played })
 
 -- one grant to nobody more
-pub granted_more : (job : Job) (past : Past) (count at : ℕ) (old new : Cluster) → HasGranted job past count at old
-    → ((p : Past) → LeadsTo job p old → (reply : ClusterReply) × LeadsTo job (event (grant_to_nobody at) reply ∷ p) new) → HasGranted job past (count + 1) at new
+pub granted_more : (job : Continued) (past : Past) (count at : ℕ) (old new : LogMachines) → HasGranted job past count at old
+    → ((p : Past) → HavePlayed job p old → (reply : ClusterReply) × HavePlayed job (event (grant_to_nobody at) reply ∷ p) new) → HasGranted job past (count + 1) at new
 granted_more job past count at old new so_far more =
-    let one = more (so_far.ahead ++ past) so_far.leads in
+    let one = more (so_far.ahead ++ past) so_far.played in
     record {
       ahead = event (grant_to_nobody at) one.0 ∷ so_far.ahead;
       nobody = (refl, so_far.nobody);
       many = let n = so_far.many in omega (arith, n);
-      leads = one.1;
+      played = one.1;
     }
 
-module _ (job : Job) (past : Past) (numbers : KeptNumbers) (kept : Kept) (same : kept ≡ kept_of (standing job.policy past)) where
+module _ (job : Continued) (past : Past) (numbers : KeptNumbers) (kept : Kept) (same : kept ≡ kept_of (standing job.policy past)) where
   -- a restart that is refused
-  pub not_restored : (fault : RestoreFault) (told : CallerReply) (cluster : Cluster) → IsChecked kept numbers (Some fault) → told ≡ restore_told kept numbers (Some fault)
-      → LeadsTo job past cluster → IsPlayed job past (Restore numbers) told cluster
-  not_restored fault told cluster checked tells leads = record {
+  pub not_restored : (fault : RestoreFault) (told : CallerReply) (machines : LogMachines) → IsChecked kept numbers (Some fault) → told ≡ restore_told kept numbers (Some fault)
+      → HavePlayed job past machines → IsPlayed job past (Restore numbers) told machines
+  not_restored fault told machines checked tells leads = record {
     after = past;
     stands = record {
       fault = Some fault;
@@ -63,14 +63,14 @@ module _ (job : Job) (past : Past) (numbers : KeptNumbers) (kept : Kept) (same :
       tells = subst (λ (k : Kept). told ≡ restore_told k numbers (Some fault)) same tells;
       taken = refl;
     };
-    leads = leads;
+    played = leads;
   }
 
   -- a restart after so many grants to nobody
-  pub restored : (count : ℕ) (told : CallerReply) (granted cluster : Cluster) → IsChecked kept numbers None → told ≡ restore_told kept numbers None
+  pub restored : (count : ℕ) (told : CallerReply) (granted machines : LogMachines) → IsChecked kept numbers None → told ≡ restore_told kept numbers None
       → kept.granted + count ≡ numbers.granted → (ahead : HasGranted job past count numbers.last granted)
-      → (lost : ClusterReply) → LeadsTo job (event (call.Table table_call.Restart) lost ∷ (ahead.ahead ++ past)) cluster → IsPlayed job past (Restore numbers) told cluster
-  restored count told granted cluster checked tells many ahead lost leads =
+      → (lost : ClusterReply) → HavePlayed job (event (call.Table table_call.Restart) lost ∷ (ahead.ahead ++ past)) machines → IsPlayed job past (Restore numbers) told machines
+  restored count told granted machines checked tells many ahead lost leads =
       let before : kept.granted ≡ (standing job.policy past).granted = ap (λ (k : Kept). k.granted) same in
       record {
         after = event (call.Table table_call.Restart) lost ∷ (ahead.ahead ++ past);
@@ -86,7 +86,7 @@ module _ (job : Job) (past : Past) (numbers : KeptNumbers) (kept : Kept) (same :
             events = refl;
           };
         };
-        leads = leads;
+        played = leads;
       }
 
 fewest : (kept : Kept) (numbers : KeptNumbers) → Covers kept (kept_with kept numbers) → kept.granted ≤ numbers.granted

@@ -13,41 +13,44 @@ use Rattle.call_log.specs.declared.entry.LogEntry.{LogEntry}
 use Rattle.call_log.specs.declared.late.Greatest.{Greatest}
 use Rattle.call_log.specs.declared.late.Late.{Late}
 use Rattle.call_log.specs.Calls.{reading_in}
-use Rattle.call_log.specs.Late.{readings_of, IsGreatestBefore, IsLate, AreWatched}
+use Rattle.call_log.specs.Late.{readings_of, readings_after, IsGreatestBefore, IsReadBefore, IsLate, AreWatched}
 use Rattle.call_log.specs.internals.Watching.{reached, greater, greatest_after, late_by, late_after}
 
--- the greatest reading, 0 before the first
-abbrev pub at_of : Option Greatest → ℕ
-at_of None = 0
-at_of (Some g) = g.at
-
 -- a task's clock may be read next from here on
-abbrev pub IsBound : ℕ → Option Greatest → List Reading → Type 0
-IsBound skew g before = (at : ℕ) → at_of g ≤ at + skew → AllByRecursion (IsNear skew (TaskClock at)) before
+abbrev pub IsBound : ℕ → Greatest → List Reading → Type 0
+IsBound skew g before = (at : ℕ) → g.at ≤ at + skew → AllByRecursion (IsNear skew (TaskClock at)) before
 
--- the greatest reading is that of an entry
-pub record Stands (entries : List LogEntry) (i : ℕ) (g : Greatest) : Type 0 where
-  pub table : LogEntry
-  pub there : slice_get entries g.index ≡ Some table
-  pub read : reading_in table.line.call ≡ TableClock g.at
-  pub before : g.index < i
+-- the greatest reading is that of an entry, or the earlier one
+abbrev pub Stands : ℕ → List LogEntry → ℕ → Greatest → Type 0
+Stands earlier entries i g = IsReadBefore earlier entries i g.index g.at
 
 -- what is known once so many entries were watched
-pub record IsWatched (skew : ℕ) (entries : List LogEntry) (i : ℕ) (greatest : Option Greatest) : Type 0 where
-  pub timely : IsTimely skew (readings_of (take i entries))
-  pub bound : IsBound skew greatest (readings_of (take i entries))
-  pub stands : (g : Greatest) → greatest ≡ Some g → Stands entries i g
-  pub most : IsGreatestBefore entries i (at_of greatest)
+pub record IsWatched (skew earlier : ℕ) (entries : List LogEntry) (i : ℕ) (greatest : Greatest) : Type 0 where
+  pub timely : IsTimely skew (readings_after earlier (take i entries))
+  pub bound : IsBound skew greatest (readings_after earlier (take i entries))
+  pub stands : Stands earlier entries i greatest
+  pub most : IsGreatestBefore earlier entries i greatest.at
+
+-- before the first entry
+pub none_watched : (skew earlier : ℕ) (entries : List LogEntry) → IsWatched skew earlier entries 0 (record { at = earlier; index = None })
+none_watched skew earlier entries = record {
+  timely = (tt, tt);
+  bound = λ at near. (near, tt);
+  stands = refl;
+  most = record { before = omega arith; here = λ place e at low. absurd (omega (arith, low)) };
+}
 
 -- THE GREATEST READING
 
-max_if : (b : Bool) (g : Greatest) (s i : ℕ) → nat_le s g.at ≡ b → (s ≤ at_of (if b then Some g else Some (reached s i))) × (g.at ≤ at_of (if b then Some g else Some (reached s i)))
+abbrev at_of : Greatest → ℕ
+at_of g = g.at
+
+max_if : (b : Bool) (g : Greatest) (s i : ℕ) → nat_le s g.at ≡ b → (s ≤ at_of (if b then g else reached s i)) × (g.at ≤ at_of (if b then g else reached s i))
 max_if true g s i t = (let u : nat_le s g.at ≡ true = t in grind (arith, nat_tests), omega arith)
 max_if false g s i t = (omega arith, let u : nat_le s g.at ≡ false = t in grind (arith, nat_tests))
 
-greater_max : (g : Option Greatest) (s i : ℕ) → (s ≤ at_of (greater g s i)) × (at_of g ≤ at_of (greater g s i))
-greater_max None s i = (omega arith, omega arith)
-greater_max (Some g) s i = max_if (nat_le s g.at) g s i refl
+greater_max : (g : Greatest) (s i : ℕ) → (s ≤ at_of (greater g s i)) × (g.at ≤ at_of (greater g s i))
+greater_max g s i = max_if (nat_le s g.at) g s i refl
 
 none_if : (b : Bool) (l : Late) → (if b then Some l else None) ≡ None → b ≡ false
 none_if true l e = absurd (cc)
@@ -57,18 +60,17 @@ some_if : (b : Bool) (l late : Late) → (if b then Some l else None) ≡ Some l
 some_if true l late e = (refl, cc)
 some_if false l late e = absurd (cc)
 
-not_late : (skew : ℕ) (g : Option Greatest) (a i : ℕ) → late_after skew g (TaskClock a) i ≡ None → at_of g ≤ a + skew
-not_late skew None a i e = omega arith
-not_late skew (Some g) a i e = let t : nat_lt a (g.at - skew) ≡ false = none_if (nat_lt a (g.at - skew)) (late_by g a i) e in grind (arith, nat_tests)
+not_late : (skew : ℕ) (g : Greatest) (a i : ℕ) → late_after skew g (TaskClock a) i ≡ None → g.at ≤ a + skew
+not_late skew g a i e = let t : nat_lt a (g.at - skew) ≡ false = none_if (nat_lt a (g.at - skew)) (late_by g a i) e in grind (arith, nat_tests)
 
 -- the greatest reading after a call is no less than before it
-not_less : (g : Option Greatest) (r : Reading) (i : ℕ) → at_of g ≤ at_of (greatest_after g r i)
+not_less : (g : Greatest) (r : Reading) (i : ℕ) → g.at ≤ at_of (greatest_after g r i)
 not_less g (TableClock s) i = (greater_max g s i).1
 not_less g (TaskClock a) i = omega arith
 not_less g NoClock i = omega arith
 
 -- and no less than the reading of the call
-not_less_read : (g : Option Greatest) (r : Reading) (i s : ℕ) → r ≡ TableClock s → s ≤ at_of (greatest_after g r i)
+not_less_read : (g : Greatest) (r : Reading) (i s : ℕ) → r ≡ TableClock s → s ≤ at_of (greatest_after g r i)
 not_less_read g (TableClock t) i s is = (let f : t ≡ s = cc in let m = (greater_max g t i).0 in omega (arith, f, m))
 not_less_read g (TaskClock a) i s is = absurd (cc)
 not_less_read g NoClock i s is = absurd (cc)
@@ -83,7 +85,7 @@ pub free_of_clock : (skew : ℕ) (rs : List Reading) → AllByRecursion (IsNear 
 free_of_clock skew [] = tt
 free_of_clock skew (r ∷ rs) = (tt, free_of_clock skew rs)
 
-reading_more : (skew i : ℕ) (r : Reading) (rs : List Reading) (g : Option Greatest) → IsTimely skew rs → IsBound skew g rs → late_after skew g r i ≡ None
+reading_more : (skew i : ℕ) (r : Reading) (rs : List Reading) (g : Greatest) → IsTimely skew rs → IsBound skew g rs → late_after skew g r i ≡ None
     → IsTimely skew (r ∷ rs) × IsBound skew (greatest_after g r i) (r ∷ rs)
 reading_more skew i (TableClock s) rs g timely bound none =
     let m = greater_max g s i in
@@ -91,47 +93,52 @@ reading_more skew i (TableClock s) rs g timely bound none =
 reading_more skew i (TaskClock a) rs g timely bound none = ((bound a (not_late skew g a i none), timely), λ at le. (tt, bound at le))
 reading_more skew i NoClock rs g timely bound none = ((free_of_clock skew rs, timely), λ at le. (tt, bound at le))
 
-module _ (skew : ℕ) (entries : List LogEntry) (i : ℕ) (entry : LogEntry) (low : i < length entries) (here : entry ≡ get_or entries i entry) where
+module _ (skew earlier : ℕ) (entries : List LogEntry) (i : ℕ) (entry : LogEntry) (low : i < length entries) (here : entry ≡ get_or entries i entry) where
   found : slice_get entries i ≡ Some entry
   found = slice_get-get_or entries i entry low ∙ ap (λ (e : LogEntry). Some e) (sym here)
 
-  one_more : readings_of (take (i + 1) entries) ≡ reading_in entry.line.call ∷ readings_of (take i entries)
-  one_more =
+  one_more_read : readings_of (take (i + 1) entries) ≡ reading_in entry.line.call ∷ readings_of (take i entries)
+  one_more_read =
       ap readings_of (take_more entries i entry low ∙ ap (λ (e : LogEntry). take i entries ++ e ∷ []) (sym here))
       ∙ ap (map (λ (e : LogEntry). reading_in e.line.call)) (reverse-append (take i entries) (entry ∷ []))
 
-  later : (g : Greatest) → Stands entries i g → Stands entries (i + 1) g
-  later g s = record { table = s.table; there = s.there; read = s.read; before = let b = s.before in omega (arith, b) }
+  one_more : readings_after earlier (take (i + 1) entries) ≡ reading_in entry.line.call ∷ readings_after earlier (take i entries)
+  one_more = ap (λ (rs : List Reading). rs ++ TableClock earlier ∷ []) one_more_read
 
-  reached_here : (s : ℕ) → reading_in entry.line.call ≡ TableClock s → Stands entries (i + 1) (reached s i)
-  reached_here s is = record { table = entry; there = found; read = is; before = omega arith }
+  later : (place : Option ℕ) (at : ℕ) → IsReadBefore earlier entries i place at → IsReadBefore earlier entries (i + 1) place at
+  later None at s = s
+  later (Some place) at s = record { table = s.table; there = s.there; read = s.read; earlier = let b = s.earlier in omega (arith, b) }
 
-  stands_if : (b : Bool) (old g : Greatest) (s : ℕ) → reading_in entry.line.call ≡ TableClock s → Stands entries i old
-      → (if b then Some old else Some (reached s i)) ≡ Some g → Stands entries (i + 1) g
-  stands_if true old g s is stands e = subst (Stands entries (i + 1)) (let f : old ≡ g = cc in f) (later old stands)
-  stands_if false old g s is stands e = subst (Stands entries (i + 1)) (let f : reached s i ≡ g = cc in f) (reached_here s is)
+  stands_if : (b : Bool) (g : Greatest) (s : ℕ) → reading_in entry.line.call ≡ TableClock s → Stands earlier entries i g
+      → Stands earlier entries (i + 1) (if b then g else reached s i)
+  stands_if true g s is stands = later g.index g.at stands
+  stands_if false g s is stands = record { table = entry; there = found; read = is; earlier = omega arith }
 
-  stands_more : (r : Reading) (greatest : Option Greatest) → reading_in entry.line.call ≡ r → ((g : Greatest) → greatest ≡ Some g → Stands entries i g)
-      → (g : Greatest) → greatest_after greatest r i ≡ Some g → Stands entries (i + 1) g
-  stands_more (TableClock s) None is stands g e = subst (Stands entries (i + 1)) (let f : reached s i ≡ g = cc in f) (reached_here s is)
-  stands_more (TableClock s) (Some old) is stands g e = stands_if (nat_le s old.at) old g s is (stands old refl) e
-  stands_more (TaskClock a) greatest is stands g e = later g (stands g e)
-  stands_more NoClock greatest is stands g e = later g (stands g e)
+  stands_more : (r : Reading) (g : Greatest) → reading_in entry.line.call ≡ r → Stands earlier entries i g → Stands earlier entries (i + 1) (greatest_after g r i)
+  stands_more (TableClock s) g is stands = stands_if (nat_le s g.at) g s is stands
+  stands_more (TaskClock a) g is stands = later g.index g.at stands
+  stands_more NoClock g is stands = later g.index g.at stands
 
-  most_more : (greatest : Option Greatest) → IsGreatestBefore entries i (at_of greatest)
-      → IsGreatestBefore entries (i + 1) (at_of (greatest_after greatest (reading_in entry.line.call) i))
-  most_more greatest most place e at before is read = elim (cases_lt place i) [
-    | inl lower ↦ (let m = most place e at lower is read in let n = not_less greatest (reading_in entry.line.call) i in omega (arith, m, n))
+  most_here : (g : Greatest) → IsGreatestBefore earlier entries i g.at → (place : ℕ) (e : LogEntry) (at : ℕ) → place < i + 1 → slice_get entries place ≡ Some e
+      → reading_in e.line.call ≡ TableClock at → at ≤ at_of (greatest_after g (reading_in entry.line.call) i)
+  most_here g most place e at before is read = elim (cases_lt place i) [
+    | inl lower ↦ (let m = most.here place e at lower is read in let n = not_less g (reading_in entry.line.call) i in omega (arith, m, n))
     | inr higher ↦ (let last : place ≡ i = omega (arith, before, higher) in
         let same : e ≡ entry = (let f : slice_get entries i ≡ Some e = subst (λ (n : ℕ). slice_get entries n ≡ Some e) last is in let h = found in cc) in
-        not_less_read greatest (reading_in entry.line.call) i at (ap (λ (x : LogEntry). reading_in x.line.call) (sym same) ∙ read))
+        not_less_read g (reading_in entry.line.call) i at (ap (λ (x : LogEntry). reading_in x.line.call) (sym same) ∙ read))
   ]
 
+  most_more : (g : Greatest) → IsGreatestBefore earlier entries i g.at → IsGreatestBefore earlier entries (i + 1) (at_of (greatest_after g (reading_in entry.line.call) i))
+  most_more g most = record {
+    before = let m = most.before in let n = not_less g (reading_in entry.line.call) i in omega (arith, m, n);
+    here = most_here g most;
+  }
+
   -- a reading that is timely
-  pub watched_more : (greatest : Option Greatest) → IsWatched skew entries i greatest → late_after skew greatest (reading_in entry.line.call) i ≡ None
-      → IsWatched skew entries (i + 1) (greatest_after greatest (reading_in entry.line.call) i)
+  pub watched_more : (greatest : Greatest) → IsWatched skew earlier entries i greatest → late_after skew greatest (reading_in entry.line.call) i ≡ None
+      → IsWatched skew earlier entries (i + 1) (greatest_after greatest (reading_in entry.line.call) i)
   watched_more greatest known none =
-      let both = reading_more skew i (reading_in entry.line.call) (readings_of (take i entries)) greatest known.timely known.bound none in
+      let both = reading_more skew i (reading_in entry.line.call) (readings_after earlier (take i entries)) greatest known.timely known.bound none in
       record {
         timely = subst (IsTimely skew) (sym one_more) both.0;
         bound = subst (IsBound skew (greatest_after greatest (reading_in entry.line.call) i)) (sym one_more) both.1;
@@ -139,35 +146,29 @@ module _ (skew : ℕ) (entries : List LogEntry) (i : ℕ) (entry : LogEntry) (lo
         most = most_more greatest known.most;
       }
 
-  late_with : (g : Greatest) (a : ℕ) → reading_in entry.line.call ≡ TaskClock a → IsWatched skew entries i (Some g) → nat_lt a (g.at - skew) ≡ true → IsLate skew entries (late_by g a i)
-  late_with g a is known test =
-      let stands = known.stands g refl in
-      record {
-        task = entry;
-        here = found;
-        read = is;
-        table = stands.table;
-        there = stands.there;
-        read_before = stands.read;
-        earlier = stands.before;
-        ahead = let t : nat_lt a (g.at - skew) ≡ true = test in grind (arith, nat_tests);
-        greatest = known.most;
-        first = known.timely;
-      }
+  late_with : (g : Greatest) (a : ℕ) → reading_in entry.line.call ≡ TaskClock a → IsWatched skew earlier entries i g → nat_lt a (g.at - skew) ≡ true
+      → IsLate skew earlier entries (late_by g a i)
+  late_with g a is known test = record {
+    task = entry;
+    here = found;
+    read = is;
+    read_before = known.stands;
+    ahead = let t : nat_lt a (g.at - skew) ≡ true = test in grind (arith, nat_tests);
+    greatest = known.most;
+    first = known.timely;
+  }
 
-  late_from : (r : Reading) (greatest : Option Greatest) (late : Late) → reading_in entry.line.call ≡ r → IsWatched skew entries i greatest
-      → late_after skew greatest r i ≡ Some late → IsLate skew entries late
-  late_from (TaskClock a) (Some g) late is known e =
+  late_from : (r : Reading) (g : Greatest) (late : Late) → reading_in entry.line.call ≡ r → IsWatched skew earlier entries i g
+      → late_after skew g r i ≡ Some late → IsLate skew earlier entries late
+  late_from (TaskClock a) g late is known e =
       let p = some_if (nat_lt a (g.at - skew)) (late_by g a i) late e in
-      subst (IsLate skew entries) (sym p.1) (late_with g a is known p.0)
-  late_from (TaskClock a) None late is known e = absurd (cc)
-  late_from (TableClock s) None late is known e = absurd (cc)
-  late_from (TableClock s) (Some g) late is known e = absurd (cc)
-  late_from NoClock None late is known e = absurd (cc)
-  late_from NoClock (Some g) late is known e = absurd (cc)
+      subst (IsLate skew earlier entries) (sym p.1) (late_with g a is known p.0)
+  late_from (TableClock s) g late is known e = absurd (cc)
+  late_from NoClock g late is known e = absurd (cc)
 
   -- a reading that is not
-  pub late_here : (greatest : Option Greatest) (late : Late) → IsWatched skew entries i greatest → late_after skew greatest (reading_in entry.line.call) i ≡ Some late → IsLate skew entries late
+  pub late_here : (greatest : Greatest) (late : Late) → IsWatched skew earlier entries i greatest → late_after skew greatest (reading_in entry.line.call) i ≡ Some late
+      → IsLate skew earlier entries late
   late_here greatest late known e = late_from (reading_in entry.line.call) greatest late refl known e
 
 none_of : (o : Option Late) → is_some o ≡ false → o ≡ None
@@ -175,16 +176,18 @@ none_of None e = refl
 none_of (Some late) e = absurd (cc)
 
 -- the next entry, whatever stands where there is none
-module _ (skew : ℕ) (entries : List LogEntry) (i : ℕ) (d : LogEntry) (low : i < length entries) (r : Reading) (is : r ≡ reading_in (get_or entries i d).line.call) where
+module _ (skew earlier : ℕ) (entries : List LogEntry) (i : ℕ) (d : LogEntry) (low : i < length entries) (r : Reading) (is : r ≡ reading_in (get_or entries i d).line.call) where
   here : get_or entries i d ≡ get_or entries i (get_or entries i d)
   here = get_or_default entries i d (get_or entries i d) low
 
-  pub watch_next : (greatest next : Option Greatest) (late : Option Late) → IsWatched skew entries i greatest → late ≡ late_after skew greatest r i → is_some late ≡ false
-      → next ≡ greatest_after greatest r i → IsWatched skew entries (i + 1) next
+  pub watch_next : (greatest next : Greatest) (late : Option Late) → IsWatched skew earlier entries i greatest → late ≡ late_after skew greatest r i → is_some late ≡ false
+      → next ≡ greatest_after greatest r i → IsWatched skew earlier entries (i + 1) next
   watch_next greatest next late known e none is_next =
       let timely = ap (λ (q : Reading). late_after skew greatest q i) (sym is) ∙ sym e ∙ none_of late none in
-      rw (is_next, is) (watched_more skew entries i (get_or entries i d) low here greatest known timely)
+      rw (is_next, is) (watched_more skew earlier entries i (get_or entries i d) low here greatest known timely)
 
-  pub watch_ends : (greatest : Option Greatest) (late : Option Late) → IsWatched skew entries i greatest → late ≡ late_after skew greatest r i → is_some late ≡ true → AreWatched skew entries late
+  pub watch_ends : (greatest : Greatest) (late : Option Late) → IsWatched skew earlier entries i greatest → late ≡ late_after skew greatest r i → is_some late ≡ true
+      → AreWatched skew earlier entries late
   watch_ends greatest None known e some = absurd (cc)
-  watch_ends greatest (Some late) known e some = late_here skew entries i (get_or entries i d) low here greatest late known (ap (λ (q : Reading). late_after skew greatest q i) (sym is) ∙ sym e)
+  watch_ends greatest (Some late) known e some =
+      late_here skew earlier entries i (get_or entries i d) low here greatest late known (ap (λ (q : Reading). late_after skew greatest q i) (sym is) ∙ sym e)

@@ -1,10 +1,10 @@
 -- Whether the calls of a log are one run of a job's machines, and else where they are not.
 use Rattle.std.specs.Prelude.{◌≡◌, ℕ, ◌+◌, ◌<◌, Bool, true, false, List, [], ◌∷◌, length, reverse, take, Option, Some, None, slice_get}
 use Rattle.std.specs.List.{AllAdjacentBelow}
-use Rattle.cluster.specs.Jobs.{Job}
+use Rattle.cluster.specs.continued.Jobs.{Continued, job_in}
 use Rattle.cluster.specs.Pasts.{Past, readings}
-use Rattle.cluster.specs.Timing.{IsTimely}
-use Rattle.cluster.specs.Runs.{IsRun}
+use Rattle.cluster.specs.Timing.{IsTimely, greatest_reading}
+use Rattle.cluster.specs.continued.Runs.{IsRun}
 use Rattle.call_log.specs.declared.told.CallerReply.{CallerReply}
 use Rattle.audit.specs.OneRun.{Rises}
 use Rattle.call_log.specs.declared.cause.Cause.{Cause}
@@ -19,24 +19,25 @@ use Rattle.call_log.specs.Late.{IsLate}
 pub use Rattle.call_log.specs.Played.{IsCalled, StandsFor}
 use Rattle.call_log.specs.Told.{is_worded}
 
--- the calls of a past are those that these entries stand for, both newest first, and each caller was told so, in the words of its line
-abbrev pub IsPastOf : Job → List LogEntry → Past → Type 0
-IsPastOf job [] past = past ≡ []
+-- the calls of a past are those before, and then those that these entries stand for, both newest first, and each caller was told so, in the words
+-- of its line
+abbrev pub IsPastOf : Continued → List LogEntry → Past → Type 0
+IsPastOf job [] past = past ≡ job.earlier
 IsPastOf job (entry ∷ entries) past =
-    (before : Past) × (told : CallerReply) × StandsFor job before entry.line.call told past × (is_worded entry.line.reply told ≡ true)
+    (before : Past) × (told : CallerReply) × StandsFor (job_in job) before entry.line.call told past × (is_worded entry.line.reply told ≡ true)
     × IsPastOf job entries before
 
 -- the tickets of entries rise, so that none stands twice
 abbrev pub TicketsRise : List LogEntry → Type 0
 TicketsRise entries = Rises (λ e. e.line.ticket) entries
 
--- the clocks of a run of these entries were timely, or this reading is the first that is not
-abbrev pub Tells : Job → List LogEntry → Past → Option Late → Type 0
-Tells job entries past None = IsTimely job.policy.skew (readings past)
-Tells job entries past (Some late) = IsLate job.policy.skew entries late
+-- the clocks were timely in a run of these entries if they were in the calls before, or this reading is the first that is not
+abbrev pub Tells : Continued → List LogEntry → Past → Option Late → Type 0
+Tells job entries past None = IsTimely job.policy.skew (readings job.earlier) → IsTimely job.policy.skew (readings past)
+Tells job entries past (Some late) = IsLate job.policy.skew (greatest_reading (readings job.earlier)) entries late
 
 -- the entries are one run of the machines: there are replies with their words, one for each entry; so many, with timely clocks or not
-pub record IsOneRun (job : Job) (entries : List LogEntry) (steps : ℕ) (late : Option Late) : Type 0 where
+pub record IsOneRun (job : Continued) (entries : List LogEntry) (steps : ℕ) (late : Option Late) : Type 0 where
   pub past : Past
   pub told : IsPastOf job (reverse entries) past
   pub answered : IsRun job past
@@ -45,19 +46,19 @@ pub record IsOneRun (job : Job) (entries : List LogEntry) (steps : ℕ) (late : 
 
 -- the entries before this place are a run, the caller of its call should have been told this and was told something else, and these are
 -- the leases of the task that it asked for a key
-pub record IsBreak (job : Job) (entries : List LogEntry) (index : ℕ) (wanted : CallerReply) (held : Option HeldLeases) : Type 0 where
+pub record IsBreak (job : Continued) (entries : List LogEntry) (index : ℕ) (wanted : CallerReply) (held : Option HeldLeases) : Type 0 where
   pub entry : LogEntry
   pub here : slice_get entries index ≡ Some entry
   pub past : Past
   pub told : IsPastOf job (reverse (take index entries)) past
   pub after : Past
-  pub stands : StandsFor job past entry.line.call wanted after
+  pub stands : StandsFor (job_in job) past entry.line.call wanted after
   pub answered : IsRun job after
   pub other : is_worded entry.line.reply wanted ≡ false
-  pub leases : held ≡ held_by_asked job after entry.line.call
+  pub leases : held ≡ held_by_asked (job_in job) after entry.line.call
 
 -- the same, and why the caller should have been told this
-pub record IsCausedBreak (job : Job) (entries : List LogEntry) (index : ℕ) (wanted : CallerReply) (held : Option HeldLeases)
+pub record IsCausedBreak (job : Continued) (entries : List LogEntry) (index : ℕ) (wanted : CallerReply) (held : Option HeldLeases)
     (cause : Option Cause) : Type 0 where
   pub fault : IsBreak job entries index wanted held
   pub because : IsCauseOf job fault.after entries index fault.entry.line.call wanted cause
@@ -73,13 +74,13 @@ pub record IsDouble (entries : List LogEntry) (first second : ℕ) : Type 0 wher
   pub earliest : AllAdjacentBelow (λ x y. x.line.ticket < y.line.ticket) entries second
 
 -- what is found of entries in the order of their tickets
-abbrev pub IsReplayed : Job → List LogEntry → Finding → Type 0
+abbrev pub IsReplayed : Continued → List LogEntry → Finding → Type 0
 IsReplayed job entries (One steps late) = IsOneRun job entries steps late
 IsReplayed job entries (Double first second) = IsDouble entries first second
 IsReplayed job entries (Other index wanted held cause) = IsCausedBreak job entries index wanted held cause
 
 -- the tickets rise where no two are the same
-abbrev pub IsFound : Job → List LogEntry → Finding → Type 0
+abbrev pub IsFound : Continued → List LogEntry → Finding → Type 0
 IsFound job entries (One steps late) = TicketsRise entries × IsOneRun job entries steps late
 IsFound job entries (Double first second) = IsDouble entries first second
 IsFound job entries (Other index wanted held cause) = TicketsRise entries × IsCausedBreak job entries index wanted held cause

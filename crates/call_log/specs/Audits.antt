@@ -1,7 +1,9 @@
 -- What an audit says of the files of a log.
-use Rattle.std.specs.Prelude.{◌≡◌, ℕ, List, ◌++◌, Option, string_bytes}
+use Rattle.std.specs.Prelude.{◌≡◌, ◌&&◌, ℕ, true, List, ◌++◌, Option, is_some, string_bytes}
 use Rattle.std.specs.Ordering.{nat_cmp}
 use Rattle.std.specs.List.Sorted.{IsPermutation, IsStableByKey}
+use Rattle.cluster.specs.continued.Jobs.{Continued}
+use Rattle.cluster.specs.declared.snapshot.ClusterSnapshot.{ClusterSnapshot}
 use Rattle.call_log.specs.declared.entry.LogEntry.{LogEntry}
 use Rattle.call_log.specs.declared.auditing.AuditOptions.{AuditOptions}
 use Rattle.call_log.specs.declared.auditing.LogReport.{LogReport}
@@ -11,31 +13,39 @@ use Rattle.call_log.specs.declared.hint.Hint.{Hint}
 use Rattle.call_log.specs.declared.log.Log.{Log}
 use Rattle.call_log.specs.Audited.{IsFound, is_one, is_timely}
 use Rattle.call_log.specs.WrongReplies.{AreLater}
+use Rattle.call_log.specs.Days.{GoOn}
 use Rattle.call_log.specs.DriftReports.{IsDriftTold}
 use Rattle.call_log.specs.Files.{IsLog, lines_from}
 use Rattle.call_log.specs.Hints.{IsHinted}
-use Rattle.call_log.specs.Reports.{IsWholeReport}
+use Rattle.call_log.specs.Reports.{IsWholeReport, unsent_text}
+use Rattle.call_log.specs.Starts.{BeginsAt}
+use Rattle.call_log.specs.States.{IsStateOf}
 
--- the files say a log, but for the last lines at the places that the report has; this is found of its calls in the order of their tickets, where
--- equal tickets stay in the order of their lines, and the text reports it, with a hint if there is one, with the later wrong replies if all are wanted,
--- and with what the samples say of a drift
-pub record IsAudited (names files : List (List ℕ)) (options : AuditOptions) (report : LogReport) : Type 0 where
+-- the files say a log, but for the last lines at the places that the report has, which begins with its job, or goes on from a snapshot; this is found of
+-- its calls in the order of their tickets, where equal tickets stay in the order of their lines, and the text reports it, with a hint if there is one,
+-- with the later wrong replies if all are wanted, with what the samples say of a drift, and with refusals that are not judged if it goes on from a
+-- snapshot; the report has the state after the calls if that is wanted and they are one run
+pub record IsAudited (job : Continued) (earlier : Option ClusterSnapshot) (names files : List (List ℕ)) (options : AuditOptions) (report : LogReport) : Type 0 where
   pub log : Log
+  pub begins : BeginsAt job log.job earlier
   pub left_out : report.torn.items ≡ log.torn.items
   pub reads : IsLog (lines_from 0 files) log
   pub ordered : List LogEntry
   pub same : IsPermutation log.entries.items ordered
   pub stable : IsStableByKey (λ e. e.line.ticket) nat_cmp log.entries.items ordered
   pub finding : Finding
-  pub found : IsFound log.job ordered finding
+  pub found : IsFound job ordered finding
   pub one : report.is_one ≡ is_one finding
   pub timely : report.is_timely ≡ is_timely finding
   pub hint : Option Hint
-  pub hinted : IsHinted log.job ordered finding hint
+  pub hinted : IsHinted job ordered finding hint
   pub later : List WrongReply
-  pub more : AreLater log.job ordered options.all finding later
+  pub more : AreLater job ordered options.all finding later
   pub lines : List ℕ
   pub told : IsWholeReport log.job names ordered finding hint later lines
   pub drift : List ℕ
   pub samples : IsDriftTold options.drift names ordered finding report.keeps_drift drift
-  pub text : string_bytes report.text ≡ lines ++ drift
+  pub text : string_bytes report.text ≡ lines ++ (drift ++ unsent_text (is_some earlier) (is_one finding) report.all_sent)
+  pub kept : is_some report.state ≡ (options.keeps && is_one finding)
+  pub state : IsStateOf job ordered report.state
+  pub sent : report.all_sent ≡ true → GoOn job ordered

@@ -13,8 +13,9 @@ use Rattle.slicelet.specs.declared.call.SliceletCall.TheVariants.{Hear}
 use Rattle.slicelet.specs.declared.handle.KeyHandle.{KeyHandle}
 use Rattle.clerk.specs.declared.call.ClerkCall.TheVariants.{Learn}
 use Rattle.cluster.specs.declared.call.ClusterCall.TheVariants as call
-use Rattle.cluster.specs.Numbers.{with_number}
-use Rattle.cluster.specs.Pasts.{Past, grants}
+use Rattle.cluster.specs.Pasts.{Past}
+use Rattle.cluster.specs.continued.Deliveries.{known_grant}
+use Rattle.cluster.specs.continued.Jobs.{Continued}
 use Rattle.call_log.specs.declared.cause.Cause.{Cause}
 use Rattle.call_log.specs.declared.cause.Cause.TheVariants.{Later, Other, Nothing}
 use Rattle.call_log.specs.declared.cause.Change.{Change}
@@ -55,27 +56,27 @@ abbrev pub has_other_ranges : LoggedCall → List ℕ → Bool
 has_other_ranges (Whole (call.Task task (Hear grant at))) ranges = not (pointwise nat_eq grant.lease.ranges ranges)
 has_other_ranges _ ranges = false
 
--- the table sent another grant with this number, in the entry at this place, and the first member that differs is this
-pub record IsGrantChanged (past : Past) (before : List LogEntry) (c : LoggedCall) (g : BareGrant) (changed : Changed) : Type 0 where
+-- the table sent another grant with this number, which is not forgotten, in the entry at this place, and the first member that differs is this
+pub record IsGrantChanged (job : Continued) (past : Past) (before : List LogEntry) (c : LoggedCall) (g : BareGrant) (changed : Changed) : Type 0 where
   pub granted : Grant
-  pub made : with_number g.number (grants past) ≡ Some granted
+  pub made : known_grant job.forgotten past g.number ≡ Some granted
   pub line : IsFirst (sends_grant (bare granted)) before 0 changed.place
   pub differs : first_of (grant_changes g (bare granted) (has_other_ranges c granted.lease.ranges)) ≡ Some changed.change
 
-abbrev pub IsGrantChangedOr : Past → List LogEntry → LoggedCall → BareGrant → Option Changed → Type 0
-IsGrantChangedOr past before c g (Some changed) = IsGrantChanged past before c g changed
-IsGrantChangedOr past before c g None = (changed : Changed) → IsGrantChanged past before c g changed → ⊥
+abbrev pub IsGrantChangedOr : Continued → Past → List LogEntry → LoggedCall → BareGrant → Option Changed → Type 0
+IsGrantChangedOr job past before c g (Some changed) = IsGrantChanged job past before c g changed
+IsGrantChangedOr job past before c g None = (changed : Changed) → IsGrantChanged job past before c g changed → ⊥
 
 -- why the table did not send a grant before the entry at this place: a later one is the first that does; or none does, and another grant
 -- with its number was sent before; or there is none either
 abbrev pub NoLaterGrant : List LogEntry → ℕ → BareGrant → Type 0
 NoLaterGrant entries index g = NonePasses (sends_grant g) entries (index + 1) (length entries)
 
-abbrev pub IsGrantCause : Past → List LogEntry → ℕ → LoggedCall → BareGrant → Cause → Type 0
-IsGrantCause past entries index c g (Later place) = IsFirst (sends_grant g) entries (index + 1) place
-IsGrantCause past entries index c g (Other changed) = NoLaterGrant entries index g × IsGrantChangedOr past (take index entries) c g (Some changed)
-IsGrantCause past entries index c g Nothing = NoLaterGrant entries index g × IsGrantChangedOr past (take index entries) c g None
-IsGrantCause past entries index c g _ = ⊥
+abbrev pub IsGrantCause : Continued → Past → List LogEntry → ℕ → LoggedCall → BareGrant → Cause → Type 0
+IsGrantCause job past entries index c g (Later place) = IsFirst (sends_grant g) entries (index + 1) place
+IsGrantCause job past entries index c g (Other changed) = NoLaterGrant entries index g × IsGrantChangedOr job past (take index entries) c g (Some changed)
+IsGrantCause job past entries index c g Nothing = NoLaterGrant entries index g × IsGrantChangedOr job past (take index entries) c g None
+IsGrantCause job past entries index c g _ = ⊥
 
 -- the first commit of an assignment's generation that comes after this place and after an accepted proposal of it
 pub record IsCommitted (entries : List LogEntry) (index : ℕ) (a : Slicing) (place : ℕ) : Type 0 where
@@ -165,11 +166,11 @@ IsLearnCause entries index (LearnBare clerk generation) cause = MatchOption caus
 IsLearnCause entries index _ cause = cause ≡ None
 
 -- why nothing sent before what the call of the entry at this place delivers
-abbrev pub IsCauseBy : Past → List LogEntry → ℕ → LoggedCall → Option BareGrant → Option ReleaseNote → Option KeyHandle → Option Cause → Type 0
-IsCauseBy past entries index c (Some g) n h cause = MatchOption cause ⊥ (IsGrantCause past entries index c g)
-IsCauseBy past entries index c None (Some n) h cause = MatchOption cause ⊥ (IsNoteCause entries index n)
-IsCauseBy past entries index c None None (Some h) cause = IsHandleCause entries index h cause
-IsCauseBy past entries index c None None None cause = IsLearnCause entries index c cause
+abbrev pub IsCauseBy : Continued → Past → List LogEntry → ℕ → LoggedCall → Option BareGrant → Option ReleaseNote → Option KeyHandle → Option Cause → Type 0
+IsCauseBy job past entries index c (Some g) n h cause = MatchOption cause ⊥ (IsGrantCause job past entries index c g)
+IsCauseBy job past entries index c None (Some n) h cause = MatchOption cause ⊥ (IsNoteCause entries index n)
+IsCauseBy job past entries index c None None (Some h) cause = IsHandleCause entries index h cause
+IsCauseBy job past entries index c None None None cause = IsLearnCause entries index c cause
 
-abbrev pub IsCauseFor : Past → List LogEntry → ℕ → LoggedCall → Option Cause → Type 0
-IsCauseFor past entries index c cause = IsCauseBy past entries index c (grant_delivered c) (note_delivered c) (handle_delivered c) cause
+abbrev pub IsCauseFor : Continued → Past → List LogEntry → ℕ → LoggedCall → Option Cause → Type 0
+IsCauseFor job past entries index c cause = IsCauseBy job past entries index c (grant_delivered c) (note_delivered c) (handle_delivered c) cause

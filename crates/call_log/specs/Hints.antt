@@ -4,10 +4,10 @@ use Rattle.std.specs.Prelude.{Option, Some, None, option_and_then, slice_get, if
 use Rattle.std.specs.List.{starts_with}
 use Rattle.lease_table.specs.declared.call.TableCall.TheVariants as table_call
 use Rattle.slicelet.specs.declared.call.SliceletCall.TheVariants as task_call
-use Rattle.cluster.specs.Jobs.{Job}
+use Rattle.cluster.specs.continued.Jobs.{Continued}
 use Rattle.cluster.specs.declared.call.ClusterCall.TheVariants as call
 use Rattle.cluster.specs.Pasts.{Past}
-use Rattle.cluster.specs.Runs.{IsRun}
+use Rattle.cluster.specs.continued.Runs.{IsRun}
 use Rattle.call_log.specs.declared.entry.LogEntry.{LogEntry}
 use Rattle.call_log.specs.declared.finding.Finding.{Finding}
 use Rattle.call_log.specs.declared.finding.Finding.TheVariants.{One, Double, Other}
@@ -80,37 +80,37 @@ abbrev pub mended : ℕ → ℕ → List LogEntry → List LogEntry
 mended task index entries = with_open index (open_entry task (greatest_life task (take index entries))) entries
 
 -- entries are a run, or one of them is the first whose caller should have been told something else
-pub record AreRun (job : Job) (entries : List LogEntry) : Type 0 where
+pub record AreRun (job : Continued) (entries : List LogEntry) : Type 0 where
   pub past : Past
   pub told : IsPastOf job (reverse entries) past
   pub answered : IsRun job past
 
-abbrev pub HaveBreak : Job → List LogEntry → Type 0
+abbrev pub HaveBreak : Continued → List LogEntry → Type 0
 HaveBreak job entries = (index : ℕ) × (wanted : CallerReply) × (held : Option HeldLeases) × IsBreak job entries index wanted held
 
-abbrev pub IsJudgedSo : Job → List LogEntry → Bool → Type 0
+abbrev pub IsJudgedSo : Continued → List LogEntry → Bool → Type 0
 IsJudgedSo job entries true = AreRun job entries
 IsJudgedSo job entries false = HaveBreak job entries
 
 -- a line before this place is hinted at if entries are a run with it
-abbrev pub IsTried : Job → List LogEntry → ℕ → ℕ → Option Hint → Type 0
+abbrev pub IsTried : Continued → List LogEntry → ℕ → ℕ → Option Hint → Type 0
 IsTried job entries task index None = HaveBreak job (mended task index entries)
 IsTried job entries task index (Some hint) =
     (hint ≡ record { index = index; task = task; life = greatest_life task (take index entries) }) × AreRun job (mended task index entries)
 
 -- a line before the last start of the task, or else before this place
-abbrev pub IsHintOf : Job → List LogEntry → ℕ → Option ℕ → ℕ → Option Hint → Type 0
+abbrev pub IsHintOf : Continued → List LogEntry → ℕ → Option ℕ → ℕ → Option Hint → Type 0
 IsHintOf job entries task None index hint = IsTried job entries task index hint
 IsHintOf job entries task (Some start) index hint =
     ((there : Hint) × (hint ≡ Some there) × IsTried job entries task start (Some there))
     ⊎ (IsTried job entries task start None × IsTried job entries task index hint)
 
-abbrev pub IsHintFor : Job → List LogEntry → ℕ → Option ℕ → Option Hint → Type 0
+abbrev pub IsHintFor : Continued → List LogEntry → ℕ → Option ℕ → Option Hint → Type 0
 IsHintFor job entries index None hint = hint ≡ None
 IsHintFor job entries index (Some task) hint = IsHintOf job entries task (last_start task entries) index hint
 
 -- the hint for what was found: where a caller was told something else in a call of a task, it is for the entries up to that call
-abbrev pub IsHinted : Job → List LogEntry → Finding → Option Hint → Type 0
+abbrev pub IsHinted : Continued → List LogEntry → Finding → Option Hint → Type 0
 IsHinted job entries (Other index wanted held cause) hint =
     IsHintFor job (take (index + 1) entries) index (option_and_then (λ (e : LogEntry). task_of e.line.call) (slice_get entries index)) hint
 IsHinted job entries (One steps late) hint = hint ≡ None

@@ -15,11 +15,13 @@ pub mod Played
 pub mod Late
 pub mod Drifts
 pub mod Sent
+pub mod Starts
 pub mod Broken
 pub mod Causes
 pub mod Refusals
 pub mod Questions
 pub mod Audited
+pub mod States
 pub mod Days
 pub mod Readers
 pub mod WrongReplies

@@ -1,6 +1,7 @@
 -- The calls that the lines of a log stand for.
 use Rattle.std.specs.Prelude.{◌≡◌, List, [], ◌∷◌}
 use Rattle.cluster.specs.Jobs.{Job}
+use Rattle.cluster.specs.continued.Jobs.{Continued, job_in}
 use Rattle.cluster.specs.declared.reply.ClusterReply.{ClusterReply}
 use Rattle.cluster.specs.Pasts.{event, Past}
 use Rattle.call_log.specs.declared.told.CallerReply.{CallerReply}
@@ -27,8 +28,8 @@ StandsFor job before (LearnBare clerk generation) told after = IsCalled before (
 StandsFor job before (Restore numbers) told after = IsRestored job before numbers told after
 StandsFor job before (Sample taken) told after = IsSampled job before taken told after
 
--- the calls of a past are those that these entries stand for, both newest first, whatever their callers were told
-abbrev pub AreCallsOf : Job → List LogEntry → Past → Type 0
-AreCallsOf job [] past = past ≡ []
+-- the calls of a past are those before, and then those that these entries stand for, both newest first, whatever their callers were told
+abbrev pub AreCallsOf : Continued → List LogEntry → Past → Type 0
+AreCallsOf job [] past = past ≡ job.earlier
 AreCallsOf job (entry ∷ entries) past =
-    (before : Past) × (told : CallerReply) × StandsFor job before entry.line.call told past × AreCallsOf job entries before
+    (before : Past) × (told : CallerReply) × StandsFor (job_in job) before entry.line.call told past × AreCallsOf job entries before

@@ -6,7 +6,7 @@ use Rattle.lease_rule.specs.declared.answer.Ground.TheVariants as denial
 use Rattle.lease_rule.specs.declared.answer.Verdict.TheVariants.{Deny}
 use Rattle.slicelet.specs.declared.error.SliceletError.{SliceletError}
 use Rattle.slicelet.specs.declared.error.SliceletError.TheVariants as task_error
-use Rattle.cluster.specs.Jobs.{Job}
+use Rattle.cluster.specs.continued.Jobs.{Continued, job_in}
 use Rattle.cluster.specs.Pasts.{Past, standing}
 use Rattle.world.specs.declared.reply.Reply.TheVariants as reply
 use Rattle.world.specs.declared.reply.Refusal.TheVariants.{NotSent, Table, Slicelet}
@@ -49,17 +49,17 @@ question_of (Scripted (reply.Refused (Slicelet error))) = question_of_task error
 question_of _ = question.Nothing
 
 -- why the caller of the entry at this place should have been told what this is asked of, by the calls of the machines up to that one
-abbrev pub IsAnswerTo : Question → Job → Past → List LogEntry → ℕ → LoggedCall → Option Cause → Type 0
-IsAnswerTo question.Unsent job past entries index c cause = IsCauseFor past entries index c cause
+abbrev pub IsAnswerTo : Question → Continued → Past → List LogEntry → ℕ → LoggedCall → Option Cause → Type 0
+IsAnswerTo question.Unsent job past entries index c cause = IsCauseFor job past entries index c cause
 IsAnswerTo question.Broken job past entries index c cause = IsBreakCause job (take index entries) c cause
 IsAnswerTo question.Term job past entries index c cause = cause ≡ holder_cause (term_in c) (standing job.policy past).term
 IsAnswerTo question.Early job past entries index c cause = cause ≡ Some (ReadAt (ticks_in c))
 IsAnswerTo question.Row job past entries index c cause = cause ≡ row_cause (standing job.policy past) (ticks_in c)
 IsAnswerTo question.TableBack job past entries index c cause = cause ≡ Some (ReadAfter (ticks_in c) (standing job.policy past).last)
-IsAnswerTo question.TaskBack job past entries index c cause = cause ≡ task_back_cause job past c
+IsAnswerTo question.TaskBack job past entries index c cause = cause ≡ task_back_cause (job_in job) past c
 IsAnswerTo question.Late job past entries index c cause = cause ≡ late_cause c
-IsAnswerTo question.Life job past entries index c cause = cause ≡ life_cause job past c
+IsAnswerTo question.Life job past entries index c cause = cause ≡ life_cause (job_in job) past c
 IsAnswerTo question.Nothing job past entries index c cause = cause ≡ None
 
-abbrev pub IsCauseOf : Job → Past → List LogEntry → ℕ → LoggedCall → CallerReply → Option Cause → Type 0
+abbrev pub IsCauseOf : Continued → Past → List LogEntry → ℕ → LoggedCall → CallerReply → Option Cause → Type 0
 IsCauseOf job past entries index c wanted cause = IsAnswerTo (question_of wanted) job past entries index c cause

@@ -1,7 +1,6 @@
 -- What a reader of a log holds of the lines that it has read.
-use Rattle.std.specs.Prelude.{◌≡◌, ℕ, ◌==◌, ⊤, Bool, true, false, List, [], ◌∷◌, ◌++◌, map, length, Option, Some, None, is_some}
-use Rattle.std.specs.Global.{Vec}
-use Rattle.std.specs.List.{AllByRecursion, flat_map}
+use Rattle.std.specs.Prelude.{◌≡◌, ℕ, ◌==◌, Bool, true, false, List, [], ◌∷◌, ◌++◌, map, length, Option, Some, None}
+use Rattle.std.specs.List.{AllByRecursion}
 use Rattle.call_log.specs.declared.call_lines.BadLine.{BadLine}
 use Rattle.call_log.specs.declared.call_lines.CallLines.{CallLines}
 use Rattle.call_log.specs.declared.entry.LinePosition.{LinePosition}
@@ -11,7 +10,6 @@ use Rattle.call_log.specs.declared.lines.LineBytes.{LineBytes}
 use Rattle.call_log.specs.declared.log_reader.LogReader.{LogReader}
 use Rattle.call_log.specs.declared.log_reader.ReadLog.{ReadLog}
 use Rattle.call_log.specs.declared.log_reader.TakenLines.{TakenLines}
-use Rattle.call_log.specs.Days.{AreLasting, IsStateOf, ended}
 use Rattle.call_log.specs.Files.{PlacedLine, AreParted, AreSaid, AreShort, HasLongLine, IsBadLine, IsLog, counted, lines_from, lines_in, numbered}
 
 -- the line of a slice of bytes, and one that is kept
@@ -42,14 +40,9 @@ pub record AreJobLines (lines others : List PlacedLine) (taken : JobLines) : Typ
   pub before : taken.before ≡ file_after None lines
   pub parted : AreParted None lines (map kept taken.jobs.items) others
 
--- the text of the lines that last, where it is wanted
-abbrev pub IsLastingText : List PlacedLine → Option (Vec ℕ) → Type 0
-IsLastingText lines None = ⊤
-IsLastingText lines (Some text) = (those : List PlacedLine) × AreLasting lines those × (text.items ≡ flat_map ended those)
-
 -- what lines say: calls, or a first one no call
 abbrev pub AreCallsUpTo : List PlacedLine → CallLines → Option BadLine → Type 0
-AreCallsUpTo lines taken None = AreSaid lines taken.entries.items taken.torn.items × IsLastingText lines taken.lasting
+AreCallsUpTo lines taken None = AreSaid lines taken.entries.items taken.torn.items
 AreCallsUpTo lines taken (Some bad) = IsBadLine lines bad.place bad.why
 
 abbrev pub AreCallLines : List PlacedLine → CallLines → Type 0
@@ -72,7 +65,7 @@ AreTaken lines taken = AreTakenUpTo lines taken taken.long
 
 -- some files were read, and these bytes of the next one, of which the last are of a line that has not ended; whatever comes next, the lines of
 -- the files are those that were taken, and those of these last bytes with what comes next
-pub record IsReading (keeps : Bool) (files : List (List ℕ)) (bytes : List ℕ) (reader : LogReader) : Type 0 where
+pub record IsReading (files : List (List ℕ)) (bytes : List ℕ) (reader : LogReader) : Type 0 where
   pub count : reader.file ≡ length files
   pub ended : List ℕ
   pub parts : bytes ≡ ended ++ reader.part.items
@@ -80,14 +73,16 @@ pub record IsReading (keeps : Bool) (files : List (List ℕ)) (bytes : List ℕ)
   pub lines : List PlacedLine
   pub taken : AreTaken lines reader.taken
   pub ahead : (next : List ℕ) → lines_from 0 (files ++ (bytes ++ next) ∷ []) ≡ lines ++ numbered reader.file reader.number (lines_in (reader.part.items ++ next))
-  pub keeps_state : is_some reader.taken.calls.lasting ≡ keeps
 
-abbrev pub IsStateOr : List PlacedLine → Option (Vec ℕ) → Type 0
-IsStateOr lines None = ⊤
-IsStateOr lines (Some text) = IsStateOf lines text.items
+-- the bytes of the first of some lines, none if there is none
+abbrev pub first_bytes : List PlacedLine → List ℕ
+first_bytes [] = []
+first_bytes (line ∷ lines) = line.bytes
 
--- lines are this log, which leaves this state, if it is wanted
-pub record IsReadLog (keeps : Bool) (lines : List PlacedLine) (read : ReadLog) : Type 0 where
+-- lines are this log, and this is its first job line
+pub record IsReadLog (lines : List PlacedLine) (read : ReadLog) : Type 0 where
   pub log : IsLog lines read.log
-  pub state : IsStateOr lines read.state
-  pub keeps_state : is_some read.state ≡ keeps
+  pub jobs : List PlacedLine
+  pub others : List PlacedLine
+  pub parted : AreParted None (counted lines) jobs others
+  pub job_line : read.job_line.items ≡ first_bytes jobs

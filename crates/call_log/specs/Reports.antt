@@ -1,5 +1,5 @@
 -- What is written of a log.
-use Rattle.std.specs.Prelude.{◌≡◌, ℕ, ◌-◌, ◌==◌, ◌||◌, nat_lt, is_some, List, [], ◌++◌, codes, decimal, length, Option, Some, None, slice_get, if◌then◌else◌}
+use Rattle.std.specs.Prelude.{◌≡◌, ℕ, ◌-◌, ◌==◌, ◌&&◌, ◌||◌, not, nat_lt, is_some, Bool, List, [], ◌++◌, codes, decimal, length, Option, Some, None, slice_get, if◌then◌else◌}
 use Rattle.std.specs.List.{flat_map}
 use Rattle.diagnosis.specs.Quoted.{escaped}
 use Rattle.slicelet.specs.declared.heard.HeldLease.{HeldLease}
@@ -50,13 +50,17 @@ abbrev pub ticket_of : Option LogEntry → ℕ
 ticket_of (Some entry) = entry.line.ticket
 ticket_of None = 0
 
+-- where the table read its clock before, and how much
+abbrev pub table_read_text : List (List ℕ) → List LogEntry → Option ℕ → ℕ → List ℕ
+table_read_text names entries (Some index) at = standing_at names entries index ++ (codes " read " ++ (decimal at ++ codes " before it"))
+table_read_text names entries None at = codes "the table read " ++ (decimal at ++ codes " in earlier logs")
+
 -- whether the clocks were timely, and else the two readings
 abbrev pub clocks_text : ℕ → List (List ℕ) → List LogEntry → Option Late → List ℕ
 clocks_text skew names entries None = codes "timely yes\n"
 clocks_text skew names entries (Some late) =
     codes "timely no: " ++ (standing_at names entries late.index ++ (codes " read " ++ (decimal late.at ++ (codes ", "
-    ++ (standing_at names entries late.table_index ++ (codes " read " ++ (decimal late.table_at
-    ++ (codes " before it, skew " ++ (decimal skew ++ codes "\n")))))))))
+    ++ (table_read_text names entries late.table_index late.table_at ++ (codes ", skew " ++ (decimal skew ++ codes "\n")))))))
 
 -- a lease that has ended at a reading
 abbrev pub ended_words : List ℕ → HeldLease → List ℕ
@@ -198,6 +202,11 @@ abbrev pub IsReport : Job → List (List ℕ) → List LogEntry → Finding → 
 IsReport job names entries (One steps late) text = text ≡ one_text job names entries steps late
 IsReport job names entries (Double first second) text = text ≡ double_text names entries first second
 IsReport job names entries (Other index wanted held cause) text = IsOtherOf names entries index wanted held cause (slice_get entries index) text
+
+-- calls are one run from a snapshot, and one of them was refused as not sent
+abbrev pub unsent_text : Bool → Bool → Bool → List ℕ
+unsent_text from_snapshot one all_sent = if from_snapshot && (one && not all_sent)
+    then codes "not-sent: what earlier logs sent may be forgotten, so only an audit of all logs judges these refusals\n" else []
 
 -- these lines, hints if there are any, and the later wrong replies if there are any
 abbrev pub IsWholeReport : Job → List (List ℕ) → List LogEntry → Finding → Option Hint → List WrongReply → List ℕ → Type 0

@@ -1,8 +1,8 @@
 -- The calls of a log whose callers got a wrong reply, where the machines make all of its calls.
 use Rattle.std.specs.Prelude.{◌≡◌, ◌⊎◌, ℕ, Bool, true, false, List, [], ◌∷◌, length, reverse, take, drop}
-use Rattle.cluster.specs.Jobs.{Job}
+use Rattle.cluster.specs.continued.Jobs.{Continued, job_in}
 use Rattle.cluster.specs.Pasts.{Past}
-use Rattle.cluster.specs.Runs.{IsRun}
+use Rattle.cluster.specs.continued.Runs.{IsRun}
 use Rattle.call_log.specs.declared.entry.LogEntry.{LogEntry}
 use Rattle.call_log.specs.declared.comparing.WrongReply.{WrongReply}
 use Rattle.call_log.specs.declared.comparing.TheConstants.{MOST_WRONG_REPLIES}
@@ -16,24 +16,24 @@ use Rattle.call_log.specs.Told.{is_worded}
 
 -- the caller of an entry's call should have been told this and was told something else; these are the leases of the task that it asked, and
 -- this is why
-pub record IsWrongReply (job : Job) (entries : List LogEntry) (entry : LogEntry) (told : CallerReply) (after : Past) (wrong : WrongReply) : Type 0 where
+pub record IsWrongReply (job : Continued) (entries : List LogEntry) (entry : LogEntry) (told : CallerReply) (after : Past) (wrong : WrongReply) : Type 0 where
   pub wanted : wrong.wanted ≡ told
   pub other : is_worded entry.line.reply told ≡ false
-  pub leases : wrong.held ≡ held_by_asked job after entry.line.call
+  pub leases : wrong.held ≡ held_by_asked (job_in job) after entry.line.call
   pub because : IsCauseOf job after entries wrong.index entry.line.call told wrong.cause
 
 -- the calls of a past are those that the last of these entries stand for, and these are the wrong replies to them, each with the place of its
 -- entry; all are newest first
-abbrev pub AreWrongReplies : Job → List LogEntry → List LogEntry → Past → List WrongReply → Type 0
-AreWrongReplies job entries [] past replies = (past ≡ []) × (replies ≡ [])
+abbrev pub AreWrongReplies : Continued → List LogEntry → List LogEntry → Past → List WrongReply → Type 0
+AreWrongReplies job entries [] past replies = (past ≡ job.earlier) × (replies ≡ [])
 AreWrongReplies job entries (entry ∷ earlier) past replies =
-    (before : Past) × (told : CallerReply) × StandsFor job before entry.line.call told past
+    (before : Past) × (told : CallerReply) × StandsFor (job_in job) before entry.line.call told past
     × (((is_worded entry.line.reply told ≡ true) × AreWrongReplies job entries earlier before replies)
     ⊎ ((wrong : WrongReply) × (others : List WrongReply) × (replies ≡ wrong ∷ others) × (wrong.index ≡ length earlier)
     × IsWrongReply job entries entry told past wrong × AreWrongReplies job entries earlier before others))
 
 -- the wrong replies to entries, or the first of them: as many as are told at most
-pub record AreFirstWrongReplies (job : Job) (entries : List LogEntry) (replies : List WrongReply) : Type 0 where
+pub record AreFirstWrongReplies (job : Continued) (entries : List LogEntry) (replies : List WrongReply) : Type 0 where
   pub judged : ℕ
   pub past : Past
   pub are : AreWrongReplies job entries (reverse (take judged entries)) past (reverse replies)
@@ -41,7 +41,7 @@ pub record AreFirstWrongReplies (job : Job) (entries : List LogEntry) (replies :
   pub enough : (judged ≡ length entries) ⊎ (length replies ≡ MOST_WRONG_REPLIES)
 
 -- the wrong replies that are told after the first one, if all are wanted
-abbrev pub AreLater : Job → List LogEntry → Bool → Finding → List WrongReply → Type 0
+abbrev pub AreLater : Continued → List LogEntry → Bool → Finding → List WrongReply → Type 0
 AreLater job entries true (Other index wanted held cause) later =
     (replies : List WrongReply) × AreFirstWrongReplies job entries replies × (later ≡ drop 1 replies)
 AreLater job entries all finding later = later ≡ []

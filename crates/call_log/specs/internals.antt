@@ -1,4 +1,4 @@
-pub mod Alike
+pub mod Machines
 pub mod Answers
 pub mod Parts
 pub mod Reading

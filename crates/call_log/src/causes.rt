@@ -2,9 +2,9 @@
 
 ghost use Rattle.std.specs.Prelude.{◌≡◌, ◌<◌, IfOk, length, slice_get};
 ghost use Rattle.machines.specs.Refusals.{first_of};
-ghost use Rattle.cluster.specs.Jobs.{Job};
+ghost use Rattle.cluster.specs.continued.Jobs.{Continued};
 ghost use Rattle.cluster.specs.Pasts.{Past};
-ghost use Rattle.cluster.specs.Clusters.{LeadsTo};
+ghost use Rattle.cluster.specs.continued.Clusters.{LeadsTo};
 ghost use Rattle.call_log.specs.Causes.{IsAssignmentCause, IsCauseFor, IsCommittedOr, IsGenerationCause, IsGrantCause};
 ghost use Rattle.call_log.specs.Causes.{IsGrantChangedOr, IsHandleCause, IsLearnCause, IsNoteCause, grant_changes, grant_delivered, handle_delivered};
 ghost use Rattle.call_log.specs.Causes.{has_other_ranges, key_in, key_taken, kind_change, note_delivered, number_change};
@@ -109,8 +109,8 @@ fn grant_changed(
     call: &LoggedCall,
     grant: &BareGrant,
 ) -> Result<Option<Changed>, AllocError>
-    ensures { (job : Job) (past : Past) → LeadsTo job past cluster.now
-        → IfOk result (IsGrantChangedOr past before.now call.now grant.now) }
+    ensures { (job : Continued) (past : Past) → LeadsTo job past cluster.now
+        → IfOk result (IsGrantChangedOr job past before.now call.now grant.now) }
 {
     let Some(sent) = cluster.grant(grant.number) else {
         return Ok(None);
@@ -136,8 +136,8 @@ fn grant_cause(
     grant: &BareGrant,
 ) -> Result<Cause, AllocError>
     requires { index < length entries.now }
-    ensures { (job : Job) (past : Past) → LeadsTo job past cluster.now
-        → IfOk result (IsGrantCause past entries.now index call.now grant.now) }
+    ensures { (job : Continued) (past : Past) → LeadsTo job past cluster.now
+        → IfOk result (IsGrantCause job past entries.now index call.now grant.now) }
 {
     if let Some(place) = first_sender(alloc, entries, index + 1, &Sent::Grant(*grant))? {
         return Ok(Cause::Later(place));
@@ -358,8 +358,8 @@ pub fn cause_for(
     call: &LoggedCall,
 ) -> Result<Option<Cause>, AllocError>
     requires { index < length entries.now }
-    ensures { (job : Job) (past : Past) → LeadsTo job past cluster.now
-        → IfOk result (IsCauseFor past entries.now index call.now) }
+    ensures { (job : Continued) (past : Past) → LeadsTo job past cluster.now
+        → IfOk result (IsCauseFor job past entries.now index call.now) }
 {
     if let Some(grant) = grant_delivered(call) {
         let cause = grant_cause(alloc, cluster, entries, index, call, &grant)?;

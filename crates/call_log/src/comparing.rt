@@ -1,18 +1,21 @@
 //! The calls of a log whose callers got a wrong reply.
 
 ghost use Rattle.std.specs.Prelude.{◌≡◌, ◌<◌, IfOk, drop, length};
+ghost use Rattle.cluster.specs.continued.Jobs.{Continued};
 ghost use Rattle.cluster.specs.Pasts.{Past};
-ghost use Rattle.cluster.specs.Clusters.{LeadsTo};
 ghost use Rattle.call_log.specs.WrongReplies.{AreFirstWrongReplies, AreLater};
+ghost use Rattle.call_log.specs.Starts.{Begins};
 ghost use Rattle.call_log.specs.internals.Answers.{FindsWrongReply};
+ghost use Rattle.call_log.specs.internals.Machines.{HavePlayed};
 
 use crate::cause::Cause;
 use crate::entry::LogEntry;
 use crate::finding::{Finding, HeldLeases};
+use crate::log_machines::LogMachines;
 use crate::playing::{answer, held_by_asked};
 use crate::questions::{WrongCall, cause_of};
+use crate::start::Start;
 use crate::told::CallerReply;
-use cluster::{Cluster, Job};
 use std::alloc::{AllocError, Global};
 
 /// How many wrong replies of a log are told at most.
@@ -35,27 +38,27 @@ pub struct WrongReply {
 // Plays the entry at this index, and returns what its caller got wrong, if it did.
 fn wrong_reply_at(
     alloc: Global,
-    job: Job,
-    cluster: &mut Cluster,
+    start: &Start,
+    machines: &mut LogMachines,
     entries: &[LogEntry],
     index: usize,
 ) -> Result<Option<WrongReply>, AllocError>
     requires { index < length entries.now }
-    ensures { (past : Past) → LeadsTo job past cluster.old
-        → IfOk result (λ wrong. FindsWrongReply job past entries.now index wrong cluster.new) }
+    ensures { (job : Continued) (past : Past) → Begins job start.now → HavePlayed job past machines.old
+        → IfOk result (λ wrong. FindsWrongReply job past entries.now index wrong machines.new) }
 {
     let entry = &entries[index];
-    let Some(wanted) = answer(alloc, cluster, &entry.line)? else {
+    let Some(wanted) = answer(alloc, machines, &entry.line)? else {
         return Ok(None);
     };
     let call = &entry.line.call;
-    let held = held_by_asked(cluster, call);
+    let held = held_by_asked(machines.cluster(), call);
     let wrong = WrongCall {
         index,
         call,
         wanted: &wanted,
     };
-    let cause = cause_of(alloc, job, cluster, entries, wrong)?;
+    let cause = cause_of(alloc, start, machines.cluster(), entries, wrong)?;
     Ok(Some(WrongReply {
         index,
         wanted,
@@ -70,35 +73,35 @@ fn wrong_reply_at(
 /// The machines make each call, also after a wrong reply, and go on with what they answered.
 pub fn wrong_replies(
     alloc: Global,
-    job: Job,
+    start: &Start,
     entries: &[LogEntry],
 ) -> Result<Vec<WrongReply>, AllocError>
-    ensures { IfOk result (λ replies. AreFirstWrongReplies job entries.now replies.items) }
+    ensures { (job : Continued) → Begins job start.now → IfOk result (λ replies. AreFirstWrongReplies job entries.now replies.items) }
 {
-    let mut cluster = Cluster::new(alloc, job)?;
+    let mut machines = LogMachines::new(alloc, start, false)?;
     let mut replies = Vec::new(alloc);
     for index in 0..entries.len() {
-        if let Some(wrong) = wrong_reply_at(alloc, job, &mut cluster, entries, index)? {
+        if let Some(wrong) = wrong_reply_at(alloc, start, &mut machines, entries, index)? {
             replies.push(wrong)?;
             if replies.len() == MOST_WRONG_REPLIES {
-                cluster.run_law();
+                machines.run_law();
                 return Ok(replies);
             }
         }
     }
-    cluster.run_law();
+    machines.run_law();
     Ok(replies)
 }
 
 /// Returns the wrong replies that are told after the first one, if all are wanted.
 pub fn later_wrong_replies(
     alloc: Global,
-    job: Job,
+    start: &Start,
     entries: &[LogEntry],
     all: bool,
     finding: &Finding,
 ) -> Result<Vec<WrongReply>, AllocError>
-    ensures { IfOk result (λ later. AreLater job entries.now all finding.now later.items) }
+    ensures { (job : Continued) → Begins job start.now → IfOk result (λ later. AreLater job entries.now all finding.now later.items) }
 {
     if !all {
         return Ok(Vec::new(alloc));
@@ -106,7 +109,7 @@ pub fn later_wrong_replies(
     let Finding::Other { .. } = finding else {
         return Ok(Vec::new(alloc));
     };
-    let mut replies = wrong_replies(alloc, job, entries)?;
+    let mut replies = wrong_replies(alloc, start, entries)?;
     if !replies.is_empty() {
         drop(replies.remove(0));
     }

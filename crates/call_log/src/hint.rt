@@ -3,14 +3,18 @@
 ghost use Rattle.std.specs.Prelude.{◌≡◌, ◌<◌, ◌≤◌, if◌then◌else◌, max, Some, IfOk, IfSome, length};
 ghost use Rattle.call_log.specs.Hints.{IsHintOf, IsHinted, IsJudgedSo, IsTried, begun_life, greatest_life, is_down, is_start, last_start, open_entry, task_of};
 ghost use Rattle.call_log.specs.Hints.{unstarted, with_open};
+ghost use Rattle.cluster.specs.continued.Jobs.{Continued};
+ghost use Rattle.call_log.specs.Starts.{Begins};
 ghost use Rattle.call_log.specs.internals.Opening.{IsEntryAt};
 
 use crate::entry::{LinePosition, LogEntry};
 use crate::finding::Finding;
 use crate::line::{LoggedCall, LoggedLine, Words};
+use crate::log_machines::LogMachines;
 use crate::playing::answer;
+use crate::start::Start;
 use crate::told::CallerReply;
-use cluster::{Cluster, ClusterCall, Job};
+use cluster::ClusterCall;
 use lease_rule::{Ground, Verdict};
 use lease_table::TableCall;
 use slicelet::{SliceletCall, SliceletError};
@@ -157,24 +161,24 @@ fn entry_with<'a>(
 // Whether entries are one run, with `line` before the one at `place`.
 fn is_run_with(
     alloc: Global,
-    job: Job,
+    start: &Start,
     entries: &[LogEntry],
     line: &LogEntry,
     place: usize,
 ) -> Result<bool, AllocError>
     requires { place ≤ length entries.now }
-    ensures { IfOk result (IsJudgedSo job (with_open place line.now entries.now)) }
+    ensures { (job : Continued) → Begins job start.now → IfOk result (IsJudgedSo job (with_open place line.now entries.now)) }
 {
-    let mut cluster = Cluster::new(alloc, job)?;
+    let mut machines = LogMachines::new(alloc, start, false)?;
     for index in 0..entries.len() + 1 {
         let entry = entry_with(entries, line, place, index);
-        let other = answer(alloc, &mut cluster, &entry.line)?;
+        let other = answer(alloc, &mut machines, &entry.line)?;
         if let Some(_wanted) = other {
-            cluster.run_law();
+            machines.run_law();
             return Ok(false);
         }
     }
-    cluster.run_law();
+    machines.run_law();
     Ok(true)
 }
 
@@ -188,32 +192,33 @@ struct Opening {
 // Whether entries are one run, with an `open` before the one at `index`.
 fn is_run_opened(
     alloc: Global,
-    job: Job,
+    start: &Start,
     entries: &[LogEntry],
     opening: Opening,
     index: usize,
 ) -> Result<bool, AllocError>
     requires { index ≤ length entries.now }
-    ensures { IfOk result (IsJudgedSo job
+    ensures { (job : Continued) → Begins job start.now → IfOk result (IsJudgedSo job
         (with_open index (open_entry opening.task opening.life) entries.now)) }
 {
     let line = open_entry(alloc, opening.task, opening.life)?;
-    is_run_with(alloc, job, entries, &line, index)
+    let is_run = is_run_with(alloc, start, entries, &line, index)?;
+    Ok(is_run)
 }
 
 // Returns the hint of an `open` before the entry at `index`, if entries are one run with it.
 fn hint_at(
     alloc: Global,
-    job: Job,
+    start: &Start,
     entries: &[LogEntry],
     task: u64,
     index: usize,
 ) -> Result<Option<Hint>, AllocError>
     requires { index ≤ length entries.now }
-    ensures { IfOk result (IsTried job entries.now task index) }
+    ensures { (job : Continued) → Begins job start.now → IfOk result (IsTried job entries.now task index) }
 {
     let life = greatest_life(task, &entries[..index]);
-    if is_run_opened(alloc, job, entries, Opening { task, life }, index)? {
+    if is_run_opened(alloc, start, entries, Opening { task, life }, index)? {
         Ok(Some(Hint { index, task, life }))
     } else {
         Ok(None)
@@ -224,21 +229,22 @@ fn hint_at(
 // is at `index`.
 fn hint_of(
     alloc: Global,
-    job: Job,
+    start: &Start,
     entries: &[LogEntry],
     task: u64,
     index: usize,
 ) -> Result<Option<Hint>, AllocError>
     requires { index ≤ length entries.now }
-    ensures { IfOk result (IsHintOf job entries.now task (last_start task entries.now) index) }
+    ensures { (job : Continued) → Begins job start.now → IfOk result (IsHintOf job entries.now task (last_start task entries.now) index) }
 {
-    if let Some(start) = last_start(task, entries) {
-        let hint = hint_at(alloc, job, entries, task, start)?;
+    if let Some(last) = last_start(task, entries) {
+        let hint = hint_at(alloc, start, entries, task, last)?;
         if hint.is_some() {
             return Ok(hint);
         }
     }
-    hint_at(alloc, job, entries, task, index)
+    let hint = hint_at(alloc, start, entries, task, index)?;
+    Ok(hint)
 }
 
 /// Returns the `open` line that a log may lack, if there is one.
@@ -248,11 +254,11 @@ fn hint_of(
 /// last start, or else before this call.
 pub fn hint_for(
     alloc: Global,
-    job: Job,
+    start: &Start,
     entries: &[LogEntry],
     finding: &Finding,
 ) -> Result<Option<Hint>, AllocError>
-    ensures { IfOk result (IsHinted job entries.now finding.now) }
+    ensures { (job : Continued) → Begins job start.now → IfOk result (IsHinted job entries.now finding.now) }
 {
     let Finding::Other { index, .. } = finding else {
         return Ok(None);
@@ -263,7 +269,7 @@ pub fn hint_for(
     let Some(task) = task_of(&entry.line.call) else {
         return Ok(None);
     };
-    hint_of(alloc, job, &entries[..*index + 1], task, *index)
+    hint_of(alloc, start, &entries[..*index + 1], task, *index)
 }
 
 // Whether the right reply is that the task was not started.

@@ -1,18 +1,25 @@
 //! Whether the calls of a log are one run.
 
-ghost use Rattle.std.specs.Prelude.{◌≡◌, ◌+◌, ◌<◌, length, IfOk, OnOk, MatchOption};
+ghost use Rattle.std.specs.Prelude.{◌≡◌, ◌+◌, ◌<◌, ◌&&◌, length, is_some, true, IfOk, OnOk, MatchOption};
 ghost use Rattle.std.specs.Ordering.{nat_cmp};
 ghost use Rattle.std.specs.List.Sorted.{IsPermutation, IsNonDecreasingBy, IsStableByKey};
-ghost use Rattle.cluster.specs.Jobs.{Job};
-ghost use Rattle.call_log.specs.Audited.{IsDouble, IsFound, IsReplayed, TicketsRise};
+ghost use Rattle.cluster.specs.continued.Jobs.{Continued};
+ghost use Rattle.cluster.specs.Pasts.{Past};
+ghost use Rattle.call_log.specs.Audited.{IsDouble, IsFound, IsReplayed, TicketsRise, is_one};
+ghost use Rattle.call_log.specs.Days.{GoOn};
+ghost use Rattle.call_log.specs.Starts.{Begins};
+ghost use Rattle.call_log.specs.States.{IsSnapshotIfRun, IsStateOf};
+ghost use Rattle.call_log.specs.internals.Machines.{HavePlayed};
 
 use crate::entry::LogEntry;
 use crate::finding::Finding;
 use crate::late::late_reading;
+use crate::log_machines::LogMachines;
 use crate::playing::{answer, held_by_asked};
 use crate::progress::Progress;
 use crate::questions::{WrongCall, cause_of};
-use cluster::{Cluster, Job};
+use crate::start::Start;
+use cluster::ClusterSnapshot;
 use std::alloc::{AllocError, Global};
 
 // Sorts entries by ticket. Entries with the same ticket keep their order.
@@ -40,69 +47,135 @@ fn double(entries: &[LogEntry]) -> Option<usize>
     None
 }
 
+/// What was found of the calls of a log, and where they leave the machines.
+#[derive(Drop)]
+pub struct Judged {
+    /// What was found.
+    pub finding: Finding,
+    /// The snapshot of the machines after the calls, if it is wanted and they are one run.
+    pub state: Option<ClusterSnapshot>,
+    /// Whether the calls are one run in which no reply is that something was not sent.
+    pub all_sent: bool,
+}
+
+// Returns a snapshot of the machines, if it is wanted.
+fn state_of(machines: LogMachines, is_wanted: bool) -> Result<Option<ClusterSnapshot>, AllocError>
+    ensures state { (job : Continued) (past : Past) → HavePlayed job past machines → IfOk result (IsSnapshotIfRun job past) }
+    ensures wanted { IfOk result (λ state. is_some state ≡ is_wanted) }
+{
+    if !is_wanted {
+        return Ok(None);
+    }
+    match machines.finish()? {
+        Some(state) => Ok(Some(state)),
+        // A wanted run is recorded from the start.
+        None => Err(AllocError),
+    }
+}
+
 // Plays entries in order, up to the first whose caller got a wrong reply.
 fn replay<P: Progress>(
     alloc: Global,
-    job: Job,
+    start: &Start,
     entries: &[LogEntry],
+    keeps: bool,
     progress: &mut P,
-) -> Result<Finding, AllocError>
-    ensures { IfOk result (IsReplayed job entries.now) }
+) -> Result<Judged, AllocError>
+    ensures found { (job : Continued) → Begins job start.now → IfOk result (λ judged. IsReplayed job entries.now judged.finding) }
+    ensures state { (job : Continued) → Begins job start.now → IfOk result (λ judged. IsStateOf job entries.now judged.state) }
+    ensures sent { (job : Continued) → Begins job start.now → IfOk result (λ judged. judged.all_sent ≡ true → GoOn job entries.now) }
+    ensures kept { IfOk result (λ judged. is_some judged.state ≡ (keeps && is_one judged.finding)) }
 {
-    let mut cluster = Cluster::new(alloc, job)?;
+    let mut machines = LogMachines::new(alloc, start, keeps)?;
     for index in 0..entries.len() {
         let entry = &entries[index];
-        let other = answer(alloc, &mut cluster, &entry.line)?;
+        let other = answer(alloc, &mut machines, &entry.line)?;
         if let Some(wanted) = other {
-            cluster.run_law();
+            machines.run_law();
             let call = &entry.line.call;
-            let held = held_by_asked(&cluster, call);
+            let held = held_by_asked(machines.cluster(), call);
             let wrong = WrongCall {
                 index,
                 call,
                 wanted: &wanted,
             };
-            let cause = cause_of(alloc, job, &cluster, entries, wrong)?;
-            return Ok(Finding::Other {
+            let cause = cause_of(alloc, start, machines.cluster(), entries, wrong)?;
+            let finding = Finding::Other {
                 index,
                 wanted,
                 held,
                 cause,
+            };
+            return Ok(Judged {
+                finding,
+                state: None,
+                all_sent: false,
             });
         }
         progress.calls_judged(index as u64 + 1);
     }
-    cluster.run_law();
-    Ok(Finding::One {
+    machines.run_law();
+    let late = late_reading(start.job.policy().skew(), start.table_reading(), entries);
+    let finding = Finding::One {
         steps: entries.len() as u64,
-        late: late_reading(job.policy().skew(), entries),
+        late,
+    };
+    let all_sent = machines.all_sent();
+    let state = state_of(machines, keeps)?;
+    Ok(Judged {
+        finding,
+        state,
+        all_sent,
     })
 }
 
 /// Sorts the calls of a log by their tickets, and finds whether they are one run of the job's
-/// machines.
+/// machines, from this start.
 ///
 /// They are one run if each caller got, in the same words, the reply that the machines give after
-/// the calls before.
+/// the calls before. `keeps` is whether a snapshot of the machines is wanted.
 ///
 /// [`Finding::Double`] comes first: two entries have the same ticket. It names the lowest such
 /// ticket, and the first two entries that have it, in the order in which they were given. Otherwise
 /// [`Finding::Other`] names the first call whose caller got another reply. If memory runs out,
 /// nothing is found.
+pub fn judge_calls<P: Progress>(
+    alloc: Global,
+    start: &Start,
+    entries: &mut Vec<LogEntry>,
+    keeps: bool,
+    progress: &mut P,
+) -> Result<Judged, AllocError>
+    ensures same { IsPermutation entries.old.items entries.new.items }
+    ensures stable { IsStableByKey (λ e. e.line.ticket) nat_cmp entries.old.items entries.new.items }
+    ensures found { (job : Continued) → Begins job start.now → IfOk result (λ judged. IsFound job entries.new.items judged.finding) }
+    ensures state { (job : Continued) → Begins job start.now → IfOk result (λ judged. IsStateOf job entries.new.items judged.state) }
+    ensures sent { (job : Continued) → Begins job start.now → IfOk result (λ judged. judged.all_sent ≡ true → GoOn job entries.new.items) }
+    ensures kept { IfOk result (λ judged. is_some judged.state ≡ (keeps && is_one judged.finding)) }
+{
+    sort(entries)?;
+    if let Some(first) = double(entries) {
+        let second = first + 1;
+        return Ok(Judged {
+            finding: Finding::Double { first, second },
+            state: None,
+            all_sent: false,
+        });
+    }
+    let judged = replay(alloc, start, entries, keeps, progress)?;
+    Ok(judged)
+}
+
+/// Sorts the calls of a log, and finds whether they are one run, as [`judge_calls`] does.
 pub fn audit_calls<P: Progress>(
     alloc: Global,
-    job: Job,
+    start: &Start,
     entries: &mut Vec<LogEntry>,
     progress: &mut P,
 ) -> Result<Finding, AllocError>
     ensures same { IsPermutation entries.old.items entries.new.items }
     ensures stable { IsStableByKey (λ e. e.line.ticket) nat_cmp entries.old.items entries.new.items }
-    ensures found { IfOk result (IsFound job entries.new.items) }
+    ensures found { (job : Continued) → Begins job start.now → IfOk result (IsFound job entries.new.items) }
 {
-    sort(entries)?;
-    if let Some(first) = double(entries) {
-        let second = first + 1;
-        return Ok(Finding::Double { first, second });
-    }
-    replay(alloc, job, entries, progress)
+    Ok(judge_calls(alloc, start, entries, false, progress)?.finding)
 }

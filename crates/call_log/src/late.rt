@@ -16,8 +16,9 @@ pub struct Late {
     pub index: usize,
     /// The task's reading, in ticks.
     pub at: u64,
-    /// The index of the table's call, in the order of the tickets.
-    pub table_index: usize,
+    /// The index of the table's call, in the order of the tickets; `None` if it was before the first
+    /// of the calls.
+    pub table_index: Option<usize>,
     /// The table's reading, in ticks.
     pub table_at: u64,
 }
@@ -25,28 +26,26 @@ pub struct Late {
 /// The greatest reading of the table's clock so far, and the index of its call.
 #[derive(Clone, Copy)]
 pub struct Greatest {
-    /// The reading, in ticks.
+    /// The reading, in ticks; 0 if there is none.
     pub at: u64,
-    /// The index of the call.
-    pub index: usize,
+    /// The index of the call; `None` if it was before the first of the calls.
+    pub index: Option<usize>,
 }
 
-fn greater(greatest: Option<Greatest>, at: u64, index: usize) -> Option<Greatest>
+fn greater(greatest: Greatest, at: u64, index: usize) -> Greatest
     ensures { result ≡ greater greatest at index }
 {
-    match greatest {
-        None => Some(Greatest { at, index }),
-        Some(before) => {
-            if at <= before.at {
-                Some(before)
-            } else {
-                Some(Greatest { at, index })
-            }
+    if at <= greatest.at {
+        greatest
+    } else {
+        Greatest {
+            at,
+            index: Some(index),
         }
     }
 }
 
-fn greatest_after(greatest: Option<Greatest>, reading: Reading, index: usize) -> Option<Greatest>
+fn greatest_after(greatest: Greatest, reading: Reading, index: usize) -> Greatest
     ensures { result ≡ greatest_after greatest reading index }
 {
     match reading {
@@ -55,21 +54,18 @@ fn greatest_after(greatest: Option<Greatest>, reading: Reading, index: usize) ->
     }
 }
 
-fn late_after(skew: u64, greatest: Option<Greatest>, reading: Reading, index: usize) -> Option<Late>
+fn late_after(skew: u64, greatest: Greatest, reading: Reading, index: usize) -> Option<Late>
     ensures { result ≡ late_after skew greatest reading index }
 {
-    let Some(table) = greatest else {
-        return None;
-    };
     let Reading::TaskClock(at) = reading else {
         return None;
     };
-    if at < table.at.saturating_sub(skew) {
+    if at < greatest.at.saturating_sub(skew) {
         Some(Late {
             index,
             at,
-            table_index: table.index,
-            table_at: table.at,
+            table_index: greatest.index,
+            table_at: greatest.at,
         })
     } else {
         None
@@ -78,12 +74,15 @@ fn late_after(skew: u64, greatest: Option<Greatest>, reading: Reading, index: us
 
 /// Returns the first reading of a task's clock that is not timely, if there is one.
 ///
-/// It comes with the greatest reading of the table's clock before it. Readings and `skew` are in
-/// ticks.
-pub fn late_reading(skew: u64, entries: &[LogEntry]) -> Option<Late>
-    ensures { AreWatched skew entries.now result }
+/// It comes with the greatest reading of the table's clock before it. `earlier` is the greatest one
+/// before the first of the calls, 0 if there is none. Readings and `skew` are in ticks.
+pub fn late_reading(skew: u64, earlier: u64, entries: &[LogEntry]) -> Option<Late>
+    ensures { AreWatched skew earlier entries.now result }
 {
-    let mut greatest = None;
+    let mut greatest = Greatest {
+        at: earlier,
+        index: None,
+    };
     for index in 0..entries.len() {
         let reading = entries[index].line.call.reading();
         let late = late_after(skew, greatest, reading, index);

@@ -5,23 +5,24 @@ ghost use Rattle.clocks.specs.declared.drift.Drift.{Drift};
 ghost use Rattle.clocks.specs.Pasts.{KeepsDrift, Past as ClockPast, Sampled, SamplesAreAnswers};
 ghost use Rattle.clocks.specs.Timely.{clock_after};
 ghost use Rattle.cluster.specs.Jobs.{Job};
+ghost use Rattle.cluster.specs.Pasts.{Past};
+ghost use Rattle.cluster.specs.continued.Snapshots.{Remembered, continued_from};
 ghost use Rattle.call_log.specs.declared.entry.LogEntry.{LogEntry};
 ghost use Rattle.call_log.specs.declared.line.TaskSample.{TaskSample};
-ghost use Rattle.call_log.specs.Days.{AreTimelyRun, lasting};
+ghost use Rattle.call_log.specs.Days.{AreRunTo, GoOnTo};
 ghost use Rattle.call_log.specs.Drifts.{fault_of, samples_in};
-ghost use Rattle.call_log.specs.Hints.{AreRun};
 
-/// States that an audit may go on from the state that earlier logs left.
+/// States that logs which are audited day by day are one run.
 ///
-/// If the calls of earlier logs are one run, and those of them that may change something are one
-/// run with later calls, all of them are one run. If the clocks were timely in both runs, they were
-/// timely in that of all calls.
+/// If the calls of earlier logs are one run, and those of later logs are one that goes on from it,
+/// whatever is remembered of it, all of them are one run, unless a later call was refused as not
+/// sent.
 pub fn days_law()
-    ensures one { (job : Job) (before later : List LogEntry) → AreRun job before → AreRun job (lasting before ++ later)
-        → AreRun job (before ++ later) }
-    ensures timely { (job : Job) (before later : List LogEntry) → AreTimelyRun job before → AreTimelyRun job (lasting before ++ later)
-        → AreTimelyRun job (before ++ later) }
-{}
+    ensures { (own : Job) (remembered : Remembered) (before later : List LogEntry) (past after : Past) → AreRunTo own before past
+        → GoOnTo (continued_from own past remembered) later after → AreRunTo own (before ++ later) after }
+{
+    cluster::continued_law();
+}
 
 /// States that a wrong sample shows that clocks did not keep their drift.
 ///

@@ -1,10 +1,8 @@
 //! Reading a log from the bytes of its files, piece by piece.
 
-ghost use Rattle.std.specs.Prelude.{◌≡◌, ◌++◌, ◌∷◌, [], ℕ, Bool, List, take, map, option_map, is_some, IfErr, IfOk, OnOk};
-ghost use Rattle.std.specs.List.{flat_map};
-ghost use Rattle.call_log.specs.Days.{ended};
+ghost use Rattle.std.specs.Prelude.{◌≡◌, ◌++◌, ◌∷◌, [], ℕ, List, map, IfErr, IfOk, OnOk};
 ghost use Rattle.call_log.specs.Files.{IsUnread, PlacedLine, lines_from};
-ghost use Rattle.call_log.specs.Readers.{AreTaken, IsReading, IsReadLog, kept, shown};
+ghost use Rattle.call_log.specs.Readers.{AreTaken, IsReading, IsReadLog, first_bytes, kept, shown};
 ghost use Rattle.call_log.specs.internals.Parts.{AreFewer, EndsLine, IsPartRead};
 
 use crate::call_lines::{BadLine, CallLines};
@@ -27,45 +25,23 @@ pub struct TakenLines {
     pub calls: CallLines,
 }
 
-/// A log that was read, and the state that it leaves.
+/// A log that was read.
 #[derive(Debug, Drop)]
 pub struct ReadLog {
     /// The log.
     pub log: Log,
-    /// The state, if it is wanted: a log of the first job line and of those lines whose calls may
-    /// change something, as they stand in the files.
-    ///
-    /// A log of this state and of later lines is one run if the whole log is one.
-    pub state: Option<Vec<u8>>,
+    /// Its first job line, without the end of the line.
+    pub job_line: Vec<u8>,
 }
 
-// Returns the text of the first line, if there is one.
-fn first_line(alloc: Global, lines: &[KeptLine]) -> Result<Vec<u8>, AllocError>
-    ensures { IfOk result (λ text. text.items ≡ flat_map ended (take 1 (map kept lines.now))) }
+// Returns the bytes of the first line, none if there is none.
+fn first_bytes(alloc: Global, lines: &[KeptLine]) -> Result<Vec<u8>, AllocError>
+    ensures { IfOk result (λ bytes. bytes.items ≡ first_bytes (map kept lines.now)) }
 {
-    let mut text = Vec::new(alloc);
-    if let [first, ..] = lines {
-        text.extend_from_slice(first.bytes.as_slice())?;
-        text.push(b'\n')?;
+    match lines {
+        [first, ..] => Vec::from_slice(alloc, first.bytes.as_slice()),
+        [] => Ok(Vec::new(alloc)),
     }
-    Ok(text)
-}
-
-// Returns the state with these job lines and these lines that last, if they are wanted.
-fn state_with(
-    alloc: Global,
-    jobs: &[KeptLine],
-    lasting: Option<Vec<u8>>,
-) -> Result<Option<Vec<u8>>, AllocError>
-    ensures { IfOk result (λ state. option_map (λ t. t.items) state
-        ≡ option_map (λ t. flat_map ended (take 1 (map kept jobs.now)) ++ t.items) lasting) }
-{
-    let Some(lasting) = lasting else {
-        return Ok(None);
-    };
-    let mut text = first_line(alloc, jobs)?;
-    text.extend_from_slice(lasting.as_slice())?;
-    Ok(Some(text))
 }
 
 impl TakenLines {
@@ -76,9 +52,8 @@ impl TakenLines {
         line: &LineBytes,
         progress: &mut P,
     ) -> Result<(), AllocError>
-        ensures taken { (lines : List PlacedLine) → AreTaken lines self.old
+        ensures { (lines : List PlacedLine) → AreTaken lines self.old
             → OnOk result (AreTaken (lines ++ shown line.now ∷ []) self.new) }
-        ensures wanted { OnOk result (is_some self.new.calls.lasting ≡ is_some self.old.calls.lasting) }
     {
         if self.long.is_some() {
             return Ok(());
@@ -98,10 +73,10 @@ impl TakenLines {
         Ok(())
     }
 
-    // Returns the log that the lines are, with its state.
+    // Returns the log that the lines are, with its first job line.
     fn finish(self, alloc: Global) -> Result<ReadLog, LogError>
         ensures ok { (lines : List PlacedLine) → AreTaken lines self
-            → IfOk result (IsReadLog (is_some self.calls.lasting) lines) }
+            → IfOk result (IsReadLog lines) }
         ensures err { (lines : List PlacedLine) → AreTaken lines self → IfErr result (IsUnread lines) }
     {
         let TakenLines { long, jobs, calls } = self;
@@ -112,18 +87,13 @@ impl TakenLines {
             return Err(LogError::Empty);
         };
         let job = job_of(alloc, jobs.jobs.as_slice(), first)?;
-        let CallLines {
-            entries,
-            torn,
-            bad,
-            lasting,
-        } = calls;
+        let CallLines { entries, torn, bad } = calls;
         if let Some(BadLine { place, why, mend }) = bad {
             return Err(LogError::BadLine { place, why, mend });
         }
-        let state = state_with(alloc, jobs.jobs.as_slice(), lasting)?;
+        let job_line = first_bytes(alloc, jobs.jobs.as_slice())?;
         let log = Log { job, entries, torn };
-        Ok(ReadLog { log, state })
+        Ok(ReadLog { log, job_line })
     }
 }
 
@@ -133,8 +103,7 @@ impl TakenLines {
 /// lines do not count. A last line of a file without its end counts if it is a call, and is left out
 /// if it is not.
 ///
-/// It holds the calls, and of the bytes only the job lines, the line that has not ended, and the
-/// state if that is wanted.
+/// It holds the calls, and of the bytes only the job lines and the line that has not ended.
 #[derive(Debug, Drop)]
 pub struct LogReader {
     alloc: Global,
@@ -147,10 +116,9 @@ pub struct LogReader {
 }
 
 impl LogReader {
-    /// Creates a reader at the start of the first file. `keeps_state` is whether the state is
-    /// wanted.
-    pub fn new(alloc: Global, keeps_state: bool) -> Self
-        ensures { IsReading keeps_state [] [] result }
+    /// Creates a reader at the start of the first file.
+    pub fn new(alloc: Global) -> Self
+        ensures { IsReading [] [] result }
     {
         LogReader {
             alloc,
@@ -160,7 +128,7 @@ impl LogReader {
             taken: TakenLines {
                 long: None,
                 jobs: JobLines::new(alloc),
-                calls: CallLines::new(alloc, keeps_state),
+                calls: CallLines::new(alloc),
             },
         }
     }
@@ -189,8 +157,8 @@ impl LogReader {
         bytes: &'a [u8],
         progress: &mut P,
     ) -> Result<Option<&'a [u8]>, AllocError>
-        ensures read { (keeps : Bool) (files : List (List ℕ)) (before : List ℕ) → IsReading keeps files before self.old
-            → IfOk result (λ rest. IsPartRead keeps files before bytes.now rest self.new) }
+        ensures read { (files : List (List ℕ)) (before : List ℕ) → IsReading files before self.old
+            → IfOk result (λ rest. IsPartRead files before bytes.now rest self.new) }
         ensures shorter { IfOk result (AreFewer bytes.now) }
     {
         let first = first_part(bytes);
@@ -205,8 +173,8 @@ impl LogReader {
     ///
     /// Fails if memory runs out; the reader is then gone.
     pub fn read<P: Progress>(self, piece: &[u8], progress: &mut P) -> Result<LogReader, AllocError>
-        ensures { (keeps : Bool) (files : List (List ℕ)) (before : List ℕ) → IsReading keeps files before self
-            → IfOk result (IsReading keeps files (before ++ piece.now)) }
+        ensures { (files : List (List ℕ)) (before : List ℕ) → IsReading files before self
+            → IfOk result (IsReading files (before ++ piece.now)) }
     {
         let mut reader = self;
         let mut bytes = piece;
@@ -220,8 +188,8 @@ impl LogReader {
     ///
     /// Fails if memory runs out; the reader is then gone.
     pub fn end_file<P: Progress>(self, progress: &mut P) -> Result<LogReader, AllocError>
-        ensures { (keeps : Bool) (files : List (List ℕ)) (bytes : List ℕ) → IsReading keeps files bytes self
-            → IfOk result (IsReading keeps (files ++ bytes ∷ []) []) }
+        ensures { (files : List (List ℕ)) (bytes : List ℕ) → IsReading files bytes self
+            → IfOk result (IsReading (files ++ bytes ∷ []) []) }
     {
         let mut reader = self;
         if !reader.part.is_empty() {
@@ -239,9 +207,9 @@ impl LogReader {
     /// other line that is not a call, or says that memory ran out. If there is no job line, the error
     /// names the first line.
     pub fn finish(self) -> Result<ReadLog, LogError>
-        ensures ok { (keeps : Bool) (files : List (List ℕ)) → IsReading keeps files [] self
-            → IfOk result (IsReadLog keeps (lines_from 0 files)) }
-        ensures err { (keeps : Bool) (files : List (List ℕ)) → IsReading keeps files [] self
+        ensures ok { (files : List (List ℕ)) → IsReading files [] self
+            → IfOk result (IsReadLog (lines_from 0 files)) }
+        ensures err { (files : List (List ℕ)) → IsReading files [] self
             → IfErr result (IsUnread (lines_from 0 files)) }
     {
         let LogReader { alloc, taken, .. } = self;

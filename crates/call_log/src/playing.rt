@@ -2,20 +2,23 @@
 
 ghost use Rattle.std.specs.Prelude.{◌≡◌, ◌∷◌, IfOk};
 ghost use Rattle.lease_table.specs.Tables.{generation_of};
-ghost use Rattle.cluster.specs.Jobs.{Job};
+ghost use Rattle.cluster.specs.continued.Jobs.{Continued, job_in};
+ghost use Rattle.cluster.specs.continued.Clusters.{LeadsTo};
 ghost use Rattle.cluster.specs.Pasts.{Past, event};
-ghost use Rattle.cluster.specs.Clusters.{LeadsTo};
-ghost use Rattle.call_log.specs.declared.line.LoggedCall.TheVariants.{LearnBare, Restore};
-ghost use Rattle.call_log.specs.Calls.{asked_task, call_after, held_by_asked, reading_in, whole_grant, with_ranges};
+ghost use Rattle.call_log.specs.declared.line.LoggedCall.TheVariants.{HearBare, LearnBare, Restore};
+ghost use Rattle.call_log.specs.Calls.{asked_task, call_after, held_by_asked, reading_in, with_ranges};
 ghost use Rattle.call_log.specs.Restores.{grant_to_nobody};
 ghost use Rattle.call_log.specs.Samples.{sampled_told};
 ghost use Rattle.call_log.specs.internals.Answers.{HasGranted, IsAnswered, IsMade, IsPlayed};
+ghost use Rattle.call_log.specs.internals.Machines.{HavePlayed};
 
 use crate::finding::HeldLeases;
 use crate::line::{BareGrant, LoggedCall, LoggedLine, TaskSample};
+use crate::log_machines::LogMachines;
 use crate::restored::{KeptNumbers, numbers_of, restore_fault};
 use crate::told::{CallerReply, is_worded, told_as};
 use assignment::{Assignment, TaskId};
+use clerk::ClerkCall;
 use cluster::{Cluster, ClusterCall, ClusterReply, Reading};
 use lease_rule::{Kind, Lease};
 use lease_table::{Grant, TableCall};
@@ -57,71 +60,85 @@ pub fn with_ranges(grant: BareGrant, ranges: Ranges) -> Grant
     }
 }
 
-// Returns the grant with the ranges that the table sent with its number.
-fn whole_grant(alloc: Global, cluster: &Cluster, grant: &BareGrant) -> Result<Grant, AllocError>
-    ensures { (job : Job) (past : Past) → LeadsTo job past cluster.now
-        → IfOk result (λ whole. whole ≡ whole_grant past grant.now) }
+// Plays the hearing of the grant that the table sent with a number.
+fn hear(
+    machines: &mut LogMachines,
+    task: u64,
+    grant: BareGrant,
+    at: u64,
+) -> Result<ClusterReply, AllocError>
+    ensures { (job : Continued) (past : Past) → HavePlayed job past machines.old → IfOk result
+        (λ answer. HavePlayed job (event (call_after past (HearBare task grant at)) answer ∷ past) machines.new) }
 {
-    let ranges = match cluster.grant(grant.number) {
-        Some(sent) => sent.lease.ranges.copy()?,
-        None => Ranges::empty(alloc),
+    let Some(sent) = machines.cluster().grant(grant.number) else {
+        return machines.hear_unsent(task, grant, at);
     };
-    Ok(with_ranges(*grant, ranges))
+    let ranges = sent.lease.ranges.copy()?;
+    let grant = with_ranges(grant, ranges);
+    let call = SliceletCall::Hear { grant, at };
+    machines.play(&ClusterCall::Task { task, call })
 }
 
 // Plays the learning of the assignment that was published of a generation.
-fn learn(cluster: &mut Cluster, clerk: u64, generation: u64) -> Result<ClusterReply, AllocError>
-    ensures { (job : Job) (past : Past) → LeadsTo job past cluster.old → IfOk result
-        (λ answer. LeadsTo job (event (call_after past (LearnBare clerk generation)) answer ∷ past) cluster.new) }
+fn learn(
+    machines: &mut LogMachines,
+    clerk: u64,
+    generation: u64,
+) -> Result<ClusterReply, AllocError>
+    ensures { (job : Continued) (past : Past) → HavePlayed job past machines.old → IfOk result
+        (λ answer. HavePlayed job (event (call_after past (LearnBare clerk generation)) answer ∷ past) machines.new) }
 {
-    let answer = cluster.learn_published(clerk, generation)?;
-    cluster.refusal_law();
-    Ok(answer)
+    let Some(assignment) = machines.cluster().published(generation) else {
+        return machines.learn_unpublished(clerk, generation);
+    };
+    let call = ClerkCall::Learn(assignment.copy()?);
+    machines.play(&ClusterCall::Clerk { clerk, call })
 }
 
 // Plays a logged call, and returns the machines' reply.
-fn play(alloc: Global, cluster: &mut Cluster, call: &LoggedCall) -> Result<ClusterReply, AllocError>
-    ensures { (job : Job) (past : Past) → LeadsTo job past cluster.old
-        → IfOk result (λ answer. LeadsTo job (event (call_after past call.now) answer ∷ past) cluster.new) }
+fn play(machines: &mut LogMachines, call: &LoggedCall) -> Result<ClusterReply, AllocError>
+    ensures { (job : Continued) (past : Past) → HavePlayed job past machines.old
+        → IfOk result (λ answer. HavePlayed job (event (call_after past call.now) answer ∷ past) machines.new) }
 {
     match call {
-        LoggedCall::Whole(call) => cluster.play(call),
-        LoggedCall::HearBare { task, grant, at } => {
-            let grant = whole_grant(alloc, cluster, grant)?;
-            cluster.call_task(*task, &SliceletCall::Hear { grant, at: *at })
-        }
-        LoggedCall::LearnBare { clerk, generation } => learn(cluster, *clerk, *generation),
-        LoggedCall::Restore(_) => cluster.call_table(&TableCall::Restart),
-        LoggedCall::Sample(_) => cluster.play(&ClusterCall::Phase),
+        LoggedCall::Whole(call) => machines.play(call),
+        LoggedCall::HearBare { task, grant, at } => hear(machines, *task, *grant, *at),
+        LoggedCall::LearnBare { clerk, generation } => learn(machines, *clerk, *generation),
+        LoggedCall::Restore(_) => machines.play(&ClusterCall::Table(TableCall::Restart)),
+        LoggedCall::Sample(_) => machines.play(&ClusterCall::Phase),
     }
 }
 
 // Plays a logged call, and returns what its caller is told.
-fn call(alloc: Global, cluster: &mut Cluster, call: &LoggedCall) -> Result<CallerReply, AllocError>
-    ensures { (job : Job) (past : Past) → LeadsTo job past cluster.old
-        → IfOk result (λ told. IsMade job past call.now told cluster.new) }
+fn call(machines: &mut LogMachines, call: &LoggedCall) -> Result<CallerReply, AllocError>
+    ensures { (job : Continued) (past : Past) → HavePlayed job past machines.old
+        → IfOk result (λ told. IsMade job past call.now told machines.new) }
 {
-    let next = NextNumbers::of(cluster);
-    let reply = play(alloc, cluster, call)?;
+    let cluster = machines.cluster();
+    let next = NextNumbers {
+        note: cluster.next_note(),
+        handle: cluster.next_handle(),
+    };
+    let reply = play(machines, call)?;
     Ok(told_as(call, next, reply))
 }
 
 // Grants task 1 a lease in life 0: no task hears it.
-fn grant_to_nobody(cluster: &mut Cluster, at: u64) -> Result<ClusterReply, AllocError>
-    ensures { (job : Job) (past : Past) → LeadsTo job past cluster.old
-        → IfOk result (λ reply. LeadsTo job (event (grant_to_nobody at) reply ∷ past) cluster.new) }
+fn grant_to_nobody(machines: &mut LogMachines, at: u64) -> Result<ClusterReply, AllocError>
+    ensures { (job : Continued) (past : Past) → HavePlayed job past machines.old
+        → IfOk result (λ reply. HavePlayed job (event (grant_to_nobody at) reply ∷ past) machines.new) }
 {
     let task = TaskId::new(1).unwrap();
-    cluster.call_table(&TableCall::Grant { task, life: 0, at })
+    machines.play(&ClusterCall::Table(TableCall::Grant { task, life: 0, at }))
 }
 
 // Grants nobody a lease, so many times.
-fn grants_to_nobody(cluster: &mut Cluster, count: u64, at: u64) -> Result<(), AllocError>
-    ensures { (job : Job) (past : Past) → LeadsTo job past cluster.old
-        → IfOk result (λ _. HasGranted job past count at cluster.new) }
+fn grants_to_nobody(machines: &mut LogMachines, count: u64, at: u64) -> Result<(), AllocError>
+    ensures { (job : Continued) (past : Past) → HavePlayed job past machines.old
+        → IfOk result (λ _. HasGranted job past count at machines.new) }
 {
     for _ in 0..count {
-        grant_to_nobody(cluster, at)?;
+        grant_to_nobody(machines, at)?;
     }
     Ok(())
 }
@@ -137,18 +154,18 @@ fn generation_of(assignment: &Option<Assignment>) -> u64
 }
 
 // Plays a restart of the table with these values, and returns what is told of it.
-fn restore(cluster: &mut Cluster, numbers: KeptNumbers) -> Result<CallerReply, AllocError>
-    ensures { (job : Job) (past : Past) → LeadsTo job past cluster.old
-        → IfOk result (λ told. IsPlayed job past (Restore numbers) told cluster.new) }
+fn restore(machines: &mut LogMachines, numbers: KeptNumbers) -> Result<CallerReply, AllocError>
+    ensures { (job : Continued) (past : Past) → HavePlayed job past machines.old
+        → IfOk result (λ told. IsPlayed job past (Restore numbers) told machines.new) }
 {
-    let kept = cluster.table().kept()?;
+    let kept = machines.cluster().table().kept()?;
     let table = numbers_of(&kept);
     let generation = generation_of(&kept.committed);
     if let Some(fault) = restore_fault(kept, numbers) {
         return Ok(CallerReply::NotRestored(fault, table));
     }
-    grants_to_nobody(cluster, numbers.granted - table.granted, numbers.last)?;
-    cluster.call_table(&TableCall::Restart)?;
+    grants_to_nobody(machines, numbers.granted - table.granted, numbers.last)?;
+    machines.play(&ClusterCall::Table(TableCall::Restart))?;
     Ok(CallerReply::Restored {
         generation,
         grace: numbers.deadline,
@@ -157,7 +174,7 @@ fn restore(cluster: &mut Cluster, numbers: KeptNumbers) -> Result<CallerReply, A
 
 // Returns what the caller of a sample is told.
 fn sampled_told(cluster: &Cluster, taken: TaskSample) -> CallerReply
-    ensures { (job : Job) (past : Past) → LeadsTo job past cluster.now → result ≡ sampled_told job taken }
+    ensures { (job : Continued) (past : Past) → LeadsTo job past cluster.now → result ≡ sampled_told (job_in job) taken }
 {
     match cluster.slicelet(taken.task) {
         Some(_) => CallerReply::Sampled,
@@ -167,21 +184,18 @@ fn sampled_told(cluster: &Cluster, taken: TaskSample) -> CallerReply
 
 /// Plays what a line stands for, and returns what its caller is told.
 ///
-/// If memory runs out, the cluster is as it was after some of the calls that the line stands for.
-pub fn tell(
-    alloc: Global,
-    cluster: &mut Cluster,
-    line: &LoggedCall,
-) -> Result<CallerReply, AllocError>
-    ensures { (job : Job) (past : Past) → LeadsTo job past cluster.old
-        → IfOk result (λ told. IsPlayed job past line.now told cluster.new) }
+/// If memory runs out, the machines are as they were after some of the calls that the line stands
+/// for.
+pub fn tell(machines: &mut LogMachines, line: &LoggedCall) -> Result<CallerReply, AllocError>
+    ensures { (job : Continued) (past : Past) → HavePlayed job past machines.old
+        → IfOk result (λ told. IsPlayed job past line.now told machines.new) }
 {
     match line {
-        LoggedCall::Restore(numbers) => restore(cluster, *numbers),
-        LoggedCall::Sample(taken) => Ok(sampled_told(cluster, *taken)),
-        LoggedCall::Whole(_) => call(alloc, cluster, line),
-        LoggedCall::HearBare { .. } => call(alloc, cluster, line),
-        LoggedCall::LearnBare { .. } => call(alloc, cluster, line),
+        LoggedCall::Restore(numbers) => restore(machines, *numbers),
+        LoggedCall::Sample(taken) => Ok(sampled_told(machines.cluster(), *taken)),
+        LoggedCall::Whole(_) => call(machines, line),
+        LoggedCall::HearBare { .. } => call(machines, line),
+        LoggedCall::LearnBare { .. } => call(machines, line),
     }
 }
 
@@ -199,8 +213,8 @@ fn asked_task(call: &LoggedCall) -> Option<u64>
 
 /// Returns the leases of the task that a call asks for a key, if the job has the task.
 pub fn held_by_asked(cluster: &Cluster, call: &LoggedCall) -> Option<HeldLeases>
-    ensures { (job : Job) (past : Past) → LeadsTo job past cluster.now
-        → result ≡ held_by_asked job past call.now }
+    ensures { (job : Continued) (past : Past) → LeadsTo job past cluster.now
+        → result ≡ held_by_asked (job_in job) past call.now }
 {
     let task = asked_task(call)?;
     let slicelet = cluster.slicelet(task)?;
@@ -213,13 +227,13 @@ pub fn held_by_asked(cluster: &Cluster, call: &LoggedCall) -> Option<HeldLeases>
 /// Plays what a line stands for, and returns the right reply if its caller got another one.
 pub fn answer(
     alloc: Global,
-    cluster: &mut Cluster,
+    machines: &mut LogMachines,
     line: &LoggedLine,
 ) -> Result<Option<CallerReply>, AllocError>
-    ensures { (job : Job) (past : Past) → LeadsTo job past cluster.old
-        → IfOk result (λ other. IsAnswered job past line.now other cluster.new) }
+    ensures { (job : Continued) (past : Past) → HavePlayed job past machines.old
+        → IfOk result (λ other. IsAnswered job past line.now other machines.new) }
 {
-    let told = tell(alloc, cluster, &line.call)?;
+    let told = tell(machines, &line.call)?;
     if is_worded(alloc, line.reply.as_str(), &told)? {
         Ok(None)
     } else {

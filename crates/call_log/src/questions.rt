@@ -2,8 +2,10 @@
 
 ghost use Rattle.std.specs.Prelude.{◌≡◌, ◌<◌, IfOk, length};
 ghost use Rattle.cluster.specs.Pasts.{Past};
-ghost use Rattle.cluster.specs.Clusters.{LeadsTo};
+ghost use Rattle.cluster.specs.continued.Clusters.{LeadsTo};
+ghost use Rattle.cluster.specs.continued.Jobs.{Continued};
 ghost use Rattle.call_log.specs.Questions.{IsCauseOf, question_of, question_of_table, question_of_task};
+ghost use Rattle.call_log.specs.Starts.{Begins};
 
 use crate::cause::Cause;
 use crate::causes::cause_for;
@@ -12,9 +14,10 @@ use crate::line::LoggedCall;
 use crate::refusing::{
     holder_cause, late_cause, life_cause, row_cause, table_back_cause, task_back_cause, ticks_in,
 };
+use crate::start::Start;
 use crate::taking::break_cause;
 use crate::told::CallerReply;
-use cluster::{Cluster, Job};
+use cluster::Cluster;
 use lease_rule::{Ground, Verdict};
 use lease_table::TableError;
 use slicelet::SliceletError;
@@ -102,22 +105,22 @@ fn question_of(told: &CallerReply) -> Question
 /// Returns why a caller should have got another reply, if that refuses what nothing sent before,
 /// says that a handle is broken, or refuses a call by a term, a reading or a life.
 ///
-/// `cluster` has played the calls of the entries up to this one.
+/// `cluster` has played the calls of the entries up to this one, from this start.
 pub fn cause_of(
     alloc: Global,
-    job: Job,
+    start: &Start,
     cluster: &Cluster,
     entries: &[LogEntry],
     wrong: WrongCall,
 ) -> Result<Option<Cause>, AllocError>
     requires { wrong.index < length entries.now }
-    ensures { (past : Past) → LeadsTo job past cluster.now
+    ensures { (job : Continued) (past : Past) → Begins job start.now → LeadsTo job past cluster.now
         → IfOk result (IsCauseOf job past entries.now wrong.entry.index wrong.entry.call.now wrong.entry.wanted.now) }
 {
     let index = wrong.index;
     match question_of(wrong.wanted) {
         Question::Unsent => cause_for(alloc, cluster, entries, index, wrong.call),
-        Question::Broken => break_cause(alloc, job, &entries[..index], wrong.call),
+        Question::Broken => break_cause(alloc, start, &entries[..index], wrong.call),
         Question::Term => Ok(holder_cause(cluster, wrong.call)),
         Question::Early => Ok(Some(Cause::ReadAt(ticks_in(wrong.call)))),
         Question::Row => row_cause(cluster, wrong.call),

@@ -3,9 +3,9 @@
 ghost use Rattle.std.specs.Prelude.{◌≡◌, IfOk, option_map};
 ghost use Rattle.lease_table.specs.Rows.{first_up_to};
 ghost use Rattle.lease_table.specs.Tables.{generation_of};
-ghost use Rattle.cluster.specs.Jobs.{Job};
+ghost use Rattle.cluster.specs.continued.Jobs.{Continued, job_in};
 ghost use Rattle.cluster.specs.Pasts.{Past, standing};
-ghost use Rattle.cluster.specs.Clusters.{LeadsTo};
+ghost use Rattle.cluster.specs.continued.Clusters.{LeadsTo};
 ghost use Rattle.call_log.specs.declared.cause.Cause.TheVariants.{ReadAfter};
 ghost use Rattle.call_log.specs.Refusals.{caller_of, holder_cause, late_cause, life_cause, row_cause, state_of_caller, task_back_cause};
 ghost use Rattle.call_log.specs.Refusals.{term_cause, term_in, ticks_in, ticks_of};
@@ -51,7 +51,7 @@ fn term_cause(number: u64, last: JobTerm) -> Cause
 /// Returns why the term that a call names does not hold the job lease; `None` if the table has given
 /// none.
 pub fn holder_cause(cluster: &Cluster, call: &LoggedCall) -> Option<Cause>
-    ensures { (job : Job) (past : Past) → LeadsTo job past cluster.now
+    ensures { (job : Continued) (past : Past) → LeadsTo job past cluster.now
         → result ≡ holder_cause (term_in call.now) (standing job.policy past).term }
 {
     let number = term_in(call)?;
@@ -77,7 +77,7 @@ pub fn ticks_in(call: &LoggedCall) -> u64
 
 /// Returns the reading of a call, and the table's last one.
 pub fn table_back_cause(cluster: &Cluster, call: &LoggedCall) -> Cause
-    ensures { (job : Job) (past : Past) → LeadsTo job past cluster.now
+    ensures { (job : Continued) (past : Past) → LeadsTo job past cluster.now
         → result ≡ ReadAfter (ticks_in call.now) (standing job.policy past).last }
 {
     Cause::ReadAfter {
@@ -97,7 +97,7 @@ fn first_up_to(rows: &[Row], generation: u64, at: u64) -> Option<Row>
 
 // Returns the committed generation, 0 before the first.
 fn committed_generation(cluster: &Cluster) -> u64
-    ensures { (job : Job) (past : Past) → LeadsTo job past cluster.now
+    ensures { (job : Continued) (past : Past) → LeadsTo job past cluster.now
         → result ≡ generation_of (standing job.policy past).committed }
 {
     match cluster.table().committed() {
@@ -108,7 +108,7 @@ fn committed_generation(cluster: &Cluster) -> u64
 
 /// Returns when the row ends that holds a commit up at its reading.
 pub fn row_cause(cluster: &Cluster, call: &LoggedCall) -> Result<Option<Cause>, AllocError>
-    ensures { (job : Job) (past : Past) → LeadsTo job past cluster.now
+    ensures { (job : Continued) (past : Past) → LeadsTo job past cluster.now
         → IfOk result (λ cause. cause ≡ row_cause (standing job.policy past) (ticks_in call.now)) }
 {
     let at = ticks_in(call);
@@ -153,15 +153,15 @@ fn caller_of(call: &LoggedCall) -> Option<u64>
 
 // Returns the slicelet of the task that a call is one of, if the job has the task.
 fn caller<'a>(cluster: &'a Cluster, call: &LoggedCall) -> Option<&'a Slicelet>
-    ensures { (job : Job) (past : Past) → LeadsTo job past cluster.now
-        → option_map (λ slicelet. slicelet.now) result ≡ state_of_caller job past call.now }
+    ensures { (job : Continued) (past : Past) → LeadsTo job past cluster.now
+        → option_map (λ slicelet. slicelet.now) result ≡ state_of_caller (job_in job) past call.now }
 {
     cluster.slicelet(caller_of(call)?)
 }
 
 /// Returns the reading of a call, and the last one of its task.
 pub fn task_back_cause(cluster: &Cluster, call: &LoggedCall) -> Option<Cause>
-    ensures { (job : Job) (past : Past) → LeadsTo job past cluster.now → result ≡ task_back_cause job past call.now }
+    ensures { (job : Continued) (past : Past) → LeadsTo job past cluster.now → result ≡ task_back_cause (job_in job) past call.now }
 {
     let slicelet = caller(cluster, call)?;
     Some(Cause::ReadAfter {
@@ -172,7 +172,7 @@ pub fn task_back_cause(cluster: &Cluster, call: &LoggedCall) -> Option<Cause>
 
 /// Returns the life of the task that a call is one of.
 pub fn life_cause(cluster: &Cluster, call: &LoggedCall) -> Option<Cause>
-    ensures { (job : Job) (past : Past) → LeadsTo job past cluster.now → result ≡ life_cause job past call.now }
+    ensures { (job : Continued) (past : Past) → LeadsTo job past cluster.now → result ≡ life_cause (job_in job) past call.now }
 {
     let slicelet = caller(cluster, call)?;
     Some(Cause::InLife(slicelet.life()))

@@ -3,7 +3,7 @@
 ghost use Rattle.std.specs.Prelude.{◌≡◌, IfOk, Some, map, slice_get, string_bytes};
 ghost use Rattle.call_log.specs.Reports.{IsOtherOf, IsReport, IsWholeReport, cause_text, clocks_text, cut_text, double_text, ended_reason};
 ghost use Rattle.call_log.specs.Reports.{ended_text, wrong_text};
-ghost use Rattle.call_log.specs.Reports.{held_reason, hint_text, later_text, lease_text, missing_text, name_text, one_text, reason_text, standing_at};
+ghost use Rattle.call_log.specs.Reports.{held_reason, hint_text, later_text, lease_text, missing_text, name_text, one_text, reason_text, standing_at, table_read_text};
 ghost use Rattle.call_log.specs.Reports.{start_text, ticket_of, told_text};
 
 use crate::callers::{calls_line, silent_line};
@@ -199,6 +199,33 @@ impl fmt::Display for Reason<'_> {
     }
 }
 
+/// Displays where the table read its clock before, and how much.
+#[derive(Clone, Copy)]
+struct TableRead<'a> {
+    log: NamedEntries<'a>,
+    // `None` if it was before the first of the calls.
+    index: Option<usize>,
+    at: u64,
+}
+
+impl fmt::Display for TableRead<'_> {
+    ghost output = { λ r. Some (table_read_text (map (λ n. n.now) r.log.names.now) r.log.entries.now r.index r.at) };
+
+    fn fmt<W: fmt::Write>(&self, f: &mut fmt::Formatter<W>) -> fmt::Result {
+        let at = self.at;
+        match self.index {
+            Some(index) => {
+                let table = Standing {
+                    log: self.log,
+                    index,
+                };
+                write!(f, "{table} read {at} before it")
+            }
+            None => write!(f, "the table read {at} in earlier logs"),
+        }
+    }
+}
+
 // Returns the last line of the report on calls that are one run.
 fn clocks_text(
     alloc: Global,
@@ -216,15 +243,13 @@ fn clocks_text(
         log,
         index: late.index,
     };
-    let table = Standing {
+    let at = late.at;
+    let table = TableRead {
         log,
         index: late.table_index,
+        at: late.table_at,
     };
-    let at = late.at;
-    let table_at = late.table_at;
-    format!(in alloc;
-        "timely no: {task} read {at}, {table} read {table_at} before it, skew {skew}\n"
-    )
+    format!(in alloc; "timely no: {task} read {at}, {table}, skew {skew}\n")
 }
 
 /// Returns the ticket of an entry, 0 if there is none.

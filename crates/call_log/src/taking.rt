@@ -1,16 +1,19 @@
 //! Finding the call that took the key of a handle away.
 
 ghost use Rattle.std.specs.Prelude.{◌≡◌, IfOk};
-ghost use Rattle.cluster.specs.Jobs.{Job};
+ghost use Rattle.cluster.specs.continued.Jobs.{Continued, job_in};
 ghost use Rattle.cluster.specs.Pasts.{Past};
-ghost use Rattle.cluster.specs.Clusters.{LeadsTo};
+ghost use Rattle.cluster.specs.continued.Clusters.{LeadsTo};
 ghost use Rattle.call_log.specs.Broken.{is_broken, is_taken_away, IsBreakCause, IsTakingOr};
+ghost use Rattle.call_log.specs.Starts.{Begins};
 
 use crate::cause::Cause;
 use crate::entry::LogEntry;
 use crate::line::LoggedCall;
+use crate::log_machines::LogMachines;
 use crate::playing::answer;
-use cluster::{Cluster, ClusterCall, Job};
+use crate::start::Start;
+use cluster::{Cluster, ClusterCall};
 use slicelet::{KeyHandle, Stranger};
 use std::alloc::{AllocError, Global};
 
@@ -26,7 +29,7 @@ fn is_broken(checked: Result<bool, Stranger>) -> bool
 
 // Whether a call took the key of a task's handle away.
 fn is_taken_away(cluster: &Cluster, task: u64, handle: &KeyHandle) -> bool
-    ensures { (job : Job) (past : Past) → LeadsTo job past cluster.now → result ≡ is_taken_away job past task handle.now }
+    ensures { (job : Continued) (past : Past) → LeadsTo job past cluster.now → result ≡ is_taken_away (job_in job) past task handle.now }
 {
     match cluster.slicelet(task) {
         Some(slicelet) => is_broken(slicelet.continuous(handle, slicelet.last_reading())),
@@ -39,19 +42,19 @@ fn is_taken_away(cluster: &Cluster, task: u64, handle: &KeyHandle) -> bool
 // The machines make each call, whatever its caller got.
 fn first_taking(
     alloc: Global,
-    job: Job,
+    start: &Start,
     entries: &[LogEntry],
     task: u64,
     handle: &KeyHandle,
 ) -> Result<Option<usize>, AllocError>
-    ensures { IfOk result (IsTakingOr job entries.now task handle.now) }
+    ensures { (job : Continued) → Begins job start.now → IfOk result (IsTakingOr job entries.now task handle.now) }
 {
-    let mut cluster = Cluster::new(alloc, job)?;
+    let mut machines = LogMachines::new(alloc, start, false)?;
     for index in 0..entries.len() {
         let entry = &entries[index];
-        let _other = answer(alloc, &mut cluster, &entry.line)?;
-        cluster.run_law();
-        if is_taken_away(&cluster, task, handle) {
+        let _other = answer(alloc, &mut machines, &entry.line)?;
+        machines.run_law();
+        if is_taken_away(machines.cluster(), task, handle) {
             return Ok(Some(index));
         }
     }
@@ -62,16 +65,19 @@ fn first_taking(
 /// `None` if none did, or if it checks none.
 pub fn break_cause(
     alloc: Global,
-    job: Job,
+    start: &Start,
     before: &[LogEntry],
     call: &LoggedCall,
 ) -> Result<Option<Cause>, AllocError>
-    ensures { IfOk result (IsBreakCause job before.now call.now) }
+    ensures { (job : Continued) → Begins job start.now → IfOk result (IsBreakCause job before.now call.now) }
 {
-    let LoggedCall::Whole(ClusterCall::Check { task, handle, .. }) = call else {
+    let LoggedCall::Whole(call) = call else {
         return Ok(None);
     };
-    match first_taking(alloc, job, before, *task, handle)? {
+    let ClusterCall::Check { task, handle, .. } = call else {
+        return Ok(None);
+    };
+    match first_taking(alloc, start, before, *task, handle)? {
         Some(place) => Ok(Some(Cause::TakenAway(place))),
         None => Ok(None),
     }

@@ -1,5 +1,5 @@
 -- How a reader of a log takes bytes in.
-use Rattle.std.specs.Prelude.{◌≡◌, ℕ, ◌+◌, ◌<◌, ◌==◌, ⊤, Bool, false, List, [], ◌∷◌, ◌++◌, length, Option, Some, None, is_some}
+use Rattle.std.specs.Prelude.{◌≡◌, ℕ, ◌+◌, ◌<◌, ◌==◌, ⊤, Bool, false, List, [], ◌∷◌, ◌++◌, length, Option, Some, None}
 use Rattle.std.specs.List.{AllByRecursion}
 use denote.Ref.{Bor}
 use Rattle.call_log.specs.declared.lines.FirstPart.{FirstPart}
@@ -30,7 +30,6 @@ pub record EndsLine (before : LogReader) (ended : Bool) (after : LogReader) : Ty
   pub part : after.part.items ≡ []
   pub file : after.file ≡ before.file
   pub number : after.number ≡ before.number + 1
-  pub wanted : is_some after.taken.calls.lasting ≡ is_some before.taken.calls.lasting
 
 -- what is left of bytes is less
 abbrev pub AreFewer : List ℕ → Option (Bor (List ℕ)) → Type 0
@@ -38,7 +37,7 @@ AreFewer bytes None = ⊤
 AreFewer bytes (Some rest) = length rest.now < length bytes
 
 -- a reader that had read some bytes has read more, up to the first end of a line, or all
-abbrev pub IsPartRead : Bool → List (List ℕ) → List ℕ → List ℕ → Option (Bor (List ℕ)) → LogReader → Type 0
-IsPartRead keeps files before bytes None reader = IsReading keeps files (before ++ bytes) reader
-IsPartRead keeps files before bytes (Some rest) reader =
-    (part : List ℕ) × (bytes ≡ part ++ 10 ∷ rest.now) × IsReading keeps files (before ++ (part ++ 10 ∷ [])) reader
+abbrev pub IsPartRead : List (List ℕ) → List ℕ → List ℕ → Option (Bor (List ℕ)) → LogReader → Type 0
+IsPartRead files before bytes None reader = IsReading files (before ++ bytes) reader
+IsPartRead files before bytes (Some rest) reader =
+    (part : List ℕ) × (bytes ≡ part ++ 10 ∷ rest.now) × IsReading files (before ++ (part ++ 10 ∷ [])) reader

@@ -6,13 +6,12 @@ use Rattle.call_log.specs.declared.late.Greatest.{Greatest}
 use Rattle.call_log.specs.declared.late.Late.{Late}
 
 abbrev pub reached : ℕ → ℕ → Greatest
-reached at index = record { at = at; index = index }
+reached at index = record { at = at; index = Some index }
 
-abbrev pub greater : Option Greatest → ℕ → ℕ → Option Greatest
-greater None at index = Some (reached at index)
-greater (Some g) at index = if nat_le at g.at then Some g else Some (reached at index)
+abbrev pub greater : Greatest → ℕ → ℕ → Greatest
+greater g at index = if nat_le at g.at then g else reached at index
 
-abbrev pub greatest_after : Option Greatest → Reading → ℕ → Option Greatest
+abbrev pub greatest_after : Greatest → Reading → ℕ → Greatest
 greatest_after g (TableClock at) index = greater g at index
 greatest_after g _ index = g
 
@@ -20,6 +19,6 @@ greatest_after g _ index = g
 abbrev pub late_by : Greatest → ℕ → ℕ → Late
 late_by g at index = record { index = index; at = at; table_index = g.index; table_at = g.at }
 
-abbrev pub late_after : ℕ → Option Greatest → Reading → ℕ → Option Late
-late_after skew (Some g) (TaskClock at) index = if nat_lt at (g.at - skew) then Some (late_by g at index) else None
-late_after skew _ _ index = None
+abbrev pub late_after : ℕ → Greatest → Reading → ℕ → Option Late
+late_after skew g (TaskClock at) index = if nat_lt at (g.at - skew) then Some (late_by g at index) else None
+late_after skew g _ index = None

@@ -1,37 +1,37 @@
-use Rattle.std.proofs.Common.{[], refl, subst, List, arith}
+use Rattle.std.proofs.Common.{refl, subst, List, arith}
 use Rattle.call_log.specs.declared.entry.LogEntry.{LogEntry}
 use Rattle.call_log.specs.Calls.{held_by_asked}
 use Rattle.call_log.specs.Hints.{with_open}
 use Rattle.call_log.proofs.Opening.{all_of}
 use Rattle.call_log.proofs.Replaying.{IsPlayedTo, played_more, breaks_here}
-use Rattle.cluster.specs.continued.Jobs.{from_start}
+use Rattle.cluster.specs.continued.Jobs.{job_in}
 use Rattle.call_log.proofs.hint.is_run_with.Goals as goal
 
 pub loop-index-init : goal.loop-index-init
-loop-index-init c = record { past = []; told = refl; leads = c.in_ok-cluster.ensures }
+loop-index-init c = λ job begins. record { past = job.earlier; told = refl; played = c.in_ok-machines.ensures job begins }
 
 pub returns-in-Some : goal.returns-in-Some
-returns-in-Some c =
+returns-in-Some c = λ job begins.
     let all : List LogEntry = with_open c.args.place c.args.line.now c.args.entries.now in
-    let known = c.loop-index.invariant in
-    let answered = rw c.in-Some.is at (c.in_ok-other.ensures c.args.job known.past known.leads) in (
+    let known = c.loop-index.invariant job begins in
+    let answered = rw c.in-Some.is at (c.in_ok-other.ensures job known.past known.played) in (
       c.loop-index.index,
       c.in-Some._wanted,
-      held_by_asked c.args.job answered.played.after c.entry_with-entry.result.now.line.call,
+      held_by_asked (job_in job) answered.played.after c.entry_with-entry.result.now.line.call,
       breaks_here all c.loop-index.index c.entry_with-entry.result.now c.entry_with-entry.ensures.0 c.entry_with-entry.ensures.1
-          c.args.job known.past c.answer.new.cluster c.in-Some._wanted _ known.told answered (c.run_law.ensures.run (from_start c.args.job) _ answered.played.leads) refl,
+          job known.past c.answer.new.machines c.in-Some._wanted _ known.told answered (c.run_law.ensures job _ answered.played.played) refl,
     )
 
 pub loop-index-preserved : goal.loop-index-preserved
-loop-index-preserved c =
+loop-index-preserved c = λ job begins.
     let all : List LogEntry = with_open c.args.place c.args.line.now c.args.entries.now in
-    let known = c.loop-index.invariant in
-    let answered = rw c.in_default.is at (c.in_ok-other.ensures c.args.job known.past known.leads) in
+    let known = c.loop-index.invariant job begins in
+    let answered = rw c.in_default.is at (c.in_ok-other.ensures job known.past known.played) in
     played_more all c.loop-index.index c.entry_with-entry.result.now c.entry_with-entry.ensures.0 c.entry_with-entry.ensures.1
-    c.args.job c.loop-index.cluster c.answer.new.cluster known answered
+    job c.loop-index.machines c.answer.new.machines known answered
 
 pub returns : goal.returns
-returns c =
-    let known = subst (λ (es : List LogEntry). IsPlayedTo c.args.job es c.loop-index.cluster)
-    (all_of c.args.entries.now c.args.place c.args.line.now c.requires c.loop-index.index (omega arith)) c.loop-index.invariant in
-    record { past = known.past; told = known.told; answered = c.run_law-2.ensures.run (from_start c.args.job) known.past known.leads }
+returns c = λ job begins.
+    let known = subst (λ (es : List LogEntry). IsPlayedTo job es c.loop-index.machines)
+    (all_of c.args.entries.now c.args.place c.args.line.now c.requires c.loop-index.index (omega arith)) (c.loop-index.invariant job begins) in
+    record { past = known.past; told = known.told; answered = c.run_law-2.ensures job known.past known.played }

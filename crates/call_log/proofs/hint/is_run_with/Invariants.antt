@@ -1,8 +1,10 @@
 use Rattle.std.proofs.Common.{take}
+use Rattle.cluster.specs.continued.Jobs.{Continued}
 use Rattle.call_log.specs.Hints.{with_open}
+use Rattle.call_log.specs.Starts.{Begins}
 use Rattle.call_log.proofs.Replaying.{IsPlayedTo}
 use Rattle.call_log.proofs.hint.is_run_with.Given as goal
 
 -- the entries so far are a run
 abbrev pub invariant-loop-index : goal.invariant-loop-index
-invariant-loop-index l = IsPlayedTo l.fn.job (take l.index (with_open l.place l.line l.entries)) l.cluster
+invariant-loop-index l = (job : Continued) → Begins job l.fn.start → IsPlayedTo job (take l.index (with_open l.place l.line l.entries)) l.machines

@@ -1,36 +1,53 @@
-use Rattle.std.proofs.Common.{ℕ, [], refl, ◌∙◌, ap, subst, arith, List}
+use Rattle.std.proofs.Common.{ℕ, refl, ◌∙◌, sym, ap, subst, arith, List}
 use Rattle.std.proofs.lemmas.List.{take_all}
 use Rattle.call_log.specs.declared.entry.LogEntry.{LogEntry}
 use Rattle.lease_table.specs.Policies.{Terms}
 use Rattle.call_log.specs.Late.{AreWatched}
+use Rattle.call_log.proofs.Leaving.{all_sent, none_kept, same_policy, state_left}
 use Rattle.call_log.proofs.Replaying.{IsPlayedTo, caused_here, one_run, played_more}
-use Rattle.cluster.specs.continued.Jobs.{from_start}
 use Rattle.call_log.proofs.judging.replay.Goals as goal
 
 pub loop-index-init : goal.loop-index-init
-loop-index-init g c = record { past = []; told = refl; leads = c.in_ok-cluster.ensures }
-
-pub returns-in-Some : goal.returns-in-Some
-returns-in-Some g c =
-    let known = c.loop-index.invariant in
-    let answered = rw c.in-Some.is at (c.in_ok-other.ensures c.args.job known.past known.leads) in
-    caused_here c.args.entries.now c.loop-index.index c.index-entries-index.result c.loop-index-test.true c.index-entries-index.is
-    c.args.job known.past c.answer.new.cluster c.in-Some.wanted c.held_by_asked-held.result c.in_ok-cause.cause known.told answered
-    (c.run_law.ensures.run (from_start c.args.job) _ answered.played.leads) (c.held_by_asked-held.ensures c.args.job _ answered.played.leads)
-    (c.in_ok-cause.ensures _ answered.played.leads)
+loop-index-init g c = λ job begins. record { past = job.earlier; told = refl; played = c.in_ok-machines.ensures job begins }
 
 pub loop-index-preserved : goal.loop-index-preserved
-loop-index-preserved g c =
-    let known = c.loop-index.invariant in
-    let answered = rw c.in_default.is at (c.in_ok-other.ensures c.args.job known.past known.leads) in
+loop-index-preserved g c = λ job begins.
+    let known = c.loop-index.invariant job begins in
+    let answered = rw c.in_default.is at (c.in_ok-other.ensures job known.past known.played) in
     played_more c.args.entries.now c.loop-index.index c.index-entries-index.result c.loop-index-test.true c.index-entries-index.is
-    c.args.job c.loop-index.cluster c.answer.new.cluster known answered
+    job c.loop-index.machines c.answer.new.machines known answered
 
-pub returns : goal.returns
-returns g c =
-    let known = subst (λ (es : List LogEntry). IsPlayedTo c.args.job es c.loop-index.cluster)
-    (take_all c.loop-index.index c.args.entries.now c.loop-index-test.false) c.loop-index.invariant in
-    one_run c.args.job c.args.entries.now c.loop-index.cluster _ c.late_reading.result known
-    (c.run_law-2.ensures.run (from_start c.args.job) known.past known.leads)
-    (omega arith)
-    (subst (λ (n : ℕ). AreWatched n c.args.entries.now c.late_reading.result) (c.skew.ensures ∙ ap (λ (p : Terms). p.skew) c.policy.ensures) c.late_reading.ensures)
+pub returns-in-Some-clause-found : goal.returns-in-Some-clause-found
+returns-in-Some-clause-found g c = λ job begins.
+    let known = c.loop-index.invariant job begins in
+    let answered = rw c.in-Some.is at (c.in_ok-other.ensures job known.past known.played) in
+    let after = answered.played.after in
+    caused_here c.args.entries.now c.loop-index.index c.index-entries-index.result c.loop-index-test.true c.index-entries-index.is
+    job known.past c.answer.new.machines c.in-Some.wanted c.held_by_asked-held.result c.in_ok-cause.cause known.told answered
+    (c.run_law.ensures job after answered.played.played) (c.held_by_asked-held.ensures job after (c.cluster.ensures job after answered.played.played))
+    (c.in_ok-cause.ensures job after begins (c.cluster-in-Some.ensures job after answered.played.played))
+
+pub returns-in-Some-clause-kept : goal.returns-in-Some-clause-kept
+returns-in-Some-clause-kept g c = none_kept c.args.keeps
+
+pub returns-clause-found : goal.returns-clause-found
+returns-clause-found g c = λ job begins.
+    let known = subst (λ (es : List LogEntry). IsPlayedTo job es c.loop-index.machines)
+    (take_all c.loop-index.index c.args.entries.now c.loop-index-test.false) (c.loop-index.invariant job begins) in
+    let skew = c.skew.ensures ∙ ap (λ (p : Terms). p.skew) (c.policy.ensures ∙ same_policy job c.args.start.now.job c.args.start.now.earlier begins) in
+    let watched = subst (λ (n : ℕ). AreWatched n c.table_reading.result c.args.entries.now c.late_reading-late.result) skew c.late_reading-late.ensures in
+    one_run job c.args.entries.now c.loop-index.machines _ c.late_reading-late.result known (c.run_law-2.ensures job known.past known.played) (omega arith)
+    (subst (λ (n : ℕ). AreWatched job.policy.skew n c.args.entries.now c.late_reading-late.result) (c.table_reading.ensures job begins) watched)
+
+pub returns-clause-state : goal.returns-clause-state
+returns-clause-state g c = λ job begins.
+    let known = subst (λ (es : List LogEntry). IsPlayedTo job es c.loop-index.machines)
+    (take_all c.loop-index.index c.args.entries.now c.loop-index-test.false) (c.loop-index.invariant job begins) in
+    state_left job c.args.entries.now c.loop-index.machines known (c.run_law-2.ensures job known.past known.played) c.in_ok-state.state
+    (c.in_ok-state.ensures.state job known.past known.played)
+
+pub returns-clause-sent : goal.returns-clause-sent
+returns-clause-sent g c = λ job begins all.
+    let known = subst (λ (es : List LogEntry). IsPlayedTo job es c.loop-index.machines)
+    (take_all c.loop-index.index c.args.entries.now c.loop-index-test.false) (c.loop-index.invariant job begins) in
+    all_sent job c.args.entries.now c.loop-index.machines known (c.run_law-2.ensures job known.past known.played) (sym c.all_sent-all_sent.ensures ∙ all)

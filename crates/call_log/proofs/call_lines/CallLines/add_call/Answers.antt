@@ -4,9 +4,8 @@ use Rattle.call_log.proofs.Saying.{said_after}
 use Rattle.call_log.proofs.LineTaking.{calls_are, calls_so_far}
 use Rattle.call_log.proofs.call_lines.CallLines.add_call.Goals as goal
 
-pub returns-clause-added : goal.returns-clause-added
-returns-clause-added c = λ lines known none says.
+pub returns : goal.returns
+returns c = λ lines known none says.
     let so_far = calls_so_far lines c.args.self.now None none refl known in
-    calls_are _ (record { entries = c.push.new.self; torn = c.args.self.now.torn; bad = c.args.self.now.bad; lasting = c.add_lasting.new.text }) none
-    (rw c.in_ok-push.ensures.items (said_after lines c.args.self.now.entries.items c.args.self.now.torn.items _ _ so_far.0 (record { same_place = refl; says = says })))
-    (c.in_ok-add_lasting.ensures.added lines c.args.said so_far.1 says refl)
+    calls_are _ (record { entries = c.push.new.self; torn = c.args.self.now.torn; bad = c.args.self.now.bad }) none
+    (rw c.in_ok-push.ensures.items (said_after lines c.args.self.now.entries.items c.args.self.now.torn.items _ _ so_far (record { same_place = refl; says = says })))

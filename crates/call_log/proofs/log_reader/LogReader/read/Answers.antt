@@ -7,12 +7,12 @@ pub parts-smaller : goal.parts-smaller
 parts-smaller g c = rw c.in-Some.is at c.in_ok-rest.ensures.shorter
 
 pub parts-preserved : goal.parts-preserved
-parts-preserved g c = λ keeps files before known.
-    let so_far = c.parts.invariant keeps files before known in
-    more_read keeps files before c.args.piece.now so_far.0 _ so_far.1 _ _ c.in-Some.rest c.in-Some.is (c.in_ok-rest.ensures.read keeps files _ so_far.2)
+parts-preserved g c = λ files before known.
+    let so_far = c.parts.invariant files before known in
+    more_read files before c.args.piece.now so_far.0 _ so_far.1 _ _ c.in-Some.rest c.in-Some.is (c.in_ok-rest.ensures.read files _ so_far.2)
 
 pub returns : goal.returns
-returns g c = λ keeps files before known.
-    let so_far = c.parts.invariant keeps files before known in
+returns g c = λ files before known.
+    let so_far = c.parts.invariant files before known in
     let none : is_some c.in_ok-rest.field-0 ≡ false = search rules in
-    all_read_of_it keeps files before c.args.piece.now so_far.0 _ so_far.1 _ _ none (c.in_ok-rest.ensures.read keeps files _ so_far.2)
+    all_read_of_it files before c.args.piece.now so_far.0 _ so_far.1 _ _ none (c.in_ok-rest.ensures.read files _ so_far.2)

@@ -5,20 +5,20 @@ use Rattle.call_log.proofs.log_reader.LogReader.read_part.Goals as goal
 use Rattle.call_log.proofs.log_reader.LogReader.read_part.Goals.{then-is_some+in_ok-end_line, else-is_some}
 
 pub returns-clause-read : goal.returns-clause-read
-returns-clause-read g c = λ keeps files before known.
+returns-clause-read g c = λ files before known.
     let first = c.first_part-first in
     elim c.if-is_some.branch [
       | then-is_some+in_ok-end_line w ↦
           let some : is_some first.result.rest ≡ true = search rules in
           rw w.self-is
-          (line_read_to keeps files before c.args.bytes.now first.result.part.now first.result.rest _ some first.ensures.whole
-          (line_more keeps files _ _
-          (part_more keeps files before c.args.self.now known _ first.result.part.now first.ensures.unended refl refl refl c.in_ok-extend_from_slice.ensures.items) _ w.in_ok-end_line.ensures))
+          (line_read_to files before c.args.bytes.now first.result.part.now first.result.rest _ some first.ensures.whole
+          (line_more files _ _
+          (part_more files before c.args.self.now known _ first.result.part.now first.ensures.unended refl refl refl c.in_ok-extend_from_slice.ensures.items) _ w.in_ok-end_line.ensures))
       | else-is_some w ↦
           let none : is_some first.result.rest ≡ false = search rules in
           rw w.self-is
-          (all_of_it keeps files before c.args.bytes.now first.result.part.now first.result.rest _ none first.ensures.whole
-          (part_more keeps files before c.args.self.now known _ first.result.part.now first.ensures.unended refl refl refl c.in_ok-extend_from_slice.ensures.items))
+          (all_of_it files before c.args.bytes.now first.result.part.now first.result.rest _ none first.ensures.whole
+          (part_more files before c.args.self.now known _ first.result.part.now first.ensures.unended refl refl refl c.in_ok-extend_from_slice.ensures.items))
     ]
 
 pub returns-clause-shorter : goal.returns-clause-shorter

@@ -1,7 +1,8 @@
-use Rattle.std.proofs.Common.{rules, ◌≡◌, false, refl}
+use Rattle.std.proofs.Common.{rules, ◌≡◌, false, map, refl}
 use Rattle.std.specs.Prelude.{None, is_some}
+use Rattle.call_log.specs.Readers.{kept}
 use Rattle.call_log.proofs.Parting.{is_log, no_call_read}
-use Rattle.call_log.proofs.LineTaking.{bad_line, calls_so_far, first_line, keeps_so, short_lines, state_is}
+use Rattle.call_log.proofs.LineTaking.{bad_line, calls_so_far, first_line, short_lines}
 use Rattle.call_log.proofs.log_reader.TakenLines.finish.Goals as goal
 
 pub returns-in-Some-bad-clause-err : goal.returns-in-Some-bad-clause-err
@@ -18,9 +19,11 @@ returns-clause-ok c = λ lines taken.
     let short = short_lines lines c.args.self c.args.self.long refl none taken in
     let first = first_line _ _ c.in-Some-first.first c.in-Some-first.is short.jobs.first in
     let so_far = calls_so_far short.others c.args.self.calls None (search rules) refl short.calls in
-    let state = rw c.as_slice-2.ensures.value at c.in_ok-state.ensures in
+    let front = rw c.as_slice-2.ensures.value at c.in_ok-job_line.ensures in
     record {
-      log = is_log lines _ short.others _ first.0 short.short first.1 short.jobs.parted _ (rw c.as_slice.ensures.value at c.in_ok-job.ensures.ok) so_far.0;
-      state = state_is lines short.others c.args.self.jobs.jobs.items c.args.self.calls.lasting _ short.jobs.parted so_far.1 state;
-      keeps_state = keeps_so c.args.self.calls.lasting _ _ state;
+      log = is_log lines _ short.others _ first.0 short.short first.1 short.jobs.parted _ (rw c.as_slice.ensures.value at c.in_ok-job.ensures.ok) so_far;
+      jobs = map kept c.args.self.jobs.jobs.items;
+      others = short.others;
+      parted = short.jobs.parted;
+      job_line = front;
     }
