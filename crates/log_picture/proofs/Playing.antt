@@ -5,7 +5,7 @@ use Rattle.std.specs.List.{AllByRecursion}
 use Rattle.std.proofs.lemmas.List.{take_more, reverse-append, length-reverse, length-take-le}
 use Rattle.lease_table.specs.Calls.{committed_in}
 use Rattle.cluster.specs.Jobs.{Job}
-use Rattle.cluster.specs.declared.cluster.Cluster.{Cluster}
+use Rattle.cluster.specs.continued.Jobs.{from_start}
 use Rattle.cluster.specs.declared.timing.Reading.{Reading}
 use Rattle.cluster.specs.declared.call.ClusterCall.{ClusterCall}
 use Rattle.cluster.specs.declared.call.ClusterCall.TheVariants as call
@@ -14,6 +14,7 @@ use Rattle.cluster.specs.Pasts.{Event, Past, event, table_calls, task_calls, wit
 use Rattle.call_log.specs.declared.entry.LogEntry.{LogEntry}
 use Rattle.call_log.specs.declared.line.LoggedCall.{LoggedCall}
 use Rattle.call_log.specs.declared.line.LoggedCall.TheVariants.{Whole, HearBare, LearnBare, Restore, Sample}
+use Rattle.call_log.specs.declared.log_machines.LogMachines.{LogMachines}
 use Rattle.call_log.specs.declared.restored.KeptNumbers.{KeptNumbers}
 use Rattle.call_log.specs.declared.restored.RestoreFault.{RestoreFault}
 use Rattle.call_log.specs.declared.told.CallerReply.{CallerReply}
@@ -100,7 +101,7 @@ many_before entries i inside = length-reverse (take i entries) ∙ length-take-l
 
 -- WARNINGS
 
-module _ (shot : Shot) (job : Job) (before : List LogEntry) (entry : LogEntry) (old new : LogWatch) (cluster after : Cluster) (told : CallerReply)
+module _ (shot : Shot) (job : Job) (before : List LogEntry) (entry : LogEntry) (old new : LogWatch) (machines after : LogMachines) (told : CallerReply)
     (index : ℕ) (foreign : Option ℕ) where
   -- the warnings of an entry at an index, by what is known of those before
   warned_by : ℕ → ℕ → ℕ → Option ℕ → List Alarm
@@ -109,7 +110,7 @@ module _ (shot : Shot) (job : Job) (before : List LogEntry) (entry : LogEntry) (
       else []
 
   -- one more entry
-  pub watched_more : (w : AreWatched shot job before cluster old) → IsPlayed job w.past entry.line.call told after → length before ≡ index
+  pub watched_more : (w : AreWatched shot job before machines old) → IsPlayed (from_start job) w.past entry.line.call told after → length before ≡ index
       → foreign ≡ foreign_in shot.key (committed_in (table_calls w.past)) entry.line.call
       → new.skew ≡ old.skew
       → ((readings : List Reading) → old.table ≡ greatest_of_table readings → new.table ≡ greatest_of_table (reading_in entry.line.call ∷ readings))
@@ -127,7 +128,7 @@ module _ (shot : Shot) (job : Job) (before : List LogEntry) (entry : LogEntry) (
       record {
         past = one.after;
         warned = (w.past, told, old.alarms.items, one.stands, w.warned, alarms ∙ ap (λ (more : List Alarm). old.alarms.items ++ more) same);
-        leads = one.leads;
+        played = one.played;
         skew = skew ∙ w.skew;
         table = table (readings_of before) w.table;
       }

@@ -5,6 +5,7 @@ use Rattle.slicelet.specs.declared.call.SliceletCall.{SliceletCall}
 use Rattle.cluster.specs.Jobs.{Job}
 use Rattle.cluster.specs.Pasts.{Past, task_calls}
 use Rattle.cluster.specs.Runs.{IsRun}
+use Rattle.cluster.specs.continued.Jobs.{from_start}
 use Rattle.call_log.specs.declared.entry.LogEntry.{LogEntry}
 use Rattle.call_log.specs.Played.{AreCallsOf}
 use Rattle.timeline.specs.declared.stretch.Stretch.{Stretch}
@@ -19,6 +20,6 @@ AreCut key span calls stretches = (at : ℕ) → list_any (is_in at) stretches �
 -- key, on those of these calls that it accepted up to there
 pub record AreColoured (job : Job) (entries : List LogEntry) (key : ℕ) (span : Stretch) (tasks : List (List Stretch)) : Type 0 where
   pub past : Past
-  pub calls : AreCallsOf job (reverse entries) past
+  pub calls : AreCallsOf (from_start job) (reverse entries) past
   pub run : IsRun job past
   pub stretches : Each (λ task. AreCut key span (task_calls task past)) job.tasks tasks

@@ -3,6 +3,7 @@ use Rattle.std.specs.Prelude.{◌≡◌, ℕ, Bool, List, [], ◌++◌, codes, r
 use Rattle.std.specs.Ordering.{nat_cmp}
 use Rattle.std.specs.List.Sorted.{IsPermutation, IsStableByKey}
 use Rattle.cluster.specs.Jobs.{Job}
+use Rattle.cluster.specs.continued.Jobs.{from_start}
 use Rattle.call_log.specs.declared.entry.LogEntry.{LogEntry}
 use Rattle.call_log.specs.declared.finding.Finding.{Finding}
 use Rattle.call_log.specs.declared.finding.Finding.TheVariants.{One, Double, Other}
@@ -41,11 +42,11 @@ pub record ShowsRun (shot : Shot) (job : Job) (played : List LogEntry) (with_cle
 -- a picture of entries in the order of their tickets, of which this is found, in this window: of those up to where they are one run; it says if not
 -- all of them are. The report is that of the audit
 pub record IsPictureOf (log : Log) (shot : Shot) (with_clerks : Bool) (finding : Finding) (picture : LogPicture) : Type 0 where
-  pub found : IsFound log.job shot.entries finding
+  pub found : IsFound (from_start log.job) shot.entries finding
   pub one : picture.is_one ≡ is_one finding
   pub left_out : picture.torn.items ≡ log.torn.items
   pub hint : Option Hint
-  pub hinted : IsHinted log.job shot.entries finding hint
+  pub hinted : IsHinted (from_start log.job) shot.entries finding hint
   pub reported : IsWholeReport log.job shot.names shot.entries finding hint [] (string_bytes picture.report)
   pub shows : ShowsRun shot log.job (take (end_of shot.entries finding) shot.entries) with_clerks (note_of finding (string_bytes picture.report))
       (string_bytes picture.text)

@@ -11,7 +11,7 @@ ghost use Rattle.timeline.specs.Tasks.{Each, AreTaskStretches, IsKeptOf};
 ghost use Rattle.log_picture.specs.Colours.{AreColoured, AreCut};
 ghost use Rattle.log_picture.specs.internals.Playing.{ArePlayed, calls_task};
 
-use call_log::{LogEntry, LoggedCall, tell};
+use call_log::{LogEntry, LogMachines, LoggedCall, Start, tell};
 use cluster::{Cluster, ClusterCall, Job};
 use machines::Listed;
 use slice_ranges::SliceKey;
@@ -47,16 +47,15 @@ fn observe(
 
 // Plays the call of an entry, and records what each task knows after it.
 fn play(
-    alloc: Global,
-    cluster: &mut Cluster,
+    machines: &mut LogMachines,
     tasks: &mut Vec<KeyStretches>,
     entry: &LogEntry,
 ) -> Result<(), AllocError>
-    ensures { (job : Job) (entries : List PlayedEntry) (key : ℕ) → ArePlayed job entries key cluster.old tasks.old.items
-        → OnOk result (ArePlayed job (entry.now ∷ entries) key cluster.new tasks.new.items) }
+    ensures { (job : Job) (entries : List PlayedEntry) (key : ℕ) → ArePlayed job entries key machines.old tasks.old.items
+        → OnOk result (ArePlayed job (entry.now ∷ entries) key machines.new tasks.new.items) }
 {
-    tell(alloc, cluster, &entry.line.call)?;
-    observe(tasks, cluster, &entry.line.call)
+    tell(machines, &entry.line.call)?;
+    observe(tasks, machines.cluster(), &entry.line.call)
 }
 
 // Returns the parts of each task's stretches that lie in a span.
@@ -89,12 +88,13 @@ pub fn colours_of(
 ) -> Result<Vec<Listed<Stretch>>, AllocError>
     ensures { IfOk result (λ tasks. AreColoured job entries.now key span tasks.items) }
 {
-    let mut cluster = Cluster::new(alloc, job)?;
+    let start = Start { job, earlier: None };
+    let mut machines = LogMachines::new(alloc, &start, false)?;
     let mut tasks = new_stretches(alloc, job, key)?;
     for entry in entries {
-        play(alloc, &mut cluster, &mut tasks, entry)?;
+        play(&mut machines, &mut tasks, entry)?;
     }
-    cluster.run_law();
+    machines.run_law();
     let all = stretches_of(alloc, tasks.as_slice())?;
     cut_all(alloc, all.as_slice(), span)
 }

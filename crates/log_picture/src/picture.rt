@@ -13,7 +13,7 @@ use crate::scene::{Scene, is_in_window, played_of};
 use crate::span::span_of;
 use crate::story::{Told, told_of};
 use call_log::{
-    Finding, LinePosition, Log, NamedEntries, Progress, audit_calls, hint_for, report_of,
+    Finding, LinePosition, Log, NamedEntries, Progress, Start, audit_calls, hint_for, report_of,
 };
 use cluster::Job;
 use log_view::{View, is_shown, window_of};
@@ -158,13 +158,14 @@ pub fn log_svg<P: Progress>(
         mut entries,
         torn,
     } = log;
-    let finding = audit_calls(alloc, job, &mut entries, progress)?;
+    let start = Start { job, earlier: None };
+    let finding = audit_calls(alloc, &start, &mut entries, progress)?;
     let entries = entries.as_slice();
     let Some(window) = window_of(entries, view.calls) else {
         return Ok(None);
     };
     let named = NamedEntries { names, entries };
-    let hint = hint_for(alloc, job, entries, &finding)?;
+    let hint = hint_for(alloc, &start, entries, &finding)?;
     let report = report_of(alloc, job, named, &finding, hint, &[])?;
     let note = note_of(alloc, &finding, report.as_str())?;
     let scene = Scene {

@@ -12,7 +12,7 @@ use crate::alarms::{LogWatch, foreign_in};
 use crate::cutting::cut_lanes;
 use crate::scene::{Scene, is_in_window};
 use crate::texts::{asked_words, key_words, label_of};
-use call_log::{CallerReply, LogEntry, PlainLine, Standing, tell};
+use call_log::{CallerReply, LogEntry, LogMachines, PlainLine, Standing, Start, tell};
 use cluster::{Cluster, Job};
 use log_view::is_shown;
 use std::alloc::{AllocError, Global};
@@ -112,23 +112,22 @@ fn take_in(
 
 // Plays the call at an index, and records it with what its caller is told.
 fn play(
-    alloc: Global,
-    cluster: &mut Cluster,
+    machines: &mut LogMachines,
     story: &mut Story,
     watch: &mut LogWatch,
     scene: &Scene,
     index: usize,
 ) -> Result<(), AllocError>
     requires { index < length scene.now.played.now }
-    ensures { (job : PlayedJob) → AreWatched (shot_of scene.now) job (reverse (take index scene.now.played.now)) cluster.old watch.old
-        → OnOk result (AreWatched (shot_of scene.now) job (reverse (take (index + 1) scene.now.played.now)) cluster.new watch.new) }
+    ensures { (job : PlayedJob) → AreWatched (shot_of scene.now) job (reverse (take index scene.now.played.now)) machines.old watch.old
+        → OnOk result (AreWatched (shot_of scene.now) job (reverse (take (index + 1) scene.now.played.now)) machines.new watch.new) }
 {
     let entry = &scene.played[index];
     let call = &entry.line.call;
-    let foreign = foreign_in(cluster, call, scene.key);
-    let told = tell(alloc, cluster, call)?;
+    let foreign = foreign_in(machines.cluster(), call, scene.key);
+    let told = tell(machines, call)?;
     let is_alarmed = watch.see(scene, index, entry, &told, foreign)?;
-    take_in(cluster, story, scene, index, &told, is_alarmed)
+    take_in(machines.cluster(), story, scene, index, &told, is_alarmed)
 }
 
 // Returns what happened to each actor in the calls that are played, and the warnings of them.
@@ -140,13 +139,14 @@ fn story_of(
 ) -> Result<(Story, Vec<Alarm>), AllocError>
     ensures { IfOk result (λ told. AreAlarms (shot_of scene.now) job scene.now.played.now told.1.items) }
 {
-    let mut cluster = Cluster::new(alloc, job)?;
+    let start = Start { job, earlier: None };
+    let mut machines = LogMachines::new(alloc, &start, false)?;
     let mut watch = LogWatch::new(alloc, job);
     let mut story = Story::new(alloc, job, span.from)?;
     for index in 0..scene.played.len() {
-        play(alloc, &mut cluster, &mut story, &mut watch, scene, index)?;
+        play(&mut machines, &mut story, &mut watch, scene, index)?;
     }
-    cluster.run_law();
+    machines.run_law();
     Ok((story, watch.alarms))
 }
 

@@ -6,8 +6,8 @@ use Rattle.std.proofs.lemmas.List.{append-nil, map-id}
 use Rattle.std.proofs.lemmas.List.FromFn.{filter_of_map_range_with_len_more}
 use Rattle.std.proofs.lemmas.Option.{slice_get-get_or}
 use Rattle.cluster.specs.Jobs.{Job}
-use Rattle.cluster.specs.declared.cluster.Cluster.{Cluster}
 use Rattle.call_log.specs.declared.entry.LogEntry.{LogEntry}
+use Rattle.call_log.specs.declared.log_machines.LogMachines.{LogMachines}
 use Rattle.log_view.specs.Lines.{AreLines, IsLineOf, shown_places, shows}
 use Rattle.log_view.specs.Windows.{is_shown}
 use Rattle.log_view.specs.internals.Playing.{IsLineAfter, IsLineAt, IsLineIf, IsPlayedTo}
@@ -49,8 +49,9 @@ abbrev pub words_in : Option (List ℕ) → List ℕ
 words_in (Some words) = words
 words_in None = []
 
-module _ (job : Job) (names : List (List ℕ)) (entries : List LogEntry) (i : ℕ) (low : i < length entries) (cluster next : Cluster)
-    (known : IsPlayedTo job (take i entries) cluster) (key : Option ℕ) (line : Option (List ℕ)) (at : IsLineAt job known.past names entries i key line next) where
+module _ (job : Job) (names : List (List ℕ)) (entries : List LogEntry) (i : ℕ) (low : i < length entries) (machines next : LogMachines)
+    (known : IsPlayedTo job (take i entries) machines) (key : Option ℕ) (line : Option (List ℕ))
+    (at : IsLineAt job known.past names entries i key line next) where
   stands : slice_get entries i ≡ Some at.entry
   stands = slice_get-get_or entries i at.entry low ∙ ap (λ (e : LogEntry). Some e) (sym at.here)
 
@@ -90,4 +91,4 @@ module _ (job : Job) (names : List (List ℕ)) (entries : List LogEntry) (i : �
 
   -- the machines after it
   pub played_with : IsPlayedTo job (take (i + 1) entries) next
-  played_with = played_more entries i at.entry low at.here job cluster next at.told known at.played
+  played_with = played_more entries i at.entry low at.here job machines next at.told known at.played

@@ -2,6 +2,7 @@
 use Rattle.std.specs.Prelude.{◌≡◌, ℕ, min, List, [], ◌++◌, length, Option, Some, None, string_bytes}
 use Rattle.std.specs.Ordering.{nat_cmp}
 use Rattle.std.specs.List.Sorted.{IsPermutation, IsStableByKey}
+use Rattle.cluster.specs.continued.Jobs.{from_start}
 use Rattle.call_log.specs.declared.entry.LogEntry.{LogEntry}
 use Rattle.call_log.specs.declared.finding.Finding.{Finding}
 use Rattle.call_log.specs.declared.finding.Finding.TheVariants.{One, Double, Other}
@@ -27,13 +28,13 @@ played (Other index wanted held cause) count = index
 pub record IsExplained (names : List (List ℕ)) (log : Log) (ordered : List LogEntry) (key : Option ℕ) (window : Window)
     (explained : ExplainedLog) : Type 0 where
   pub finding : Finding
-  pub found : IsFound log.job ordered finding
+  pub found : IsFound (from_start log.job) ordered finding
   pub one : explained.is_one ≡ is_one finding
   pub lines : List ℕ
   pub shown : AreLines log.job names ordered
       (shown_places key ordered window.from (min window.to (played finding (length ordered)))) lines
   pub hint : Option Hint
-  pub hinted : IsHinted log.job ordered finding hint
+  pub hinted : IsHinted (from_start log.job) ordered finding hint
   pub report : List ℕ
   pub told : IsWholeReport log.job names ordered finding hint [] report
   pub text : string_bytes explained.text ≡ lines ++ report

@@ -4,6 +4,7 @@ use Rattle.std.specs.List.{filter, range_with_len}
 use Rattle.cluster.specs.Jobs.{Job}
 use Rattle.cluster.specs.Pasts.{Past}
 use Rattle.cluster.specs.Runs.{IsRun}
+use Rattle.cluster.specs.continued.Jobs.{from_start}
 use Rattle.call_log.specs.declared.cause.Cause.{Cause}
 use Rattle.call_log.specs.declared.entry.LogEntry.{LogEntry}
 use Rattle.call_log.specs.declared.finding.HeldLeases.{HeldLeases}
@@ -27,13 +28,13 @@ pub record IsLineOf (job : Job) (names : List (List ℕ)) (entries : List LogEnt
   pub entry : LogEntry
   pub here : slice_get entries index ≡ Some entry
   pub past : Past
-  pub made : AreCallsOf job (reverse (take index entries)) past
+  pub made : AreCallsOf (from_start job) (reverse (take index entries)) past
   pub told : CallerReply
   pub after : Past
   pub stands : StandsFor job past entry.line.call told after
   pub answered : IsRun job after
   pub cause : Option Cause
-  pub because : IsCauseOf job after entries index entry.line.call told cause
+  pub because : IsCauseOf (from_start job) after entries index entry.line.call told cause
   pub words : line ≡ call_line (standing_at names entries index) entry.line.call told (held_by_asked job after entry.line.call)
       (cause_text names entries cause)
 

@@ -7,7 +7,7 @@ ghost use Rattle.log_view.specs.Explained.{IsExplainedLog, played};
 use crate::lines::{Part, lines_of};
 use crate::window::{View, window_of};
 use call_log::{
-    Finding, LinePosition, Log, NamedEntries, Progress, audit_calls, hint_for, report_of,
+    Finding, LinePosition, Log, NamedEntries, Progress, Start, audit_calls, hint_for, report_of,
 };
 use std::alloc::{AllocError, Global};
 
@@ -60,7 +60,8 @@ pub fn explain_log<P: Progress>(
         mut entries,
         torn,
     } = log;
-    let finding = audit_calls(alloc, job, &mut entries, progress)?;
+    let start = Start { job, earlier: None };
+    let finding = audit_calls(alloc, &start, &mut entries, progress)?;
     let entries = entries.as_slice();
     let Some(window) = window_of(entries, view.calls) else {
         return Ok(None);
@@ -72,7 +73,7 @@ pub fn explain_log<P: Progress>(
         key: view.key,
     };
     let mut text = lines_of(alloc, job, named, part)?;
-    let hint = hint_for(alloc, job, entries, &finding)?;
+    let hint = hint_for(alloc, &start, entries, &finding)?;
     let report = report_of(alloc, job, named, &finding, hint, &[])?;
     text.push_str(report.as_str())?;
     Ok(Some(ExplainedLog {

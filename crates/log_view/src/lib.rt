@@ -10,6 +10,3 @@ mod window;
 pub use call_text::CallText;
 pub use explaining::{ExplainedLog, explain_log};
 pub use window::{AROUND, Calls, View, Window, is_shown, window_of};
-
-#[cfg(test)]
-mod tests;

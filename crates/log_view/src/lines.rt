@@ -3,18 +3,19 @@
 ghost use Rattle.std.specs.Prelude.{◌≡◌, ◌≤◌, ◌<◌, IfOk, length, map, string_bytes};
 ghost use Rattle.std.specs.Option.{option_map};
 ghost use Rattle.cluster.specs.Pasts.{Past};
-ghost use Rattle.cluster.specs.Clusters.{LeadsTo};
+ghost use Rattle.cluster.specs.continued.Jobs.{from_start};
 ghost use Rattle.call_log.specs.Reports.{cause_text, standing_at};
+ghost use Rattle.call_log.specs.internals.Machines.{HavePlayed};
 ghost use Rattle.log_view.specs.Lines.{AreLines, call_line, shown_places};
 ghost use Rattle.log_view.specs.internals.Playing.{IsLineAfter, IsLineAt, IsPlayedTo};
 
 use crate::call_text::CallText;
 use crate::window::is_shown;
 use call_log::{
-    CallerReply, CauseText, HeldLeases, LogEntry, LoggedCall, NamedEntries, PlainLine, Reason,
-    Standing, WrongCall, cause_of, held_by_asked, tell,
+    CallerReply, CauseText, HeldLeases, LogEntry, LogMachines, LoggedCall, NamedEntries, PlainLine,
+    Reason, Standing, Start, WrongCall, cause_of, held_by_asked, tell,
 };
-use cluster::{Cluster, Job};
+use cluster::Job;
 use slice_ranges::SliceKey;
 use std::alloc::{AllocError, Global};
 
@@ -54,16 +55,16 @@ fn call_line(
     format!(in alloc; "{standing}: {words}: {reply}{reason}{cause}\n")
 }
 
-// Returns the line of a call and its reply. `cluster` has played the calls up to this one.
+// Returns the line of a call and its reply. The machines have played the calls up to this one.
 fn line_of(
     alloc: Global,
     job: Job,
-    cluster: &Cluster,
+    machines: &LogMachines,
     log: NamedEntries,
     told: WrongCall,
 ) -> Result<String, AllocError>
     requires { told.index < length log.entries.now }
-    ensures { (past : Past) → LeadsTo job past cluster.now → IfOk result (λ text.
+    ensures { (past : Past) → HavePlayed (from_start job) past machines.now → IfOk result (λ text.
         IsLineAfter job past (map (λ n. n.now) log.entry.names.now) log.entry.entries.now
         told.entry.index told.entry.call.now told.entry.wanted.now (string_bytes text)) }
 {
@@ -72,8 +73,9 @@ fn line_of(
         call,
         wanted,
     } = told;
-    let held = held_by_asked(cluster, call);
-    let cause = cause_of(alloc, job, cluster, log.entries, told)?;
+    let held = held_by_asked(machines.cluster(), call);
+    let start = Start { job, earlier: None };
+    let cause = cause_of(alloc, &start, machines.cluster(), log.entries, told)?;
     let cause = CauseText { log, cause };
     call_line(alloc, Standing { log, index }, call, wanted, held, cause)
 }
@@ -82,20 +84,20 @@ fn line_of(
 fn line_at(
     alloc: Global,
     job: Job,
-    cluster: &mut Cluster,
+    machines: &mut LogMachines,
     log: NamedEntries,
     index: usize,
     part: &Part,
 ) -> Result<Option<String>, AllocError>
     requires { index < length log.entries.now }
-    ensures { (past : Past) → LeadsTo job past cluster.old → IfOk result (λ line.
+    ensures { (past : Past) → HavePlayed (from_start job) past machines.old → IfOk result (λ line.
         IsLineAt job past (map (λ n. n.now) log.entry.names.now) log.entry.entries.now index part.now.key
-        (option_map (λ text. string_bytes text) line) cluster.new) }
+        (option_map (λ text. string_bytes text) line) machines.new) }
 {
     let entry = &log.entries[index];
     let call = &entry.line.call;
-    let wanted = tell(alloc, cluster, call)?;
-    cluster.run_law();
+    let wanted = tell(machines, call)?;
+    machines.run_law();
     if !is_shown(call, part.key) {
         return Ok(None);
     }
@@ -104,20 +106,21 @@ fn line_at(
         call,
         wanted: &wanted,
     };
-    let line = line_of(alloc, job, cluster, log, told)?;
+    let line = line_of(alloc, job, machines, log, told)?;
     Ok(Some(line))
 }
 
 // Returns the machines of a job after the calls of these entries.
-fn played(alloc: Global, job: Job, entries: &[LogEntry]) -> Result<Cluster, AllocError>
+fn played(alloc: Global, job: Job, entries: &[LogEntry]) -> Result<LogMachines, AllocError>
     ensures { IfOk result (IsPlayedTo job entries.now) }
 {
-    let mut cluster = Cluster::new(alloc, job)?;
+    let start = Start { job, earlier: None };
+    let mut machines = LogMachines::new(alloc, &start, false)?;
     for index in 0..entries.len() {
         let entry = &entries[index];
-        let _told = tell(alloc, &mut cluster, &entry.line.call)?;
+        let _told = tell(&mut machines, &entry.line.call)?;
     }
-    Ok(cluster)
+    Ok(machines)
 }
 
 /// Returns the lines of a part of a log.
@@ -135,10 +138,10 @@ pub fn lines_of(
     if part.to <= part.from {
         return Ok(String::new(alloc));
     }
-    let mut cluster = played(alloc, job, &log.entries[..part.from])?;
+    let mut machines = played(alloc, job, &log.entries[..part.from])?;
     let mut text = String::new(alloc);
     for index in part.from..part.to {
-        if let Some(line) = line_at(alloc, job, &mut cluster, log, index, &part)? {
+        if let Some(line) = line_at(alloc, job, &mut machines, log, index, &part)? {
             text.push_str(line.as_str())?;
         }
     }

@@ -2,13 +2,14 @@
 use Rattle.std.specs.Prelude.{◌≡◌, ℕ, Bool, true, false, List}
 use Rattle.cluster.specs.Jobs.{Job}
 use Rattle.cluster.specs.Pasts.{Past}
-use Rattle.cluster.specs.Clusters.{LeadsTo}
+use Rattle.cluster.specs.continued.Jobs.{from_start}
 use Rattle.cluster.specs.declared.call.ClusterCall.TheVariants as call
-use Rattle.cluster.specs.declared.cluster.Cluster.{Cluster}
 use Rattle.call_log.specs.declared.entry.LogEntry.{LogEntry}
 use Rattle.call_log.specs.declared.line.LoggedCall.{LoggedCall}
 use Rattle.call_log.specs.declared.line.LoggedCall.TheVariants.{Whole, HearBare}
+use Rattle.call_log.specs.declared.log_machines.LogMachines.{LogMachines}
 use Rattle.call_log.specs.Played.{AreCallsOf}
+use Rattle.call_log.specs.internals.Machines.{HavePlayed}
 use Rattle.timeline.specs.declared.stretch.KeyStretches.{KeyStretches}
 use Rattle.timeline.specs.Alarms.{greatest_of_table}
 use Rattle.timeline.specs.Tasks.{Each, IsKeptOf}
@@ -23,16 +24,16 @@ calls_task (HearBare task grant at) = true
 calls_task _ = false
 
 -- the calls of these entries, the newest first, were made, and this is kept of each task
-pub record ArePlayed (job : Job) (entries : List LogEntry) (key : ℕ) (cluster : Cluster) (tasks : List KeyStretches) : Type 0 where
+pub record ArePlayed (job : Job) (entries : List LogEntry) (key : ℕ) (machines : LogMachines) (tasks : List KeyStretches) : Type 0 where
   pub past : Past
-  pub calls : AreCallsOf job entries past
-  pub leads : LeadsTo job past cluster
+  pub calls : AreCallsOf (from_start job) entries past
+  pub played : HavePlayed (from_start job) past machines
   pub kept : Each (IsKeptOf past key) job.tasks tasks
 
 -- the calls of these entries, the newest first, were made, and this is known of those that a picture warns of
-pub record AreWatched (shot : Shot) (job : Job) (entries : List LogEntry) (cluster : Cluster) (watch : LogWatch) : Type 0 where
+pub record AreWatched (shot : Shot) (job : Job) (entries : List LogEntry) (machines : LogMachines) (watch : LogWatch) : Type 0 where
   pub past : Past
   pub warned : AreWarned shot job entries past watch.alarms.items
-  pub leads : LeadsTo job past cluster
+  pub played : HavePlayed (from_start job) past machines
   pub skew : watch.skew ≡ job.policy.skew
   pub table : watch.table ≡ greatest_of_table (readings_of entries)

@@ -13,14 +13,14 @@ use Rattle.cluster.specs.continued.Jobs.{from_start}
 use Rattle.log_picture.proofs.colours.colours_of.Goals as goal
 
 pub loop-entry-init : goal.loop-entry-init
-loop-entry-init c = record { past = []; calls = refl; leads = c.in_ok-cluster.ensures; kept = c.in_ok-tasks.ensures }
+loop-entry-init c = record { past = []; calls = refl; played = c.in_ok-machines.ensures (from_start c.args.job) refl; kept = c.in_ok-tasks.ensures }
 
 pub loop-entry-preserved : goal.loop-entry-preserved
 loop-entry-preserved c =
     let i = c.loop-entry.entry-index in
     let entries = c.args.entries.now in
     let inside : i < length entries = omega arith in
-    subst (λ (done : List LogEntry). ArePlayed c.args.job done c.args.key c.play.new.cluster c.play.new.tasks.items)
+    subst (λ (done : List LogEntry). ArePlayed c.args.job done c.args.key c.play.new.machines c.play.new.tasks.items)
     (one_more entries i c.entry-item.result inside c.entry-item.is)
     (c.in_ok-play.ensures c.args.job (reverse (take i entries)) c.args.key c.loop-entry.invariant)
 
@@ -35,7 +35,7 @@ returns c =
     let own = subst (λ (s : List (List Stretch)). AreTaskStretches c.args.job played.past c.args.key s) (sym c.as_slice-2.ensures.value) stretches in
     IfOk-weaker c.cut_all.result _ _ (λ tasks are. record {
       past = played.past;
-      calls = subst (λ (done : List LogEntry). AreCallsOf c.args.job (reverse done) played.past) all played.calls;
-      run = c.run_law.ensures.run (from_start c.args.job) played.past played.leads;
+      calls = subst (λ (done : List LogEntry). AreCallsOf (from_start c.args.job) (reverse done) played.past) all played.calls;
+      run = c.run_law.ensures (from_start c.args.job) played.past played.played;
       stretches = are;
     }) (c.cut_all.ensures c.args.job played.past c.args.key own)

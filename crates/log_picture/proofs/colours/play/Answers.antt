@@ -1,4 +1,5 @@
 use Rattle.std.specs.Prelude.{Result, Ok, Err, OnOk}
+use Rattle.cluster.specs.continued.Jobs.{from_start}
 use Rattle.log_picture.proofs.colours.play.Goals as goal
 
 on_ok : {T E P Q : Type 0} → (P → Q) → (r : Result T E) → OnOk r P → OnOk r Q
@@ -7,10 +8,11 @@ on_ok gives (Err e) p = tt
 
 pub returns : goal.returns
 returns c job entries key played =
-    let one = c.in_ok-tell.ensures job played.past played.leads in
+    let one = c.in_ok-tell.ensures (from_start job) played.past played.played in
+    let leads = c.cluster.ensures (from_start job) one.after one.played in
     on_ok (λ seen. record {
       past = one.after;
       calls = (played.past, _, one.stands, played.calls);
-      leads = one.leads;
+      played = one.played;
       kept = seen;
-    }) c.observe.result (c.observe.ensures job played.past one.after _ key one.stands one.leads played.kept)
+    }) c.observe.result (c.observe.ensures job played.past one.after _ key one.stands leads played.kept)

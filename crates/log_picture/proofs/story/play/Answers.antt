@@ -4,6 +4,7 @@ use Rattle.call_log.specs.declared.entry.LogEntry.{LogEntry}
 use Rattle.log_picture.specs.Shots.{shot_of}
 use Rattle.log_picture.specs.internals.Playing.{AreWatched}
 use Rattle.log_picture.proofs.Playing.{many_before, one_more, watched_more}
+use Rattle.cluster.specs.continued.Jobs.{from_start}
 use Rattle.log_picture.proofs.story.play.Goals as goal
 
 on_ok : {T E P : Type 0} → P → (r : Result T E) → OnOk r P
@@ -18,8 +19,8 @@ returns c job watched =
     let before = reverse (take i played) in
     let read = c.index-scene-index.result in
     let seen = c.in_ok-is_alarmed.ensures in
-    let next = watched_more shot job before (get_or played i read) c.args.watch.now c.see.new.self c.args.cluster.now c.tell.new.cluster c.in_ok-told.told i
-    c.foreign_in-foreign.result watched (c.in_ok-told.ensures job watched.past watched.leads) (many_before played i c.requires)
-    (c.foreign_in-foreign.ensures job watched.past watched.leads) seen.skew seen.table seen.alarms in
+    let next = watched_more shot job before (get_or played i read) c.args.watch.now c.see.new.self c.args.machines.now c.tell.new.machines c.in_ok-told.told i
+    c.foreign_in-foreign.result watched (c.in_ok-told.ensures (from_start job) watched.past watched.played) (many_before played i c.requires)
+    (c.foreign_in-foreign.ensures job watched.past (c.cluster.ensures (from_start job) watched.past watched.played)) seen.skew seen.table seen.alarms in
     let is = ap (λ (e : LogEntry). e ∷ before) (sym c.index-scene-index.is) ∙ one_more played i read c.requires c.index-scene-index.is in
-    on_ok (subst (λ (done : List LogEntry). AreWatched shot job done c.tell.new.cluster c.see.new.self) is next) c.take_in.result
+    on_ok (subst (λ (done : List LogEntry). AreWatched shot job done c.tell.new.machines c.see.new.self) is next) c.take_in.result

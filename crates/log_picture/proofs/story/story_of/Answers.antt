@@ -11,7 +11,7 @@ pub loop-index-init : goal.loop-index-init
 loop-index-init c = record {
   past = [];
   warned = (refl, c.new-watch.ensures.alarms);
-  leads = c.in_ok-cluster.ensures;
+  played = c.in_ok-machines.ensures (from_start c.args.job) refl;
   skew = c.new-watch.ensures.skew;
   table = c.new-watch.ensures.table;
 }
@@ -28,5 +28,5 @@ returns c =
       past = played.past;
       warned = subst (λ (done : List LogEntry). AreWarned (shot_of c.args.scene.now) c.args.job (reverse done) played.past c.loop-index.watch.alarms.items) all
           played.warned;
-      run = c.run_law.ensures.run (from_start c.args.job) played.past played.leads;
+      run = c.run_law.ensures (from_start c.args.job) played.past played.played;
     }

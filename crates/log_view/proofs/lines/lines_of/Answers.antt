@@ -22,7 +22,7 @@ loop-index-init c =
     let entries = c.args.log.entries.now in
     record {
       most = omega arith;
-      played = c.in_ok-cluster.ensures;
+      played = c.in_ok-machines.ensures;
       lines = subst (λ (places : List ℕ). AreLines c.args.job names entries places (string_bytes c.new-text.result))
           (sym (none_shown c.args.part.key entries c.args.part.from c.args.part.from (omega arith))) c.new-text.ensures.bytes;
     }
@@ -33,7 +33,7 @@ loop-index-preserved c =
     let entries = c.args.log.entries.now in
     let known = c.loop-index.invariant in
     let i = c.loop-index.index in
-    let at = c.in_ok-line.ensures known.played.past known.played.leads in
+    let at = c.in_ok-line.ensures known.played.past known.played.played in
     let low : i < length entries = omega arith in
     let text : string_bytes c.loop-index.text ++ words_in (option_map (λ t. string_bytes t) c.in_ok-line.field-0) ≡ string_bytes c.match-branch-3.text =
     elim c.match-branch-3.branch [
@@ -42,9 +42,9 @@ loop-index-preserved c =
     ] in
     record {
       most = omega arith;
-      played = played_with c.args.job names entries i low c.loop-index.cluster c.line_at.new.cluster known.played c.args.part.key _ at;
+      played = played_with c.args.job names entries i low c.loop-index.machines c.line_at.new.machines known.played c.args.part.key _ at;
       lines = subst (λ (t : List ℕ). AreLines c.args.job names entries (shown_places c.args.part.key entries c.args.part.from (i + 1)) t) text
-          (lines_with c.args.job names entries i low c.loop-index.cluster c.line_at.new.cluster known.played c.args.part.key _ at c.args.part.from
+          (lines_with c.args.job names entries i low c.loop-index.machines c.line_at.new.machines known.played c.args.part.key _ at c.args.part.from
           (string_bytes c.loop-index.text) (omega arith) known.lines);
     }
 

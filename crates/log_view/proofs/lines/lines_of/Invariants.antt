@@ -9,7 +9,7 @@ use Rattle.log_view.proofs.lines.lines_of.Given as goal
 abbrev pub invariant-loop-index : goal.invariant-loop-index
 invariant-loop-index l = record {
   most : l.index ≤ max l.fn.part.from l.fn.part.to;
-  played : IsPlayedTo l.fn.job (take l.index l.log.entries.now) l.cluster;
+  played : IsPlayedTo l.fn.job (take l.index l.log.entries.now) l.machines;
   lines : AreLines l.fn.job (map (λ (n : Bor (List ℕ)). n.now) l.log.names.now) l.log.entries.now (shown_places l.fn.part.key l.log.entries.now l.fn.part.from l.index)
       (string_bytes l.text);
 }

@@ -4,4 +4,4 @@ use Rattle.log_view.proofs.lines.played.Given as goal
 
 -- the machines have played the calls so far
 abbrev pub invariant-loop-index : goal.invariant-loop-index
-invariant-loop-index l = IsPlayedTo l.fn.job (take l.index l.entries) l.cluster
+invariant-loop-index l = IsPlayedTo l.fn.job (take l.index l.entries) l.machines
