@@ -1,14 +1,16 @@
 """The programs end with the statuses and the words on standard error that docs/FORMATS.md gives.
 
 Each program's own stored run, in crates/NAME, ends well; most of these runs do not. The sessions share a file, so
-that the second goes on with the table of the first.
+that the second goes on with the table of the first. An audit saves the state that was written by hand for its log.
 """
+import shutil
 import subprocess
 import tempfile
 from collections.abc import Iterator
 from dataclasses import dataclass
+from pathlib import Path
 
-from pages import Fault, Result
+from pages import TOP, Fault, Result
 from programs import Missing, Programs
 
 JOB = (
@@ -78,6 +80,28 @@ SESSIONS = [
 ]
 
 
+# A log, and the state that it leaves, which crates/command_examples goes on from.
+DATA = TOP / "crates/command_examples/data"
+SAVING = Run(
+    "hourstable",
+    ["audit", "--until", "saved.state", "day-1.jsonl"],
+    "",
+    0,
+    "audit one\nsteps 6\ncalls table 4, task 1 2\ntimely yes\n",
+    "",
+)
+
+
+def fault_of_saving(programs: Programs, folder: str) -> str | None:
+    """What is wrong with the state that an audit saves, or None."""
+    shutil.copy(DATA / "day-1.jsonl", folder)
+    why = fault_of(SAVING, programs, folder)
+    saved = Path(folder, "saved.state")
+    if why is None and saved.read_bytes() != (DATA / "day-1.state").read_bytes():
+        why = f"the state of day-1.jsonl is\n{saved.read_text()}"
+    return why
+
+
 def fault_of(run: Run, programs: Programs, folder: str) -> str | None:
     """What is wrong with a run in a folder, or None."""
     try:
@@ -94,5 +118,6 @@ def check(programs: Programs) -> Iterator[Result]:
     """A result for each run."""
     with tempfile.TemporaryDirectory() as folder:
         found = [(run, fault_of(run, programs, folder)) for run in [*RUNS, *SESSIONS]]
+        found.append((SAVING, fault_of_saving(programs, folder)))
     for run, why in found:
         yield Result(run.program, [Fault(".ci/docs-checks/endings.py", 1, why)] if why else [])

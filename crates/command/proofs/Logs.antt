@@ -1,13 +1,15 @@
 -- Logs that are read one after another.
-use Rattle.std.proofs.Common.{Bool, ℕ, ◌+◌, ◌<◌, ◌≤◌, List, [], ◌∷◌, ◌++◌, map, length, take, get_or, Option, inl, inr, refl, string_bytes, subst}
+use Rattle.std.proofs.Common.{Bool, true, false, ℕ, ◌+◌, ◌<◌, ◌≤◌, List, [], ◌∷◌, ◌++◌, map, length, take, get_or, Option, Some, None, inl, inr, refl, string_bytes, sym, subst, append_assoc}
 use Rattle.std.proofs.lemmas.List.{append-nil, map-append, take_all, take_more}
-use Rattle.std.specs.Prelude.{◌≡◌, ◌≢◌, codes}
+use Rattle.std.specs.Prelude.{◌≡◌, ◌≢◌, ◌⊎◌, codes}
 use Rattle.std.specs.Io.KnownBytes.{Appends, Consumes, IsAtEnd, Keeps}
 use Rattle.program_io.proofs.Bytes.{consumes_more, consumes_none}
 use Rattle.program_io.specs.declared.line.TheConstants.{MOST_LINE_BYTES}
 use Rattle.program_io.specs.Endings.{IsCut}
 use Rattle.program_io.specs.Streams.{ReadsAll}
+use Rattle.cluster.specs.declared.snapshot.ClusterSnapshot.{ClusterSnapshot}
 use Rattle.call_log.specs.declared.auditing.LogReport.{LogReport}
+use Rattle.call_log.specs.declared.log.LogError.{LogError}
 use Rattle.call_log.specs.declared.log_reader.LogReader.{LogReader}
 use Rattle.call_log.specs.declared.log_reader.ReadLog.{ReadLog}
 use Rattle.log_view.specs.declared.window.View.{View}
@@ -18,7 +20,10 @@ use Rattle.command.specs.declared.arguments.LogText.{LogText}
 use Rattle.command.specs.declared.arguments.ViewWords.{ViewWords}
 use Rattle.command.specs.declared.log_audit.AuditError.{AuditError}
 use Rattle.command.specs.declared.log_audit.AuditError.TheVariants as audit
-use Rattle.command.specs.Audits.{AreJudged, AreLogsKept, AreLogsRead, AreLogsTaken, AreNotJudged, EndsInLine, IsJudged, IsLogBytes, IsLogRead, IsLogTaken, IsNotAudited, IsNotRead, IsOneMore, IsReport, IsSomeReport, passes}
+use Rattle.command.specs.declared.log_audit.OpenedLogs.{OpenedLogs}
+use Rattle.command.specs.Audits.{AreJudged, AreLogsKept, AreLogsRead, AreLogsTaken, AreNotJudged, AreOpened, AreRead, EndsInLine, IsJudged, IsLogBytes, IsLogRead}
+use Rattle.command.specs.Audits.{IsLogTaken, IsNotAudited, IsNotRead, IsOneMore, IsReport, IsSomeReport, IsStateRead, SayNoCalls, passes}
+use Rattle.command.specs.internals.{AreLogsAfter, AreNotAfter, IsStateFrom}
 use Rattle.command.specs.Shows.{AreShown, AreSomehowShown, HasNothingShown, HaveNoCalls, IsNoneShown, IsShowing, IsShownOf, IsUnshown}
 use Rattle.command.specs.Views.{IsViewOf}
 use Rattle.command.proofs.Runs.{never_cut, nothing_yet}
@@ -26,19 +31,19 @@ use Rattle.command.proofs.Runs.{never_cut, nothing_yet}
 -- ONE LOG
 
 -- what was read of a log so far, which ends in this many bytes of a line
-pub record IsTakenSoFar (keeps : Bool) (files : List (List ℕ)) (before after : Option (List ℕ)) (run : ℕ) (log : LogReader) : Type 0 where
+pub record IsTakenSoFar (files : List (List ℕ)) (before after : Option (List ℕ)) (run : ℕ) (log : LogReader) : Type 0 where
   pub bytes : List ℕ
   pub gave : Consumes before after bytes
   pub line : EndsInLine bytes run
-  pub reading : IsReading keeps files bytes log
+  pub reading : IsReading files bytes log
 
-pub nothing_taken : (keeps : Bool) (files : List (List ℕ)) (before : Option (List ℕ)) (log : LogReader) → IsReading keeps files [] log → IsTakenSoFar keeps files before before 0 log
-nothing_taken keeps files before log reading = record { bytes = []; gave = consumes_none before; line = nothing_yet; reading = reading }
+pub nothing_taken : (files : List (List ℕ)) (before : Option (List ℕ)) (log : LogReader) → IsReading files [] log → IsTakenSoFar files before before 0 log
+nothing_taken files before log reading = record { bytes = []; gave = consumes_none before; line = nothing_yet; reading = reading }
 
-module _ (keeps : Bool) (files : List (List ℕ)) where
-  pub taken_more : (before between after : Option (List ℕ)) (piece : List ℕ) (run next : ℕ) (log more : LogReader) → IsTakenSoFar keeps files before between run log
+module _ (files : List (List ℕ)) where
+  pub taken_more : (before between after : Option (List ℕ)) (piece : List ℕ) (run next : ℕ) (log more : LogReader) → IsTakenSoFar files before between run log
       → Consumes between after piece → ((bytes : List ℕ) → EndsInLine bytes run → EndsInLine (bytes ++ piece) next)
-      → ((bytes : List ℕ) → IsReading keeps files bytes log → IsReading keeps files (bytes ++ piece) more) → IsTakenSoFar keeps files before after next more
+      → ((bytes : List ℕ) → IsReading files bytes log → IsReading files (bytes ++ piece) more) → IsTakenSoFar files before after next more
   taken_more before between after piece run next log more so_far gave line read = record {
     bytes = so_far.bytes ++ piece;
     gave = consumes_more before between after so_far.bytes piece so_far.gave gave;
@@ -46,13 +51,13 @@ module _ (keeps : Bool) (files : List (List ℕ)) where
     reading = read so_far.bytes so_far.reading;
   }
 
-  pub cut_here : (before after : Option (List ℕ)) (run : ℕ) (log : LogReader) → MOST_LINE_BYTES + 1 < run → IsTakenSoFar keeps files before after run log
-      → IsLogTaken keeps files before after log
+  pub cut_here : (before after : Option (List ℕ)) (run : ℕ) (log : LogReader) → MOST_LINE_BYTES + 1 < run → IsTakenSoFar files before after run log
+      → IsLogTaken files before after log
   cut_here before after run log long so_far =
       (so_far.bytes, inr (record { gave = so_far.gave; many = run; line = so_far.line; long = long }), so_far.reading)
 
   pub nothing_more : (before between after : Option (List ℕ)) (piece : List ℕ) (n run : ℕ) (log : LogReader) → n ≡ 0 → Consumes between after (take n piece)
-      → IsTakenSoFar keeps files before between run log → IsTakenSoFar keeps files before after run log
+      → IsTakenSoFar files before between run log → IsTakenSoFar files before after run log
   nothing_more before between after piece n run log none gave so_far = record {
     bytes = so_far.bytes;
     gave = subst (Consumes before after) (append-nil so_far.bytes) (consumes_more before between after so_far.bytes [] so_far.gave (rw none at gave));
@@ -60,17 +65,17 @@ module _ (keeps : Bool) (files : List (List ℕ)) where
     reading = so_far.reading;
   }
 
-  pub ended_here : (before after : Option (List ℕ)) (run : ℕ) (log : LogReader) → IsAtEnd after → IsTakenSoFar keeps files before after run log → IsLogTaken keeps files before after log
+  pub ended_here : (before after : Option (List ℕ)) (run : ℕ) (log : LogReader) → IsAtEnd after → IsTakenSoFar files before after run log → IsLogTaken files before after log
   ended_here before after run log ended so_far = (so_far.bytes, inl (record { gave = so_far.gave; ended = ended }), so_far.reading)
 
 -- the log of a name is what the input had left, or a file
-pub from_input : (keeps : Bool) (files : List (List ℕ)) (name : List ℕ) (before after : Option (List ℕ)) (log : LogReader) → name ≡ codes "-"
-    → IsOneMore IsLogBytes keeps files before after log → IsOneMore (IsLogRead IsLogBytes name) keeps files before after log
-from_input keeps files name before after log dash one = (one.0, record { input = λ is. one.1; other = λ differs. absurd (differs dash) }, one.2)
+pub from_input : (files : List (List ℕ)) (name : List ℕ) (before after : Option (List ℕ)) (log : LogReader) → name ≡ codes "-"
+    → IsOneMore IsLogBytes files before after log → IsOneMore (IsLogRead IsLogBytes name) files before after log
+from_input files name before after log dash one = (one.0, record { input = λ is. one.1; other = λ differs. absurd (differs dash) }, one.2)
 
-pub from_file : (keeps : Bool) (files : List (List ℕ)) (name : List ℕ) (input before after : Option (List ℕ)) (log : LogReader) → name ≢ codes "-"
-    → IsOneMore IsLogBytes keeps files before after log → IsOneMore (IsLogRead IsLogBytes name) keeps files input input log
-from_file keeps files name input before after log other one = (one.0, record { input = λ dash. absurd (other dash); other = λ differs. refl }, one.2)
+pub from_file : (files : List (List ℕ)) (name : List ℕ) (input before after : Option (List ℕ)) (log : LogReader) → name ≢ codes "-"
+    → IsOneMore IsLogBytes files before after log → IsOneMore (IsLogRead IsLogBytes name) files input input log
+from_file files name input before after log other one = (one.0, record { input = λ dash. absurd (other dash); other = λ differs. refl }, one.2)
 
 -- SEVERAL LOGS
 
@@ -83,37 +88,121 @@ read_last (first ∷ names) name before between after [] bytes reads read = absu
 read_last (first ∷ names) name before between after (file ∷ files) bytes reads read =
     (reads.0, reads.1, read_last names name reads.0 between after files bytes reads.2 read)
 
-pub no_logs : (keeps : Bool) (before : Option (List ℕ)) (log : LogReader) → IsReading keeps [] [] log → AreLogsTaken keeps [] before before log
-no_logs keeps before log reading = record { files = []; read = refl; reading = reading }
+pub no_logs : (front : List (List ℕ)) (before : Option (List ℕ)) (log : LogReader) → IsReading front [] log → AreLogsTaken front [] before before log
+no_logs front before log reading = record { files = []; read = refl; reading = subst (λ (fs : List (List ℕ)). IsReading fs [] log) (sym (append-nil front)) reading }
 
-pub one_more : {N : Type 0} (now : N → List ℕ) (names : List N) (i : ℕ) (d : N) (keeps : Bool) (before between after : Option (List ℕ)) (log more : LogReader)
-    → i < length names → AreLogsTaken keeps (map now (take i names)) before between log
-    → ((files : List (List ℕ)) → IsReading keeps files [] log → IsOneMore (IsLogRead IsLogBytes (now (get_or names i d))) keeps files between after more)
-    → AreLogsTaken keeps (map now (take (i + 1) names)) before after more
-one_more now names i d keeps before between after log more within so_far next =
-    let read = next so_far.files so_far.reading in
+pub one_more : {N : Type 0} (now : N → List ℕ) (names : List N) (i : ℕ) (d : N) (front : List (List ℕ)) (before between after : Option (List ℕ)) (log more : LogReader)
+    → i < length names → AreLogsTaken front (map now (take i names)) before between log
+    → ((files : List (List ℕ)) → IsReading files [] log → IsOneMore (IsLogRead IsLogBytes (now (get_or names i d))) files between after more)
+    → AreLogsTaken front (map now (take (i + 1) names)) before after more
+one_more now names i d front before between after log more within so_far next =
+    let read = next (front ++ so_far.files) so_far.reading in
     rw (take_more names i d within, map-append now (take i names) (get_or names i d ∷ [])) (record {
       files = so_far.files ++ read.0 ∷ [];
       read = read_last (map now (take i names)) (now (get_or names i d)) before between after so_far.files read.0 so_far.read read.1;
-      reading = read.2;
+      reading = subst (λ (fs : List (List ℕ)). IsReading fs [] more) (append_assoc front so_far.files (read.0 ∷ [])) read.2;
     })
 
-pub no_more : {N : Type 0} (now : N → List ℕ) (names : List N) (i : ℕ) (keeps : Bool) (before after : Option (List ℕ)) (log : LogReader) → length names ≤ i
-    → AreLogsTaken keeps (map now (take i names)) before after log → AreLogsTaken keeps (map now names) before after log
-no_more now names i keeps before after log all taken = subst (λ ns. AreLogsTaken keeps (map now ns) before after log) (take_all i names all) taken
+pub no_more : {N : Type 0} (now : N → List ℕ) (names : List N) (i : ℕ) (front : List (List ℕ)) (before after : Option (List ℕ)) (log : LogReader) → length names ≤ i
+    → AreLogsTaken front (map now (take i names)) before after log → AreLogsTaken front (map now names) before after log
+no_more now names i front before after log all taken = subst (λ ns. AreLogsTaken front (map now ns) before after log) (take_all i names all) taken
 
 -- why logs are not judged that were read
-pub not_judged : (names : List (List ℕ)) (before after : Option (List ℕ)) (keeps : Bool) (log : LogReader) (taken : AreLogsTaken keeps names before after log) (error : AuditError)
-    → IsNotAudited taken.files error → AreNotJudged names before after error
-not_judged names before after keeps log taken (audit.Refused why) unread = record { files = taken.files; read = taken.read; unread = unread }
-not_judged names before after keeps log taken audit.Memory none = tt
-not_judged names before after keeps log taken (audit.Unopened name error) is = absurd is
-not_judged names before after keeps log taken (audit.Read name) is = absurd is
-not_judged names before after keeps log taken (audit.Unsaved name error) is = absurd is
-not_judged names before after keeps log taken (audit.NoDrift words) is = absurd is
-not_judged names before after keeps log taken (audit.NoView words fault) is = absurd is
-not_judged names before after keeps log taken audit.NoCalls is = absurd is
-not_judged names before after keeps log taken audit.Write is = absurd is
+pub not_judged : (names : List (List ℕ)) (before after : Option (List ℕ)) (log : LogReader) (taken : AreLogsTaken [] names before after log) (error : AuditError)
+    → IsNotAudited taken.files error → AreNotJudged false names before after error
+not_judged names before after log taken (audit.Refused why) unread = record { files = taken.files; earlier = None; read = (refl, taken.read); unread = unread }
+not_judged names before after log taken audit.Memory none = tt
+not_judged names before after log taken (audit.BadState name why) is = absurd is
+not_judged names before after log taken (audit.OtherState name fault) is = absurd is
+not_judged names before after log taken (audit.Unopened name error) is = absurd is
+not_judged names before after log taken (audit.Read name) is = absurd is
+not_judged names before after log taken (audit.Unsaved name error) is = absurd is
+not_judged names before after log taken (audit.NoDrift words) is = absurd is
+not_judged names before after log taken (audit.NoView words fault) is = absurd is
+not_judged names before after log taken audit.NoCalls is = absurd is
+not_judged names before after log taken audit.Write is = absurd is
+
+-- why logs that go on from a state are not judged
+pub not_after : (line : List ℕ) (names : List (List ℕ)) (before after : Option (List ℕ)) (log : LogReader) (taken : AreLogsTaken (line ∷ []) names before after log) (error : AuditError)
+    → IsNotAudited (line ∷ taken.files) error → AreNotAfter line names before after error
+not_after line names before after log taken (audit.Refused why) unread = record { files = taken.files; read = taken.read; unread = unread }
+not_after line names before after log taken audit.Memory none = tt
+not_after line names before after log taken (audit.BadState name why) is = absurd is
+not_after line names before after log taken (audit.OtherState name fault) is = absurd is
+not_after line names before after log taken (audit.Unopened name error) is = absurd is
+not_after line names before after log taken (audit.Read name) is = absurd is
+not_after line names before after log taken (audit.Unsaved name error) is = absurd is
+not_after line names before after log taken (audit.NoDrift words) is = absurd is
+not_after line names before after log taken (audit.NoView words fault) is = absurd is
+not_after line names before after log taken audit.NoCalls is = absurd is
+not_after line names before after log taken audit.Write is = absurd is
+
+-- a state is what the input had left, or a file
+pub state_from_input : (name : List ℕ) (before after : Option (List ℕ)) (line : List ℕ) (s : ClusterSnapshot) → name ≡ codes "-" → IsStateFrom before after line s
+    → IsStateRead name before after line s
+state_from_input name before after line s dash from =
+    record { bytes = from.0; read = record { input = λ is. from.1; other = λ differs. absurd (differs dash) }; state = from.2 }
+
+pub state_from_file : (name : List ℕ) (input before after : Option (List ℕ)) (line : List ℕ) (s : ClusterSnapshot) → name ≢ codes "-" → IsStateFrom before after line s
+    → IsStateRead name input input line s
+state_from_file name input before after line s other from =
+    record { bytes = from.0; read = record { input = λ dash. absurd (other dash); other = λ differs. refl }; state = from.2 }
+
+-- a state and the logs that go on from it
+module _ (state : List ℕ) (names : List (List ℕ)) (before between after : Option (List ℕ)) (line : List ℕ) (s : ClusterSnapshot) (begins : IsStateRead state before between line s) where
+  pub opened_on : (read : ReadLog) → AreLogsAfter line names between after read → AreOpened true (state ∷ names) before after (record { read = read; earlier = Some s })
+  opened_on read are = record {
+    files = line ∷ are.files;
+    read = record { between = between; line = line; snapshot = s; others = are.files; begins = begins; is = refl; all = refl; read = are.read };
+    log = are.log;
+  }
+
+  pub not_opened_on : (error : AuditError) → AreNotAfter line names between after error → AreNotJudged true (state ∷ names) before after error
+  not_opened_on (audit.Refused why) is = record {
+    files = line ∷ is.files;
+    earlier = Some s;
+    read = record { between = between; line = line; snapshot = s; others = is.files; begins = begins; is = refl; all = refl; read = is.read };
+    unread = is.unread;
+  }
+  not_opened_on audit.Memory is = tt
+  not_opened_on (audit.BadState name why) is = tt
+  not_opened_on (audit.OtherState name fault) is = tt
+  not_opened_on (audit.Unopened name error) is = tt
+  not_opened_on (audit.Read name) is = tt
+  not_opened_on (audit.Unsaved name error) is = tt
+  not_opened_on (audit.NoDrift words) is = tt
+  not_opened_on (audit.NoView words fault) is = tt
+  not_opened_on audit.NoCalls is = absurd is
+  not_opened_on audit.Write is = absurd is
+
+-- logs of which no name is a state
+pub opened_none : (goes_on : Bool) (names : List (List ℕ)) (before after : Option (List ℕ)) (opened : OpenedLogs) → (goes_on ≡ false) ⊎ (names ≡ [])
+    → AreOpened false names before after opened → AreOpened goes_on names before after opened
+opened_none false names before after opened is are = are
+opened_none true [] before after opened is are = record { files = are.files; read = are.read; log = are.log }
+opened_none true (name ∷ names) before after opened (inl is) are = absurd (cc)
+opened_none true (name ∷ names) before after opened (inr is) are = absurd (cc)
+
+none_with : (goes_on : Bool) (names : List (List ℕ)) (before after : Option (List ℕ)) (why : LogError) → (goes_on ≡ false) ⊎ (names ≡ [])
+    → SayNoCalls false names before after why → SayNoCalls goes_on names before after why
+none_with false names before after why is none = none
+none_with true [] before after why is none = record { files = none.files; earlier = none.earlier; read = none.read; unread = none.unread }
+none_with true (name ∷ names) before after why (inl is) none = absurd (cc)
+none_with true (name ∷ names) before after why (inr is) none = absurd (cc)
+
+pub not_opened : (goes_on : Bool) (names : List (List ℕ)) (before after : Option (List ℕ)) (error : AuditError) → (goes_on ≡ false) ⊎ (names ≡ [])
+    → AreNotJudged false names before after error → AreNotJudged goes_on names before after error
+not_opened goes_on names before after (audit.Refused why) is none = none_with goes_on names before after why is none
+not_opened goes_on names before after audit.Memory is none = tt
+not_opened goes_on names before after (audit.BadState name why) is none = tt
+not_opened goes_on names before after (audit.OtherState name fault) is none = tt
+not_opened goes_on names before after (audit.Unopened name error) is none = tt
+not_opened goes_on names before after (audit.Read name) is none = tt
+not_opened goes_on names before after (audit.Unsaved name error) is none = tt
+not_opened goes_on names before after (audit.NoDrift words) is none = tt
+not_opened goes_on names before after (audit.NoView words fault) is none = tt
+not_opened goes_on names before after audit.NoCalls is none = absurd none
+not_opened goes_on names before after audit.Write is none = absurd none
 
 -- logs whose lines are short were read to their ends
 short_front : (xs ys : List PlacedLine) → AreShort (xs ++ ys) → AreShort xs
@@ -142,18 +231,48 @@ to_their_ends (name ∷ names) file before after (bytes ∷ files) short read =
     let rest = lines_from (file + 1) files in
     (read.0, to_its_end name file before read.0 bytes (short_front lines rest short) read.1, to_their_ends names (file + 1) read.0 after files (short_back lines rest short) read.2)
 
+-- the same where the first is a state
+pub all_to_their_ends : (goes_on : Bool) (names : List (List ℕ)) (before after : Option (List ℕ)) (files : List (List ℕ)) (earlier : Option ClusterSnapshot)
+    → AreShort (lines_from 0 files) → AreRead IsLogBytes goes_on names before after files earlier → AreRead ReadsAll goes_on names before after files earlier
+all_to_their_ends false names before after files earlier short read = (read.0, to_their_ends names 0 before after files short read.1)
+all_to_their_ends true [] before after files earlier short read = (read.0, to_their_ends [] 0 before after files short read.1)
+all_to_their_ends true (state ∷ names) before after files earlier short read =
+    let rest = lines_from 1 read.others in
+    let all : AreShort (numbered 0 1 (lines_in read.line) ++ rest) = subst (λ (fs : List (List ℕ)). AreShort (lines_from 0 fs)) read.all short in
+    record {
+      between = read.between;
+      line = read.line;
+      snapshot = read.snapshot;
+      others = read.others;
+      begins = read.begins;
+      is = read.is;
+      all = read.all;
+      read = to_their_ends names 1 read.between after read.others (short_back (numbered 0 1 (lines_in read.line)) rest all) read.read;
+    }
+
 -- logs that are judged were read to their ends, and their report is written, or a first part of it
 module _ (names : List (List ℕ)) (flags : AuditFlags) (before after held holds : Option (List ℕ)) (report : LogReport) (told : List ℕ) (is : told ≡ string_bytes report.text)
     (judged : AreJudged names flags before after report) where
-  whole : AreLogsRead ReadsAll names before after judged.files
-  whole = to_their_ends names 0 before after judged.files judged.audited.reads.short judged.read
+  whole : AreRead ReadsAll flags.goes_on names before after judged.files judged.earlier
+  whole = all_to_their_ends flags.goes_on names before after judged.files judged.earlier judged.says.short judged.read
 
   abbrev verdict : Bool
   verdict = passes flags.strict report
 
   reported : (passed : Bool) → passed ≡ verdict → IsReport names flags before after passed (string_bytes report.text)
-  reported passed is_verdict =
-      record { files = judged.files; read = whole; options = judged.options; given = judged.given; report = report; audited = judged.audited; text_is = refl; verdict = is_verdict }
+  reported passed is_verdict = record {
+    files = judged.files;
+    earlier = judged.earlier;
+    read = whole;
+    options = judged.options;
+    given = judged.given;
+    log = judged.log;
+    says = judged.says;
+    report = report;
+    audited = judged.audited;
+    text_is = refl;
+    verdict = is_verdict;
+  }
 
   pub report_written : (passed : Bool) → passed ≡ verdict → Appends held holds told → IsJudged names flags before after held holds passed
   report_written passed is_verdict written = record { text = string_bytes report.text; is = reported passed is_verdict; wrote = subst (Appends held holds) is written }
@@ -169,7 +288,7 @@ module _ (names : List (List ℕ)) (flags : AuditFlags) (before after held holds
 -- what is shown of logs that were read
 module _ (names : List (List ℕ)) (text : LogText) (words : ViewWords) (before after : Option (List ℕ)) where
   -- it is shown of logs that were read to their ends, or they have no calls such as are wanted
-  module _ (keeps : Bool) (logs : ReadLog) (kept : AreLogsKept keeps names before after logs) (view : View) (given : IsViewOf names words view) where
+  module _ (logs : ReadLog) (kept : AreLogsKept names before after logs) (view : View) (given : IsViewOf names words view) where
     ends : AreLogsRead ReadsAll names before after kept.files
     ends = to_their_ends names 0 before after kept.files kept.log.log.short kept.read
 
@@ -184,6 +303,8 @@ module _ (names : List (List ℕ)) (text : LogText) (words : ViewWords) (before 
   not_viewed (audit.Refused why) is = absurd is
   not_viewed (audit.Unopened name error) is = tt
   not_viewed (audit.Read name) is = tt
+  not_viewed (audit.BadState name why) is = tt
+  not_viewed (audit.OtherState name fault) is = tt
   not_viewed (audit.Unsaved name error) is = tt
   not_viewed (audit.NoDrift words) is = tt
   not_viewed (audit.NoView words fault) is = tt
@@ -191,10 +312,12 @@ module _ (names : List (List ℕ)) (text : LogText) (words : ViewWords) (before 
   not_viewed audit.Write is = absurd is
   not_viewed audit.Memory is = tt
 
-  pub not_read : (error : AuditError) → AreNotJudged names before after error → HasNothingShown names text words before after error
+  pub not_read : (error : AuditError) → AreNotJudged false names before after error → HasNothingShown names text words before after error
   not_read (audit.Refused why) is = is
   not_read (audit.Unopened name error) is = tt
   not_read (audit.Read name) is = tt
+  not_read (audit.BadState name why) is = tt
+  not_read (audit.OtherState name fault) is = tt
   not_read (audit.Unsaved name error) is = tt
   not_read (audit.NoDrift words) is = tt
   not_read (audit.NoView words fault) is = tt
@@ -207,6 +330,8 @@ module _ (names : List (List ℕ)) (text : LogText) (words : ViewWords) (before 
   unwritten held holds (audit.Refused why) is kept = (is, kept)
   unwritten held holds (audit.Unopened name error) is kept = (is, kept)
   unwritten held holds (audit.Read name) is kept = (is, kept)
+  unwritten held holds (audit.BadState name why) is kept = (is, kept)
+  unwritten held holds (audit.OtherState name fault) is kept = (is, kept)
   unwritten held holds (audit.Unsaved name error) is kept = (is, kept)
   unwritten held holds (audit.NoDrift words) is kept = (is, kept)
   unwritten held holds (audit.NoView words fault) is kept = (is, kept)

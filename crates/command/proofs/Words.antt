@@ -1,6 +1,6 @@
 -- What clap's matches say of the words.
 use Rattle.std.proofs.Common.{◌≡◌, ◌≢◌, ◌∙◌, Bool, true, false, List, [], ◌∷◌, Option, Some, None, option_map, unwrap_or, length, map, ◌==◌, codes, slice_index, refl, sym, ap, ap₂, arith, subst}
-use Rattle.std.specs.Prelude.{Box}
+use Rattle.std.specs.Prelude.{Box, is_some}
 use Rattle.std.specs.Box.{box_value}
 use Rattle.std.specs.Option.{option_map_or, option_or}
 use Rattle.clap.specs.Built.{AddsArg, AddsSubcommand, IsParsedFrom}
@@ -35,6 +35,13 @@ flag_is f name is none given not_given = record {
 
 pub first_is : (f : Found) (name : Text) (o : Option Text) → o ≡ first_value f name → o ≡ first_of name (rows_of f)
 first_is f name o is = is ∙ first_value-rows f name
+
+-- whether a text is given
+pub given_so : {A : Type 0} (text : A → Text) (o : Option A) (given : Option Text) → option_map text o ≡ given → is_some o ≡ is_some given
+given_so text None None is = refl
+given_so text (Some a) (Some t) is = refl
+given_so text None (Some t) is = absurd (cc)
+given_so text (Some a) None is = absurd (cc)
 
 by_match : (o : Option MatchedArg) → option_map_or raw_values o [] ≡ unwrap_or (option_map raw_values o) []
 by_match None = refl

@@ -1,6 +1,6 @@
 -- What `hourstable audit` writes, and the status that it exits with.
-use Rattle.std.specs.Prelude.{◌≡◌, ◌≢◌, ◌⊎◌, ◌+◌, ◌<◌, ◌^◌, ◌++◌, ◌&&◌, ℕ, Bool, List, [], ◌∷◌, All, length, codes, decimal, string_bytes, Option, Some, None}
-use Rattle.std.specs.Prelude.{Result, Ok, Err, ⊤, if◌then◌else◌}
+use Rattle.std.specs.Prelude.{◌≡◌, ◌≢◌, ◌⊎◌, ◌+◌, ◌<◌, ◌^◌, ◌++◌, ◌&&◌, ℕ, Bool, true, false, List, [], ◌∷◌, All, length, codes, decimal}
+use Rattle.std.specs.Prelude.{string_bytes, Option, Some, None, Result, Ok, Err, ⊤, if◌then◌else◌}
 use Rattle.std.specs.Borrow.{Bor}
 use Rattle.std.specs.Io.{IsEmptyOrEndsWith}
 use Rattle.std.specs.Io.KnownBytes.{Consumes, Keeps}
@@ -8,23 +8,32 @@ use Rattle.program_io.specs.Streams.{ReadsAll}
 use Rattle.program_io.specs.declared.line.TheConstants.{MOST_LINE_BYTES}
 use Rattle.program_io.specs.Endings.{IsCut, IsWritten}
 use Rattle.clocks.specs.declared.drift.Drift.{Drift}
+use Rattle.cluster.specs.continued.Jobs.{Continued}
+use Rattle.cluster.specs.declared.snapshot.ClusterSnapshot.{ClusterSnapshot}
+use Rattle.snapshot_text.specs.Lines.{first_line}
+use Rattle.snapshot_text.specs.Texts.{IsText}
 use Rattle.call_log.specs.Audits.{IsAudited}
 use Rattle.call_log.specs.Readers.{IsReading, IsReadLog}
 use Rattle.call_log.specs.declared.log_reader.LogReader.{LogReader}
 use Rattle.call_log.specs.declared.log_reader.ReadLog.{ReadLog}
 use Rattle.call_log.specs.declared.auditing.AuditOptions.{AuditOptions}
 use Rattle.call_log.specs.declared.auditing.LogReport.{LogReport}
-use Rattle.call_log.specs.Files.{IsUnread, lines_from}
+use Rattle.call_log.specs.Files.{IsLog, IsUnread, lines_from}
+use Rattle.call_log.specs.Starts.{BeginsAt}
+use Rattle.call_log.specs.declared.log.Log.{Log}
 use Rattle.call_log.specs.declared.log.LogError.{LogError}
 use Rattle.command.specs.declared.arguments.AuditFlags.{AuditFlags}
 use Rattle.command.specs.declared.log_audit.AuditError.{AuditError}
 use Rattle.command.specs.declared.log_audit.AuditError.TheVariants as audit
+use Rattle.command.specs.declared.log_audit.OpenedLogs.{OpenedLogs}
 
--- the status where logs are not judged or shown: 2 where one cannot be opened or says no calls, where the drift or the view is none, and where
--- there is nothing to show; and else 3
+-- the status where logs are not judged or shown: 2 where one cannot be opened or says no calls, where the state, the drift or the view is none, and
+-- where there is nothing to show; and else 3
 abbrev pub status_of : AuditError → ℕ
 status_of (audit.Unopened name error) = 2
 status_of (audit.Refused why) = 2
+status_of (audit.BadState name why) = 2
+status_of (audit.OtherState name fault) = 2
 status_of (audit.NoDrift words) = 2
 status_of (audit.NoView words fault) = 2
 status_of audit.NoCalls = 2
@@ -71,25 +80,64 @@ module _ (Reads : Reading) where
       (between : Option (List ℕ)) × IsLogRead name before between bytes × AreLogsRead names between after files
   AreLogsRead _ before after _ = ⊥
 
+-- a state is a job line and the text of a snapshot
+pub record IsState (bytes line : List ℕ) (s : ClusterSnapshot) : Type 0 where
+  pub job_line : List ℕ
+  pub text : List ℕ
+  pub cut : first_line bytes ≡ Some (job_line, text)
+  pub line_is : line ≡ job_line ++ 10 ∷ []
+  pub says : IsText [] text s
+
+-- the state of this name was read: its job line with the end of the line, and its snapshot
+pub record IsStateRead (name : List ℕ) (before after : Option (List ℕ)) (line : List ℕ) (s : ClusterSnapshot) : Type 0 where
+  pub bytes : List ℕ
+  pub read : IsLogRead ReadsAll name before after bytes
+  pub state : IsState bytes line s
+
+module _ (Reads : Reading) where
+  -- a state and the logs of these names were read; the first file is the job line of the state
+  pub record AreReadOn (state : List ℕ) (names : List (List ℕ)) (before after : Option (List ℕ)) (files : List (List ℕ)) (earlier : Option ClusterSnapshot)
+      : Type 0 where
+    pub between : Option (List ℕ)
+    pub line : List ℕ
+    pub snapshot : ClusterSnapshot
+    pub others : List (List ℕ)
+    pub begins : IsStateRead state before between line snapshot
+    pub is : earlier ≡ Some snapshot
+    pub all : files ≡ line ∷ others
+    pub read : AreLogsRead Reads names between after others
+
+  -- the logs of these names were read, of which the first is a state if they go on from one
+  abbrev pub AreRead : Bool → (names : List (List ℕ)) → (before after : Option (List ℕ)) → (files : List (List ℕ)) → Option ClusterSnapshot → Type 0
+  AreRead true (state ∷ names) before after files earlier = AreReadOn state names before after files earlier
+  AreRead true [] before after files earlier = (earlier ≡ None) × AreLogsRead Reads [] before after files
+  AreRead false names before after files earlier = (earlier ≡ None) × AreLogsRead Reads names before after files
+
 -- the bytes of a log were read, after these files
-abbrev pub IsLogTaken : Bool → List (List ℕ) → (before after : Option (List ℕ)) → LogReader → Type 0
-IsLogTaken keeps files before after reader = (bytes : List ℕ) × IsLogBytes before after bytes × IsReading keeps files bytes reader
+abbrev pub IsLogTaken : List (List ℕ) → (before after : Option (List ℕ)) → LogReader → Type 0
+IsLogTaken files before after reader = (bytes : List ℕ) × IsLogBytes before after bytes × IsReading files bytes reader
 
 -- a log more was read
-abbrev pub IsOneMore : Reading → Bool → List (List ℕ) → (before after : Option (List ℕ)) → LogReader → Type 0
-IsOneMore Reads keeps files before after reader = (bytes : List ℕ) × Reads before after bytes × IsReading keeps (files ++ bytes ∷ []) [] reader
+abbrev pub IsOneMore : Reading → List (List ℕ) → (before after : Option (List ℕ)) → LogReader → Type 0
+IsOneMore Reads files before after reader = (bytes : List ℕ) × Reads before after bytes × IsReading (files ++ bytes ∷ []) [] reader
 
--- the logs of these names were read
-pub record AreLogsTaken (keeps : Bool) (names : List (List ℕ)) (before after : Option (List ℕ)) (reader : LogReader) : Type 0 where
+-- the logs of these names were read, after these files
+pub record AreLogsTaken (front : List (List ℕ)) (names : List (List ℕ)) (before after : Option (List ℕ)) (reader : LogReader) : Type 0 where
   pub files : List (List ℕ)
   pub read : AreLogsRead IsLogBytes names before after files
-  pub reading : IsReading keeps files [] reader
+  pub reading : IsReading (front ++ files) [] reader
 
 -- the logs of these names were read, and this is their log
-pub record AreLogsKept (keeps : Bool) (names : List (List ℕ)) (before after : Option (List ℕ)) (read_log : ReadLog) : Type 0 where
+pub record AreLogsKept (names : List (List ℕ)) (before after : Option (List ℕ)) (read_log : ReadLog) : Type 0 where
   pub files : List (List ℕ)
   pub read : AreLogsRead IsLogBytes names before after files
-  pub log : IsReadLog keeps (lines_from 0 files) read_log
+  pub log : IsReadLog (lines_from 0 files) read_log
+
+-- the same, of which the first may be a state
+pub record AreOpened (goes_on : Bool) (names : List (List ℕ)) (before after : Option (List ℕ)) (opened : OpenedLogs) : Type 0 where
+  pub files : List (List ℕ)
+  pub read : AreRead IsLogBytes goes_on names before after files opened.earlier
+  pub log : IsReadLog (lines_from 0 files) opened.read
 
 -- a log was not read: no log was refused, and nothing was to be shown or written
 abbrev pub IsNotRead : AuditError → Type 0
@@ -122,27 +170,36 @@ IsDriftGiven (Some words) given = (drift : Drift) × (given ≡ Some drift) × (
 pub record AreOptionsOf (flags : AuditFlags) (options : AuditOptions) : Type 0 where
   pub all : options.all ≡ flags.all
   pub drift : IsDriftGiven flags.drift options.drift
+  pub keeps : options.keeps ≡ flags.keeps
+
+-- what is reported of a log that begins with its job, or goes on from this snapshot, whatever run that is one of
+abbrev pub IsReportOn : (log : Log) (earlier : Option ClusterSnapshot) (names files : List (List ℕ)) → AuditOptions → LogReport → Type 0
+IsReportOn log earlier names files options report = (job : Continued) → BeginsAt job log.job earlier → IsAudited job earlier names files options report
 
 -- the logs of these names were read, and this is the report on them
 pub record AreJudged (names : List (List ℕ)) (flags : AuditFlags) (before after : Option (List ℕ)) (report : LogReport) : Type 0 where
   pub options : AuditOptions
   pub given : AreOptionsOf flags options
   pub files : List (List ℕ)
-  pub read : AreLogsRead IsLogBytes names before after files
-  pub audited : IsAudited names files options report
+  pub earlier : Option ClusterSnapshot
+  pub read : AreRead IsLogBytes flags.goes_on names before after files earlier
+  pub log : Log
+  pub says : IsLog (lines_from 0 files) log
+  pub audited : IsReportOn log earlier names files options report
 
 -- or they say no calls, for this reason
-pub record SayNoCalls (names : List (List ℕ)) (before after : Option (List ℕ)) (why : LogError) : Type 0 where
+pub record SayNoCalls (goes_on : Bool) (names : List (List ℕ)) (before after : Option (List ℕ)) (why : LogError) : Type 0 where
   pub files : List (List ℕ)
-  pub read : AreLogsRead IsLogBytes names before after files
+  pub earlier : Option ClusterSnapshot
+  pub read : AreRead IsLogBytes goes_on names before after files earlier
   pub unread : IsUnread (lines_from 0 files) why
 
 -- or nothing is known of them: one was not read, or memory ran out
-abbrev pub AreNotJudged : List (List ℕ) → (before after : Option (List ℕ)) → AuditError → Type 0
-AreNotJudged names before after (audit.Refused why) = SayNoCalls names before after why
-AreNotJudged names before after audit.NoCalls = ⊥
-AreNotJudged names before after audit.Write = ⊥
-AreNotJudged names before after _ = ⊤
+abbrev pub AreNotJudged : Bool → List (List ℕ) → (before after : Option (List ℕ)) → AuditError → Type 0
+AreNotJudged goes_on names before after (audit.Refused why) = SayNoCalls goes_on names before after why
+AreNotJudged goes_on names before after audit.NoCalls = ⊥
+AreNotJudged goes_on names before after audit.Write = ⊥
+AreNotJudged goes_on names before after _ = ⊤
 
 -- their state is not saved: memory ran out, or the file could not be written
 abbrev pub IsNotSaved : AuditError → Type 0
@@ -158,11 +215,14 @@ module _ (names : List (List ℕ)) (flags : AuditFlags) (before after : Option (
   -- the logs of these names were read to their ends, this is the report on them all, and they pass or not
   pub record IsReport (passed : Bool) (text : List ℕ) : Type 0 where
     pub files : List (List ℕ)
-    pub read : AreLogsRead ReadsAll names before after files
+    pub earlier : Option ClusterSnapshot
+    pub read : AreRead ReadsAll flags.goes_on names before after files earlier
     pub options : AuditOptions
     pub given : AreOptionsOf flags options
+    pub log : Log
+    pub says : IsLog (lines_from 0 files) log
     pub report : LogReport
-    pub audited : IsAudited names files options report
+    pub audited : IsReportOn log earlier names files options report
     pub text_is : text ≡ string_bytes report.text
     pub verdict : passed ≡ passes flags.strict report
 
@@ -177,7 +237,8 @@ module _ (names : List (List ℕ)) (flags : AuditFlags) (before after held holds
   -- the logs were read, up to a line that is too long where there is one, and say no calls, for this reason, and nothing was written
   pub record IsRefused (why : LogError) : Type 0 where
     pub files : List (List ℕ)
-    pub read : AreLogsRead IsLogBytes names before after files
+    pub earlier : Option ClusterSnapshot
+    pub read : AreRead IsLogBytes flags.goes_on names before after files earlier
     pub unread : IsUnread (lines_from 0 files) why
     pub kept : Keeps held holds
 

@@ -1,5 +1,5 @@
 -- What `hourstable explain --logs` and `hourstable timeline --logs` write, and the status that they exit with.
-use Rattle.std.specs.Prelude.{◌≡◌, ℕ, Bool, List, Option, Some, None, Result, Ok, Err, string_bytes, ⊤}
+use Rattle.std.specs.Prelude.{◌≡◌, ℕ, Bool, false, List, Option, Some, None, Result, Ok, Err, string_bytes, ⊤}
 use Rattle.std.specs.Io.KnownBytes.{Keeps}
 use Rattle.program_io.specs.Streams.{ReadsAll}
 use Rattle.program_io.specs.Endings.{IsCut, IsWritten}
@@ -56,7 +56,7 @@ module _ (names : List (List ℕ)) (text : LogText) (words : ViewWords) (before 
 
   -- what is known where nothing is shown of them; memory may run out at any point
   abbrev pub HasNothingShown : AuditError → Type 0
-  HasNothingShown (audit.Refused why) = SayNoCalls names before after why
+  HasNothingShown (audit.Refused why) = SayNoCalls false names before after why
   HasNothingShown audit.NoCalls = HaveNoCalls
   HasNothingShown audit.Write = ⊥
   HasNothingShown _ = ⊤

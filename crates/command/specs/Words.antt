@@ -1,5 +1,5 @@
 -- What the words of a command line ask for.
-use Rattle.std.specs.Prelude.{◌≡◌, ◌≢◌, ◌⊎◌, Bool, true, false, List, [], ◌∷◌, ◌++◌, map, codes, Option, Some, None, MatchOption}
+use Rattle.std.specs.Prelude.{◌≡◌, ◌≢◌, ◌⊎◌, Bool, true, false, List, [], ◌∷◌, ◌++◌, map, codes, Option, Some, None, is_some, MatchOption}
 use Rattle.std.specs.Prelude.{option_map, unwrap_or, if◌then◌else◌}
 use Rattle.std.specs.Option.{option_or}
 use Rattle.clap.specs.Faults.{fault_of}
@@ -256,6 +256,7 @@ AsksAudit rows (asked.Audit names progress flags until) =
     (map (λ n. n.now) names.items ≡ with_first (first_of (codes "from") rows) (unwrap_or (all_of (codes "LOG") rows) []))
     × IsFlag (codes "progress") rows progress × IsFlag (codes "strict") rows flags.strict × IsFlag (codes "all") rows flags.all
     × (option_map (λ w. w.now) flags.drift ≡ first_of (codes "drift") rows) × (option_map (λ n. n.now) until ≡ first_of (codes "until") rows)
+    × (flags.goes_on ≡ is_some (first_of (codes "from") rows)) × (flags.keeps ≡ is_some (first_of (codes "until") rows))
 AsksAudit rows _ = ⊥
 
 -- what is asked for by the subcommand of this name and what was given to it

@@ -133,6 +133,10 @@ pub struct AuditFlags<'a> {
     pub all: bool,
     /// The drift that samples are judged by, as it was written.
     pub drift: Option<&'a str>,
+    /// Whether the first of the names is that of a state, which the logs go on from.
+    pub goes_on: bool,
+    /// Whether the state is wanted that the logs leave.
+    pub keeps: bool,
 }
 
 /// What is written about logs.
@@ -682,13 +686,20 @@ fn audited<'a>(alloc: Global, matches: &ArgMatches<'a>) -> Result<Asked<'a>, All
     ensures { IfOk result (AsksAudit (rows_of (found_of matches.now))) }
 {
     let given = matches.get_strs("LOG").unwrap_or(&[]);
-    let names = names_of(alloc, matches.get_str("from"), given)?;
+    let from = matches.get_str("from");
+    let names = names_of(alloc, from, given)?;
     let progress = matches.get_flag("progress");
     let strict = matches.get_flag("strict");
     let all = matches.get_flag("all");
     let drift = matches.get_str("drift");
-    let flags = AuditFlags { strict, all, drift };
     let until = matches.get_str("until");
+    let flags = AuditFlags {
+        strict,
+        all,
+        drift,
+        goes_on: from.is_some(),
+        keeps: until.is_some(),
+    };
     Ok(Asked::Audit {
         names,
         progress,

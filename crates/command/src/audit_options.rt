@@ -64,5 +64,6 @@ pub fn options_of<'a>(alloc: Global, flags: AuditFlags<'a>) -> Result<AuditOptio
     Ok(AuditOptions {
         all: flags.all,
         drift: drift_given(alloc, flags.drift)?,
+        keeps: flags.keeps,
     })
 }

@@ -6,6 +6,7 @@ mod audit_options;
 mod log_audit;
 mod log_showing;
 mod program;
+mod saved_state;
 mod script_run;
 mod table_file;
 mod view_words;

@@ -1,18 +1,24 @@
 //! `hourstable audit`: reads logs, and writes a report.
 
-ghost use Rattle.std.specs.Prelude.{◌≡◌, ◌+◌, ◌++◌, ◌<◌, ◌^◌, [], ℕ, Bool, List, length, IfErr, IfOk, map};
+ghost use Rattle.std.specs.Prelude.{◌≡◌, ◌+◌, ◌++◌, ◌∷◌, ◌<◌, ◌^◌, [], ℕ, Bool, true, false, List, length, IfErr, IfOk, map};
 ghost use Rattle.call_log.specs.Files.{lines_from};
 ghost use Rattle.call_log.specs.Readers.{IsReading, IsReadLog};
 ghost use Rattle.command.specs.declared.log_audit.AuditError.TheVariants as fault;
-ghost use Rattle.command.specs.Audits.{AreJudged, AreLogsKept, AreLogsTaken, AreNotJudged, IsJudged, IsLogBytes, IsLogRead, IsLogTaken, IsNotAudited, IsNotRead};
-ghost use Rattle.command.specs.Audits.{EndsInLine, IsNotSaved, IsOneMore, IsUnjudged, passes, status_of};
+ghost use Rattle.command.specs.Audits.{AreJudged, AreLogsKept, AreLogsTaken, AreNotJudged, AreOpened, EndsInLine, IsJudged, IsLogBytes};
+ghost use Rattle.command.specs.Audits.{IsLogRead, IsLogTaken, IsNotAudited, IsNotRead, IsNotSaved, IsOneMore, IsUnjudged, passes, status_of};
+ghost use Rattle.command.specs.internals.{AreLogsAfter, AreNotAfter};
 
 use crate::arguments::AuditFlags;
 use crate::audit_options::options_of;
+use crate::saved_state::{
+    SavedState, check_state, read_state, say_bad_state, say_other_state, state_text,
+};
 use call_log::{LinePosition, LogError, LogReader, LogReport, Progress, ReadLog, audit_log};
+use cluster::{ClusterSnapshot, ResumeFault};
 use diagnosis::{Escaped, LONG_WORDS, say_about, say_memory, say_write};
 use memchr::memrchr;
 use program_io::{MOST_LINE_BYTES, ReadError, WriteError, write_all};
+use snapshot_text::SnapshotError;
 use std::alloc::{AllocError, AllocFailed, Global};
 use std::fs::{self, File};
 use std::io::{Error, Read, Write};
@@ -42,6 +48,10 @@ pub enum AuditError<'a> {
     Read { name: &'a str },
     /// The logs are not a job and its calls.
     Refused(LogError),
+    /// What is in the file of this name is not a state.
+    BadState { name: &'a str, why: SnapshotError },
+    /// The state in the file of this name is none of the job.
+    OtherState { name: &'a str, fault: ResumeFault },
     /// This is not a drift, `EXTRA/PER/GRAIN`.
     NoDrift(&'a str),
     /// These words of an option are no view of the logs.
@@ -57,14 +67,16 @@ pub enum AuditError<'a> {
 }
 
 impl AuditError<'_> {
-    /// Returns the exit status: 2 if a log cannot be opened, if a log, the drift or a view is
-    /// refused, or if there is nothing to show, otherwise 3.
+    /// Returns the exit status: 2 if a log cannot be opened, if a log, the state, the drift or a view
+    /// is refused, or if there is nothing to show, otherwise 3.
     pub fn status(&self) -> u8
         ensures { result ≡ status_of self.now }
     {
         match self {
             AuditError::Unopened { .. }
             | AuditError::Refused(_)
+            | AuditError::BadState { .. }
+            | AuditError::OtherState { .. }
             | AuditError::NoDrift(_)
             | AuditError::NoView { .. }
             | AuditError::NoCalls => 2,
@@ -150,11 +162,11 @@ pub struct LogAudit<'n, 'a> {
     pub until: Option<&'a str>,
 }
 
-// Logs that were judged, and the state that they leave, if it is wanted.
+// Logs that were judged, and their first job line.
 #[derive(Drop)]
 struct Judged {
     report: LogReport,
-    state: Option<Vec<u8>>,
+    job_line: Vec<u8>,
 }
 
 // Returns how many bytes there are since the last end of a line, where there were so many before
@@ -175,8 +187,8 @@ fn read_log<R: Read, P: Progress>(
     log: LogReader,
     progress: &mut P,
 ) -> Result<LogReader, ReadError>
-    ensures { (keeps : Bool) (files : List (List ℕ)) → IsReading keeps files [] log
-        → IfOk result (IsLogTaken keeps files (R.remaining reader.old) (R.remaining reader.new)) }
+    ensures { (files : List (List ℕ)) → IsReading files [] log
+        → IfOk result (IsLogTaken files (R.remaining reader.old) (R.remaining reader.new)) }
 {
     let mut log = log;
     let mut run = 0;
@@ -205,8 +217,8 @@ fn read_named<'a, R: Read, P: Progress>(
     log: LogReader,
     progress: &mut P,
 ) -> Result<LogReader, AuditError<'a>>
-    ensures ok { (keeps : Bool) (files : List (List ℕ)) → IsReading keeps files [] log
-        → IfOk result (IsOneMore IsLogBytes keeps files (R.remaining reader.old) (R.remaining reader.new)) }
+    ensures ok { (files : List (List ℕ)) → IsReading files [] log
+        → IfOk result (IsOneMore IsLogBytes files (R.remaining reader.old) (R.remaining reader.new)) }
     ensures err { IfErr result IsNotRead }
 {
     match read_log(reader, log, progress) {
@@ -224,8 +236,8 @@ fn read_next<'a, R: Read, P: Progress>(
     log: LogReader,
     progress: &mut P,
 ) -> Result<LogReader, AuditError<'a>>
-    ensures ok { (keeps : Bool) (files : List (List ℕ)) → IsReading keeps files [] log
-        → IfOk result (IsOneMore (IsLogRead IsLogBytes name.now) keeps files (R.remaining input.old) (R.remaining input.new)) }
+    ensures ok { (files : List (List ℕ)) → IsReading files [] log
+        → IfOk result (IsOneMore (IsLogRead IsLogBytes name.now) files (R.remaining input.old) (R.remaining input.new)) }
     ensures err { IfErr result IsNotRead }
 {
     if name == "-" {
@@ -245,8 +257,8 @@ fn read_logs<'a, R: Read, P: Progress>(
     log: LogReader,
     progress: &mut P,
 ) -> Result<LogReader, AuditError<'a>>
-    ensures ok { (keeps : Bool) → IsReading keeps [] [] log
-        → IfOk result (AreLogsTaken keeps (map (λ n. n.now) names.now) (R.remaining input.old) (R.remaining input.new)) }
+    ensures ok { (front : List (List ℕ)) → IsReading front [] log
+        → IfOk result (AreLogsTaken front (map (λ n. n.now) names.now) (R.remaining input.old) (R.remaining input.new)) }
     ensures err { IfErr result IsNotRead }
 {
     let mut log = log;
@@ -258,9 +270,9 @@ fn read_logs<'a, R: Read, P: Progress>(
 
 // Returns the log of the files that were read.
 fn finished<'a>(log: LogReader) -> Result<ReadLog, AuditError<'a>>
-    ensures ok { (keeps : Bool) (files : List (List ℕ)) → IsReading keeps files [] log
-        → IfOk result (IsReadLog keeps (lines_from 0 files)) }
-    ensures err { (keeps : Bool) (files : List (List ℕ)) → IsReading keeps files [] log → IfErr result (IsNotAudited files) }
+    ensures ok { (files : List (List ℕ)) → IsReading files [] log
+        → IfOk result (IsReadLog (lines_from 0 files)) }
+    ensures err { (files : List (List ℕ)) → IsReading files [] log → IfErr result (IsNotAudited files) }
 {
     match log.finish() {
         Ok(read) => Ok(read),
@@ -269,21 +281,104 @@ fn finished<'a>(log: LogReader) -> Result<ReadLog, AuditError<'a>>
     }
 }
 
-/// Reads the logs with these names, in their order, and returns their log; with the state that it
-/// leaves if `keeps`.
+/// Reads the logs with these names, in their order, and returns their log.
 pub(crate) fn read_all<'a, R: Read, P: Progress>(
     rt: &(impl Files + AllocGlobal),
     names: &[&'a str],
     input: &mut R,
-    keeps: bool,
     progress: &mut P,
 ) -> Result<ReadLog, AuditError<'a>>
-    ensures ok { IfOk result (AreLogsKept keeps (map (λ n. n.now) names.now) (R.remaining input.old) (R.remaining input.new)) }
-    ensures err { IfErr result (AreNotJudged (map (λ n. n.now) names.now) (R.remaining input.old) (R.remaining input.new)) }
+    ensures ok { IfOk result (AreLogsKept (map (λ n. n.now) names.now) (R.remaining input.old) (R.remaining input.new)) }
+    ensures err { IfErr result (AreNotJudged false (map (λ n. n.now) names.now) (R.remaining input.old) (R.remaining input.new)) }
 {
-    let log = LogReader::new(rt.alloc(), keeps);
+    let log = LogReader::new(rt.alloc());
     let log = read_logs(rt, names, input, log, progress)?;
     finished(log)
+}
+
+/// Logs that were read, and the snapshot that they go on from.
+#[derive(Drop)]
+pub struct OpenedLogs {
+    /// The logs.
+    pub read: ReadLog,
+    /// The snapshot, if they go on from one.
+    pub earlier: Option<ClusterSnapshot>,
+}
+
+// Reads the logs with these names.
+fn open_logs<'a, R: Read, P: Progress>(
+    rt: &(impl Files + AllocGlobal),
+    names: &[&'a str],
+    input: &mut R,
+    progress: &mut P,
+) -> Result<OpenedLogs, AuditError<'a>>
+    ensures ok { IfOk result (AreOpened false (map (λ n. n.now) names.now) (R.remaining input.old) (R.remaining input.new)) }
+    ensures err { IfErr result (AreNotJudged false (map (λ n. n.now) names.now) (R.remaining input.old) (R.remaining input.new)) }
+{
+    let read = read_all(rt, names, input, progress)?;
+    Ok(OpenedLogs {
+        read,
+        earlier: None,
+    })
+}
+
+// Reads the job line of a state as the first file of a log, and then the logs with these names.
+fn read_after<'a, R: Read, P: Progress>(
+    rt: &(impl Files + AllocGlobal),
+    line: &[u8],
+    names: &[&'a str],
+    input: &mut R,
+    progress: &mut P,
+) -> Result<ReadLog, AuditError<'a>>
+    ensures ok { IfOk result (AreLogsAfter line.now (map (λ n. n.now) names.now) (R.remaining input.old) (R.remaining input.new)) }
+    ensures err { IfErr result (AreNotAfter line.now (map (λ n. n.now) names.now) (R.remaining input.old) (R.remaining input.new)) }
+{
+    let log = LogReader::new(rt.alloc());
+    let log = log.read(line, progress)?;
+    let log = log.end_file(progress)?;
+    let log = read_logs(rt, names, input, log, progress)?;
+    finished(log)
+}
+
+// Reads the state with this name, and the logs with these names, which go on from it.
+fn open_on<'a, R: Read, P: Progress>(
+    rt: &(impl Files + AllocGlobal),
+    state: &'a str,
+    names: &[&'a str],
+    input: &mut R,
+    progress: &mut P,
+) -> Result<OpenedLogs, AuditError<'a>>
+    ensures ok { IfOk result (AreOpened true (state.now ∷ map (λ n. n.now) names.now) (R.remaining input.old) (R.remaining input.new)) }
+    ensures err { IfErr result (AreNotJudged true (state.now ∷ map (λ n. n.now) names.now) (R.remaining input.old) (R.remaining input.new)) }
+{
+    let SavedState { line, snapshot } = read_state(rt, state, input)?;
+    match read_after(rt, line.as_slice(), names, input, progress) {
+        Ok(read) => Ok(OpenedLogs {
+            read,
+            earlier: Some(snapshot),
+        }),
+        Err(error) => Err(error),
+    }
+}
+
+// Reads the logs with these names, of which the first is a state if they go on from one.
+fn open_all<'a, R: Read, P: Progress>(
+    rt: &(impl Files + AllocGlobal),
+    names: &[&'a str],
+    goes_on: bool,
+    input: &mut R,
+    progress: &mut P,
+) -> Result<OpenedLogs, AuditError<'a>>
+    ensures ok { IfOk result (AreOpened goes_on (map (λ n. n.now) names.now) (R.remaining input.old) (R.remaining input.new)) }
+    ensures err { IfErr result (AreNotJudged goes_on (map (λ n. n.now) names.now) (R.remaining input.old) (R.remaining input.new)) }
+{
+    if !goes_on {
+        return open_logs(rt, names, input, progress);
+    }
+    let [state, logs @ ..] = names else {
+        return open_logs(rt, names, input, progress);
+    };
+    open_on(rt, *state, logs, input, progress)
 }
 
 // Reads the logs, and judges them.
@@ -295,7 +390,7 @@ fn judge<'a, R: Read, E: Write>(
 ) -> Result<Judged, AuditError<'a>>
     ensures ok { IfOk result (λ judged. AreJudged (map (λ n. n.now) audit.entry.names.now) audit.entry.flags
         (R.remaining input.old) (R.remaining input.new) judged.report) }
-    ensures err { IfErr result (AreNotJudged (map (λ n. n.now) audit.entry.names.now)
+    ensures err { IfErr result (AreNotJudged audit.entry.flags.goes_on (map (λ n. n.now) audit.entry.names.now)
         (R.remaining input.old) (R.remaining input.new)) }
 {
     let mut progress = Counting {
@@ -303,10 +398,13 @@ fn judge<'a, R: Read, E: Write>(
         is_wanted: audit.progress,
     };
     let options = options_of(rt.alloc(), audit.flags)?;
-    let keeps = audit.until.is_some();
-    let ReadLog { log, state } = read_all(rt, audit.names, input, keeps, &mut progress)?;
-    let report = audit_log(rt.alloc(), audit.names, log, options, &mut progress)?;
-    Ok(Judged { report, state })
+    let names = audit.names;
+    let opened = open_all(rt, names, audit.flags.goes_on, input, &mut progress)?;
+    let OpenedLogs { read, earlier } = opened;
+    let ReadLog { log, job_line } = read;
+    check_state(rt.alloc(), names, log.job, &earlier)?;
+    let report = audit_log(rt.alloc(), names, log, earlier, options, &mut progress)?;
+    Ok(Judged { report, job_line })
 }
 
 // Writes bytes to the file of this name: to a new file beside it, which then takes its place.
@@ -316,21 +414,23 @@ fn replace_file(rt: &(impl Files + AllocGlobal), name: &str, bytes: &[u8]) -> Re
     fs::rename(rt, fresh.as_str(), name)
 }
 
-// Saves a state in the file of this name, if there is a name.
+// Saves the state that logs leave in the file of this name, if there is a name and a state.
 fn save_state<'a>(
     rt: &(impl Files + AllocGlobal),
     until: Option<&'a str>,
-    state: Option<Vec<u8>>,
+    job_line: &[u8],
+    state: &Option<ClusterSnapshot>,
 ) -> Result<(), AuditError<'a>>
     ensures err { IfErr result IsNotSaved }
 {
     let Some(name) = until else {
         return Ok(());
     };
-    let Some(state) = state else {
+    let Some(snapshot) = state else {
         return Ok(());
     };
-    match replace_file(rt, name, state.as_slice()) {
+    let text = state_text(rt.alloc(), job_line, snapshot)?;
+    match replace_file(rt, name, text.as_slice()) {
         Ok(()) => Ok(()),
         Err(error) => Err(AuditError::Unsaved { name, error }),
     }
@@ -366,10 +466,8 @@ pub fn audit_named<'a, R: Read, W: Write, E: Write>(
     ensures err { IfErr result (IsUnjudged (map (λ n. n.now) audit.entry.names.now) audit.entry.flags
         (R.remaining input.old) (R.remaining input.new) (W.contents output.old) (W.contents output.new)) }
 {
-    let Judged { report, state } = judge(rt, audit, input, errors)?;
-    if report.is_one {
-        save_state(rt, audit.until, state)?;
-    }
+    let Judged { report, job_line } = judge(rt, audit, input, errors)?;
+    save_state(rt, audit.until, job_line.as_slice(), &report.state)?;
     say_torn(errors, audit.names, report.torn.as_slice());
     write_all(output, report.text.as_str().as_bytes())?;
     Ok(passes(audit.flags.strict, &report))
@@ -486,6 +584,8 @@ pub fn say_error<E: Write>(errors: &mut E, names: &[&str], error: &AuditError) {
             let _ = writeln!(errors, "hourstable: {name}: not saved: {error}");
         }
         AuditError::Refused(error) => say_refused(errors, names, error),
+        AuditError::BadState { name, why } => say_bad_state(errors, name, why),
+        AuditError::OtherState { name, fault } => say_other_state(errors, name, *fault),
         AuditError::Write => {
             let _ = say_write(errors);
         }

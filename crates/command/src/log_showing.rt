@@ -130,7 +130,10 @@ fn show<'a, R: Read, E: Write>(
         errors,
         is_wanted: false,
     };
-    let ReadLog { log, state: _state } = read_all(rt, showing.names, input, false, &mut progress)?;
+    let ReadLog {
+        log,
+        job_line: _line,
+    } = read_all(rt, showing.names, input, &mut progress)?;
     let names = showing.names;
     match shown_of(rt.alloc(), names, log, showing.text, view, &mut progress)? {
         Some(shown) => Ok(shown),

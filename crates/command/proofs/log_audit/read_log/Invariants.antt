@@ -7,6 +7,6 @@ use Rattle.command.proofs.log_audit.read_log.Given as goal
 abbrev pub invariant-reads : goal.invariant-reads
 invariant-reads g l = record {
   short : l.run ≤ MOST_LINE_BYTES + 1;
-  taken : (keeps : Bool) → (files : List (List ℕ)) → IsReading keeps files [] l.fn.log
-      → IsTakenSoFar keeps files (g.R.Read.remaining l.initial.reader) (g.R.Read.remaining l.reader) l.run l.log;
+  taken : (files : List (List ℕ)) → IsReading files [] l.fn.log
+      → IsTakenSoFar files (g.R.Read.remaining l.initial.reader) (g.R.Read.remaining l.reader) l.run l.log;
 }

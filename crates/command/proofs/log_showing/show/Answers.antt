@@ -3,8 +3,8 @@ use Rattle.command.proofs.log_showing.show.Goals as goal
 
 pub returns-in-Some-clause-ok : goal.returns-in-Some-clause-ok
 returns-in-Some-clause-ok g c =
-    are_shown _ _ _ _ _ _ c.in_ok-log.field-0 c.in_ok-log.ensures.ok c.in_ok-view.view c.in_ok-view.ensures.ok _ _ (rw c.in-Some.is at c.in_ok-shown.ensures)
+    are_shown _ _ _ _ _ c.in_ok-log.field-0 c.in_ok-log.ensures.ok c.in_ok-view.view c.in_ok-view.ensures.ok _ _ (rw c.in-Some.is at c.in_ok-shown.ensures)
 
 pub returns-clause-err : goal.returns-clause-err
 returns-clause-err g c =
-    none_shown _ _ _ _ _ _ c.in_ok-log.field-0 c.in_ok-log.ensures.ok c.in_ok-view.view c.in_ok-view.ensures.ok (rw c.in-None.is at c.in_ok-shown.ensures)
+    none_shown _ _ _ _ _ c.in_ok-log.field-0 c.in_ok-log.ensures.ok c.in_ok-view.view c.in_ok-view.ensures.ok (rw c.in-None.is at c.in_ok-shown.ensures)
