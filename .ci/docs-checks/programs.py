@@ -1,7 +1,7 @@
 """The proved programs that the blocks and pictures of the pages run.
 
 A program NAME is taken, in this order, from the folder given by --programs (NAME, NAME/out/NAME), from
-crates/NAME/out/NAME of this checkout, or else `rt run` proves and builds it there. The archive of the library for C,
+crates/NAME/out/NAME of this checkout, or else tools/build proves and builds it there. The archive of the library for C,
 libhourstable_c.a, is looked for in the same places.
 """
 import subprocess
@@ -30,26 +30,20 @@ class Programs:
     def find(self, name: str) -> Path:
         """The program of a crate."""
         if name not in self.found:
-            self.found[name] = self.look(name, name) or self.make(name, "run", name)
+            self.found[name] = self.look(name, name) or self.make(name)
         return self.found[name]
 
     def archive(self) -> Path:
         """The library for C."""
         if ARCHIVE not in self.found:
-            self.found[ARCHIVE] = self.look("hourstable_c", ARCHIVE) or self.make("hourstable_c", "lib", ARCHIVE)
+            self.found[ARCHIVE] = self.look("hourstable_c", ARCHIVE) or self.make("libhourstable.a")
         return self.found[ARCHIVE]
 
     def look(self, crate: str, file: str) -> Path | None:
         return next((it.resolve() for it in self.places(crate, file) if it.is_file()), None)
 
-    def make(self, crate: str, command: str, file: str) -> Path:
-        folder = TOP / "crates" / crate
-        if not folder.is_dir():
-            raise Missing(f"there is no crate {crate}")
-        print(f"docs: rt {command} in crates/{crate}", flush=True)
-        ran = subprocess.run(["rt", command], cwd=folder, stdin=subprocess.DEVNULL, capture_output=True, text=True)
-        made = folder / "out" / file
-        if not made.is_file():
-            said = ran.stdout[-1000:] + ran.stderr[-1000:]
-            raise Missing(f"rt {command} in crates/{crate} makes no {file}:\n{said}")
-        return made
+    def make(self, target: str) -> Path:
+        ran = subprocess.run([TOP / "tools/build", target], stdin=subprocess.DEVNULL, stdout=subprocess.PIPE, text=True)
+        if ran.returncode:
+            raise Missing(f"tools/build {target} makes no such file")
+        return Path(ran.stdout.strip())

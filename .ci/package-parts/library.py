@@ -5,8 +5,6 @@ from pathlib import Path
 
 from inputs import TOP, Inputs, Missing, ran, version
 
-MAP = TOP / "packaging/libhourstable.map"
-
 
 def soname() -> str:
     return f"libhourstable.so.{version().partition('.')[0]}"
@@ -27,9 +25,7 @@ def merge(inputs: Inputs, folder: Path) -> Path:
 def share(inputs: Inputs, folder: Path) -> Path:
     """The shared object. It takes from the kit's archives what it needs, and needs libc alone."""
     out = folder / "libhourstable.so"
-    ran("gcc", "-shared", "-o", out, f"-Wl,-soname,{soname()}", "-Wl,-z,defs,-z,relro,-z,now",
-        f"-Wl,--version-script={MAP}", "-Wl,--whole-archive", inputs.archive, "-Wl,--no-whole-archive",
-        *inputs.kit_archives)
+    ran(TOP / "tools/link-library", inputs.archive, out)
     return out
 
 

@@ -43,16 +43,18 @@ def run_with_packages() -> None:
 
 def library(made: Path) -> Path:
     """Returns the shared object of the library. It is that of HOURSTABLE_LIBRARY or beside the
-    package, or is linked in the folder `made` from the archive that `rt lib` makes."""
+    package, or is linked in the folder `made` from the archive that tools/build makes."""
     found = _shared()
     if found is not None:
         return found
     if not ARCHIVE.exists():
         raise Missing(
-            "there is no libhourstable.so: run `rt lib` in crates/hourstable_c, which proves and"
-            " builds it, or set HOURSTABLE_LIBRARY"
+            "there is no libhourstable.so: `tools/build libhourstable.so` proves and builds it; or"
+            " set HOURSTABLE_LIBRARY"
         )
-    return _linked(ARCHIVE, made)
+    shared = made / "libhourstable.so"
+    _said([str(TOP / "tools/link-library"), str(ARCHIVE), str(shared)])
+    return shared
 
 
 def _shared() -> Path | None:
@@ -67,35 +69,17 @@ def _shared() -> Path | None:
 def build_missing(given: str | None) -> None:
     """Proves and builds what the example lacks: the library, and the program that audits unless it
     is given."""
-    crates = []
-    if _shared() is None and not ARCHIVE.exists():
-        crates.append((ARCHIVE, ["rt", "lib"]))
-    if _program(given) is None:
-        crates.append((PROGRAM, ["rt", "run", "--", "--version"]))
-    for made, words in crates:
-        folder = made.parents[1]
-        print(
-            f"{' '.join(words)} in {folder.relative_to(TOP)}: proves and builds it, once; from"
-            " nothing this takes most of an hour on four processors", flush=True,
+    targets = [] if _shared() is not None or ARCHIVE.exists() else ["libhourstable.so"]
+    targets += [] if _program(given) is not None else ["hourstable"]
+    if not targets:
+        return
+    try:
+        subprocess.run(
+            [TOP / "tools/build", *targets], check=True, stdin=subprocess.DEVNULL,
+            stdout=subprocess.DEVNULL,
         )
-        try:
-            subprocess.run(words, cwd=folder, check=True, stdin=subprocess.DEVNULL)
-        except FileNotFoundError as why:
-            raise Missing("there is no rt: install the kit that README.md names") from why
-        except subprocess.CalledProcessError as why:
-            raise Missing(f"{' '.join(words)} in {folder} failed") from why
-
-
-def _linked(archive: Path, made: Path) -> Path:
-    """Links the archive to a shared object that exports the names of the header."""
-    kit = Path(_said(["rt", "doc"]).split()[-1]).parent
-    exported, shared = made / "exported", made / "libhourstable.so"
-    exported.write_text("{ global: hs_*; local: *; };\n")
-    whole = ["-Wl,--whole-archive", str(archive), "-Wl,--no-whole-archive"]
-    kits = [str(kit / "c" / name) for name in ("liblibc_c.a", "libos_c.a")]
-    script = f"-Wl,--version-script={exported}"
-    _said(["gcc", "-shared", "-o", str(shared), "-Wl,-z,defs", script, *whole, *kits])
-    return shared
+    except (OSError, subprocess.CalledProcessError) as why:
+        raise Missing(f"tools/build {' '.join(targets)} failed") from why
 
 
 def _said(words: list[str]) -> str:
@@ -112,8 +96,8 @@ def program(given: str | None) -> Path:
     found = _program(given)
     if found is None:
         raise Missing(
-            "there is no hourstable to audit with: run `rt run` in crates/hourstable, which proves"
-            " and builds it, or say where by --hourstable"
+            "there is no hourstable to audit with: `tools/build hourstable` proves and builds it; or"
+            " say where by --hourstable"
         )
     return Path(found).resolve()
 
