@@ -14,13 +14,8 @@ use Rattle.command.specs.declared.arguments.ScriptText.{ScriptText}
 use Rattle.command.specs.declared.arguments.Source.TheVariants as source
 use Rattle.program_io.specs.Status.{status_after}
 use Rattle.diagnosis.specs.Faults.{AnswerError}
-use Rattle.session.specs.declared.answer.ReplyForm.{ReplyForm}
-use Rattle.session.specs.Talks.{IsTalked, IsBroken}
 use Rattle.command.specs.Runs.{IsAnswered, IsFailed}
-use Rattle.command.specs.Endings.{IsPlayed, IsSession, IsOutcome, IsTold, EndsBy, Ends}
-use Rattle.table_store.specs.declared.store.Stored.{Stored}
-use Rattle.table_files.specs.declared.error.FileError.{FileError}
-use Rattle.table_files.specs.declared.files.Seen.{Seen}
+use Rattle.command.specs.Endings.{IsPlayed, IsTold, EndsBy, Ends}
 use Rattle.command.specs.Words.{word_faults}
 
 pub played_of : (text : ScriptText) (full rest held holds : Option (List ℕ)) (answer : Result ⊤ AnswerError)
@@ -28,19 +23,14 @@ pub played_of : (text : ScriptText) (full rest held holds : Option (List ℕ)) (
 played_of text full rest held holds (Ok done) answered failed = answered
 played_of text full rest held holds (Err why) answered failed = failed
 
-pub session_of : (form : ReplyForm) (full rest held holds : Option (List ℕ)) (answer : Result ⊤ AnswerError)
-    → OnOk answer (IsTalked form full held holds) → IfErr answer (IsBroken form full rest held holds) → IsSession form full rest held holds answer
-session_of form full rest held holds (Ok done) talked broken = talked
-session_of form full rest held holds (Err why) talked broken = broken
-
 pub reads_input : (request : Request) (before after held holds : Option (List ℕ)) (answer : Result ⊤ AnswerError) (code : ℕ)
-    → request.source ≡ source.Input → IsOutcome request.subcommand before after held holds answer → code ≡ status_after answer → EndsBy request before after held holds code
-reads_input request before after held holds answer code from outcome status = inl (record {
+    → request.source ≡ source.Input → IsPlayed request.text before after held holds answer → code ≡ status_after answer → EndsBy request before after held holds code
+reads_input request before after held holds answer code from played status = inl (record {
   full = before;
   rest = after;
   read = rw from (refl, refl);
   answer = answer;
-  outcome = outcome;
+  played = played;
   status = status;
 })
 
@@ -53,37 +43,32 @@ fresh_remaining : {T A : Type 0} (remaining : T → Option (List ℕ)) (reader :
     → reader_inner reader ≡ inner → reader_buffer reader ≡ [] → reader_capacity reader ≡ 8192 → reader_remaining remaining reader ≡ remaining inner
 fresh_remaining remaining reader inner same empty room = rw (room, empty, same) (prepends_nothing (remaining inner))
 
-module _ {S : Type 0} (opens : List ℕ → List ℕ → Result S FileError → Type 0) (is_honest : S → Type 0) (may_leave : S → Stored → Type 0) {F : Type 0}
-    (may_fail : S → F → Type 0) (sees : List ℕ → Result (Seen × S) FileError → Type 0) where
-  abbrev EndsSo : List Text → (before after held holds : Option (List ℕ)) → ℕ → Type 0
-  EndsSo = Ends opens is_honest may_leave may_fail sees
+pub ends_buffered : (words : List Text) {T A : Type 0} (remaining : T → Option (List ℕ)) (reader : BufReader T A) (inner : T) (after held holds : Option (List ℕ)) (code : ℕ)
+    → reader_inner reader ≡ inner → reader_buffer reader ≡ [] → reader_capacity reader ≡ 8192 → Ends words (reader_remaining remaining reader) after held holds code
+    → (given : List Text) × (rest : Option (List ℕ)) × Ends given (remaining inner) rest held holds code
+ends_buffered words remaining reader inner after held holds code same empty room ends =
+    (words, after, subst (λ (before : Option (List ℕ)). Ends words before after held holds code) (fresh_remaining remaining reader inner same empty room) ends)
 
-  pub ends_buffered : (words : List Text) {T A : Type 0} (remaining : T → Option (List ℕ)) (reader : BufReader T A) (inner : T) (after held holds : Option (List ℕ)) (code : ℕ)
-      → reader_inner reader ≡ inner → reader_buffer reader ≡ [] → reader_capacity reader ≡ 8192 → EndsSo words (reader_remaining remaining reader) after held holds code
-      → (given : List Text) × (rest : Option (List ℕ)) × EndsSo given (remaining inner) rest held holds code
-  ends_buffered words remaining reader inner after held holds code same empty room ends =
-      (words, after, subst (λ (before : Option (List ℕ)). EndsSo words before after held holds code) (fresh_remaining remaining reader inner same empty room) ends)
+-- memory ran out before anything was done
+pub without_memory : (words : List Text) (before held : Option (List ℕ)) (code : ℕ) → code ≡ 3 → Ends words before before held held code
+without_memory words before held code failed = inr (
+  keeps_itself before,
+  record {
+    why = kind.OutOfMemory;
+    reason = inl refl;
+    told = record {
+      help = λ is. absurd (elim is [ inl e ↦ cc | inr e ↦ cc ]);
+      memory = λ is. (failed, keeps_itself held);
+      refused = λ help version memory. absurd (memory refl);
+    };
+  },
+)
 
-  -- memory ran out before anything was done
-  pub without_memory : (words : List Text) (before held : Option (List ℕ)) (code : ℕ) → code ≡ 3 → EndsSo words before before held held code
-  without_memory words before held code failed = inr (
-    keeps_itself before,
-    record {
-      why = kind.OutOfMemory;
-      reason = inl refl;
-      told = record {
-        help = λ is. absurd (elim is [ inl e ↦ cc | inr e ↦ cc ]);
-        memory = λ is. (failed, keeps_itself held);
-        refused = λ help version memory. absurd (memory refl);
-      };
-    },
-  )
+-- an error is told
+pub ends_told : (words : List Text) (before after held holds : Option (List ℕ)) (code : ℕ) (why : ErrorKind) → Keeps before after
+    → (why ≡ kind.OutOfMemory) ⊎ IsAmong why (word_faults words) → IsTold why held holds code → Ends words before after held holds code
+ends_told words before after held holds code why kept reason told = inr (kept, record { why = why; reason = reason; told = told })
 
-  -- an error is told
-  pub ends_told : (words : List Text) (before after held holds : Option (List ℕ)) (code : ℕ) (why : ErrorKind) → Keeps before after
-      → (why ≡ kind.OutOfMemory) ⊎ IsAmong why (word_faults words) → IsTold why held holds code → EndsSo words before after held holds code
-  ends_told words before after held holds code why kept reason told = inr (kept, record { why = why; reason = reason; told = told })
-
-  -- before the words are known
-  pub ends_unread : (before held : Option (List ℕ)) (code : ℕ) → code ≡ 3 → (words : List Text) × (rest : Option (List ℕ)) × EndsSo words before rest held held code
-  ends_unread before held code failed = ([], before, without_memory [] before held code failed)
+-- before the words are known
+pub ends_unread : (before held : Option (List ℕ)) (code : ℕ) → code ≡ 3 → (words : List Text) × (rest : Option (List ℕ)) × Ends words before rest held held code
+ends_unread before held code failed = ([], before, without_memory [] before held code failed)

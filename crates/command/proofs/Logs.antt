@@ -1,15 +1,14 @@
 -- Logs that are read one after another.
 use Rattle.std.proofs.Common.{Bool, true, false, ℕ, ◌+◌, ◌<◌, ◌≤◌, List, [], ◌∷◌, ◌++◌, map, length, take, get_or, Option, Some, None, inl, inr, refl, string_bytes, sym, subst, append_assoc}
 use Rattle.std.proofs.lemmas.List.{append-nil, map-append, take_all, take_more}
-use Rattle.std.specs.Prelude.{◌≡◌, ◌≢◌, ◌⊎◌, codes}
-use Rattle.std.specs.Io.KnownBytes.{Appends, Consumes, IsAtEnd, Keeps}
+use Rattle.std.specs.Prelude.{◌≡◌, ◌≢◌, codes}
+use Rattle.std.specs.Io.KnownBytes.{Appends, Consumes, IsAtEnd}
 use Rattle.program_io.proofs.Bytes.{consumes_more, consumes_none}
 use Rattle.program_io.specs.declared.line.TheConstants.{MOST_LINE_BYTES}
 use Rattle.program_io.specs.Endings.{IsCut}
 use Rattle.program_io.specs.Streams.{ReadsAll}
 use Rattle.cluster.specs.declared.snapshot.ClusterSnapshot.{ClusterSnapshot}
 use Rattle.call_log.specs.declared.auditing.LogReport.{LogReport}
-use Rattle.call_log.specs.declared.log.LogError.{LogError}
 use Rattle.call_log.specs.declared.log_reader.LogReader.{LogReader}
 use Rattle.call_log.specs.declared.log_reader.ReadLog.{ReadLog}
 use Rattle.log_view.specs.declared.window.View.{View}
@@ -20,11 +19,10 @@ use Rattle.command.specs.declared.arguments.LogText.{LogText}
 use Rattle.command.specs.declared.arguments.ViewWords.{ViewWords}
 use Rattle.command.specs.declared.log_audit.AuditError.{AuditError}
 use Rattle.command.specs.declared.log_audit.AuditError.TheVariants as audit
-use Rattle.command.specs.declared.log_audit.OpenedLogs.{OpenedLogs}
 use Rattle.command.specs.Audits.{AreJudged, AreLogsKept, AreLogsRead, AreLogsTaken, AreNotJudged, AreOpened, AreRead, EndsInLine, IsJudged, IsLogBytes, IsLogRead}
-use Rattle.command.specs.Audits.{IsLogTaken, IsNotAudited, IsNotRead, IsOneMore, IsReport, IsSomeReport, IsStateRead, SayNoCalls, passes}
-use Rattle.command.specs.internals.{AreLogsAfter, AreNotAfter, IsStateFrom}
-use Rattle.command.specs.Shows.{AreShown, AreSomehowShown, HasNothingShown, HaveNoCalls, IsNoneShown, IsShowing, IsShownOf, IsUnshown}
+use Rattle.command.specs.Audits.{IsLogTaken, IsNotAudited, IsOneMore, IsReport, IsSomeReport, IsStateRead, passes}
+use Rattle.command.specs.internals.{AreLogsAfter, AreNotAfter}
+use Rattle.command.specs.Shows.{AreShown, HaveNoCalls, IsNoneShown, IsShownOf}
 use Rattle.command.specs.Views.{IsViewOf}
 use Rattle.command.proofs.Runs.{never_cut, nothing_yet}
 
@@ -137,17 +135,6 @@ not_after line names before after log taken (audit.NoView words fault) is = absu
 not_after line names before after log taken audit.NoCalls is = absurd is
 not_after line names before after log taken audit.Write is = absurd is
 
--- a state is what the input had left, or a file
-pub state_from_input : (name : List ℕ) (before after : Option (List ℕ)) (line : List ℕ) (s : ClusterSnapshot) → name ≡ codes "-" → IsStateFrom before after line s
-    → IsStateRead name before after line s
-state_from_input name before after line s dash from =
-    record { bytes = from.0; read = record { input = λ is. from.1; other = λ differs. absurd (differs dash) }; state = from.2 }
-
-pub state_from_file : (name : List ℕ) (input before after : Option (List ℕ)) (line : List ℕ) (s : ClusterSnapshot) → name ≢ codes "-" → IsStateFrom before after line s
-    → IsStateRead name input input line s
-state_from_file name input before after line s other from =
-    record { bytes = from.0; read = record { input = λ dash. absurd (other dash); other = λ differs. refl }; state = from.2 }
-
 -- a state and the logs that go on from it
 module _ (state : List ℕ) (names : List (List ℕ)) (before between after : Option (List ℕ)) (line : List ℕ) (s : ClusterSnapshot) (begins : IsStateRead state before between line s) where
   pub opened_on : (read : ReadLog) → AreLogsAfter line names between after read → AreOpened true (state ∷ names) before after (record { read = read; earlier = Some s })
@@ -174,35 +161,6 @@ module _ (state : List ℕ) (names : List (List ℕ)) (before between after : Op
   not_opened_on (audit.NoView words fault) is = tt
   not_opened_on audit.NoCalls is = absurd is
   not_opened_on audit.Write is = absurd is
-
--- logs of which no name is a state
-pub opened_none : (goes_on : Bool) (names : List (List ℕ)) (before after : Option (List ℕ)) (opened : OpenedLogs) → (goes_on ≡ false) ⊎ (names ≡ [])
-    → AreOpened false names before after opened → AreOpened goes_on names before after opened
-opened_none false names before after opened is are = are
-opened_none true [] before after opened is are = record { files = are.files; read = are.read; log = are.log }
-opened_none true (name ∷ names) before after opened (inl is) are = absurd (cc)
-opened_none true (name ∷ names) before after opened (inr is) are = absurd (cc)
-
-none_with : (goes_on : Bool) (names : List (List ℕ)) (before after : Option (List ℕ)) (why : LogError) → (goes_on ≡ false) ⊎ (names ≡ [])
-    → SayNoCalls false names before after why → SayNoCalls goes_on names before after why
-none_with false names before after why is none = none
-none_with true [] before after why is none = record { files = none.files; earlier = none.earlier; read = none.read; unread = none.unread }
-none_with true (name ∷ names) before after why (inl is) none = absurd (cc)
-none_with true (name ∷ names) before after why (inr is) none = absurd (cc)
-
-pub not_opened : (goes_on : Bool) (names : List (List ℕ)) (before after : Option (List ℕ)) (error : AuditError) → (goes_on ≡ false) ⊎ (names ≡ [])
-    → AreNotJudged false names before after error → AreNotJudged goes_on names before after error
-not_opened goes_on names before after (audit.Refused why) is none = none_with goes_on names before after why is none
-not_opened goes_on names before after audit.Memory is none = tt
-not_opened goes_on names before after (audit.BadState name why) is none = tt
-not_opened goes_on names before after (audit.OtherState name fault) is none = tt
-not_opened goes_on names before after (audit.Unopened name error) is none = tt
-not_opened goes_on names before after (audit.Read name) is none = tt
-not_opened goes_on names before after (audit.Unsaved name error) is none = tt
-not_opened goes_on names before after (audit.NoDrift words) is none = tt
-not_opened goes_on names before after (audit.NoView words fault) is none = tt
-not_opened goes_on names before after audit.NoCalls is none = absurd none
-not_opened goes_on names before after audit.Write is none = absurd none
 
 -- logs whose lines are short were read to their ends
 short_front : (xs ys : List PlacedLine) → AreShort (xs ++ ys) → AreShort xs
@@ -285,64 +243,14 @@ module _ (names : List (List ℕ)) (flags : AuditFlags) (before after held holds
     wrote = subst (λ (t : List ℕ). Appends held holds (take len t)) is written;
   }
 
--- what is shown of logs that were read
-module _ (names : List (List ℕ)) (text : LogText) (words : ViewWords) (before after : Option (List ℕ)) where
-  -- it is shown of logs that were read to their ends, or they have no calls such as are wanted
-  module _ (logs : ReadLog) (kept : AreLogsKept names before after logs) (view : View) (given : IsViewOf names words view) where
-    ends : AreLogsRead ReadsAll names before after kept.files
-    ends = to_their_ends names 0 before after kept.files kept.log.log.short kept.read
+-- what is shown of logs that were read to their ends, or that they have no calls such as are wanted
+module _ (names : List (List ℕ)) (text : LogText) (words : ViewWords) (before after : Option (List ℕ)) (logs : ReadLog) (kept : AreLogsKept names before after logs)
+    (view : View) (given : IsViewOf names words view) where
+  ends : AreLogsRead ReadsAll names before after kept.files
+  ends = to_their_ends names 0 before after kept.files kept.log.log.short kept.read
 
-    pub are_shown : (one : Bool) (bytes : List ℕ) → IsShownOf text names logs.log view one bytes → AreShown names text words before after one bytes
-    are_shown one bytes is = record { files = kept.files; read = ends; log = logs.log; says = kept.log.log; view = view; given = given; is = is }
+  pub are_shown : (one : Bool) (bytes : List ℕ) → IsShownOf text names logs.log view one bytes → AreShown names text words before after one bytes
+  are_shown one bytes is = record { files = kept.files; read = ends; log = logs.log; says = kept.log.log; view = view; given = given; is = is }
 
-    pub none_shown : IsNoneShown text names logs.log view → HaveNoCalls names text words before after
-    none_shown none = record { files = kept.files; read = ends; log = logs.log; says = kept.log.log; view = view; given = given; none = none }
-
-  -- or why not
-  pub not_viewed : (error : AuditError) → IsNotRead error → HasNothingShown names text words before after error
-  not_viewed (audit.Refused why) is = absurd is
-  not_viewed (audit.Unopened name error) is = tt
-  not_viewed (audit.Read name) is = tt
-  not_viewed (audit.BadState name why) is = tt
-  not_viewed (audit.OtherState name fault) is = tt
-  not_viewed (audit.Unsaved name error) is = tt
-  not_viewed (audit.NoDrift words) is = tt
-  not_viewed (audit.NoView words fault) is = tt
-  not_viewed audit.NoCalls is = absurd is
-  not_viewed audit.Write is = absurd is
-  not_viewed audit.Memory is = tt
-
-  pub not_read : (error : AuditError) → AreNotJudged false names before after error → HasNothingShown names text words before after error
-  not_read (audit.Refused why) is = is
-  not_read (audit.Unopened name error) is = tt
-  not_read (audit.Read name) is = tt
-  not_read (audit.BadState name why) is = tt
-  not_read (audit.OtherState name fault) is = tt
-  not_read (audit.Unsaved name error) is = tt
-  not_read (audit.NoDrift words) is = tt
-  not_read (audit.NoView words fault) is = tt
-  not_read audit.NoCalls is = absurd is
-  not_read audit.Write is = absurd is
-  not_read audit.Memory is = tt
-
-  pub unwritten : (held holds : Option (List ℕ)) (error : AuditError) → HasNothingShown names text words before after error → Keeps held holds
-      → IsUnshown names text words before after held holds error
-  unwritten held holds (audit.Refused why) is kept = (is, kept)
-  unwritten held holds (audit.Unopened name error) is kept = (is, kept)
-  unwritten held holds (audit.Read name) is kept = (is, kept)
-  unwritten held holds (audit.BadState name why) is kept = (is, kept)
-  unwritten held holds (audit.OtherState name fault) is kept = (is, kept)
-  unwritten held holds (audit.Unsaved name error) is kept = (is, kept)
-  unwritten held holds (audit.NoDrift words) is kept = (is, kept)
-  unwritten held holds (audit.NoView words fault) is kept = (is, kept)
-  unwritten held holds audit.NoCalls is kept = (is, kept)
-  unwritten held holds audit.Write is kept = absurd is
-  unwritten held holds audit.Memory is kept = (is, kept)
-
-  -- it is written, or a first part of it
-  module _ (held holds : Option (List ℕ)) (told bytes : List ℕ) (is : told ≡ bytes) (one : Bool) (shown : AreShown names text words before after one bytes) where
-    pub shown_written : Appends held holds told → IsShowing names text words before after held holds one
-    shown_written written = record { text = bytes; is = shown; wrote = subst (Appends held holds) is written }
-
-    pub shown_cut : (len : ℕ) → Appends held holds (take len told) → IsCut (AreSomehowShown names text words before after) held holds
-    shown_cut len written = record { text = bytes; is = (one, shown); len = len; wrote = subst (λ (t : List ℕ). Appends held holds (take len t)) is written }
+  pub none_shown : IsNoneShown text names logs.log view → HaveNoCalls names text words before after
+  none_shown none = record { files = kept.files; read = ends; log = logs.log; says = kept.log.log; view = view; given = given; none = none }

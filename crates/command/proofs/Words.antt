@@ -1,13 +1,13 @@
 -- What clap's matches say of the words.
-use Rattle.std.proofs.Common.{◌≡◌, ◌≢◌, ◌∙◌, Bool, true, false, List, [], ◌∷◌, Option, Some, None, option_map, unwrap_or, length, map, ◌==◌, codes, slice_index, refl, sym, ap, ap₂, arith, subst}
+use Rattle.std.proofs.Common.{◌≡◌, ◌∙◌, Bool, true, false, List, [], ◌∷◌, Option, Some, None, option_map, unwrap_or, length, map, ◌==◌, codes, refl, sym, ap, ap₂, arith, subst}
 use Rattle.std.specs.Prelude.{Box, is_some}
 use Rattle.std.specs.Box.{box_value}
 use Rattle.std.specs.Option.{option_map_or, option_or}
-use Rattle.clap.specs.Built.{AddsArg, AddsSubcommand, IsParsedFrom}
+use Rattle.clap.specs.Built.{AddsArg, AddsSubcommand}
 use Rattle.clap.specs.Faults.{fault_of, is_simple_and_free}
 use Rattle.clap.specs.Kinds.{HasKind}
 use Rattle.clap.specs.declared.error.Error.{Error}
-use Rattle.clap.specs.Matches.{first_value, has_subcommand, matched_of, one_text, raw_values, subcommand_name_of}
+use Rattle.clap.specs.Matches.{first_value, matched_of, one_text, raw_values, subcommand_name_of}
 use Rattle.clap.specs.Simple.{App, HasMatchesOf, Shape, app_of, is_simple, subcommand_of, subcommand_rows, with_rule, with_subcommand}
 use Rattle.clap.specs.Walk.{Row, Rule, Text, all_of, first_of, rows_of}
 use Rattle.clap.specs.declared.builder.arg.Arg.{Arg}
@@ -20,8 +20,8 @@ use Rattle.clap.specs.declared.parser.matches.SubCommand.{SubCommand}
 use Rattle.clap.proofs.WalkLemmas.{first_value-rows, one_text-rows, raw_values-rows}
 use Rattle.command.specs.declared.arguments.Asked.{Asked}
 use Rattle.command.specs.declared.arguments.LogText.{LogText}
-use Rattle.command.specs.declared.arguments.Subcommand.{Subcommand}
-use Rattle.command.specs.Words.{Asks, AsksAudit, AsksExplain, AsksRun, AsksSession, AsksStore, AsksTimeline, IsArgument, IsFlag, IsOfEither, IsOfLogs, IsOfScript, IsReadAs, WordsAsk, hourstable, leaf, logs_named, word_faults}
+use Rattle.command.specs.declared.arguments.ScriptText.{ScriptText}
+use Rattle.command.specs.Words.{Asks, IsArgument, IsFlag, IsOfEither, IsOfLogs, IsOfScript, IsReadAs, WordsAsk, hourstable, leaf, logs_named, word_faults}
 
 -- ---- an argument
 
@@ -56,95 +56,16 @@ pub map_or : {N M : Type 0} (now : N → M) (a b : Option N) → option_map now 
 map_or now None b = refl
 map_or now (Some x) b = refl
 
-module _ (log_option : Option Text) (subcommand : Subcommand) (text : LogText) (rows : List Row) (asked : Asked) {N : Type 0} (now : N → Text) where
+module _ (log_option : Option Text) (script : ScriptText) (text : LogText) (rows : List Row) (asked : Asked) {N : Type 0} (now : N → Text) where
   pub of_logs : (logs : List N) → (length logs == 0) ≡ false → map now logs ≡ logs_named rows → IsOfLogs (map now logs) text rows asked
-      → IsOfEither (logs_named rows) log_option subcommand text rows asked
+      → IsOfEither (logs_named rows) log_option script text rows asked
   of_logs [] some same is = absurd (cc)
-  of_logs (log ∷ logs) some same is = subst (λ names. IsOfEither names log_option subcommand text rows asked) same is
+  of_logs (log ∷ logs) some same is = subst (λ names. IsOfEither names log_option script text rows asked) same is
 
-  pub of_script : (logs : List N) → length logs ≡ 0 → map now logs ≡ logs_named rows → IsOfScript log_option subcommand rows asked
-      → IsOfEither (logs_named rows) log_option subcommand text rows asked
-  of_script [] none same is = subst (λ names. IsOfEither names log_option subcommand text rows asked) same is
+  pub of_script : (logs : List N) → length logs ≡ 0 → map now logs ≡ logs_named rows → IsOfScript log_option script rows asked
+      → IsOfEither (logs_named rows) log_option script text rows asked
+  of_script [] none same is = subst (λ names. IsOfEither names log_option script text rows asked) same is
   of_script (log ∷ logs) none same is = absurd (omega (arith, none))
-
--- ---- the subcommand
-
-letter : (name other : Text) → name ≡ other → slice_index name 0 ≡ slice_index other 0
-letter name other is = ap (λ t. slice_index t 0) is
-
-second : (name other : Text) → name ≡ other → slice_index name 1 ≡ slice_index other 1
-second name other is = ap (λ t. slice_index t 1) is
-
-module _ (name : Text) (rows : List Row) (asked : Asked) where
-  pub asks_audit : name ≡ codes "audit" → AsksAudit rows asked → Asks name rows asked
-  asks_audit is asks =
-      let first = letter name (codes "audit") is in
-      record {
-        run = λ e. let bad = letter name (codes "run") e in absurd (omega (arith, first, bad));
-        session = λ e. let bad = letter name (codes "session") e in absurd (omega (arith, first, bad));
-        audit = λ e. asks;
-        explain = λ e. let bad = letter name (codes "explain") e in absurd (omega (arith, first, bad));
-        timeline = λ e. let bad = letter name (codes "timeline") e in absurd (omega (arith, first, bad));
-        store = λ e. let bad = letter name (codes "store") e in absurd (omega (arith, first, bad));
-      }
-
-  pub asks_session : name ≡ codes "session" → AsksSession rows asked → Asks name rows asked
-  asks_session is asks =
-      let first = letter name (codes "session") is in
-      record {
-        run = λ e. let bad = letter name (codes "run") e in absurd (omega (arith, first, bad));
-        session = λ e. asks;
-        audit = λ e. let bad = letter name (codes "audit") e in absurd (omega (arith, first, bad));
-        explain = λ e. let bad = letter name (codes "explain") e in absurd (omega (arith, first, bad));
-        timeline = λ e. let bad = letter name (codes "timeline") e in absurd (omega (arith, first, bad));
-        store = λ e. let bad = second name (codes "store") e in let here = second name (codes "session") is in absurd (omega (arith, here, bad));
-      }
-
-  pub asks_explain : name ≡ codes "explain" → AsksExplain rows asked → Asks name rows asked
-  asks_explain is asks =
-      let first = letter name (codes "explain") is in
-      record {
-        run = λ e. let bad = letter name (codes "run") e in absurd (omega (arith, first, bad));
-        session = λ e. let bad = letter name (codes "session") e in absurd (omega (arith, first, bad));
-        audit = λ e. let bad = letter name (codes "audit") e in absurd (omega (arith, first, bad));
-        explain = λ e. asks;
-        timeline = λ e. let bad = letter name (codes "timeline") e in absurd (omega (arith, first, bad));
-        store = λ e. let bad = letter name (codes "store") e in absurd (omega (arith, first, bad));
-      }
-
-  pub asks_timeline : name ≡ codes "timeline" → AsksTimeline rows asked → Asks name rows asked
-  asks_timeline is asks =
-      let first = letter name (codes "timeline") is in
-      record {
-        run = λ e. let bad = letter name (codes "run") e in absurd (omega (arith, first, bad));
-        session = λ e. let bad = letter name (codes "session") e in absurd (omega (arith, first, bad));
-        audit = λ e. let bad = letter name (codes "audit") e in absurd (omega (arith, first, bad));
-        explain = λ e. let bad = letter name (codes "explain") e in absurd (omega (arith, first, bad));
-        timeline = λ e. asks;
-        store = λ e. let bad = letter name (codes "store") e in absurd (omega (arith, first, bad));
-      }
-
-  pub asks_store : name ≡ codes "store" → AsksStore rows asked → Asks name rows asked
-  asks_store is asks =
-      let first = letter name (codes "store") is in
-      record {
-        run = λ e. let bad = letter name (codes "run") e in absurd (omega (arith, first, bad));
-        session = λ e. let bad = second name (codes "session") e in let here = second name (codes "store") is in absurd (omega (arith, here, bad));
-        audit = λ e. let bad = letter name (codes "audit") e in absurd (omega (arith, first, bad));
-        explain = λ e. let bad = letter name (codes "explain") e in absurd (omega (arith, first, bad));
-        timeline = λ e. let bad = letter name (codes "timeline") e in absurd (omega (arith, first, bad));
-        store = λ e. asks;
-      }
-
-  pub asks_run : name ≢ codes "audit" → name ≢ codes "session" → name ≢ codes "explain" → name ≢ codes "timeline" → name ≢ codes "store" → AsksRun rows asked → Asks name rows asked
-  asks_run no_audit no_session no_explain no_timeline no_store asks = record {
-    run = λ e. asks;
-    session = λ e. absurd (no_session e);
-    audit = λ e. absurd (no_audit e);
-    explain = λ e. absurd (no_explain e);
-    timeline = λ e. absurd (no_timeline e);
-    store = λ e. absurd (no_store e);
-  }
 
 -- ---- the command
 
@@ -181,9 +102,6 @@ module _ (command : Command) (m : ArgMatches) (read : IsReadAs hourstable comman
 
   pub no_fault : (words : List Text) → (is_simple_and_free (app_of command) ≡ true → fault_of (app_of command) words ≡ []) → word_faults words ≡ []
   no_fault words none = ap (λ a. fault_of a words) (sym read.0) ∙ none (ap is_simple_and_free read.0 ∙ hourstable_is_free)
-
-  pub has_one : IsParsedFrom command m → has_subcommand m ≡ true
-  has_one parsed = (parsed.parsed (parsed.from.globals ∙ read.1)).checked.subcommand (parsed.from.needs_subcommand ∙ ap (λ (a : App). a.top.subcommand_required) read.0)
 
 -- words that clap refuses have one of their faults
 pub refused_words : (command : Command) (words : List Text) (e : Error) → IsReadAs hourstable command

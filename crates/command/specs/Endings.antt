@@ -8,21 +8,13 @@ use Rattle.clap.specs.declared.error.kind.ErrorKind.TheVariants as kind
 use Rattle.command.specs.declared.arguments.Asked.{Asked}
 use Rattle.command.specs.declared.arguments.Asked.TheVariants as asked
 use Rattle.command.specs.declared.arguments.Request.{Request}
-use Rattle.command.specs.declared.arguments.Subcommand.{Subcommand}
-use Rattle.command.specs.declared.arguments.Subcommand.TheVariants as command
 use Rattle.command.specs.declared.arguments.ScriptText.{ScriptText}
 use Rattle.program_io.specs.Status.{status_after}
 use Rattle.diagnosis.specs.Faults.{AnswerError}
-use Rattle.session.specs.declared.answer.ReplyForm.{ReplyForm}
-use Rattle.session.specs.Talks.{IsTalked, IsBroken}
 use Rattle.command.specs.Runs.{IsAnswered, IsFailed}
 use Rattle.command.specs.Audits.{IsAuditEnd}
 use Rattle.command.specs.Shows.{IsShowEnd}
 use Rattle.command.specs.Sources.{IsReadFrom, IsUnopened}
-use Rattle.command.specs.Tables.{EndsKeep, IsSeeEnd}
-use Rattle.table_store.specs.declared.store.Stored.{Stored}
-use Rattle.table_files.specs.declared.error.FileError.{FileError}
-use Rattle.table_files.specs.declared.files.Seen.{Seen}
 use Rattle.command.specs.Words.{WordsAsk, word_faults}
 
 -- what was read and written for a script that was answered, or was not
@@ -30,23 +22,13 @@ abbrev pub IsPlayed : ScriptText → (full rest held holds : Option (List ℕ)) 
 IsPlayed text full rest held holds (Ok done) = IsAnswered text full rest held holds
 IsPlayed text full rest held holds (Err why) = IsFailed text full rest held holds why
 
--- what was read and written in a session that came to its end, or did not
-abbrev pub IsSession : ReplyForm → (full rest held holds : Option (List ℕ)) → Result ⊤ AnswerError → Type 0
-IsSession form full rest held holds (Ok done) = IsTalked form full held holds
-IsSession form full rest held holds (Err why) = IsBroken form full rest held holds why
-
--- what was read and written by a subcommand that came to its end, or did not
-abbrev pub IsOutcome : Subcommand → (full rest held holds : Option (List ℕ)) → Result ⊤ AnswerError → Type 0
-IsOutcome (command.Play text) full rest held holds answer = IsPlayed text full rest held holds answer
-IsOutcome (command.Session form) full rest held holds answer = IsSession form full rest held holds answer
-
--- input was read for this request
+-- input was read for this script
 pub record EndsWithInput (request : Request) (before after held holds : Option (List ℕ)) (code : ℕ) : Type 0 where
   pub full : Option (List ℕ)
   pub rest : Option (List ℕ)
   pub read : IsReadFrom request.source before after full rest
   pub answer : Result ⊤ AnswerError
-  pub outcome : IsOutcome request.subcommand full rest held holds answer
+  pub played : IsPlayed request.text full rest held holds answer
   pub status : code ≡ status_after answer
 
 -- the text for help or for the version was written, or memory ran out, or it was written up to a place
@@ -67,32 +49,26 @@ pub record IsWithoutInput (words : List Text) (held holds : Option (List ℕ)) (
   pub reason : (why ≡ kind.OutOfMemory) ⊎ IsAmong why (word_faults words)
   pub told : IsTold why held holds code
 
--- how the command ends, for this request: it reads its input, or its file cannot be opened
+-- how the command ends, for this script: it reads its input, or its file cannot be opened
 abbrev pub EndsBy : Request → (before after held holds : Option (List ℕ)) → ℕ → Type 0
 EndsBy request before after held holds code =
     EndsWithInput request before after held holds code ⊎ IsUnopened request.source before after held holds code
 
--- a word names no action, or words do not go together, and nothing was read or written
-abbrev pub IsUnknown : (before after held holds : Option (List ℕ)) → ℕ → Type 0
-IsUnknown before after held holds code = (code ≡ 2) × Keeps before after × Keeps held holds
+-- words do not go together, and nothing was read or written
+abbrev pub IsMisused : (before after held holds : Option (List ℕ)) → ℕ → Type 0
+IsMisused before after held holds code = (code ≡ 2) × Keeps before after × Keeps held holds
 
-module _ {S : Type 0} (opens : List ℕ → List ℕ → Result S FileError → Type 0) (is_honest : S → Type 0) (may_leave : S → Stored → Type 0) {F : Type 0}
-    (may_fail : S → F → Type 0) (sees : List ℕ → Result (Seen × S) FileError → Type 0) where
-  -- how the command ends, for what was asked: a request, an audit of the logs of these names, all of them, what is shown of such logs, a session
-  -- over the table in a file, or a look at what a file has
-  abbrev pub EndsFor : Asked → (before after held holds : Option (List ℕ)) → ℕ → Type 0
-  EndsFor (asked.Answer request) before after held holds code = EndsBy request before after held holds code
-  EndsFor (asked.Audit names progress flags until) before after held holds code =
-      IsAuditEnd (map (λ n. n.now) names.items) flags before after held holds code
-  EndsFor (asked.Show names text view) before after held holds code =
-      IsShowEnd (map (λ n. n.now) names.items) text view before after held holds code
-  EndsFor (asked.Misused misuse) before after held holds code = IsUnknown before after held holds code
-  EndsFor (asked.Keep keep) before after held holds code = EndsKeep opens is_honest may_leave may_fail keep before after held holds code
-  EndsFor (asked.See action file) before after held holds code = IsSeeEnd sees action file.now held holds code × Keeps before after
-  EndsFor (asked.Unknown action) before after held holds code = IsUnknown before after held holds code
+-- how the command ends, for what was asked: a script, an audit of the logs of these names, all of them, or what is shown of such logs
+abbrev pub EndsFor : Asked → (before after held holds : Option (List ℕ)) → ℕ → Type 0
+EndsFor (asked.Play request) before after held holds code = EndsBy request before after held holds code
+EndsFor (asked.Audit names progress flags until) before after held holds code =
+    IsAuditEnd (map (λ n. n.now) names.items) flags before after held holds code
+EndsFor (asked.Show names text view) before after held holds code =
+    IsShowEnd (map (λ n. n.now) names.items) text view before after held holds code
+EndsFor (asked.Misused misuse) before after held holds code = IsMisused before after held holds code
 
-  -- how the command ends, for these words: it does what they ask for, or reads nothing
-  abbrev pub Ends : List Text → (before after held holds : Option (List ℕ)) → ℕ → Type 0
-  Ends words before after held holds code =
-      ((asked : Asked) × WordsAsk words asked × EndsFor asked before after held holds code)
-      ⊎ (Keeps before after × IsWithoutInput words held holds code)
+-- how the command ends, for these words: it does what they ask for, or reads nothing
+abbrev pub Ends : List Text → (before after held holds : Option (List ℕ)) → ℕ → Type 0
+Ends words before after held holds code =
+    ((asked : Asked) × WordsAsk words asked × EndsFor asked before after held holds code)
+    ⊎ (Keeps before after × IsWithoutInput words held holds code)

@@ -9,7 +9,7 @@ abbrev pub IsReadFrom : Source → (before after full rest : Option (List ℕ)) 
 IsReadFrom source.Input before after full rest = (full ≡ before) × (rest ≡ after)
 IsReadFrom (source.File name) before after full rest = Keeps before after
 
--- the file of a request was not opened, and nothing was read or written
+-- the file was not opened, and nothing was read or written
 abbrev pub IsUnopened : Source → (before after held holds : Option (List ℕ)) → ℕ → Type 0
 IsUnopened source.Input before after held holds code = ⊥
 IsUnopened (source.File name) before after held holds code = (code ≡ 2) × Keeps before after × Keeps held holds

@@ -1,5 +1,5 @@
 -- Which calls of logs are shown, by the words of a command line.
-use Rattle.std.specs.Prelude.{◌≡◌, ◌≢◌, ℕ, ◌<◌, ◌^◌, List, ◌++◌, codes, decimal, Option, Some, None, MatchOption, ⊤, slice_get}
+use Rattle.std.specs.Prelude.{◌≡◌, ◌≢◌, ℕ, ◌<◌, ◌^◌, List, ◌++◌, codes, decimal, Option, Some, None, ⊤, slice_get}
 use Rattle.std.specs.Borrow.{Bor}
 use Rattle.slice_ranges.specs.Hash.{slice_key}
 use Rattle.slice_ranges.specs.declared.key.TheConstants.{KEYS}

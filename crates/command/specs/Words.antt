@@ -11,25 +11,20 @@ use Rattle.clap.specs.declared.builder.arg.Arg.{Arg}
 use Rattle.clap.specs.declared.builder.command.Command.{Command}
 use Rattle.clap.specs.declared.builder.command.Command.TheViews.{out-Command}
 use Rattle.clap.specs.declared.builder.action.ArgAction.TheVariants.{Append, Set, SetTrue}
-use Rattle.session.specs.declared.answer.ReplyForm.{ReplyForm}
-use Rattle.session.specs.declared.answer.ReplyForm.TheVariants as form
 use Rattle.command.specs.declared.arguments.Asked.{Asked}
 use Rattle.command.specs.declared.arguments.Asked.TheVariants as asked
 use Rattle.command.specs.declared.arguments.LogText.{LogText}
 use Rattle.command.specs.declared.arguments.LogText.TheVariants as logged
 use Rattle.command.specs.declared.arguments.Misuse.TheVariants as misuse
+use Rattle.command.specs.declared.arguments.ScriptText.{ScriptText}
 use Rattle.command.specs.declared.arguments.ScriptText.TheVariants as show
 use Rattle.command.specs.declared.arguments.Source.{Source}
 use Rattle.command.specs.declared.arguments.Source.TheVariants as source
-use Rattle.command.specs.declared.arguments.StoreAction.{StoreAction}
-use Rattle.command.specs.declared.arguments.StoreAction.TheVariants as act
-use Rattle.command.specs.declared.arguments.Subcommand.{Subcommand}
-use Rattle.command.specs.declared.arguments.Subcommand.TheVariants as command
 use Rattle.command.specs.declared.arguments.ViewWords.{ViewWords}
 
 -- ---- the subcommands, with their options and arguments
 
--- an option with no value, as `--json`
+-- an option with no value, as `--number`
 abbrev pub flag : Text → Rule
 flag name = record (new_rule name) { long = Some name; action = Some SetTrue }
 
@@ -40,13 +35,6 @@ option name = record (new_rule name) { long = Some name; action = Some Set; valu
 -- FILE, which may be left out
 abbrev pub file : Rule
 file = record (new_rule (codes "FILE")) { action = Some Set }
-
--- ACTION and FILE, which may not
-abbrev pub action : Rule
-action = record (new_rule (codes "ACTION")) { action = Some Set; required = true }
-
-abbrev pub stored_file : Rule
-stored_file = record file { required = true }
 
 -- LOG.., one or more
 abbrev pub logs : Rule
@@ -62,13 +50,6 @@ subcommand name rules = record (new_shape name) { rules = rules }
 
 abbrev pub run_words : Shape
 run_words = subcommand (codes "run") (flag (codes "number") ∷ file ∷ [])
-
--- `session` before its file
-abbrev pub session_options : Shape
-session_options = subcommand (codes "session") (flag (codes "json") ∷ option (codes "store") ∷ option (codes "job") ∷ [])
-
-abbrev pub session_words : Shape
-session_words = subcommand (codes "session") (flag (codes "json") ∷ option (codes "store") ∷ option (codes "job") ∷ file ∷ [])
 
 -- `audit` before the drift, the states and the logs
 abbrev pub audit_flags : Shape
@@ -115,14 +96,11 @@ timeline_flags = subcommand (codes "timeline") (flag (codes "clerks") ∷ [])
 abbrev pub timeline_words : Shape
 timeline_words = subcommand (codes "timeline") ((flag (codes "clerks") ∷ view_rules) ++ file ∷ [])
 
-abbrev pub store_words : Shape
-store_words = subcommand (codes "store") (action ∷ stored_file ∷ [])
-
 -- the command: one of these subcommands must be named
 abbrev pub hourstable : App
 hourstable = record {
   top = record (new_shape (codes "hourstable")) { is_leaf = false; has_version = true; subcommand_required = true };
-  subs = run_words ∷ session_words ∷ audit_words ∷ explain_words ∷ timeline_words ∷ store_words ∷ [];
+  subs = run_words ∷ audit_words ∷ explain_words ∷ timeline_words ∷ [];
 }
 
 -- ---- what was given to a subcommand: a row for each option and argument
@@ -138,15 +116,15 @@ abbrev pub IsSource : Option Text → Source → Type 0
 IsSource file source.Input = (file ≡ None) ⊎ (file ≡ Some (codes "-"))
 IsSource file (source.File name) = (file ≡ Some name.now) × (name.now ≢ codes "-")
 
--- the subcommand is done with FILE
-abbrev pub IsRequest : Subcommand → List Row → Asked → Type 0
-IsRequest subcommand rows (asked.Answer request) = (request.subcommand ≡ subcommand) × IsSource (first_of (codes "FILE") rows) request.source
-IsRequest subcommand rows _ = ⊥
+-- this is written about the script in FILE
+abbrev pub IsRequest : ScriptText → List Row → Asked → Type 0
+IsRequest text rows (asked.Play request) = (request.text ≡ text) × IsSource (first_of (codes "FILE") rows) request.source
+IsRequest text rows _ = ⊥
 
 -- `run [--number] [FILE]`
 abbrev pub AsksRun : List Row → Asked → Type 0
 AsksRun rows asked = (number : Bool) × IsFlag (codes "number") rows number
-    × IsRequest (command.Play (if number then show.Numbered else show.Lines)) rows asked
+    × IsRequest (if number then show.Numbered else show.Lines) rows asked
 
 -- the name of an option, where it was given
 abbrev pub option_given : Text → List Row → Option Text
@@ -163,8 +141,8 @@ IsForLogs option (asked.Misused (misuse.ForLogs given)) = given.now ≡ option
 IsForLogs option _ = ⊥
 
 -- a script, unless this option is given, which is for logs
-abbrev pub IsOfScript : Option Text → Subcommand → List Row → Asked → Type 0
-IsOfScript log_option subcommand rows asked = MatchOption log_option (IsRequest subcommand rows asked) (λ option. IsForLogs option asked)
+abbrev pub IsOfScript : Option Text → ScriptText → List Row → Asked → Type 0
+IsOfScript log_option text rows asked = MatchOption log_option (IsRequest text rows asked) (λ option. IsForLogs option asked)
 
 -- the words that say which calls of logs are shown
 pub record AreViewWords (rows : List Row) (view : ViewWords) : Type 0 where
@@ -188,9 +166,9 @@ abbrev pub IsOfLogs : List Text → LogText → List Row → Asked → Type 0
 IsOfLogs logs text rows asked = MatchOption (first_of (codes "FILE") rows) (IsShow logs text rows asked) (λ file. IsBeside file asked)
 
 -- logs where some are named, and else a script
-abbrev pub IsOfEither : List Text → Option Text → Subcommand → LogText → List Row → Asked → Type 0
-IsOfEither [] log_option subcommand text rows asked = IsOfScript log_option subcommand rows asked
-IsOfEither (log ∷ logs) log_option subcommand text rows asked = IsOfLogs (log ∷ logs) text rows asked
+abbrev pub IsOfEither : List Text → Option Text → ScriptText → LogText → List Row → Asked → Type 0
+IsOfEither [] log_option script text rows asked = IsOfScript log_option script rows asked
+IsOfEither (log ∷ logs) log_option script text rows asked = IsOfLogs (log ∷ logs) text rows asked
 
 -- the logs that `--logs` names
 abbrev pub logs_named : List Row → List Text
@@ -199,49 +177,17 @@ logs_named rows = unwrap_or (all_of (codes "logs") rows) []
 -- `explain [--number] [--logs LOG..] [--around LOG:LINE] [--readings A..B] [--key KEY] [--slice-key NUMBER] [FILE]`
 abbrev pub AsksExplain : List Row → Asked → Type 0
 AsksExplain rows asked = (number : Bool) × IsFlag (codes "number") rows number
-    × IsOfEither (logs_named rows) (option_or (log_option_given rows) (option_given (codes "key") rows)) (command.Play (show.Explained number)) logged.Reasons rows asked
-
--- a session over the table in this file, for the job that `--job` names
-abbrev pub IsKeep : ReplyForm → Text → List Row → Asked → Type 0
-IsKeep form store rows (asked.Keep keep) =
-    (keep.form ≡ form) × (keep.file.now ≡ store) × (keep.job.now ≡ unwrap_or (first_of (codes "job") rows) [])
-    × IsSource (first_of (codes "FILE") rows) keep.source
-IsKeep form store rows _ = ⊥
-
--- a session; over the table in the file that `--store` names, if it names one
-abbrev pub IsHeldOver : ReplyForm → Option Text → List Row → Asked → Type 0
-IsHeldOver form None rows asked = IsRequest (command.Session form) rows asked
-IsHeldOver form (Some store) rows asked = IsKeep form store rows asked
-
--- `session [--json] [--store STORE] [--job NAME] [FILE]`
-abbrev pub AsksSession : List Row → Asked → Type 0
-AsksSession rows asked = (json : Bool) × IsFlag (codes "json") rows json
-    × IsHeldOver (if json then form.Json else form.Text) (first_of (codes "store") rows) rows asked
-
--- the word for an action
-abbrev pub action_word : StoreAction → Text
-action_word act.Show = codes "show"
-action_word act.Check = codes "check"
-
--- what this word says is done with this file
-abbrev pub IsActionNamed : Text → Text → Asked → Type 0
-IsActionNamed word name (asked.See act file) = (word ≡ action_word act) × (file.now ≡ name)
-IsActionNamed word name (asked.Unknown other) = (other.now ≡ word) × (word ≢ codes "show") × (word ≢ codes "check")
-IsActionNamed word name _ = ⊥
-
--- `store ACTION FILE`
-abbrev pub AsksStore : List Row → Asked → Type 0
-AsksStore rows asked = IsActionNamed (unwrap_or (first_of (codes "ACTION") rows) []) (unwrap_or (first_of (codes "FILE") rows) []) asked
+    × IsOfEither (logs_named rows) (option_or (log_option_given rows) (option_given (codes "key") rows)) (show.Explained number) logged.Reasons rows asked
 
 -- a picture of the key that `--key` names, with these clerks or without
-abbrev pub IsPicture : List Row → Bool → Subcommand → Type 0
-IsPicture rows with_clerks (command.Play (show.Picture key clerks)) =
+abbrev pub IsPicture : List Row → Bool → ScriptText → Type 0
+IsPicture rows with_clerks (show.Picture key clerks) =
     (option_map (λ k. k.now) key ≡ first_of (codes "key") rows) × (clerks ≡ with_clerks)
 IsPicture rows with_clerks _ = ⊥
 
 -- `timeline [--clerks] [--logs LOG..] [--around LOG:LINE] [--readings A..B] [--key KEY] [--slice-key NUMBER] [FILE]`
 abbrev pub AsksTimeline : List Row → Asked → Type 0
-AsksTimeline rows asked = (clerks : Bool) × IsFlag (codes "clerks") rows clerks × (picture : Subcommand) × IsPicture rows clerks picture
+AsksTimeline rows asked = (clerks : Bool) × IsFlag (codes "clerks") rows clerks × (picture : ScriptText) × IsPicture rows clerks picture
     × IsOfEither (logs_named rows) (log_option_given rows) picture (logged.Picture clerks) rows asked
 
 -- names with one before them, if there is one
@@ -262,11 +208,9 @@ AsksAudit rows _ = ⊥
 -- what is asked for by the subcommand of this name and what was given to it
 pub record Asks (name : Text) (rows : List Row) (asked : Asked) : Type 0 where
   pub run : name ≡ codes "run" → AsksRun rows asked
-  pub session : name ≡ codes "session" → AsksSession rows asked
   pub audit : name ≡ codes "audit" → AsksAudit rows asked
   pub explain : name ≡ codes "explain" → AsksExplain rows asked
   pub timeline : name ≡ codes "timeline" → AsksTimeline rows asked
-  pub store : name ≡ codes "store" → AsksStore rows asked
 
 -- these words ask for this; the first is the name of the program
 pub record WordsAsk (words : List Text) (asked : Asked) : Type 0 where

@@ -1,5 +1,5 @@
 -- How logs that go on from a state are read.
-use Rattle.std.specs.Prelude.{ℕ, ⊤, List, [], ◌∷◌, Option}
+use Rattle.std.specs.Prelude.{ℕ, ⊤, List, ◌∷◌, Option}
 use Rattle.cluster.specs.declared.snapshot.ClusterSnapshot.{ClusterSnapshot}
 use Rattle.program_io.specs.Streams.{ReadsAll}
 use Rattle.call_log.specs.Files.{IsUnread, lines_from}

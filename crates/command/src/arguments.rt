@@ -1,23 +1,20 @@
 //! The arguments of the command.
 
-ghost use Rattle.std.specs.Prelude.{◌≡◌, [], IfOk, codes, if◌then◌else◌, map, option_map, string_bytes, unwrap_or};
+ghost use Rattle.std.specs.Prelude.{◌≡◌, IfOk, codes, if◌then◌else◌, map, option_map, string_bytes};
 ghost use Rattle.clap.specs.Kinds.{FailsBy};
 ghost use Rattle.clap.specs.Matches.{found_of};
 ghost use Rattle.clap.specs.Simple.{App};
 ghost use Rattle.clap.specs.Walk.{first_of, rows_of};
-ghost use Rattle.command.specs.Words.{Asks, AsksAudit, AsksExplain, AsksRun, AsksSession, AsksStore, AsksTimeline, AreViewWords};
-ghost use Rattle.command.specs.Words.{IsActionNamed, IsHeldOver, IsOfLogs, IsOfScript, IsRequest, IsSource, log_option_given, option_given, with_first};
+ghost use Rattle.command.specs.Words.{Asks, AsksAudit, AsksExplain, AsksRun, AsksTimeline, AreViewWords};
+ghost use Rattle.command.specs.Words.{IsOfLogs, IsOfScript, IsRequest, IsSource, log_option_given, option_given, with_first};
 ghost use Rattle.command.specs.Words.{audit_drift, audit_flags, audit_from, audit_until, audit_words, explain_flags, explain_words, run_words};
-ghost use Rattle.command.specs.Words.{session_options, session_words, shown_logs, store_words, timeline_flags, timeline_words, view_rules, with_rules};
-ghost use Rattle.command.specs.Words.{IsArgument, IsReadAs, WordsAsk, action, bare_hourstable, file, flag, hourstable, leaf, logs, option};
-ghost use Rattle.command.specs.Words.{stored_file, word_faults};
+ghost use Rattle.command.specs.Words.{shown_logs, timeline_flags, timeline_words, view_rules, with_rules};
+ghost use Rattle.command.specs.Words.{IsArgument, IsReadAs, WordsAsk, bare_hourstable, file, flag, hourstable, leaf, logs, option};
+ghost use Rattle.command.specs.Words.{word_faults};
 ghost use Rattle.command.specs.declared.arguments.ScriptText.TheVariants as show;
-ghost use Rattle.command.specs.declared.arguments.Subcommand.TheVariants as command;
-ghost use Rattle.session.specs.declared.answer.ReplyForm.TheVariants as form;
 
 use clap::{Arg, ArgAction, ArgMatches, Command, Error};
 use program_io::LIBRARY_VERSION;
-use session::ReplyForm;
 use std::alloc::{AllocError, Global};
 
 /// The toolchain with which the version was proved.
@@ -38,16 +35,6 @@ const SHOWN_STATUSES: &str = "Exit statuses:
   0  done; of logs: the calls are one run
   1  of logs: the calls are not one run
   2  the arguments, the script or a log are refused, or a file cannot be opened
-  3  reading or writing failed, or memory ran out";
-
-const SESSION_STATUSES: &str = "Exit statuses:
-  0  done
-  2  the arguments, the job line or a file are refused, or a file cannot be opened
-  3  reading, writing or saving failed, or memory ran out";
-
-const STORE_STATUSES: &str = "Exit statuses:
-  0  done
-  2  the arguments or the file are refused
   3  reading or writing failed, or memory ran out";
 
 const AUDIT_STATUSES: &str = "Exit statuses:
@@ -83,44 +70,13 @@ pub enum ScriptText<'a> {
     Picture { key: Option<&'a str>, clerks: bool },
 }
 
-/// What the command does with its input.
-#[derive(Clone, Copy, Debug, PartialEq, Eq)]
-pub enum Subcommand<'a> {
-    /// Play a script, and write this about it.
-    Play { text: ScriptText<'a> },
-    /// Answer each line with a line, in this form.
-    Session { form: ReplyForm },
-}
-
-/// One input, and what to do with it.
+/// A script, and what is written about it.
 #[derive(Clone, Copy, Debug, PartialEq, Eq)]
 pub struct Request<'a> {
-    /// What to do.
-    pub subcommand: Subcommand<'a>,
-    /// Where the input comes from.
+    /// What is written about the script.
+    pub text: ScriptText<'a>,
+    /// Where the script comes from.
     pub source: Source<'a>,
-}
-
-/// A session to hold over the table in a file.
-#[derive(Clone, Copy, Debug, PartialEq, Eq)]
-pub struct Keep<'a> {
-    /// The name of the file that has the table.
-    pub file: &'a str,
-    /// The name of the job; empty if none is given.
-    pub job: &'a str,
-    /// How replies are written.
-    pub form: ReplyForm,
-    /// Where the lines come from.
-    pub source: Source<'a>,
-}
-
-/// What is done with the file of a table.
-#[derive(Clone, Copy, Debug, PartialEq, Eq)]
-pub enum StoreAction {
-    /// Write what it has.
-    Show,
-    /// Write whether a session would open its table.
-    Check,
 }
 
 /// How logs are judged.
@@ -174,8 +130,8 @@ pub enum Misuse<'a> {
 /// What a command line asks for.
 #[derive(Debug, Drop)]
 pub enum Asked<'a> {
-    /// Answer one input.
-    Answer(Request<'a>),
+    /// Play a script.
+    Play(Request<'a>),
     /// Audit the logs with these names, where `-` is standard input, and report progress if asked
     /// to.
     Audit {
@@ -195,17 +151,6 @@ pub enum Asked<'a> {
     },
     /// Do nothing, for this reason.
     Misused(Misuse<'a>),
-    /// Hold a session over the table in a file.
-    Keep(Keep<'a>),
-    /// Do this with the file of this name, which has a table.
-    See {
-        action: StoreAction,
-        file: &'a str,
-    },
-    /// Do with the file of a table what this word says, which names no action.
-    Unknown {
-        action: &'a str,
-    },
 }
 
 fn flag<'a>(alloc: Global, name: &'a str, help: &'a str) -> Arg<'a>
@@ -317,28 +262,6 @@ fn timeline_command<'a>(alloc: Global) -> Result<Command<'a>, AllocError>
     with_view(alloc, timeline_flags(alloc)?, key)?.arg(file_argument(alloc, SCRIPT))
 }
 
-// Returns the command for sessions, before its file is added.
-fn session_options<'a>(alloc: Global) -> Result<Command<'a>, AllocError>
-    ensures { IfOk result (IsReadAs (leaf session_options)) }
-{
-    let store = "Keep the table in this file, and go on with the table that it has";
-    let job = "The name of the job in the file of --store; empty if missing";
-    Command::new(alloc, "session")
-        .about("Read steps line by line, and write the reply to each step at once")
-        .after_help(SESSION_STATUSES)
-        .arg(flag(alloc, "json", "Write replies as JSON objects"))?
-        .arg(value_argument(alloc, "store", "STORE", store))?
-        .arg(value_argument(alloc, "job", "NAME", job))
-}
-
-fn session_command<'a>(alloc: Global) -> Result<Command<'a>, AllocError>
-    ensures { IfOk result (IsReadAs (leaf session_words)) }
-{
-    let file =
-        "The lines, a job line and then one step a line; standard input if it is - or missing";
-    session_options(alloc)?.arg(file_argument(alloc, file))
-}
-
 fn logs_argument<'a>(alloc: Global) -> Arg<'a>
     ensures { IsArgument logs result }
 {
@@ -394,34 +317,6 @@ fn audit_command<'a>(alloc: Global) -> Result<Command<'a>, AllocError>
     audit_until(alloc)?.arg(logs_argument(alloc))
 }
 
-fn action_argument<'a>(alloc: Global) -> Arg<'a>
-    ensures { IsArgument action result }
-{
-    Arg::new(alloc, "ACTION")
-        .help("show: write what the file has; check: write whether a session would open its table")
-        .required(true)
-        .action(ArgAction::Set)
-}
-
-fn stored_file_argument<'a>(alloc: Global) -> Arg<'a>
-    ensures { IsArgument stored_file result }
-{
-    Arg::new(alloc, "FILE")
-        .help("The file of session --store")
-        .required(true)
-        .action(ArgAction::Set)
-}
-
-fn store_command<'a>(alloc: Global) -> Result<Command<'a>, AllocError>
-    ensures { IfOk result (IsReadAs (leaf store_words)) }
-{
-    Command::new(alloc, "store")
-        .about("Read the file in which session --store keeps a table")
-        .after_help(STORE_STATUSES)
-        .arg(action_argument(alloc))?
-        .arg(stored_file_argument(alloc))
-}
-
 /// Returns the version with the toolchain that proved it, as `--version` writes it.
 pub fn version_text(alloc: Global) -> Result<String, AllocError> {
     format!(in alloc; "{LIBRARY_VERSION} (proved with {TOOLCHAIN})")
@@ -433,7 +328,7 @@ fn bare_command<'a>(alloc: Global, version: &'a str) -> Command<'a>
 {
     Command::new(alloc, "hourstable")
         .version(version)
-        .about("Run scripts and sessions of a key ownership service, and audit its logs")
+        .about("Run scripts of a key ownership service, explain and draw them, and audit its logs")
         .after_help(STATUSES)
         .subcommand_required(true)
 }
@@ -444,11 +339,9 @@ fn hourstable_command<'a>(alloc: Global, version: &'a str) -> Result<Command<'a>
 {
     bare_command(alloc, version)
         .subcommand(run_command(alloc)?)?
-        .subcommand(session_command(alloc)?)?
         .subcommand(audit_command(alloc)?)?
         .subcommand(explain_command(alloc)?)?
-        .subcommand(timeline_command(alloc)?)?
-        .subcommand(store_command(alloc)?)
+        .subcommand(timeline_command(alloc)?)
 }
 
 // Returns the input of this name, or standard input.
@@ -470,10 +363,10 @@ fn source_of<'a>(matches: &ArgMatches<'a>) -> Source<'a>
 
 // Returns a request to play a script and write `text` about it.
 fn play_request<'a>(matches: &ArgMatches<'a>, text: ScriptText<'a>) -> Asked<'a>
-    ensures { IsRequest (command.Play text.entry) (rows_of (found_of matches.now)) result }
+    ensures { IsRequest text.entry (rows_of (found_of matches.now)) result }
 {
-    Asked::Answer(Request {
-        subcommand: Subcommand::Play { text },
+    Asked::Play(Request {
+        text,
         source: source_of(matches),
     })
 }
@@ -523,7 +416,7 @@ fn script_request<'a>(
     log_option: Option<&'static str>,
     text: ScriptText<'a>,
 ) -> Asked<'a>
-    ensures { IsOfScript (option_map (λ n. n.now) log_option.entry) (command.Play text.entry) (rows_of (found_of matches.now)) result }
+    ensures { IsOfScript (option_map (λ n. n.now) log_option.entry) text.entry (rows_of (found_of matches.now)) result }
 {
     match log_option {
         Some(option) => Asked::Misused(Misuse::ForLogs(option)),
@@ -590,80 +483,6 @@ fn timeline_request<'a>(alloc: Global, matches: &ArgMatches<'a>) -> Result<Asked
     ))
 }
 
-// Returns how replies are written.
-fn reply_form(json: bool) -> ReplyForm
-    ensures { result ≡ (if json then form.Json else form.Text) }
-{
-    if json {
-        ReplyForm::Json
-    } else {
-        ReplyForm::Text
-    }
-}
-
-// Returns the text that was given, or the empty one.
-fn text_of<'a>(given: Option<&'a str>) -> &'a str
-    ensures { result.now ≡ unwrap_or (option_map (λ s. s.now) given.entry) [] }
-{
-    match given {
-        Some(text) => text,
-        None => "",
-    }
-}
-
-// Returns a request to answer lines in this form, over the table in a file if one is named.
-fn session_over<'a>(matches: &ArgMatches<'a>, form: ReplyForm, store: Option<&'a str>) -> Asked<'a>
-    ensures { IsHeldOver form (option_map (λ s. s.now) store.entry) (rows_of (found_of matches.now)) result }
-{
-    let source = source_of(matches);
-    let job = text_of(matches.get_str("job"));
-    match store {
-        None => Asked::Answer(Request {
-            subcommand: Subcommand::Session { form },
-            source,
-        }),
-        Some(file) => Asked::Keep(Keep {
-            file,
-            job,
-            form,
-            source,
-        }),
-    }
-}
-
-fn session_request<'a>(matches: &ArgMatches<'a>) -> Asked<'a>
-    ensures { AsksSession (rows_of (found_of matches.now)) result }
-{
-    let json = matches.get_flag("json");
-    let store = matches.get_str("store");
-    session_over(matches, reply_form(json), store)
-}
-
-// Returns a request to do what a word says with the file of a table.
-fn store_action<'a>(word: &'a str, file: &'a str) -> Asked<'a>
-    ensures { IsActionNamed word.entry.now file.entry.now result }
-{
-    match word {
-        "show" => Asked::See {
-            action: StoreAction::Show,
-            file,
-        },
-        "check" => Asked::See {
-            action: StoreAction::Check,
-            file,
-        },
-        _ => Asked::Unknown { action: word },
-    }
-}
-
-fn store_request<'a>(matches: &ArgMatches<'a>) -> Asked<'a>
-    ensures { AsksStore (rows_of (found_of matches.now)) result }
-{
-    let word = text_of(matches.get_str("ACTION"));
-    let file = text_of(matches.get_str("FILE"));
-    store_action(word, file)
-}
-
 // Returns the names of the logs to audit: the state to go on from, and those that were given.
 fn names_of<'a>(
     alloc: Global,
@@ -718,9 +537,7 @@ fn asked_by<'a>(
 {
     match name {
         "audit" => audited(alloc, matches),
-        "session" => Ok(session_request(matches)),
         "explain" => explain_request(alloc, matches),
-        "store" => Ok(store_request(matches)),
         "timeline" => timeline_request(alloc, matches),
         _ => Ok(run_request(matches)),
     }

@@ -8,12 +8,10 @@ mod log_showing;
 mod program;
 mod saved_state;
 mod script_run;
-mod table_file;
 mod view_words;
 
 pub use arguments::{
-    Asked, AuditFlags, Keep, LogText, Misuse, Request, ScriptText, Source, StoreAction, Subcommand,
-    ViewWords, parse_words,
+    Asked, AuditFlags, LogText, Misuse, Request, ScriptText, Source, ViewWords, parse_words,
 };
 pub use log_audit::{AuditError, LogAudit, ViewFault, audit_named};
 pub use log_showing::{LogShowing, show_named};

@@ -6,25 +6,22 @@ ghost use Rattle.program_io.specs.Status.{status_after};
 ghost use Rattle.command.specs.Audits.{IsAuditEnd};
 ghost use Rattle.command.specs.Shows.{IsShowEnd};
 ghost use Rattle.clap.specs.Values.{kind_of};
-ghost use Rattle.command.specs.Endings.{Ends, EndsBy, EndsFor, IsHelped, IsOutcome, IsTold};
+ghost use Rattle.command.specs.Endings.{Ends, EndsBy, EndsFor, IsHelped, IsPlayed, IsTold};
 
-use crate::arguments::{Asked, Misuse, Request, Source, Subcommand, parse_words, version_text};
+use crate::arguments::{Asked, Misuse, Request, ScriptText, Source, parse_words, version_text};
 use crate::log_audit::{LogAudit, audit_named, say_error};
 use crate::log_showing::{LogShowing, show_named};
 use crate::script_run::run_lines;
-use crate::table_file::{keep_table, say_unknown, see_table};
 use clap::Error;
 use clap::error::ErrorKind;
 use diagnosis::{AnswerError, Escaped, say_fault, say_memory, say_write};
 use program_io::{Fault, write_all};
-use session::run_session;
 use std::alloc::Global;
 use std::env::{self, Env};
 use std::fs::File;
 use std::io::{BufRead, BufReader, Read, Write};
 use std::process::ExitCode;
 use std::rt::Files;
-use table_files::TableFiles;
 
 /// The exit status when the request is done.
 const DONE: u8 = 0;
@@ -51,40 +48,24 @@ fn ended<E: Write>(errors: &mut E, name: &str, answer: &Result<(), AnswerError>)
     }
 }
 
-// Does what the subcommand asks for with the bytes of a reader.
-fn answer_reader<R: BufRead, W: Write>(
+// Plays the script in a file.
+fn play_file<F: Read + Drop, W: Write>(
     alloc: Global,
-    subcommand: Subcommand<'_>,
-    reader: &mut R,
-    writer: &mut W,
-) -> Result<(), AnswerError>
-    ensures { IsOutcome subcommand.entry (R.remaining reader.old) (R.remaining reader.new)
-        (W.contents writer.old) (W.contents writer.new) result }
-{
-    match subcommand {
-        Subcommand::Play { text } => run_lines(alloc, text, reader, writer),
-        Subcommand::Session { form } => run_session(alloc, form, reader, writer),
-    }
-}
-
-// Does what the subcommand asks for with a file.
-fn answer_file<F: Read + Drop, W: Write>(
-    alloc: Global,
-    subcommand: Subcommand<'_>,
+    text: ScriptText<'_>,
     file: F,
     writer: &mut W,
 ) -> Result<(), AnswerError>
     ensures { (full : Option (List ℕ)) × (rest : Option (List ℕ))
-        × IsOutcome subcommand.entry full rest (W.contents writer.old) (W.contents writer.new) result }
+        × IsPlayed text.entry full rest (W.contents writer.old) (W.contents writer.new) result }
 {
     match BufReader::new(alloc, file) {
-        Ok(mut reader) => answer_reader(alloc, subcommand, &mut reader, writer),
+        Ok(mut reader) => run_lines(alloc, text, &mut reader, writer),
         Err(_) => Err(Fault::Memory),
     }
 }
 
-// Does what is asked for with the input or a file, and returns the exit status.
-fn run<R: BufRead, W: Write, E: Write>(
+// Plays the script in the input or in a file, and returns the exit status.
+fn play_script<R: BufRead, W: Write, E: Write>(
     rt: &(impl Files + AllocGlobal),
     request: Request<'_>,
     input: &mut R,
@@ -96,12 +77,12 @@ fn run<R: BufRead, W: Write, E: Write>(
 {
     match request.source {
         Source::Input => {
-            let answer = answer_reader(rt.alloc(), request.subcommand, input, output);
+            let answer = run_lines(rt.alloc(), request.text, input, output);
             ended(errors, "standard input", &answer)
         }
         Source::File(name) => match File::open(rt, name) {
             Ok(file) => {
-                let answer = answer_file(rt.alloc(), request.subcommand, file, output);
+                let answer = play_file(rt.alloc(), request.text, file, output);
                 ended(errors, name, &answer)
             }
             Err(error) => {
@@ -178,19 +159,18 @@ fn say_misuse<E: Write>(errors: &mut E, misuse: Misuse<'_>) -> u8
 }
 
 // Does what is asked for and returns the exit status.
-fn do_asked<T: TableFiles, R: BufRead, W: Write, E: Write>(
+fn do_asked<R: BufRead, W: Write, E: Write>(
     rt: &(impl Files + AllocGlobal),
-    tables: &T,
     asked: Asked<'_>,
     input: &mut R,
     output: &mut W,
     errors: &mut E,
 ) -> u8
-    ensures { EndsFor T.opens T.Store.is_honest T.Store.may_leave T.Store.may_fail T.sees asked.entry (R.remaining input.old) (R.remaining input.new)
+    ensures { EndsFor asked.entry (R.remaining input.old) (R.remaining input.new)
         (W.contents output.old) (W.contents output.new) result }
 {
     match asked {
-        Asked::Answer(request) => run(rt, request, input, output, errors),
+        Asked::Play(request) => play_script(rt, request, input, output, errors),
         Asked::Audit {
             names,
             progress,
@@ -212,11 +192,6 @@ fn do_asked<T: TableFiles, R: BufRead, W: Write, E: Write>(
             show_logs(rt, showing, input, output, errors)
         }
         Asked::Misused(misuse) => say_misuse(errors, misuse),
-        Asked::Keep(keep) => keep_table(rt, tables, keep, input, output, errors),
-        Asked::See { action, file } => {
-            see_table(rt.alloc(), tables, action, file, output, errors)
-        }
-        Asked::Unknown { action } => say_unknown(errors, action),
     }
 }
 
@@ -259,17 +234,16 @@ fn tell<W: Write, E: Write>(alloc: Global, error: &Error, output: &mut W, errors
 ///
 /// The first word is the name of the program. Only results are written to `output`; failures are
 /// written to `errors`, each line after the name of the program. The status is 0 if the request is
-/// done, 1 if the calls of logs are not one run, 2 if the words or the input are
-/// refused or a file cannot be opened, and 3 if a stream or a save fails or memory runs out.
-pub fn do_words<T: TableFiles, R: BufRead, W: Write, E: Write>(
+/// done, 1 if the calls of logs are not one run, 2 if the words or the input are refused or a file
+/// cannot be opened, and 3 if reading or writing fails or memory runs out.
+pub fn do_words<R: BufRead, W: Write, E: Write>(
     rt: &(impl Files + AllocGlobal),
-    tables: &T,
     words: &[String],
     input: &mut R,
     output: &mut W,
     errors: &mut E,
 ) -> u8
-    ensures { Ends T.opens T.Store.is_honest T.Store.may_leave T.Store.may_fail T.sees (map string_bytes words.now) (R.remaining input.old) (R.remaining input.new)
+    ensures { Ends (map string_bytes words.now) (R.remaining input.old) (R.remaining input.new)
         (W.contents output.old) (W.contents output.new) result }
 {
     let Ok(version) = version_text(rt.alloc()) else {
@@ -277,22 +251,20 @@ pub fn do_words<T: TableFiles, R: BufRead, W: Write, E: Write>(
         return FAILED;
     };
     match parse_words(rt.alloc(), version.as_str(), words) {
-        Ok(asked) => do_asked(rt, tables, asked, input, output, errors),
+        Ok(asked) => do_asked(rt, asked, input, output, errors),
         Err(error) => tell(rt.alloc(), &error, output, errors),
     }
 }
 
-/// Runs the command with the arguments of the process, and returns the exit status. The tables of
-/// sessions are kept in `tables`.
-pub fn hourstable<T: TableFiles, R: Read + Drop, W: Write, E: Write>(
+/// Runs the command with the arguments of the process, and returns the exit status.
+pub fn hourstable<R: Read + Drop, W: Write, E: Write>(
     rt: &(impl Env + Files + AllocGlobal),
-    tables: &T,
     input: R,
     output: &mut W,
     errors: &mut E,
 ) -> ExitCode
     ensures { (words : List (List ℕ)) × (after : Option (List ℕ))
-        × Ends T.opens T.Store.is_honest T.Store.may_leave T.Store.may_fail T.sees words (R.remaining input) after
+        × Ends words (R.remaining input) after
         (W.contents output.old) (W.contents output.new) (exit_status result) }
 {
     let words: Option<Vec<String>> = match env::args(rt) {
@@ -305,7 +277,7 @@ pub fn hourstable<T: TableFiles, R: Read + Drop, W: Write, E: Write>(
     };
     match BufReader::new(rt.alloc(), input) {
         Ok(mut input) => {
-            let status = do_words(rt, tables, words.as_slice(), &mut input, output, errors);
+            let status = do_words(rt, words.as_slice(), &mut input, output, errors);
             ExitCode::from(status)
         }
         Err(_) => {

@@ -1,6 +1,6 @@
 //! Which calls of logs are shown, from the words of a command line.
 
-ghost use Rattle.std.specs.Prelude.{◌≡◌, IfErr, IfOk, map};
+ghost use Rattle.std.specs.Prelude.{IfErr, IfOk, map};
 ghost use Rattle.command.specs.Audits.{IsNotRead};
 ghost use Rattle.command.specs.Views.{AreWanted, IsIndexOrNone, IsKeyWanted, IsPlaceOrNone, IsRangeOrNone, IsSliceKeyOrNone, IsViewOf};
 

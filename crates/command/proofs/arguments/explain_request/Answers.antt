@@ -1,4 +1,4 @@
-use Rattle.std.proofs.Common.{◌≡◌, ◌∙◌, [], codes, map, refl, rules, ap₂, subst, sym}
+use Rattle.std.proofs.Common.{◌≡◌, ◌∙◌, [], codes, map, rules, ap₂, subst, sym}
 use Rattle.std.proofs.lemmas.Result.{IfOk-weaker}
 use Rattle.std.specs.Option.{option_map_or, option_or}
 use Rattle.clap.specs.Matches.{found_of, matched_of, raw_values}
@@ -6,7 +6,6 @@ use Rattle.clap.specs.Walk.{rows_of}
 use Rattle.command.specs.Words.{IsOfScript, log_option_given, option_given}
 use Rattle.command.specs.declared.arguments.LogText.TheVariants as logged
 use Rattle.command.specs.declared.arguments.ScriptText.TheVariants as show
-use Rattle.command.specs.declared.arguments.Subcommand.TheVariants as command
 use Rattle.command.proofs.Words.{all_given, flag_is, map_or, of_logs, of_script}
 use Rattle.command.proofs.arguments.explain_request.Goals as goal
 
@@ -18,7 +17,7 @@ returns-then-not-is_empty c =
     let flag = c.get_flag-numbered.ensures in
     let is_flag = flag_is found (codes "number") c.get_flag-numbered.result flag.none flag.value flag.other in
     IfOk-weaker c.show_request.result _ _
-    (λ asked is. (c.get_flag-numbered.result, is_flag, of_logs (option_or (log_option_given (rows_of found)) (option_given (codes "key") (rows_of found))) (command.Play (show.Explained c.get_flag-numbered.result)) logged.Reasons (rows_of found) asked (λ n. n.now) c.unwrap_or-logs.result.now (sym c.is_empty.ensures ∙ c.if-not-is_empty.true) named is))
+    (λ asked is. (c.get_flag-numbered.result, is_flag, of_logs (option_or (log_option_given (rows_of found)) (option_given (codes "key") (rows_of found))) (show.Explained c.get_flag-numbered.result) logged.Reasons (rows_of found) asked (λ n. n.now) c.unwrap_or-logs.result.now (sym c.is_empty.ensures ∙ c.if-not-is_empty.true) named is))
     c.show_request.ensures
 
 pub returns : goal.returns
@@ -31,6 +30,6 @@ returns c =
     let option = map_or (λ n. n.now) c.log_option_given.result c.option_given.result ∙ ap₂ option_or c.log_option_given.ensures c.option_given.ensures in (
       c.get_flag-numbered.result,
       is_flag,
-      of_script (option_or (log_option_given (rows_of found)) (option_given (codes "key") (rows_of found))) (command.Play (show.Explained c.get_flag-numbered.result)) logged.Reasons (rows_of found) _ (λ n. n.now) c.unwrap_or-logs.result.now (search rules) named
-          (subst (λ o. IsOfScript o (command.Play (show.Explained c.get_flag-numbered.result)) (rows_of found) c.script_request.result) option (rw c.or-log_option.ensures at c.script_request.ensures)),
+      of_script (option_or (log_option_given (rows_of found)) (option_given (codes "key") (rows_of found))) (show.Explained c.get_flag-numbered.result) logged.Reasons (rows_of found) _ (λ n. n.now) c.unwrap_or-logs.result.now (search rules) named
+          (subst (λ o. IsOfScript o (show.Explained c.get_flag-numbered.result) (rows_of found) c.script_request.result) option (rw c.or-log_option.ensures at c.script_request.ensures)),
     )

@@ -1,4 +1,4 @@
-use Rattle.std.proofs.Common.{◌≡◌, ◌∷◌, ◌++◌, rules, arith}
+use Rattle.std.proofs.Common.{◌∷◌, ◌++◌, rules, arith}
 use Rattle.std.specs.Prelude.{decimal}
 use Rattle.command.proofs.Numerals.{all_digits, is_split, read_back, split_off}
 use Rattle.command.proofs.audit_options.drift_in.Goals as goal

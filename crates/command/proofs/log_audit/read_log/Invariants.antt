@@ -1,4 +1,4 @@
-use Rattle.std.proofs.Common.{◌≤◌, ◌+◌, [], ℕ, Bool, List}
+use Rattle.std.proofs.Common.{◌≤◌, ◌+◌, [], ℕ, List}
 use Rattle.program_io.specs.declared.line.TheConstants.{MOST_LINE_BYTES}
 use Rattle.call_log.specs.Readers.{IsReading}
 use Rattle.command.proofs.Logs.{IsTakenSoFar}

@@ -1,4 +1,4 @@
-use Rattle.std.proofs.Common.{◌≡◌, ◌∷◌, [], codes, rules, arith}
+use Rattle.std.proofs.Common.{◌∷◌, [], rules, arith}
 use Rattle.std.specs.Prelude.{decimal}
 use Rattle.command.proofs.Numerals.{all_digits, is_split, read_back, split_off}
 use Rattle.command.proofs.view_words.range_in.Goals as goal

@@ -1,5 +1,4 @@
-use Rattle.std.proofs.Common.{◌∙◌, ◌≡◌, sym, rules, arith}
-use Rattle.slice_ranges.specs.declared.key.TheConstants.{KEYS}
+use Rattle.std.proofs.Common.{rules, arith}
 use Rattle.command.proofs.Numerals.{read_back}
 use Rattle.command.proofs.view_words.slice_key_in.Goals as goal
 

@@ -1,3 +1,0 @@
-pub mod Untold
-pub mod Looking
-pub mod Told
