@@ -1,7 +1,7 @@
 """The programs end with the statuses and the words on standard error that docs/FORMATS.md gives.
 
-Each program's own stored run, in crates/NAME, ends well; most of these runs do not. The sessions share a file, so
-that the second goes on with the table of the first. An audit saves the state that was written by hand for its log.
+Each program's own stored run, in crates/NAME, ends well; most of these runs do not. An audit saves the state that was
+written by hand for its log.
 """
 import shutil
 import subprocess
@@ -48,38 +48,6 @@ RUNS = [
     Run("hourstable", ["run", "-"], PHASE, 0, "phase steady 0\ntimely yes\n", ""),
 ]
 
-KEEP = ["session", "--store", "kept.db", "--job", "shop"]
-FIRST = f"""{JOB}
-{{"do":"take","assigner":1,"at":1}}
-{{"do":"propose","term":1,"generation":1,"slices":[[0,[1]]],"at":2}}
-{{"do":"commit","term":1,"at":3}}
-{{"do":"grant","task":1,"life":1,"at":4}}
-"""
-SECOND = f"""{JOB}
-{{"do":"phase"}}
-{{"do":"grant","task":1,"life":1,"at":5}}
-"""
-
-SESSIONS = [
-    Run(
-        "hourstable",
-        KEEP,
-        FIRST,
-        0,
-        "new\nterm 1 until 1001\nproposed 1\ncommitted 1\ngrant 1 guard 1 until 104 94\n",
-        "",
-    ),
-    Run(
-        "hourstable",
-        KEEP,
-        SECOND,
-        0,
-        "restored generation 1 grace 104 last 4 granted 1\nphase steady 1\ngrant 2 guard 1 until 105 95\n",
-        "",
-    ),
-]
-
-
 # A log, and the state that it leaves, which crates/command_examples goes on from.
 DATA = TOP / "crates/command_examples/data"
 SAVING = Run(
@@ -117,7 +85,7 @@ def fault_of(run: Run, programs: Programs, folder: str) -> str | None:
 def check(programs: Programs) -> Iterator[Result]:
     """A result for each run."""
     with tempfile.TemporaryDirectory() as folder:
-        found = [(run, fault_of(run, programs, folder)) for run in [*RUNS, *SESSIONS]]
+        found = [(run, fault_of(run, programs, folder)) for run in RUNS]
         found.append((SAVING, fault_of_saving(programs, folder)))
     for run, why in found:
         yield Result(run.program, [Fault(".ci/docs-checks/endings.py", 1, why)] if why else [])
