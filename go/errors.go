@@ -120,7 +120,6 @@ const (
 	ErrOwnerTwice    = Code(C.HS_OWNER_TWICE)
 	ErrBadTask       = Code(C.HS_BAD_TASK)
 	ErrTooManySlices = Code(C.HS_TOO_MANY_SLICES)
-	ErrNoJob         = Code(C.HS_NO_JOB)
 	ErrOtherJob      = Code(C.HS_OTHER_JOB)
 )
 

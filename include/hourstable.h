@@ -5,8 +5,7 @@
  *   - a clerk, which knows the newest assignment that a client was given;
  *   - a table, which gives out the leases of a job and commits its assignments;
  *   - a load book, which counts the work that the tasks of a job did;
- *   - an assigner, which keeps a term of the job lease;
- *   - a session, which is a whole job, played step by step in the words of scripts.
+ *   - an assigner, which keeps a term of the job lease.
  * Readings are those of the caller's own clock, in ticks. Grants, notes, assignments and kept values
  * are messages: bytes of JSON, as they go over the network (docs/FORMATS.md). A message names its
  * job, and a slicelet, a clerk or a table writes and reads only those of the job that it was opened
@@ -30,7 +29,7 @@
  *
  * A text or a list of rows is written to `out` whole or not at all; `needed` is its length in bytes
  * or in rows. If it is longer than `out_len`, the function returns HS_NO_ROOM and nothing is lost:
- * call again with a longer buffer. After hs_session_answer, call hs_session_last instead.
+ * call again with a longer buffer.
  *
  * A caller must keep the following. Nothing checks it, and a call that breaks it is undefined:
  *   - A place is zeroed before its first call, and the caller changes no field of it. Of two copies
@@ -156,8 +155,7 @@ enum hs_code {
     HS_TOTAL_RANGE = 46,  /* all weights that were gathered would add up to more than 2^40 */
 
     HS_NO_MEMORY = -1, /* out of memory */
-    HS_NO_ROOM = -2,   /* the buffer is shorter than `needed`: call again with a longer one; after
-                          hs_session_answer, call hs_session_last */
+    HS_NO_ROOM = -2,   /* the buffer is shorter than `needed`: call again with a longer one */
 
     /* Why bytes are not a message of the type, or a number that was passed is refused. */
     HS_NOT_JSON = -3,     /* the bytes are not a JSON text */
@@ -180,8 +178,8 @@ enum hs_code {
     HS_TOO_MANY_SLICES = -17, /* an assignment has more than 1,024 slices */
 
     HS_OTHER_PLACE = -18, /* the place does not hold the kind of object that the function is for */
-    HS_NO_JOB = -19,      /* the line is not a job line */
-    HS_OTHER_JOB = -20    /* the message is of another job */
+    /* No code is -19. */
+    HS_OTHER_JOB = -20 /* the message is of another job */
 };
 
 /* Returns the name of a code, such as "HS_DONE", or "unknown" if this header has no such code. */
@@ -317,8 +315,6 @@ static inline const char *hs_code_name(int32_t code) {
         return "HS_TOO_MANY_SLICES";
     case HS_OTHER_PLACE:
         return "HS_OTHER_PLACE";
-    case HS_NO_JOB:
-        return "HS_NO_JOB";
     case HS_OTHER_JOB:
         return "HS_OTHER_JOB";
     }
@@ -545,7 +541,6 @@ int32_t hs_clerk_close(struct hs_place *place);
 int32_t hs_table_close(struct hs_place *place);
 int32_t hs_load_book_close(struct hs_place *place);
 int32_t hs_assigner_close(struct hs_place *place);
-int32_t hs_session_close(struct hs_place *place);
 
 /* Slicelets. ------------------------------------------------------------------------------------------------------ */
 
@@ -885,23 +880,6 @@ int32_t hs_clock_evidence(const uint8_t *job, size_t job_len, const uint8_t *gra
  * that may change a slicelet: an audit finds one that the call does not return. */
 int32_t hs_log_line(const uint8_t *job, size_t job_len, const struct hs_logged_call *call, const uint8_t *message,
                     size_t message_len, uint8_t *out, size_t out_len, size_t *needed);
-
-/* Sessions. ------------------------------------------------------------------------------------------------------- */
-
-/* Creates a session of the job on the line in `place`, destroying what was there. Replies are lines
- * of text, or of JSON if `json` is not 0. HS_NO_JOB, HS_NO_MEMORY. */
-int32_t hs_session_open(struct hs_place *place, const uint8_t *line, size_t line_len, uint32_t json);
-
-/* Plays the step on a line, and writes the line of its reply. A line that is not a step, such as a
- * blank one, changes nothing, and its reply says why (`error: ..`). HS_NO_ROOM: the step was
- * played, and hs_session_last writes its reply; `needed` is 0 if there was no memory to write it.
- * HS_NO_MEMORY: the step was not played, and the last reply is the one before. */
-int32_t hs_session_answer(struct hs_place *place, const uint8_t *line, size_t line_len, uint8_t *out, size_t out_len,
-                          size_t *needed);
-
-/* Writes the last reply of hs_session_answer, even one that found no room; nothing before the
- * first. HS_NO_ROOM or HS_NO_MEMORY. */
-int32_t hs_session_last(const struct hs_place *place, uint8_t *out, size_t out_len, size_t *needed);
 
 #ifdef __cplusplus
 }

@@ -125,7 +125,6 @@ void check_assignments(void);
 void check_loads(void);
 void check_plans(void);
 void check_clocks(void);
-void check_sessions(void);
 void check_memory(void);
 void check_readers(void);
 void check_jobs(void);

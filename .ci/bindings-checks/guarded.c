@@ -86,10 +86,6 @@ int32_t guarded_assigner_close(struct hs_place *place) {
     return returned(hs_assigner_close(PLACE));
 }
 
-int32_t guarded_session_close(struct hs_place *place) {
-    return returned(hs_session_close(PLACE));
-}
-
 int32_t guarded_slicelet_open(struct hs_place *place, const uint8_t *job, size_t job_len, uint64_t task) {
     return returned(hs_slicelet_open(PLACE, NAME, task));
 }
@@ -333,17 +329,4 @@ int32_t guarded_table_clock_read(struct hs_table_clock *clock, uint64_t now, uin
 int32_t guarded_clock_evidence(const uint8_t *job, size_t job_len, const uint8_t *grant, size_t grant_len, uint64_t at,
                                const struct hs_policy *policy, uint32_t *out) {
     return returned(hs_clock_evidence(NAME, READ_ALL(grant, grant_len), at, READ(policy), WRITTEN(out)));
-}
-
-int32_t guarded_session_open(struct hs_place *place, const uint8_t *line, size_t line_len, uint32_t json) {
-    return returned(hs_session_open(PLACE, READ_ALL(line, line_len), json));
-}
-
-int32_t guarded_session_answer(struct hs_place *place, const uint8_t *line, size_t line_len, uint8_t *out,
-                               size_t out_len, size_t *needed) {
-    return returned(hs_session_answer(PLACE, READ_ALL(line, line_len), OUT));
-}
-
-int32_t guarded_session_last(const struct hs_place *place, uint8_t *out, size_t out_len, size_t *needed) {
-    return returned(hs_session_last(READ_PLACE, OUT));
 }

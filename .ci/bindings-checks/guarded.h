@@ -13,7 +13,6 @@ int32_t guarded_clerk_close(struct hs_place *place);
 int32_t guarded_table_close(struct hs_place *place);
 int32_t guarded_load_book_close(struct hs_place *place);
 int32_t guarded_assigner_close(struct hs_place *place);
-int32_t guarded_session_close(struct hs_place *place);
 int32_t guarded_slicelet_open(struct hs_place *place, const uint8_t *job, size_t job_len, uint64_t task);
 int32_t guarded_slicelet_resume(struct hs_place *place, const uint8_t *job, size_t job_len, uint64_t task,
                                 uint32_t life);
@@ -96,10 +95,6 @@ int32_t guarded_table_clock_open(struct hs_table_clock *clock, uint64_t kept, ui
 int32_t guarded_table_clock_read(struct hs_table_clock *clock, uint64_t now, uint64_t *out);
 int32_t guarded_clock_evidence(const uint8_t *job, size_t job_len, const uint8_t *grant, size_t grant_len, uint64_t at,
                                const struct hs_policy *policy, uint32_t *out);
-int32_t guarded_session_open(struct hs_place *place, const uint8_t *line, size_t line_len, uint32_t json);
-int32_t guarded_session_answer(struct hs_place *place, const uint8_t *line, size_t line_len, uint8_t *out,
-                               size_t out_len, size_t *needed);
-int32_t guarded_session_last(const struct hs_place *place, uint8_t *out, size_t out_len, size_t *needed);
 
 #ifndef GUARDED_ITSELF
 /* Takes its parameter, since a struct has the same name. */
@@ -112,7 +107,6 @@ int32_t guarded_session_last(const struct hs_place *place, uint8_t *out, size_t 
 #define hs_table_close guarded_table_close
 #define hs_load_book_close guarded_load_book_close
 #define hs_assigner_close guarded_assigner_close
-#define hs_session_close guarded_session_close
 #define hs_slicelet_open guarded_slicelet_open
 #define hs_slicelet_resume guarded_slicelet_resume
 #define hs_ended_note guarded_ended_note
@@ -166,9 +160,6 @@ int32_t guarded_session_last(const struct hs_place *place, uint8_t *out, size_t 
 #define hs_table_clock_open guarded_table_clock_open
 #define hs_table_clock_read guarded_table_clock_read
 #define hs_clock_evidence guarded_clock_evidence
-#define hs_session_open guarded_session_open
-#define hs_session_answer guarded_session_answer
-#define hs_session_last guarded_session_last
 #endif
 
 #endif

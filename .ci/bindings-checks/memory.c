@@ -64,9 +64,6 @@ void __wrap_free(void *block) {
         __real_free(block);
 }
 
-static const char job[] = "{\"job\":{\"redundancy\":1,\"skew\":10,\"guard\":100,\"bridge\":100,\"job\":1000,"
-                          "\"numbers\":1000,\"assigners\":1,\"tasks\":2,\"clerks\":1}}";
-
 /* A place to start from, a call that takes memory, and the visible state of the place. */
 struct trial {
     const char *name;
@@ -165,10 +162,6 @@ static int32_t save_over(struct hs_place *place) {
 
 static int32_t restore_table(struct hs_place *place) {
     return hs_table_restore(place, JOB, &policy, (const uint8_t *)new_kept, strlen(new_kept), fresh_told());
-}
-
-static int32_t open_session(struct hs_place *place) {
-    return hs_session_open(place, (const uint8_t *)job, strlen(job), 0);
 }
 
 static int32_t plan(struct hs_place *place) {
@@ -315,92 +308,6 @@ static void refuse_places(void) {
     HOLDS(!place.at);
 }
 
-/* Checks that the last reply of a session is this text. */
-static void last_is(const struct hs_place *place, const char *wanted) {
-    uint8_t out[64];
-    size_t needed = UNTOLD;
-    IS(hs_session_last(place, out, sizeof out, &needed), HS_DONE);
-    HOLDS(needed == strlen(wanted) && memcmp(out, wanted, needed) == 0);
-}
-
-/* Answers a line. `out` has dashes and `needed` is UNTOLD before the call. */
-static int32_t answer(struct hs_place *place, const char *line, uint8_t out[64], size_t *needed) {
-    memset(out, '-', 64);
-    *needed = UNTOLD;
-    return hs_session_answer(place, (const uint8_t *)line, strlen(line), out, 64, needed);
-}
-
-static struct hs_place answered_session(uint32_t json) {
-    struct hs_place place = new_place();
-    uint8_t out[64];
-    size_t needed;
-    IS(hs_session_open(&place, (const uint8_t *)job, strlen(job), json), HS_DONE);
-    IS(answer(&place, "{\"do\":\"phase\"}", out, &needed), HS_DONE);
-    return place;
-}
-
-/* The replies of an answered session, of a step that takes memory, and of that step once more. */
-struct replies {
-    uint32_t json;
-    const char *before, *after, *again;
-};
-
-/* Answers a line with an allocation failing. The step is played once: at HS_NO_MEMORY by the next call,
- * and otherwise by this one, even if there was no memory to write its reply. Returns the code. */
-static int32_t answer_short(const struct replies *replies, size_t number, int *fell_short) {
-    const char *step = "{\"do\":\"load\",\"task\":1,\"key\":\"hello\",\"weight\":5}";
-    struct hs_place place = answered_session(replies->json);
-    uint8_t out[64];
-    size_t needed;
-    refuse_allocation(number);
-    int32_t code = answer(&place, step, out, &needed);
-    *fell_short = was_refused();
-    refuse_allocation(0);
-    if (code != HS_DONE) {
-        HOLDS(are_dashes(out, sizeof out));
-        HOLDS(needed == (code == HS_NO_MEMORY ? UNTOLD : 0));
-    }
-    if (code == HS_NO_MEMORY) {
-        last_is(&place, replies->before);
-        IS(answer(&place, step, out, &needed), HS_DONE);
-    }
-    last_is(&place, replies->after);
-    IS(answer(&place, step, out, &needed), HS_DONE);
-    last_is(&place, replies->again);
-    hs_place_free(&place);
-    return code;
-}
-
-static void refuse_answers(const struct replies *replies) {
-    int fell_short = 1, unplayed = 0, unwritten = 0;
-    for (size_t number = 1; fell_short; number++) {
-        int32_t code = answer_short(replies, number, &fell_short);
-        HOLDS(code == HS_DONE || (fell_short && (code == HS_NO_MEMORY || code == HS_NO_ROOM)));
-        unplayed += code == HS_NO_MEMORY;
-        unwritten += code == HS_NO_ROOM;
-    }
-    HOLDS(unplayed && unwritten);
-}
-
-static struct hs_place session_in_text(void) {
-    return answered_session(0);
-}
-
-static struct hs_place session_in_json(void) {
-    return answered_session(1);
-}
-
-static int32_t give_last(struct hs_place *place) {
-    return give_text(hs_session_last, place);
-}
-
-static uint64_t session_state(struct hs_place *place) {
-    uint8_t out[64];
-    size_t needed = 0;
-    IS(hs_session_last(place, out, sizeof out, &needed), HS_DONE);
-    return sum_bytes(0, out, needed);
-}
-
 /* The calls that take no memory, as the header says. */
 static void takes_none(void) {
     struct hs_place task = serving_task(), clerk = knowing_clerk(), book = counting_book();
@@ -444,7 +351,6 @@ void check_memory(void) {
         {"save first", granted_table, save_first, table_state},
         {"save over", granted_table, save_over, table_state},
         {"restore", steady_table, restore_table, table_state},
-        {"session", knowing_clerk, open_session, clerk_state},
         {"gather", counting_book, gather_more, load_book_state},
         {"plan", knowing_clerk, plan, clerk_state},
         {"log line", knowing_clerk, log_proposal, clerk_state},
@@ -454,18 +360,9 @@ void check_memory(void) {
         {"make assignment", knowing_clerk, make_assignment, clerk_state},
         {"read assignment", knowing_clerk, read_assignment, clerk_state},
         {"find slice", knowing_clerk, find_slice, clerk_state},
-        {"last reply", session_in_text, give_last, session_state},
-        {"last reply as JSON", session_in_json, give_last, session_state},
-    };
-    const struct replies replies[] = {
-        {0, "phase steady 0\n", "recorded 5\n", "recorded 10\n"},
-        {1, "{\"generation\":0,\"phase\":\"steady\",\"reply\":\"phase\"}\n", "{\"reply\":\"recorded\",\"total\":5}\n",
-         "{\"reply\":\"recorded\",\"total\":10}\n"},
     };
     for (size_t at = 0; at < sizeof trials / sizeof *trials; at++)
         refuse_each(&trials[at]);
     refuse_places();
-    for (size_t at = 0; at < sizeof replies / sizeof *replies; at++)
-        refuse_answers(&replies[at]);
     takes_none();
 }

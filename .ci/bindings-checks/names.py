@@ -20,8 +20,7 @@ with open("docs/BINDINGS.md", encoding="utf-8") as file:
 with open(".ci/bindings-checks/slicelets.c", encoding="utf-8") as file:
     checks = file.read()
 in_header = {name: int(number) for name, number in re.findall(r"HS_(\w+) = (-?\d+)", header.split("enum hs_kind")[0])}
-in_python = {name: number for number, name in enumerate(hourstable.REFUSALS)}
-in_python.update({name: -number for number, name in enumerate(hourstable.UNREAD)})
+in_python = {name: number for number, name in hourstable.CODES.items()}
 in_page = {name: int(number) for number, name in re.findall(r"^\| (-?\d+) \| `HS_(\w+)`", page, re.M)}
 named = {name: text for name, text in re.findall(r'case HS_(\w+):\s*return "HS_(\w+)";', header)}
 version = tuple(int(number) for number in re.findall(r"^#define HS_LIBRARY_(?:MAJOR|MINOR|PATCH) (\d+)$", header, re.M))

@@ -92,6 +92,7 @@ def check_refusals():
         (45, {}, "WEIGHT_RANGE", {}, "weight-range"),
         (46, {}, "TOTAL_RANGE", {}, "total-range"),
         (47, {}, "CODE 47", {}, "code 47"),
+        (-19, {}, "CODE -19", {}, "code -19"),
         (-21, {}, "CODE -21", {}, "code -21"),
     ]:
         refusal = refused(code, **told)

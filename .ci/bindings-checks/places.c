@@ -3,10 +3,7 @@
 
 #include <string.h>
 
-static const char job[] = "{\"job\":{\"redundancy\":1,\"skew\":10,\"guard\":100,\"bridge\":100,\"job\":1000,"
-                          "\"numbers\":1000,\"assigners\":1,\"tasks\":2,\"clerks\":1}}";
-
-enum standing { NOTHING, SLICELET, CLERK, TABLE, LOAD_BOOK, ASSIGNER, SESSION, KINDS };
+enum standing { NOTHING, SLICELET, CLERK, TABLE, LOAD_BOOK, ASSIGNER, KINDS };
 
 static void open_as(struct hs_place *place, enum standing kind) {
     if (kind == SLICELET)
@@ -19,8 +16,6 @@ static void open_as(struct hs_place *place, enum standing kind) {
         IS(hs_load_book_open(place, JOB), HS_DONE);
     else if (kind == ASSIGNER)
         IS(hs_assigner_open(place, 1, 1000), HS_DONE);
-    else if (kind == SESSION)
-        IS(hs_session_open(place, (const uint8_t *)job, strlen(job), 0), HS_DONE);
 }
 
 static void refuse_slicelet(struct hs_place *place) {
@@ -112,17 +107,6 @@ static void refuse_assigner(struct hs_place *place) {
     HOLDS(action == 9 && number == 5);
 }
 
-static void refuse_session(struct hs_place *place) {
-    const char *step = "{\"do\":\"phase\"}";
-    uint8_t out[256];
-    size_t needed = 0;
-    memset(out, '-', sizeof out);
-    IS(hs_session_answer(place, (const uint8_t *)step, strlen(step), out, sizeof out, &needed), HS_OTHER_PLACE);
-    IS(hs_session_last(place, out, sizeof out, &needed), HS_OTHER_PLACE);
-    IS(hs_session_close(place), HS_OTHER_PLACE);
-    HOLDS(are_dashes(out, sizeof out));
-}
-
 static void refuse_others(struct hs_place *place, enum standing kind) {
     if (kind != SLICELET)
         refuse_slicelet(place);
@@ -134,8 +118,6 @@ static void refuse_others(struct hs_place *place, enum standing kind) {
         refuse_load_book(place);
     if (kind != ASSIGNER)
         refuse_assigner(place);
-    if (kind != SESSION)
-        refuse_session(place);
 }
 
 static int32_t close_as(struct hs_place *place, enum standing kind) {
@@ -147,7 +129,7 @@ static int32_t close_as(struct hs_place *place, enum standing kind) {
         return hs_table_close(place);
     if (kind == LOAD_BOOK)
         return hs_load_book_close(place);
-    return kind == ASSIGNER ? hs_assigner_close(place) : hs_session_close(place);
+    return hs_assigner_close(place);
 }
 
 /* An `open` that is refused leaves the place unchanged. */
@@ -160,7 +142,6 @@ static void refused_open(void) {
     STAYS(clerk_state(&clerk), hs_table_open(&clerk, JOB, &none), HS_WRONG_FORM);
     STAYS(clerk_state(&clerk), hs_load_book_open(&clerk, (const uint8_t *)"\xff", 1), HS_WRONG_FORM);
     STAYS(clerk_state(&clerk), hs_assigner_open(&clerk, 0, 1000), HS_WRONG_FORM);
-    STAYS(clerk_state(&clerk), hs_session_open(&clerk, (const uint8_t *)"{}", 2, 0), HS_NO_JOB);
     hs_place_free(&clerk);
 }
 
@@ -173,7 +154,6 @@ static void nowhere(struct hs_place *place) {
     IS(hs_table_open(place, JOB, &policy), HS_OTHER_PLACE);
     IS(hs_load_book_open(place, JOB), HS_OTHER_PLACE);
     IS(hs_assigner_open(place, 1, 1000), HS_OTHER_PLACE);
-    IS(hs_session_open(place, (const uint8_t *)job, strlen(job), 0), HS_OTHER_PLACE);
     HOLDS(!place->at);
     hs_place_free(place);
     HOLDS(!place->at);

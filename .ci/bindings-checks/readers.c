@@ -5,19 +5,15 @@
 #include "checks.h"
 
 #include <pthread.h>
-#include <string.h>
 #include <sys/mman.h>
 
 #define ROOM ((size_t)1 << 22)
 #define READERS 4
 #define ROUNDS 20000
 
-static const char job[] = "{\"job\":{\"redundancy\":1,\"skew\":10,\"guard\":100,\"bridge\":100,\"job\":1000,"
-                          "\"numbers\":1000,\"assigners\":1,\"tasks\":2,\"clerks\":1}}";
-
 /* One place of each kind. */
 struct places {
-    struct hs_place task, clerk, table, book, assigner, session;
+    struct hs_place task, clerk, table, book, assigner;
 };
 
 /* Puts the places and what they hold into memory of their own. */
@@ -26,11 +22,9 @@ static struct places *set_apart(void) {
     const struct hs_job_term term = {4, 1, 1000};
     uint8_t out[256];
     size_t needed = 0;
-    *all = (struct places){serving_task(),  knowing_clerk(), steady_table(),
-                           counting_book(), new_place(),     new_place()};
+    *all = (struct places){serving_task(), knowing_clerk(), steady_table(), counting_book(), new_place()};
     IS(hs_assigner_open(&all->assigner, 1, 1000), HS_DONE);
     IS(hs_assigner_adopt(&all->assigner, &term), HS_DONE);
-    IS(hs_session_open(&all->session, (const uint8_t *)job, strlen(job), 0), HS_DONE);
     IS(hs_table_grant(&all->table, 1, 1, 6, out, sizeof out, &needed), HS_DONE);
     return all;
 }
@@ -98,7 +92,6 @@ static void reads_others(const struct places *all) {
     HOLDS(hs_load_book_total(&all->book, 2, &number) == HS_DONE && number == 3);
     HOLDS(hs_assigner_next(&all->assigner, 10, &first, 1, &action, &number) == HS_DONE);
     HOLDS(action == HS_PROPOSE && number == 4);
-    HOLDS(hs_session_last(&all->session, out, sizeof out, &needed) == HS_DONE && needed == 0);
 }
 
 static void reads_permitted(const struct hs_place *task) {
@@ -121,8 +114,7 @@ static void reads_kept_values(const struct hs_place *table) {
 void check_readers(void) {
     struct places *all = set_apart();
     HOLDS(is_apart(all->task.at) && is_apart(all->clerk.at) && is_apart(all->table.at));
-    HOLDS(is_apart(all->book.at));
-    HOLDS(is_apart(all->assigner.at) && is_apart(all->session.at));
+    HOLDS(is_apart(all->book.at) && is_apart(all->assigner.at));
     size_t before = allocations;
     protect_memory(PROT_READ);
     reads_at_once(&all->task);
@@ -136,6 +128,5 @@ void check_readers(void) {
     hs_place_free(&all->table);
     hs_place_free(&all->book);
     hs_place_free(&all->assigner);
-    hs_place_free(&all->session);
     drop_memory();
 }

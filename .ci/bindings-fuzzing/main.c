@@ -7,7 +7,7 @@
 #include <stdlib.h>
 #include <string.h>
 
-#define LOWEST HS_NO_JOB
+#define LOWEST HS_TOO_MANY_SLICES
 #define HIGHEST HS_TOTAL_RANGE
 /* A byte of JSON may be a value of its own, and a list grows by doubling. What a place holds is copied too. */
 #define TIMES_INPUT 128
@@ -103,7 +103,7 @@ static void play(const struct target *target, struct field *field) {
     count_allocations();
     int32_t code = target->call(&field->place, now, &told);
     size_t most = largest_allocation(), sum = whole_allocation();
-    MUST(code >= LOWEST && code <= HIGHEST && code != HS_NO_MEMORY && code != HS_OTHER_PLACE);
+    MUST(code >= LOWEST && code <= HIGHEST && code != HS_NO_MEMORY);
     MUST(most <= TIMES_INPUT * now.length + BESIDE_INPUT);
     MUST(carries_no_more(target, code, told));
     field->codes[code - LOWEST]++;

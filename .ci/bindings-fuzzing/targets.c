@@ -1,5 +1,4 @@
 /* The targets: how each place is set up, the call, and the visible state. */
-#define _GNU_SOURCE
 #include "fuzz.h"
 
 #include <string.h>
@@ -24,29 +23,6 @@ static const char *const assignments[] = {
 static const char *const notes[] = {NOTE("guard", "1", "1"), NOTE("guard", "9", "2"), NOTE("bridge", "1", "1")};
 static const char *const delivered[] = {
     GRANT("guard", "7", "[[0,9223372036854775808]]"), ASSIGNMENT("1", HALVES), NOTE("guard", "1", "1")};
-static const char *const lines[] = {
-    "{\"do\":\"take\",\"assigner\":1,\"at\":7}", "{\"do\":\"renew\",\"assigner\":1,\"at\":7}",
-    "{\"do\":\"propose\",\"assigner\":1,\"generation\":2,\"slices\":" HALVES ",\"at\":8}",
-    "{\"do\":\"commit\",\"assigner\":1,\"at\":9}", "{\"do\":\"grant\",\"task\":1,\"life\":1,\"at\":10}",
-    "{\"do\":\"free\",\"note\":1,\"at\":11}", "{\"do\":\"phase\"}", "{\"do\":\"rows\"}", "{\"do\":\"lose\"}",
-    "{\"do\":\"next\",\"assigner\":1,\"at\":5,\"wanted\":true}", "{\"do\":\"restart\",\"assigner\":1}",
-    "{\"do\":\"start\",\"task\":2,\"life\":1,\"at\":3}", "{\"do\":\"hear\",\"task\":1,\"number\":1,\"at\":12}",
-    "{\"do\":\"release\",\"task\":1,\"kind\":\"guard\",\"at\":13}", "{\"do\":\"serve\",\"task\":1,\"key\":\"hello\",\"at\":9}",
-    "{\"do\":\"hold\",\"task\":1,\"key\":\"a\\u00e9\",\"at\":9}", "{\"do\":\"check\",\"task\":1,\"handle\":1,\"at\":9}",
-    "{\"do\":\"load\",\"task\":1,\"key\":\"hello\",\"weight\":6}", "{\"do\":\"gather\"}",
-    "{\"do\":\"assign\",\"generation\":1,\"slices\":" HALVES "}", "{\"do\":\"owners\",\"key\":\"hello\"}",
-    "{\"do\":\"plan\",\"tasks\":[1,2],\"loads\":[6,4],\"churn\":9223372036854775808,\"cold\":0,\"hot\":3,\"most\":4}",
-    "{\"do\":\"learn\",\"clerk\":1,\"generation\":1}", "{\"do\":\"look\",\"clerk\":1,\"key\":\"hello\"}",
-    "{\"do\":\"forget\",\"clerk\":1}", "{\"do\":\"hash\",\"key\":\"hello\"}",
-    "{\"do\":\"judge\",\"up\":true,\"last\":3,\"leases\":[{\"kind\":\"guard\",\"generation\":1,\"ranges\":[[0,5]],"
-    "\"ends\":9}],\"key\":\"hello\",\"at\":5}"};
-#define JOB(redundancy, counts)                                                                                        \
-    "{\"job\":{\"redundancy\":" redundancy ",\"skew\":10,\"guard\":100,\"bridge\":100,\"job\":1000,\"numbers\":50," counts "}}"
-static const char *const jobs[] = {
-    JOB("[1,2]", "\"assigners\":1,\"tasks\":2,\"clerks\":1"), JOB("1", "\"assigners\":2,\"tasks\":64,\"clerks\":3"),
-    JOB("[2,5]", "\"assigners\":1,\"tasks\":5,\"clerks\":1,\"more\":[]")};
-static const char job[] = "{\"job\":{\"redundancy\":[1,2],\"skew\":10,\"guard\":100,\"bridge\":100,\"job\":1000,"
-                          "\"numbers\":50,\"assigners\":1,\"tasks\":2,\"clerks\":1}}";
 static const struct hs_policy policy = {
     .low = 1, .high = 2, .skew = 10, .guard = 100, .bridge = 100, .job = 1000, .numbers = 50};
 
@@ -281,69 +257,6 @@ static uint64_t table_state(struct hs_place *place) {
     return sum;
 }
 
-static void ask(struct hs_place *place, const char *line) {
-    size_t needed = 0;
-    MUST(hs_session_answer(place, (const uint8_t *)line, strlen(line), room_of(1024), 1024, &needed) == HS_DONE);
-}
-
-static void begin_session(struct hs_place *place) {
-    MUST(hs_session_open(place, (const uint8_t *)job, strlen(job), (uint32_t)draw(2)) == HS_DONE);
-    ask(place, "{\"do\":\"take\",\"assigner\":1,\"at\":0}");
-    ask(place, "{\"do\":\"propose\",\"assigner\":1,\"generation\":1,\"slices\":" HALVES ",\"at\":1}");
-    ask(place, "{\"do\":\"commit\",\"assigner\":1,\"at\":2}");
-    ask(place, "{\"do\":\"start\",\"task\":1,\"life\":1,\"at\":3}");
-    ask(place, "{\"do\":\"grant\",\"task\":1,\"life\":1,\"at\":5}");
-    ask(place, "{\"do\":\"hear\",\"task\":1,\"number\":1,\"at\":6}");
-}
-
-static int begins_with(const uint8_t *text, size_t length, const char *beginning) {
-    return length >= strlen(beginning) && memcmp(text, beginning, strlen(beginning)) == 0;
-}
-
-/* Plays a line. A reply must end with its only line feed; if it does not fit, hs_session_last writes it.
- * Returns HS_DONE for a step that is accepted, and HS_NOT_JSON, which no session returns, for a step that is
- * refused or a line that is not a step. */
-static int32_t answer(struct hs_place *place, struct input input, struct hs_told *told) {
-    size_t needed = 0, room = draw(4) ? LONGEST_INPUT : draw(64);
-    uint8_t *out = room_of(room);
-    (void)told;
-    int32_t code = hs_session_answer(place, input.bytes, input.length, out, room, &needed);
-    if (code == HS_NO_ROOM) {
-        MUST(needed > room);
-        room = needed;
-        out = room_of(room);
-        code = hs_session_last(place, out, room, &needed);
-    }
-    MUST(code == HS_DONE && needed > 0 && needed <= room && memchr(out, '\n', needed) == out + needed - 1);
-    static const char *const refusals[] = {"refused ", "error: ", "{\"error\":"};
-    for (size_t at = 0; at < COUNT(refusals); at++)
-        if (begins_with(out, needed, refusals[at]))
-            return HS_NOT_JSON;
-    return *out == '{' && memmem(out, needed, "\"refused\":", 10) ? HS_NOT_JSON : HS_DONE;
-}
-
-static uint64_t session_state(struct hs_place *place) {
-    static const char *const looks[] = {
-        "{\"do\":\"phase\"}", "{\"do\":\"rows\"}", "{\"do\":\"serve\",\"task\":1,\"key\":\"hello\",\"at\":6}",
-        "{\"do\":\"serve\",\"task\":1,\"key\":\"hello\",\"at\":94}", "{\"do\":\"serve\",\"task\":2,\"key\":\"abc\",\"at\":9}",
-        "{\"do\":\"look\",\"clerk\":1,\"key\":\"abc\"}", "{\"do\":\"owners\",\"key\":\"abc\"}",
-        "{\"do\":\"next\",\"assigner\":1,\"at\":5,\"wanted\":true}"};
-    uint64_t sum = 0;
-    for (size_t at = 0; at < COUNT(looks); at++) {
-        size_t needed = 0;
-        uint8_t *out = room_of(LONGEST_INPUT);
-        const uint8_t *line = (const uint8_t *)looks[at];
-        MUST(hs_session_answer(place, line, strlen(looks[at]), out, LONGEST_INPUT, &needed) == HS_DONE);
-        sum = sum_bytes(sum, out, needed);
-    }
-    return sum;
-}
-
-static int32_t open_session(struct hs_place *place, struct input input, struct hs_told *told) {
-    (void)told;
-    return hs_session_open(place, input.bytes, input.length, (uint32_t)draw(2));
-}
-
 const struct target targets[] = {
     {"hear", grants, COUNT(grants), begin_slicelet, hear, slicelet_state},
     {"learn", assignments, COUNT(assignments), begin_clerk, learn, clerk_state},
@@ -354,7 +267,5 @@ const struct target targets[] = {
     {"read", assignments, COUNT(assignments), begin_clerk, read_slices, clerk_state},
     {"evidence", grants, COUNT(grants), begin_clerk, weigh, clerk_state},
     {"log", delivered, COUNT(delivered), begin_clerk, write_line, clerk_state},
-    {"session", jobs, COUNT(jobs), begin_session, open_session, session_state},
-    {"answer", lines, COUNT(lines), begin_session, answer, session_state},
 };
 const size_t targets_count = COUNT(targets);

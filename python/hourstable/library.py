@@ -12,26 +12,28 @@ and pickled, and needs no close().
 from __future__ import annotations
 
 import ctypes
-import json
 import os
 import time
 from collections.abc import Callable, Iterable, Mapping
 from pathlib import Path
 from typing import Any, NamedTuple, NoReturn, TypeVar
 
-REFUSALS = (
-    "DONE DOWN CLOCK_BACK ENDED NOT_OWNED NO_LEASE NOT_STARTED OLD_LIFE OTHER_TASK OTHER_LIFE OLD"
-    " TOO_LATE NOTHING_HELD HISTORY_FULL BROKEN STRANGER READING_RANGE JOB_HELD NOT_HOLDER"
-    " STALE_BASE PENDING NOTHING_PENDING TOO_MANY_OWNERS_FOR_JOB GRACE HELD NO_ROW NO_ASSIGNMENT"
-    " NUMBERS_SPENT OLD_GENERATION UNKNOWN NOT_ADOPTED NO_TASKS LOADS_LENGTH LOAD_RANGE SENT_AHEAD"
-    " NO_SAMPLE TOO_OLD TOO_LARGE NOT_YET OTHER_POLICY NO_TERM TERM_RANGE KEPT_GENERATION"
-    " TOO_MANY_GRANTS DEADLINE_RANGE WEIGHT_RANGE TOTAL_RANGE"
-).split()
-UNREAD = (
-    "DONE NO_MEMORY NO_ROOM NOT_JSON VERSION OTHER_TYPE WRONG_FORM PAST_END UNSORTED EMPTY"
-    " NO_SLICES FIRST_NOT_ZERO NOT_RISING NO_OWNER TOO_MANY_OWNERS OWNER_TWICE BAD_TASK"
-    " TOO_MANY_SLICES OTHER_PLACE NO_JOB OTHER_JOB"
-).split()
+CODES = {
+    **dict(enumerate((
+        "DONE DOWN CLOCK_BACK ENDED NOT_OWNED NO_LEASE NOT_STARTED OLD_LIFE OTHER_TASK OTHER_LIFE"
+        " OLD TOO_LATE NOTHING_HELD HISTORY_FULL BROKEN STRANGER READING_RANGE JOB_HELD NOT_HOLDER"
+        " STALE_BASE PENDING NOTHING_PENDING TOO_MANY_OWNERS_FOR_JOB GRACE HELD NO_ROW"
+        " NO_ASSIGNMENT NUMBERS_SPENT OLD_GENERATION UNKNOWN NOT_ADOPTED NO_TASKS LOADS_LENGTH"
+        " LOAD_RANGE SENT_AHEAD NO_SAMPLE TOO_OLD TOO_LARGE NOT_YET OTHER_POLICY NO_TERM TERM_RANGE"
+        " KEPT_GENERATION TOO_MANY_GRANTS DEADLINE_RANGE WEIGHT_RANGE TOTAL_RANGE"
+    ).split())),
+    **{-number: name for number, name in enumerate((
+        "NO_MEMORY NO_ROOM NOT_JSON VERSION OTHER_TYPE WRONG_FORM PAST_END UNSORTED EMPTY NO_SLICES"
+        " FIRST_NOT_ZERO NOT_RISING NO_OWNER TOO_MANY_OWNERS OWNER_TWICE BAD_TASK TOO_MANY_SLICES"
+        " OTHER_PLACE"
+    ).split(), 1)},
+    -20: "OTHER_JOB",
+}  # no code is -19
 CARRIED = {
     "NOT_OWNED": ["generation"], "OLD": ["number"], "JOB_HELD": ["until"], "NOT_HOLDER": ["number"],
     "STALE_BASE": ["generation"], "GRACE": ["until"], "HELD": ["task", "kind", "number"],
@@ -54,8 +56,7 @@ Result = TypeVar("Result", bound="Standing")
 def name_of(code: int) -> str:
     """Returns the name of a code in the header, without its HS_; of a code of a later version, CODE
     and its number."""
-    names, at = (REFUSALS, code) if code >= 0 else (UNREAD, -code)
-    return names[at] if at < len(names) else f"CODE {code}"
+    return CODES.get(code, f"CODE {code}")
 
 
 def carried_by(name: str, told: Told) -> dict[str, Any]:
@@ -378,7 +379,7 @@ P = ctypes.POINTER
 DECLARED: dict[str, list[CType]] = {
     "place_new": [P(Place)],
     "slicelet_close": [P(Place)], "clerk_close": [P(Place)], "table_close": [P(Place)],
-    "load_book_close": [P(Place)], "assigner_close": [P(Place)], "session_close": [P(Place)],
+    "load_book_close": [P(Place)], "assigner_close": [P(Place)],
     "slicelet_open": [P(Place), *BYTES, U64],
     "slicelet_resume": [P(Place), *BYTES, U64, U32],
     "ended_note": [*BYTES, U64, U32, U32, *OUT],
@@ -438,9 +439,6 @@ DECLARED: dict[str, list[CType]] = {
     "plan": [
         *BYTES, *BYTES, ctypes.c_void_p, SIZE, ctypes.c_void_p, SIZE, P(PlanPolicy), *OUT,
     ],
-    "session_open": [P(Place), *BYTES, U32],
-    "session_answer": [P(Place), *BYTES, *OUT],
-    "session_last": [P(Place), *OUT],
 }
 
 
@@ -883,23 +881,3 @@ class Assigner(Standing):
         told = (ctypes.byref(action), ctypes.byref(number))
         self.do("next", at, ctypes.byref(phase), int(wanted), *told)
         return ACTIONS[action.value], number.value
-
-
-class Session(Standing):
-    """A whole job, played step by step in the words of scripts."""
-
-    def __init__(self, job: Mapping[str, Any]) -> None:
-        line = json.dumps({"job": job}).encode()
-        super().__init__("session", line, len(line), 1)
-
-    def ask(self, do: str, **members: Any) -> Any:
-        """Plays a step and returns its reply. The step is played once, even if the reply does not
-        fit at first."""
-        line = json.dumps({"do": do, **members}).encode()
-        room, needed = ctypes.create_string_buffer(1024), ctypes.c_size_t()
-        place, answer = ctypes.byref(self.standing()), self.function("answer")
-        code = answer(place, line, len(line), room, len(room), ctypes.byref(needed))
-        if code == -2:
-            return json.loads(self.text("last"))
-        done(code)
-        return json.loads(room.raw[: needed.value])

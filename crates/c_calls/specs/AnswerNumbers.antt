@@ -142,4 +142,3 @@ answer_number answer.NoRoom = negsuc 1
 answer_number (answer.Unread why) = unread_number why
 answer_number answer.WrongForm = negsuc 5
 answer_number answer.OtherPlace = negsuc 17
-answer_number answer.NoJob = negsuc 18

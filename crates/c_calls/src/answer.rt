@@ -61,8 +61,6 @@ pub enum Answer {
     WrongForm,
     /// The place holds nothing of the kind that the call is for.
     OtherPlace,
-    /// The line is not a job.
-    NoJob,
 }
 
 impl Answer {
@@ -90,7 +88,6 @@ impl Answer {
             Answer::Unread(refusal) => unread_number(refusal),
             Answer::WrongForm => -6,
             Answer::OtherPlace => -18,
-            Answer::NoJob => -19,
         }
     }
 

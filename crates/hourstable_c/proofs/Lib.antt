@@ -1,4 +1,3 @@
 pub mod PlaceBox
-pub mod Conversing
 pub mod Returning
 pub mod Restoring

@@ -22,7 +22,3 @@ is_assigner _ = false
 abbrev pub is_load_book : Held → Bool
 is_load_book (held.LoadBook job book) = true
 is_load_book _ = false
-
-abbrev pub is_session : Held → Bool
-is_session (held.Session conversation) = true
-is_session _ = false

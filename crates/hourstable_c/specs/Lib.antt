@@ -4,4 +4,4 @@ pub mod Returned
 pub mod Places
 pub mod Opened
 pub mod Kinds
-pub mod Sessions
+

@@ -4,7 +4,6 @@ use Rattle.assignment.specs.Slices.{Slicing}
 use Rattle.slicelet.specs.States.{SliceletState}
 use Rattle.lease_table.specs.Tables.{Standing}
 use Rattle.assigner.specs.Terms.{Keeping}
-use Rattle.c_calls.specs.declared.conversation.Conversation.{Conversation}
 use Rattle.c_calls.specs.declared.answer.Answer.TheVariants.{OtherPlace}
 use Rattle.c_calls.specs.AnswerNumbers.{answer_number}
 use Rattle.hourstable_c.specs.declared.held.Held.{Held}
@@ -38,8 +37,3 @@ abbrev pub OnLoadBook : Option Held → Option Held → Type 0 → ℤ → (List
 OnLoadBook (Some (held.LoadBook job old)) (Some (held.LoadBook still new)) same number does = (still ≡ job) × does job old new
 OnLoadBook (Some (held.LoadBook job old)) now same number does = ⊥
 OnLoadBook was now same number does = IsOtherPlace was now same number
-
-abbrev pub OnSession : Option Held → Option Held → Type 0 → ℤ → (Conversation → Conversation → Type 0) → Type 0
-OnSession (Some (held.Session old)) (Some (held.Session new)) same number does = does old new
-OnSession (Some (held.Session old)) now same number does = ⊥
-OnSession was now same number does = IsOtherPlace was now same number

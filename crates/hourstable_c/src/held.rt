@@ -5,7 +5,6 @@ ghost use Rattle.std.specs.Thread.{IsSync};
 ghost use Rattle.hourstable_c.specs.contracts.held.Held.{the_row};
 
 use assigner::Assigner;
-use c_calls::Conversation;
 use clerk::Clerk;
 use lease_table::LeaseTable;
 use load_ledger::LoadBook;
@@ -27,8 +26,6 @@ pub enum Held {
     Assigner(Assigner),
     /// A load book of a job.
     LoadBook(JobName, LoadBook),
-    /// A session.
-    Session(Conversation),
 }
 
 impl Held {

@@ -18,7 +18,6 @@ mod parts;
 mod place;
 mod place_exports;
 mod process_exports;
-mod session_exports;
 mod slicelet_exports;
 mod table_exports;
 mod version_exports;

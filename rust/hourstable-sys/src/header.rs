@@ -111,8 +111,7 @@ pub const HS_WEIGHT_RANGE: i32 = 45;
 pub const HS_TOTAL_RANGE: i32 = 46;
 /// out of memory
 pub const HS_NO_MEMORY: i32 = -1;
-/// the buffer is shorter than `needed`: call again with a longer one; after
-/// hs_session_answer, call hs_session_last
+/// the buffer is shorter than `needed`: call again with a longer one
 pub const HS_NO_ROOM: i32 = -2;
 /// the bytes are not a JSON text
 pub const HS_NOT_JSON: i32 = -3;
@@ -149,8 +148,6 @@ pub const HS_BAD_TASK: i32 = -16;
 pub const HS_TOO_MANY_SLICES: i32 = -17;
 /// the place does not hold the kind of object that the function is for
 pub const HS_OTHER_PLACE: i32 = -18;
-/// the line is not a job line
-pub const HS_NO_JOB: i32 = -19;
 /// the message is of another job
 pub const HS_OTHER_JOB: i32 = -20;
 pub const HS_GUARD: u32 = 1;
@@ -488,7 +485,6 @@ extern "C" {
     pub fn hs_table_close(place: *mut hs_place) -> i32;
     pub fn hs_load_book_close(place: *mut hs_place) -> i32;
     pub fn hs_assigner_close(place: *mut hs_place) -> i32;
-    pub fn hs_session_close(place: *mut hs_place) -> i32;
     /// Creates a new slicelet of a job in `place`, destroying what was there. `job` is the name of the
     /// job, at most 64 bytes of UTF-8: grants of another job are HS_OTHER_JOB, and notes are written for
     /// this one. The empty name also reads messages of version 1, which name no job. `task` is 1 to 64.
@@ -710,15 +706,4 @@ extern "C" {
     /// HS_NO_ROOM or HS_NO_MEMORY. Calls that may change a table share their codes here, and so do those
     /// that may change a slicelet: an audit finds one that the call does not return.
     pub fn hs_log_line(job: *const u8, job_len: usize, call: *const hs_logged_call, message: *const u8, message_len: usize, out: *mut u8, out_len: usize, needed: *mut usize) -> i32;
-    /// Creates a session of the job on the line in `place`, destroying what was there. Replies are lines
-    /// of text, or of JSON if `json` is not 0. HS_NO_JOB, HS_NO_MEMORY.
-    pub fn hs_session_open(place: *mut hs_place, line: *const u8, line_len: usize, json: u32) -> i32;
-    /// Plays the step on a line, and writes the line of its reply. A line that is not a step, such as a
-    /// blank one, changes nothing, and its reply says why (`error: ..`). HS_NO_ROOM: the step was
-    /// played, and hs_session_last writes its reply; `needed` is 0 if there was no memory to write it.
-    /// HS_NO_MEMORY: the step was not played, and the last reply is the one before.
-    pub fn hs_session_answer(place: *mut hs_place, line: *const u8, line_len: usize, out: *mut u8, out_len: usize, needed: *mut usize) -> i32;
-    /// Writes the last reply of hs_session_answer, even one that found no room; nothing before the
-    /// first. HS_NO_ROOM or HS_NO_MEMORY.
-    pub fn hs_session_last(place: *const hs_place, out: *mut u8, out_len: usize, needed: *mut usize) -> i32;
 }
