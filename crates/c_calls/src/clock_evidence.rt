@@ -1,9 +1,6 @@
 //! Evidence that clocks are not timely.
 
-ghost use Rattle.std.specs.Prelude.{◌≡◌, codes};
-ghost use Rattle.wire.specs.Grants.{grant_of};
 ghost use Rattle.c_calls.specs.Jobs.{job_of};
-ghost use Rattle.c_calls.specs.Reading.{IsReadFrom};
 ghost use Rattle.c_calls.specs.ClockEvidence.{IsWeighedBy, IsWeighedFor};
 
 use crate::answer::Answer;

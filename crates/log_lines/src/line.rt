@@ -2,7 +2,6 @@
 
 ghost use Rattle.std.specs.Prelude.{◌≡◌, IfOk};
 ghost use Rattle.call_log.specs.Lines.{SaysLine};
-ghost use Rattle.call_log.specs.Told.{plain_text};
 ghost use Rattle.c_calls.specs.Jobs.{job_of};
 ghost use Rattle.c_calls.specs.Outputs.{output};
 ghost use Rattle.log_lines.specs.Lines.{IsLine, IsLineGiven, IsLineOf, IsLineOfNumbers, IsNamedLineGiven, is_done, line_text, logged_line};

@@ -7,8 +7,8 @@ ghost use Rattle.log_lines.specs.Lines.{IsReadBack};
 use call_log::LoggedCall;
 use clerk::ClerkCall;
 use cluster::ClusterCall;
-use lease_table::{Grant, ReleaseNote, TableCall};
-use slicelet::{KeyHandle, SliceletCall};
+use lease_table::TableCall;
+use slicelet::SliceletCall;
 
 // States that a line of a call of the table is read as the call.
 fn table_law(ticket: u64, call: &TableCall, words: &str)

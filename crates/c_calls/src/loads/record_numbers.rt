@@ -2,7 +2,6 @@
 
 ghost use Rattle.std.specs.Prelude.{◌≡◌, IfErr, IfOk, None, OnOk, true};
 ghost use Rattle.std.specs.List.{list_all};
-ghost use Rattle.assignment.specs.Slices.{is_task};
 ghost use Rattle.load_ledger.specs.Shares.{share_total};
 ghost use Rattle.c_calls.specs.LoadRecords.{IsUnadded, IsUnshared, has_slice_key, has_weight, no_share, share_of};
 ghost use Rattle.c_calls.specs.Taken.{trouble_answer};

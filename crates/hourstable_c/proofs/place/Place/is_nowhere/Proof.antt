@@ -32,7 +32,7 @@ use Rattle.std.specs.Prelude.{Option, Some, None, is_none}
 use Rattle.std.proofs.raw_atomic.Walks.{proved, leaves}
 use Rattle.std.proofs.GlobalToken.{dealloc_token-Testable}
 use Rattle.core.proofs.alloc.Calls.{token}
-use Rattle.std_alloc.proofs.BoxSteps.Form.{B, D, τ, word, handle}
+use Rattle.std_alloc.proofs.BoxSteps.Form.{B, D, τ, word}
 use Rattle.std_alloc.proofs.BoxSteps.Steps.{box_out, box_in}
 use Rattle.hourstable_c.specs.contracts.held.Held.{the_row as Home}
 use Rattle.hourstable_c.specs.contracts.place.Place.{the_row as Place}
