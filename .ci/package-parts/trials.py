@@ -1,4 +1,5 @@
 """Each package is installed where the kit and this checkout are not, and is used there."""
+import os
 import shutil
 import subprocess
 import sys
@@ -11,6 +12,8 @@ from inputs import TOP, kit, tracked, version
 PARTS = Path(__file__).resolve().parent
 UNSHARE = (("unshare", "--mount", "--net"), ("unshare", "--map-root-user", "--mount", "--net"))
 TRIALS = {"tarball": (), "debian": ("--root",), "wheel": ()}
+EXAMPLES = ("examples/c", "examples/python", "examples/scripts", "examples/cache", "python/tests/engines.py")
+SHARED = ("tools/setup", ".ci/needed")
 
 
 def can(*words: str) -> bool:
@@ -21,11 +24,19 @@ def can(*words: str) -> bool:
         return False
 
 
+def skipped(line: str) -> Iterator[tuple[str, bool]]:
+    """Prints a line that says what is skipped. In the gate, which sets CI=true, that has failed."""
+    if os.environ.get("CI") == "true":
+        yield line, False
+    else:
+        print(line, flush=True)
+
+
 def lay(folder: Path, packages: Path) -> None:
     """What a trial needs: the packages, the scripts, and examples with what they print."""
     shutil.copytree(packages, folder / "packages")
     shutil.copytree(PARTS, folder / "parts", ignore=shutil.ignore_patterns("__pycache__"))
-    for path in tracked("examples/c", "examples/python", "examples/scripts", "examples/cache", "python/tests/engines.py"):
+    for path in tracked(*EXAMPLES, *SHARED):
         (folder / path).parent.mkdir(parents=True, exist_ok=True)
         shutil.copy(TOP / path, folder / path)
     shutil.copytree(TOP / "crates/slicer_live", folder / "examples/slicer_live", ignore=shutil.ignore_patterns("out"))
@@ -58,6 +69,8 @@ def run(packages: Path) -> Iterator[tuple[str, bool]]:
                 if colon and how in ("as written", "FAILED"):
                     tried += 1
                     yield f"{name}: {what}", how == "as written"
+                elif line.startswith("skipped"):
+                    yield from skipped(f"{name}: {line}")
                 else:
                     print(f"{name}: {line}", flush=True)
             if said.returncode != 0 or (not tried and "skipped" not in said.stdout):

@@ -21,7 +21,7 @@ KEYS = {"Enter": ("Enter", 13, "\r"), "Tab": ("Tab", 9, "\t"), "Space": (" ", 32
 
 def missing() -> str:
     """Says why there is no browser, nothing if there is one."""
-    return "" if shutil.which("chromium") else "there is no chromium (chromium)"
+    return "" if shutil.which("chromium") else "there is no chromium (tools/setup tests)"
 
 
 class Tab:

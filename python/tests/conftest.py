@@ -1,18 +1,62 @@
-"""Fixtures: a store of each kind, over an engine that runs as long as the tests."""
+"""Fixtures: a store of each kind, over an engine that runs as long as the tests. In the gate, which
+sets CI=true, a test that is skipped has failed, unless may-skip.txt names it."""
 
+import functools
+import os
 import shutil
 import subprocess
 import tempfile
-from collections.abc import Callable, Iterator
+from collections.abc import Callable, Generator, Iterator
 from contextlib import ExitStack, contextmanager
 from pathlib import Path
+from typing import Any
 
 import pytest
 
 import engines
+import needed
 from hourstable.store import Store, open_store
 
 KINDS = ("sqlite", "postgresql", "etcd")
+MAY_SKIP = Path(__file__).with_name("may-skip.txt")
+SETUP = Path(__file__).resolve().parents[2] / "tools/setup"
+
+
+def pytest_runtest_makereport() -> Generator[None, Any, None]:
+    made = yield
+    fail_if_skipped(made.get_result())
+
+
+def pytest_make_collect_report() -> Generator[None, Any, None]:
+    made = yield
+    fail_if_skipped(made.get_result())
+
+
+for hook in (pytest_runtest_makereport, pytest_make_collect_report):
+    pytest.hookimpl(hookwrapper=True)(hook)
+
+
+def fail_if_skipped(report: pytest.TestReport | pytest.CollectReport) -> None:
+    """Makes a report of a skip one of a failure in the gate."""
+    if os.environ.get("CI") != "true" or not report.skipped or hasattr(report, "wasxfail"):
+        return
+    if report.nodeid.partition("[")[0] not in may_skip():
+        report.outcome = "failed"
+        report.longrepr = f"the gate skips no test: {report.longrepr}\n{lacking_packages()}"
+
+
+@functools.cache
+def may_skip() -> set[str]:
+    """Returns the tests that the gate lets be skipped: each line names one, and says why."""
+    lines = MAY_SKIP.read_text(encoding="utf-8").splitlines()
+    return {line.split()[0] for line in lines if line and not line.startswith("#")}
+
+
+@functools.cache
+def lacking_packages() -> str:
+    words = [str(SETUP), "--missing", "tests"]
+    ran = subprocess.run(words, stdout=subprocess.PIPE, text=True, check=False)
+    return f"packages of Debian that tests lack: {', '.join(ran.stdout.split()) or 'none'}"
 
 
 @contextmanager
@@ -69,8 +113,7 @@ def job(request: pytest.FixtureRequest) -> str:
 @pytest.fixture
 def certificates(tmp_path: Path) -> Path:
     """An authority, and a certificate of it for a plane and for a caller."""
-    if shutil.which("openssl") is None:
-        pytest.skip("there is no openssl")
+    needed.command("openssl")
 
     def run(*words: str) -> None:
         subprocess.run(["openssl", *words], cwd=tmp_path, check=True, capture_output=True)

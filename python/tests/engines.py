@@ -20,14 +20,14 @@ PATIENCE = 120.0  # a server that was killed replays its log, perhaps beside muc
 def missing(kind: str) -> str | None:
     """Returns why an engine cannot be started here, None if it can."""
     if kind == "etcd" and shutil.which("etcd") is None:
-        return "there is no etcd (Debian's etcd-server)"
+        return "there is no etcd (tools/setup tests)"
     if kind == "postgresql":
         if not (POSTGRESQL / "initdb").exists():
-            return f"there is no {POSTGRESQL}/initdb (Debian's postgresql-15)"
+            return f"there is no {POSTGRESQL}/initdb (tools/setup tests)"
         try:
             import psycopg  # noqa: F401
         except ImportError:
-            return "there is no psycopg (Debian's python3-psycopg)"
+            return "there is no psycopg (tools/setup tests)"
         if os.geteuid() == 0 and _other_user() is None:
             return "PostgreSQL does not run as root, and there is no user postgres or nobody"
     return None

@@ -4,7 +4,6 @@ import asyncio
 import json
 import os
 import re
-import shutil
 import signal
 import stat
 import subprocess
@@ -131,8 +130,7 @@ def test_callers_with_certificates(certificates: Path) -> None:
         assert main([*drain, *shown, "shop", "1"]) == 3  # is heard, but there is no such job
         create = ["curl", "-sS", "-X", "PUT", "--cacert", f"{at}/ca.pem", f"{url}/jobs/shop",
                   "-d", json.dumps(POLICY), "-o", "/dev/null", "-w", "%{http_code}"]
-        if shutil.which("curl") is None:
-            pytest.skip("there is no curl")
+        needed.command("curl")
         cert = ["--cert", f"{at}/caller.pem", "--key", f"{at}/caller.key"]
         assert subprocess.run(create, capture_output=True).returncode != 0
         made = subprocess.run([*create, *cert], capture_output=True, check=True)
@@ -186,9 +184,7 @@ def test_an_audit_is_that_of_the_program(
 
 
 def test_the_audit_of_a_run(tmp_path: Path, capfd: pytest.CaptureFixture[str]) -> None:
-    program = os.environ.get("HOURSTABLE_PROGRAM") or shutil.which("hourstable")
-    if program is None:
-        pytest.skip("there is no program hourstable ($HOURSTABLE_PROGRAM)")
+    program = needed.program()
 
     async def play() -> None:
         words = ["--store", f"sqlite:{tmp_path}/jobs", "--logs", f"{tmp_path}/logs"]

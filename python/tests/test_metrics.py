@@ -2,7 +2,6 @@
 
 import json
 import re
-import shutil
 import subprocess
 from collections.abc import Iterator
 from pathlib import Path
@@ -94,7 +93,7 @@ def expressions_of_the_dashboard() -> list[str]:
 
 
 def rules() -> list[dict[str, Any]]:
-    yaml = pytest.importorskip("yaml", reason="there is no yaml (python3-yaml)")
+    yaml = pytest.importorskip("yaml", reason="there is no yaml (tools/setup tests)")
     loaded = yaml.safe_load(ALERTS.read_text(encoding="utf-8"))
     found = [rule for group in loaded["groups"] for rule in group["rules"]]
     assert all({"alert", "expr", "labels", "annotations"} <= set(it) for it in found)
@@ -146,7 +145,6 @@ def test_each_alert_says_what_to_do() -> None:
 
 
 def test_prometheus_reads_the_alerts() -> None:
-    if shutil.which("promtool") is None:
-        pytest.skip("there is no promtool (prometheus)")
+    needed.command("promtool")
     ran = subprocess.run(["promtool", "check", "rules", ALERTS], capture_output=True, text=True)
     assert ran.returncode == 0, ran.stdout + ran.stderr

@@ -5,8 +5,6 @@ A guard lease lasts 2 s there, long beside what a loaded machine takes for a mes
 """
 
 import asyncio
-import os
-import shutil
 import subprocess
 import time
 from collections.abc import AsyncIterator, Callable
@@ -16,6 +14,7 @@ from typing import Any
 import pytest
 from aiohttp import web
 
+import needed
 from hourstable import logs
 from hourstable.calls import Rejected
 from hourstable.library import boottime_ticks
@@ -395,9 +394,7 @@ async def test_the_log_is_one_run(
     plane: Plane, task_of: Callable[..., Task], tmp_path: Path
 ) -> None:
     """The proved audit judges the calls of the plane and two tasks over two changes."""
-    program = os.environ.get("HOURSTABLE_PROGRAM") or shutil.which("hourstable")
-    if program is None:
-        pytest.skip("there is no program hourstable: HOURSTABLE_PROGRAM says where it is")
+    program = needed.program()
     async with task_of(1) as one, task_of(2) as two:
         await until(lambda: one.served() == LOWER and two.served() == UPPER)
         for generation, slices in ((2, [(0, 2)]), (3, TO_ONE_AND_TWO)):
