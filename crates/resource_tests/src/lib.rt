@@ -1,7 +1,7 @@
 //! Tests of what contracts leave open: that calls succeed where there is memory, what they answer
 //! after memory was refused, and streams that fail, are slow or do not end.
 //!
-//! `.ci/refuse-allocations` runs the tests whose names end in `without_memory` with each
+//! `tests/allocations/run` runs the tests whose names end in `without_memory` with each
 //! allocation refused in turn.
 #![tactic(auto)]
 

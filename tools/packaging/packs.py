@@ -91,7 +91,7 @@ def wheel_tree(built: Path) -> Tree:
         tree.put(path.removeprefix("python/"), TOP / path)
     tree.put("hourstable/libhourstable.so", built / "libhourstable.so", 0o755)
     tree.put(f"{info}/METADATA", metadata(project).encode())
-    tree.put(f"{info}/WHEEL", b"Wheel-Version: 1.0\nGenerator: .ci/package\nRoot-Is-Purelib: false\n"
+    tree.put(f"{info}/WHEEL", b"Wheel-Version: 1.0\nGenerator: tools/package\nRoot-Is-Purelib: false\n"
                               b"Tag: py3-none-linux_x86_64\n")
     scripts = [f"{name} = {where}\n" for name, where in project.get("scripts", {}).items()]
     tree.put(f"{info}/entry_points.txt", "".join(["[console_scripts]\n", *scripts]).encode())

@@ -88,4 +88,4 @@ def check(programs: Programs) -> Iterator[Result]:
         found = [(run, fault_of(run, programs, folder)) for run in RUNS]
         found.append((SAVING, fault_of_saving(programs, folder)))
     for run, why in found:
-        yield Result(run.program, [Fault(".ci/docs-checks/endings.py", 1, why)] if why else [])
+        yield Result(run.program, [Fault("tests/docs/endings.py", 1, why)] if why else [])

@@ -1,5 +1,5 @@
 /* Lines of logs: the line of each call, as docs/AUDIT.md gives its members and its words, each refusal, which calls have
- * no line, and short buffers. .ci/bindings-checks/logs.py has such lines judged by an audit. */
+ * no line, and short buffers. tests/c/logs.py has such lines judged by an audit. */
 #include "checks.h"
 
 #include <string.h>

@@ -35,7 +35,7 @@ NOT_RUN = re.compile(r"^not run: \S")
 OTHER_NAMES = {"bash", "shell", "console", "shell-session", "sh-session", "zsh"}
 COMMANDS = r"rt|hourstable|slicer_run|slicer_live|python3?|gcc|g\+\+|cargo|rustc|go|git|cd|cp|mkdir|pip|curl|export"
 LIKE_COMMAND = re.compile(
-    rf"^(?: {{4,}}|\t)\(?(?:\$ )?(?:[A-Z_]+=\S+ )*(?:{COMMANDS}|[A-Z]+=\S+|\.ci/\w+|bench/\w+)(?: |$)"
+    rf"^(?: {{4,}}|\t)\(?(?:\$ )?(?:[A-Z_]+=\S+ )*(?:{COMMANDS}|[A-Z]+=\S+|\.ci/run|(?:tools|tests|bench)/[\w/-]+)(?: |$)"
 )
 IN_CRATE = re.compile(r"cd crates/(\w+) && rt (?:try|run)\b")
 ON_PATH = ("hourstable", "slicer_run", "slicer_live")
@@ -49,7 +49,7 @@ case "${1:-} $name" in
   "lib hourstable_c") [ ! -e "out/@ARCHIVE@" ] || exit 0 ;;
   "doc "* | "version "*) exec "@RT@" "$@" ;;
 esac
-echo "rt $*: .ci/docs does not run this in $name" >&2
+echo "rt $*: tests/docs/run does not run this in $name" >&2
 exit 2
 """
 

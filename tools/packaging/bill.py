@@ -35,7 +35,7 @@ def bill(made: list[Path]) -> dict[str, object]:
         "name": f"hourstable-{version()}",
         "documentNamespace": f"https://hourstable.invalid/spdx/{version()}/{commit}",
         "creationInfo": {"created": time.strftime("%Y-%m-%dT%H:%M:%SZ", time.gmtime(epoch())),
-                         "creators": ["Tool: .ci/package"]},
+                         "creators": ["Tool: tools/package"]},
         "documentDescribes": [it["SPDXID"] for it in files],
         "packages": [*files, *crates], "relationships": holds,
     }

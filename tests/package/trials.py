@@ -13,7 +13,7 @@ PARTS = Path(__file__).resolve().parent
 UNSHARE = (("unshare", "--mount", "--net"), ("unshare", "--map-root-user", "--mount", "--net"))
 TRIALS = {"tarball": (), "debian": ("--root",), "wheel": ()}
 EXAMPLES = ("examples/c", "examples/python", "examples/scripts", "examples/cache", "python/tests/engines.py")
-SHARED = ("tools/setup", ".ci/needed")
+SHARED = ("tools/setup", "tools/needed")
 
 
 def can(*words: str) -> bool:

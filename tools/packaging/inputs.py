@@ -8,7 +8,7 @@ from dataclasses import dataclass
 from pathlib import Path
 
 TOP = Path(__file__).resolve().parents[2]
-sys.path.insert(0, str(TOP / ".ci/docs-checks"))
+sys.path.append(str(TOP / "tools"))
 
 from programs import Programs  # noqa: E402
 

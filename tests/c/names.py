@@ -17,7 +17,7 @@ with open("include/hourstable.h", encoding="utf-8") as file:
     header = file.read()
 with open("docs/BINDINGS.md", encoding="utf-8") as file:
     page = file.read()
-with open(".ci/bindings-checks/slicelets.c", encoding="utf-8") as file:
+with open("tests/c/slicelets.c", encoding="utf-8") as file:
     checks = file.read()
 in_header = {name: int(number) for name, number in re.findall(r"HS_(\w+) = (-?\d+)", header.split("enum hs_kind")[0])}
 in_python = {name: number for number, name in hourstable.CODES.items()}

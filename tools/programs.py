@@ -7,8 +7,7 @@ libhourstable_c.a, is looked for in the same places.
 import subprocess
 from pathlib import Path
 
-from pages import TOP
-
+TOP = Path(__file__).resolve().parents[1]
 ARCHIVE = "libhourstable_c.a"
 
 
