@@ -19,4 +19,3 @@ pub mod Gathers
 pub mod TableClocks
 pub mod TaskClocks
 pub mod ClockEvidence
-

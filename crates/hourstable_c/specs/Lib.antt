@@ -4,4 +4,3 @@ pub mod Returned
 pub mod Places
 pub mod Opened
 pub mod Kinds
-
