@@ -46,6 +46,11 @@ impl Shown for Clerk {
     }
 }
 
+// The reply of a machine to an event.
+fn applied<M: Shown>(alloc: Global, machine: &mut M, event: &M::Event) -> Result<M::Reply, Fail> {
+    changed(machine, |m| m.shown(alloc), |m| m.apply(event))
+}
+
 // Makes the calls of a story, each by a copy of its event. Returns the first call whose reply is not
 // the one beside it.
 fn first_wrong<'s, M, C>(
@@ -65,7 +70,7 @@ where
             call: call_read,
         };
         let copied = again(|| M::copy_event(&event))?;
-        let reply = changed(machine, |m| m.shown(alloc), |m| m.apply(&copied))?;
+        let reply = applied(alloc, machine, &copied)?;
         if !is_written(alloc, &reply, wanted)? {
             return Ok(Some(*call));
         }
