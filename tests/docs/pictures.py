@@ -1,11 +1,13 @@
-"""Each picture docs/NAME.svg that a page shows is what `hourstable timeline` draws.
+"""Each picture docs/NAME.svg that a page shows is what `hourstable timeline` draws, or is drawn by hand.
 
 A line `<!-- picture: timeline ARGS < FILE -->` stands directly above the image, with FILE from the top of the
-repository. Every picture under docs/ is shown in this way by some page.
+repository; or `<!-- picture: by hand -->`, and then the picture has a title, a description, and colours for a dark page.
+Every picture under docs/ is shown in one of these ways by some page.
 """
 import re
 import shlex
 import subprocess
+import xml.etree.ElementTree as ElementTree
 from collections.abc import Iterator
 
 from pages import COMMENT, TOP, Fault, Page, Result, all_pages, repository_files
@@ -13,6 +15,8 @@ from programs import Missing, Programs
 
 IMAGE = re.compile(r"(?:!\[[^\]]*\]\(|<img\s[^>]*src=[\"'])([^)\s\"']+\.svg)")
 CLAIM = re.compile(r"^picture: (timeline\b.*?) < (\S+)$")
+BY_HAND = "picture: by hand"
+SVG = "{http://www.w3.org/2000/svg}"
 
 
 def drawn(words: list[str], script: str, programs: Programs) -> bytes | str:
@@ -26,10 +30,25 @@ def drawn(words: list[str], script: str, programs: Programs) -> bytes | str:
     return ran.stdout if ran.returncode == 0 else ran.stderr.decode(errors="replace").strip()
 
 
+def lacks(shown: str) -> str | None:
+    """What a picture lacks that was drawn by hand, or None."""
+    try:
+        text = (TOP / shown).read_text(encoding="utf-8")
+        root = ElementTree.fromstring(text)
+    except (OSError, ElementTree.ParseError) as why:
+        return f"{shown}: {why}"
+    for name in ("title", "desc"):
+        if not (root.findtext(f"{SVG}{name}") or "").strip():
+            return f"{shown}: it has no {name}"
+    return None if "prefers-color-scheme: dark" in text else f"{shown}: it has no colours for a dark page"
+
+
 def look(page: Page, number: int, shown: str, programs: Programs) -> str | None:
     """What is wrong with a picture that a page shows on a line, or None."""
     above = next((it for it in reversed(page.lines[: number - 1]) if it.strip()), "")
     comment = COMMENT.match(above)
+    if comment and comment[1] == BY_HAND:
+        return lacks(shown)
     claim = CLAIM.match(comment[1]) if comment else None
     if not claim:
         return f"{shown}: no line `<!-- picture: timeline ARGS < FILE -->` stands above it"
