@@ -11,7 +11,7 @@ HERE = Path(__file__).resolve().parent
 TOP = HERE.parents[1]
 ARCHIVE = TOP / "crates/hourstable_c/out/libhourstable_c.a"
 PROGRAM = TOP / "crates/hourstable/out/hourstable"
-NEEDED = {"aiohttp": "python3-aiohttp", "prometheus_client": "python3-prometheus-client"}
+NEEDED = ("aiohttp", "prometheus_client")
 
 
 class Missing(Exception):
@@ -37,8 +37,8 @@ def run_with_packages() -> None:
         return
     if os.path.realpath(sys.executable) != os.path.realpath(system) and os.path.exists(system):
         os.execv(system, [system, *sys.argv])
-    packages = " ".join(NEEDED[name] for name in lacking)
-    sys.exit(f"{Path(sys.argv[0]).name}: there is no {', '.join(lacking)} (Debian: {packages})")
+    program = Path(sys.argv[0]).name
+    sys.exit(f"{program}: there is no {', '.join(lacking)}: `tools/setup demo` installs what is missing")
 
 
 def library(made: Path) -> Path:
