@@ -424,6 +424,8 @@ async def told_together(
     held_up = slow.hold_up()
     go.set()
     assert (await first).status == 200
+    while slow._next:  # else the plane may look at what `then` wrote before it makes the calls
+        await asyncio.sleep(0.001)
     then()
     held_up.set()
     return list(await asyncio.gather(*waiting))
