@@ -114,7 +114,7 @@ async def browser() -> AsyncIterator[Tab]:
         "--disable-dev-shm-usage", "--remote-debugging-port=0", f"--user-data-dir={folder}",
         "about:blank",
     ]
-    quiet, home = subprocess.DEVNULL, {**os.environ, "HOME": folder}
+    quiet, home = subprocess.DEVNULL, {**os.environ, "HOME": folder, "TMPDIR": folder}
     running = subprocess.Popen(words, stdout=quiet, stderr=quiet, env=home)
     try:
         port = await _port(Path(folder) / "DevToolsActivePort", running)
