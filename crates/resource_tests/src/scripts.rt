@@ -3,7 +3,7 @@
 use crate::asking::again;
 use machines::Listed;
 use program_io::{Fault, value_of};
-use service::{Script, ScriptError, head_of, lone_step, output_of, run_script, script_of};
+use service::{Script, ScriptError, lone_step, output_of, run_script, script_of};
 use std::alloc::{AllocError, Global};
 use std::io::Read;
 use std::test::Fail;
@@ -133,13 +133,13 @@ fn scripts_are_read_without_memory(rt: HostRuntime) -> Result<(), Fail> {
         .ok_or("it is JSON")?;
     let whole = again(|| script_of(alloc, &value))?;
     assert_eq!(rt; again(|| output_of(alloc, &whole))?, wanted);
-    let (job, elements) = head_of(&value)?;
-    let mut steps = again(|| Vec::with_capacity(alloc, elements.len()))?;
-    for element in elements {
-        let step = again(|| lone_step(alloc, job, element))
-            .ok()
-            .ok_or("it is a step")?;
-        steps.push(step)?;
+    let job = whole.job;
+    let mut steps = again(|| Vec::with_capacity(alloc, STEPS.len()))?;
+    for (step, _) in STEPS {
+        let value = again(|| value_of(alloc, step.as_bytes()));
+        let value = value.ok().ok_or("it is JSON")?;
+        let step = again(|| lone_step(alloc, job, &value));
+        steps.push(step.ok().ok_or("it is a step")?)?;
     }
     let steps = Listed::from_vec(steps);
     let joined = Script { job, steps };
