@@ -5,7 +5,6 @@ import asyncio
 import logging
 import os
 import resource
-import shutil
 import signal
 import ssl
 import subprocess
@@ -15,7 +14,7 @@ import time
 from collections.abc import Sequence
 from pathlib import Path
 
-from hourstable import logs
+from hourstable import installed, logs
 from hourstable.assigner import AssignerOfJobs
 from hourstable.clock import local_clock
 from hourstable.control import Limits, Plane
@@ -25,13 +24,13 @@ from hourstable.plans import Hysteresis, slices_in
 from hourstable.store import StoreFailed, open_store
 from hourstable.tickets import Tickets
 
-PROGRAM = "HOURSTABLE_PROGRAM"
+DEMO_SECONDS = 34
 OTHER_FILES = 256  # logs, connections of the store, and so on
 
 
 def main(words: list[str] | None = None) -> int:
-    """Runs the command, and returns its status: 0 if it did what was asked, 1 if an audit found a
-    fault, 2 if the words or the input are refused, 3 if something failed."""
+    """Runs the command, and returns its status: 0 if it did what was asked, 1 if an audit or the
+    demo found a fault, 2 if the words or the input are refused, 3 if something failed."""
     chosen = parser().parse_args(words)
     level = logging.DEBUG if chosen.verbose else logging.INFO
     logging.basicConfig(level=level, format="%(asctime)s %(name)s: %(message)s")
@@ -54,6 +53,7 @@ def parser() -> argparse.ArgumentParser:
     _assigner_words(subcommands.add_parser("assigner", help="run an assigner beside the planes"))
     _drain_words(subcommands.add_parser("drain", help="let a task own no more keys"))
     _audit_words(subcommands.add_parser("audit", help="audit the logs of a job"))
+    _demo_words(subcommands.add_parser("demo", help="run a cache, break it, and audit it"))
     return made
 
 
@@ -134,7 +134,8 @@ def _audit_words(words: argparse.ArgumentParser) -> None:
     words.set_defaults(run=_audit)
     words.add_argument("folder", type=Path, help="the logs of a job, or of all jobs")
     words.add_argument("--hourstable", metavar="PROGRAM",
-                       help=f"the program; else that of ${PROGRAM}, else hourstable in PATH")
+                       help=f"the program; else that of ${installed.PROGRAM}, else the one that was"
+                       " installed with this command, else hourstable in PATH")
     words.add_argument("--strict", action="store_true",
                        help="clocks that are not timely or break the drift are a fault, too")
     words.add_argument("--all", action="store_true", help="tell the first 20 wrong replies")
@@ -144,6 +145,28 @@ def _audit_words(words: argparse.ArgumentParser) -> None:
                        help="go on from the state that earlier logs of the job left")
     words.add_argument("--until", type=Path, metavar="STATE",
                        help="save the state that the logs of the job leave, if they are one run")
+
+
+def _demo_words(words: argparse.ArgumentParser) -> None:
+    words.set_defaults(run=_demo)
+    words.description = (
+        "Runs a control plane, tasks that keep sessions in memory, and their clients on this"
+        " machine. A task is killed, one is added, one is drained, and the control plane is gone"
+        " for a while. At the end all that happened is audited."
+    )
+    words.add_argument("--store", choices=["sqlite", "postgresql", "etcd"], default="sqlite",
+                       help="of the control plane; a server is started for it (sqlite)")
+    words.add_argument("--page", action="store_true",
+                       help="open the page of the control plane in a browser")
+    words.add_argument("--plain", action="store_true", help="print a line a second, and no table")
+    words.add_argument("--seconds", type=float, default=DEMO_SECONDS, metavar="N",
+                       help=f"how long it lasts, without start and audit ({DEMO_SECONDS})")
+
+
+def _demo(chosen: argparse.Namespace) -> int:
+    from hourstable.demo import run
+
+    return run.main(chosen.store, chosen.seconds, plain=chosen.plain, page=chosen.page)
 
 
 def _control(chosen: argparse.Namespace) -> int:
@@ -295,9 +318,11 @@ def owners_in(assignment: bytes | None) -> set[int]:
 
 
 def _audit(chosen: argparse.Namespace) -> int:
-    program = chosen.hourstable or os.environ.get(PROGRAM) or shutil.which("hourstable")
+    program = installed.program(chosen.hourstable)
     if not program:
-        raise ValueError(f"there is no hourstable in PATH: say where by --hourstable or ${PROGRAM}")
+        raise ValueError(
+            f"there is no hourstable in PATH: say where by --hourstable or ${installed.PROGRAM}"
+        )
     folders = [chosen.folder] if logs.files_of(chosen.folder) else sorted(
         path for path in chosen.folder.glob("*") if logs.files_of(path)
     )

@@ -13,8 +13,8 @@ from typing import Any
 
 import pytest
 
-import engines
 import needed
+from hourstable.demo import engines
 from hourstable.store import Store, open_store
 
 KINDS = ("sqlite", "postgresql", "etcd")

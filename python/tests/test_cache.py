@@ -1,16 +1,13 @@
-"""Tests of examples/cache: the shelf of sessions, and the check that knows nothing of
+"""Tests of the demo's cache: the shelf of sessions, and the check that knows nothing of
 Hourstable."""
 
 import json
-import sys
 from pathlib import Path
 
 import pytest
 
-sys.path.insert(0, str(Path(__file__).resolve().parents[2] / "examples/cache"))
-
-import judge  # noqa: E402
-from shelf import NOTHING, Session, Shelf, Taken  # noqa: E402
+from hourstable.demo import judge
+from hourstable.demo.shelf import NOTHING, Session, Shelf, Taken
 
 
 def written(folder: Path, name: str, lines: list[list[object]]) -> None:

@@ -13,8 +13,8 @@ from pathlib import Path
 
 import pytest
 
-import engines
 from conftest import folder_for_engines
+from hourstable.demo import engines
 from hourstable.store import (
     LAST_LIFE, Conflict, Life, LivesSpent, NoSuchJob, SqliteStore, Store, Stored, StoreFailed,
     open_store,

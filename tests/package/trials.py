@@ -12,7 +12,7 @@ from inputs import TOP, kit, tracked, version
 PARTS = Path(__file__).resolve().parent
 UNSHARE = (("unshare", "--mount", "--net"), ("unshare", "--map-root-user", "--mount", "--net"))
 TRIALS = {"tarball": (), "debian": ("--root",), "wheel": ()}
-EXAMPLES = ("examples/c", "examples/python", "examples/scripts", "examples/cache", "python/tests/engines.py")
+EXAMPLES = ("examples/c", "examples/python", "examples/scripts")
 SHARED = ("tools/setup", "tools/needed")
 
 

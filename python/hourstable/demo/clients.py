@@ -1,6 +1,5 @@
-#!/usr/bin/env python3
 """Clients of the session cache: write and read sessions, one after the other each, until they are
-stopped. Prints a JSON line a second of what happened in it."""
+stopped. Prints a JSON line every so many seconds of what happened since the last one."""
 
 import argparse
 import asyncio
@@ -8,7 +7,6 @@ import json
 import logging
 import random
 import signal
-import sys
 import time
 from collections import Counter
 from pathlib import Path
@@ -16,13 +14,9 @@ from typing import Any
 
 import aiohttp
 
-from finding import PACKAGE
-
-sys.path.insert(0, str(PACKAGE))
-
-from hourstable.calls import Unreachable  # noqa: E402
-from hourstable.client import Again, NoOwner, Router  # noqa: E402
-from hourstable.waiting import within  # noqa: E402
+from hourstable.calls import Unreachable
+from hourstable.client import Again, NoOwner, Router
+from hourstable.waiting import within
 
 
 class Acks:
@@ -38,6 +32,17 @@ class Acks:
         self.file.flush()
 
 
+class Request:
+    """A request of a client: for which key, since when, and how often it was denied."""
+
+    def __init__(self, key: str) -> None:
+        self.key, self.denials, self.begun = key, 0, time.monotonic()
+
+    def waited(self) -> float:
+        """Returns for how many seconds it has waited because it was denied, 0 if it was not."""
+        return time.monotonic() - self.begun if self.denials else 0.0
+
+
 class Clients:
     """Some clients that share a router."""
 
@@ -46,73 +51,91 @@ class Clients:
         self.tasks = dict(pair.split("=", 1) for pair in words.tasks.split(","))
         self.acks = Acks(Path(words.folder) / f"acks-{words.number}.jsonl")
         self.random = random.Random()
-        self.owners: dict[str, int] = {}  # who answered for a key last
-        self.second: Counter[str] = Counter()
+        self.told: Counter[str] = Counter()
         self.denied: Counter[str] = Counter()
+        self.waited: dict[str, float] = {}  # for keys that were denied, the longest wait
+        self.underway: set[Request] = set()
         self.session = aiohttp.ClientSession(timeout=aiohttp.ClientTimeout())
 
     async def client(self, number: int) -> None:
         for count in range(1 << 60):
-            key = f"session-{int(self.words.keys * self.random.random() ** 2)}"
+            request = Request(f"session-{int(self.words.keys * self.random.random() ** 2)}")
             write = f"{self.words.number}-{number}-{count}-{time.monotonic_ns()}"
             is_write = self.random.random() < self.words.writes
+            self.underway.add(request)
             try:
-                await (self.write(key, write) if is_write else self.read(key))
-                self.second["answered"] += 1
+                await (self.write(request, write) if is_write else self.read(request))
+                self.told["answered"] += 1
             except (Again, NoOwner, Unreachable) as why:
-                self.second["given up"] += 1
-                logging.info("%s: given up: %s", key, why)
+                self.told["given up"] += 1
+                logging.info("%s: given up: %s", request.key, why)
+            self.underway.discard(request)
+            self.note_wait(request)
             await asyncio.sleep(self.words.pause * self.random.random() / 500)
 
-    async def write(self, key: str, write: str) -> None:
-        asked = time.monotonic_ns()
+    async def write(self, request: Request, write: str) -> None:
+        asked, key = time.monotonic_ns(), request.key
         text = f"text of {write}"
         body = {"id": write, "text": text, "keep": True}
-        answer = await self.router.send(key, lambda task: self.ask(task, "PUT", key, body))
+        answer = await self.router.send(key, lambda task: self.ask(task, "PUT", request, body))
         self.acks.note("write", key, write, answer["version"], asked)
 
-    async def read(self, key: str) -> None:
+    async def read(self, request: Request) -> None:
         asked = [0]
 
         async def attempt(task: int) -> dict[str, Any]:
             asked[0] = time.monotonic_ns()
-            return await self.ask(task, "GET", key, None)
+            return await self.ask(task, "GET", request, None)
 
-        answer = await self.router.send(key, attempt)
-        self.acks.note("read", key, "", answer["version"], asked[0])
+        answer = await self.router.send(request.key, attempt)
+        self.acks.note("read", request.key, "", answer["version"], asked[0])
 
-    async def ask(self, task: int, method: str, key: str, body: Any) -> dict[str, Any]:
+    async def ask(self, task: int, method: str, request: Request, body: Any) -> dict[str, Any]:
         """Asks a task once. Raises Again if it gives no answer."""
-        self.second["requests"] += 1
+        self.told["requests"] += 1
         url = self.tasks.get(str(task))
         if url is None:
             raise Again(f"task {task} has no address")
         try:
-            asked = self.fetch(method, f"{url}/sessions/{key}", body)
+            asked = self.fetch(method, f"{url}/sessions/{request.key}", body)
             status, answer = await within(self.words.timeout, asked)
         except (aiohttp.ClientError, TimeoutError, OSError, ValueError) as why:
-            self.denied["no answer"] += 1
+            self.note_denial(request, "no answer")
             raise Again(f"task {task}: {type(why).__name__}") from why
         if status not in (200, 404):
-            self.denied[answer.get("denied") or "lost"] += 1
+            self.note_denial(request, answer.get("denied") or "lost")
             raise Again(f"task {task}: {status} {answer}")
-        if self.owners.get(key, task) != task:
-            self.second["moves"] += 1
-        self.owners[key] = task
         return answer
+
+    def note_denial(self, request: Request, ground: str) -> None:
+        self.denied[ground] += 1
+        request.denials += 1
+
+    def note_wait(self, request: Request) -> None:
+        if request.denials:
+            longest = self.waited.get(request.key, 0.0)
+            self.waited[request.key] = max(longest, request.waited())
 
     async def fetch(self, method: str, url: str, body: Any) -> tuple[int, dict[str, Any]]:
         async with self.session.request(method, url, json=body) as response:
             return response.status, await response.json()
 
     async def tell(self) -> None:
+        """Prints what happened: the counts of requests, denials by their ground, how long keys that
+        were denied had to wait, and how many requests still wait."""
         while True:
-            await asyncio.sleep(1.0)
-            told: dict[str, Any] = dict(self.second)
-            told.update(denied=dict(self.denied), generation=self.router.generation)
+            await asyncio.sleep(self.words.every)
+            for request in self.underway:
+                self.note_wait(request)
+            told = {
+                **self.told, "denied": self.denied, "waited": self.waited,
+                "waiting": sum(1 for it in self.underway if it.denials),
+                "generation": self.router.generation,
+            }
             print(json.dumps(told), flush=True)
-            self.second.clear()
+            self.told.clear()
             self.denied.clear()
+            self.waited.clear()
 
 
 async def run(words: argparse.Namespace) -> None:
@@ -146,6 +169,7 @@ def main() -> None:
     parser.add_argument("--keys", type=int, default=60)
     parser.add_argument("--writes", type=float, default=0.4, help="share of requests that write")
     parser.add_argument("--pause", type=float, default=5.0, help="milliseconds between requests")
+    parser.add_argument("--every", type=float, default=1.0, help="seconds between two lines")
     parser.add_argument("--timeout", type=float, default=1.0, help="seconds")
     parser.add_argument("--logs", action="store_true", help="write the log of the clerk")
     words = parser.parse_args()

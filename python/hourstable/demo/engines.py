@@ -1,6 +1,8 @@
-"""Engines of stores for tests: each is started in a folder of its own, on loopback."""
+"""Servers of stores: each is started in a folder of its own, on loopback."""
 
+import glob
 import http.client
+import importlib.util
 import os
 import pwd
 import shutil
@@ -8,29 +10,37 @@ import signal
 import socket
 import ssl
 import subprocess
+import threading
 import time
 from collections.abc import Callable
 from contextlib import suppress
 from pathlib import Path
 
-POSTGRESQL = Path("/usr/lib/postgresql/15/bin")
+from hourstable.demo.processes import die_with_parent
+
+POSTGRESQL = "/usr/lib/postgresql/*/bin/initdb"  # of each version that Debian installed
 PATIENCE = 120.0  # a server that was killed replays its log, perhaps beside much other work
 
 
 def missing(kind: str) -> str | None:
-    """Returns why an engine cannot be started here, None if it can."""
+    """Returns why an engine cannot be started here, and the package of Debian that brings what is
+    missing; None if it can."""
     if kind == "etcd" and shutil.which("etcd") is None:
-        return "there is no etcd (tools/setup tests)"
+        return "there is no etcd: install it by `apt-get install etcd-server`"
     if kind == "postgresql":
-        if not (POSTGRESQL / "initdb").exists():
-            return f"there is no {POSTGRESQL}/initdb (tools/setup tests)"
-        try:
-            import psycopg  # noqa: F401
-        except ImportError:
-            return "there is no psycopg (tools/setup tests)"
+        if _initdb() is None:
+            return f"there is no {POSTGRESQL}: install it by `apt-get install postgresql`"
+        if importlib.util.find_spec("psycopg") is None:
+            return "there is no psycopg: install it by `apt-get install python3-psycopg`"
         if os.geteuid() == 0 and _other_user() is None:
             return "PostgreSQL does not run as root, and there is no user postgres or nobody"
     return None
+
+
+def _initdb() -> Path | None:
+    """Returns the initdb of the newest PostgreSQL."""
+    found = [path for path in glob.glob(POSTGRESQL) if path.split("/")[-3].isdigit()]
+    return Path(max(found, key=lambda path: int(path.split("/")[-3]))) if found else None
 
 
 def free_port() -> int:
@@ -91,10 +101,14 @@ class Engine:
         self.kill()
 
     def start(self) -> None:
+        """Starts it, and waits until it is ready. It gets no signals of the terminal. It dies with
+        this process if the main thread starts it; with another one it would die with the thread."""
         uid = self.user.pw_uid if self.user else None
+        is_main = threading.current_thread() is threading.main_thread()
         with open(self.folder / "engine.log", "ab") as log:
             self.process = subprocess.Popen(
-                self.words, stdout=log, stderr=log, cwd=self.folder, user=uid
+                self.words, stdin=subprocess.DEVNULL, stdout=log, stderr=log, cwd=self.folder,
+                user=uid, process_group=0, preexec_fn=die_with_parent if is_main else None,
             )
         end = time.monotonic() + PATIENCE
         while not self.is_ready():
@@ -120,17 +134,18 @@ class Engine:
 
 
 def postgresql(folder: Path) -> Engine:
-    user = _other_user() if os.geteuid() == 0 else None
+    user, initdb = _other_user() if os.geteuid() == 0 else None, _initdb()
+    assert initdb is not None, missing("postgresql")
     folder.mkdir(parents=True)
     if user:
         os.chown(folder, user.pw_uid, user.pw_gid)
     data, port = folder / "data", free_port()
     subprocess.run(
-        [str(POSTGRESQL / "initdb"), "-D", str(data), "-U", "hourstable", "-A", "trust"],
+        [str(initdb), "-D", str(data), "-U", "hourstable", "-A", "trust"],
         check=True, stdout=subprocess.DEVNULL, cwd=folder, user=user.pw_uid if user else None,
     )
     words = [
-        str(POSTGRESQL / "postgres"), "-D", str(data), "-p", str(port),
+        str(initdb.with_name("postgres")), "-D", str(data), "-p", str(port),
         "-k", "", "-c", "listen_addresses=127.0.0.1", "-c", "max_connections=50",
     ]
     url = f"postgresql://hourstable@127.0.0.1:{port}/postgres"

@@ -1,4 +1,3 @@
-#!/usr/bin/env python3
 """A proxy of HTTP that delays messages, loses them, repeats them and so reorders them.
 
 It listens on a port for each link, and passes requests on. POST /settings at its own port changes

@@ -1,4 +1,3 @@
-#!/usr/bin/env python3
 """A task of the session cache: answers for the sessions that it owns, over HTTP.
 
     PUT /sessions/KEY   {"id": ID, "text": TEXT, "keep": true}  ->  {"version": N}
@@ -16,24 +15,17 @@ import json
 import logging
 import random
 import signal
-import sys
 import time
 from pathlib import Path
 from typing import Any
 
 from aiohttp import web
 
-from finding import PACKAGE
-
-sys.path.insert(0, str(PACKAGE))
-
-from bugs import BUGS, put_in  # noqa: E402
-from shelf import Session, Shelf, Taken  # noqa: E402
-
-from hourstable.library import slice_key  # noqa: E402
-from hourstable.ranges import Ranges, holds  # noqa: E402
-from hourstable.task import ClockBroken, Denied, Drift, Hold, LeaseLost, Task  # noqa: E402
-from hourstable.tickets import Tickets, follow, real_milliseconds  # noqa: E402
+from hourstable.demo.shelf import Session, Shelf, Taken
+from hourstable.library import slice_key
+from hourstable.ranges import Ranges, holds
+from hourstable.task import ClockBroken, Denied, Drift, Hold, LeaseLost, Task
+from hourstable.tickets import Tickets, follow, real_milliseconds
 
 
 class Spans:
@@ -203,10 +195,8 @@ def main() -> None:
     parser.add_argument("--oldest", type=int, help="ticks")
     parser.add_argument("--tickets", choices=["follow", "time"], default="follow")
     parser.add_argument("--work", type=float, default=0.0, help="milliseconds of a request")
-    parser.add_argument("--bug", choices=list(BUGS), help="put this bug in")
     words = parser.parse_args()
     logging.basicConfig(level=logging.INFO, format="%(asctime)s %(name)s %(message)s")
-    put_in(words.bug)
     asyncio.run(run(words))
 
 
