@@ -8,7 +8,8 @@ import subprocess
 from pathlib import Path
 
 TOP = Path(__file__).resolve().parents[1]
-ARCHIVE = "libhourstable_c.a"
+LIBRARY = "hourstable_c"
+ARCHIVE = f"lib{LIBRARY}.a"
 
 
 class Missing(Exception):
@@ -35,7 +36,7 @@ class Programs:
     def archive(self) -> Path:
         """The library for C."""
         if ARCHIVE not in self.found:
-            self.found[ARCHIVE] = self.look("hourstable_c", ARCHIVE) or self.make("libhourstable.a")
+            self.found[ARCHIVE] = self.look(LIBRARY, ARCHIVE) or self.make("libhourstable.a")
         return self.found[ARCHIVE]
 
     def look(self, crate: str, file: str) -> Path | None:

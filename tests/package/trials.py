@@ -7,11 +7,11 @@ import tempfile
 from collections.abc import Iterator
 from pathlib import Path
 
-from inputs import TOP, kit, tracked, version
+from inputs import TOP, Inputs, kit, tracked, version
 
 PARTS = Path(__file__).resolve().parent
 UNSHARE = (("unshare", "--mount", "--net"), ("unshare", "--map-root-user", "--mount", "--net"))
-TRIALS = {"tarball": (), "debian": ("--root",), "wheel": ()}
+TRIALS = {"wheel": (), "tarball": (), "debian": ("--root",)}
 EXAMPLES = ("examples/c", "examples/python", "examples/scripts")
 SHARED = ("tools/setup", "tools/needed")
 
@@ -42,9 +42,9 @@ def lay(folder: Path, packages: Path) -> None:
     shutil.copytree(TOP / "crates/slicer_live", folder / "examples/slicer_live", ignore=shutil.ignore_patterns("out"))
 
 
-def command(name: str, folder: Path, words: tuple[str, ...]) -> list[str]:
+def command(name: str, number: str, folder: Path, words: tuple[str, ...]) -> list[str]:
     """The trial, apart from the kit and this checkout if the system lets it be."""
-    script = ["bash", f"parts/try-{name}", version()]
+    script = ["bash", f"parts/try-{name}", version(), number]
     hidden = [str(folder), str(kit()), str(TOP), "--"]
     for unshare in UNSHARE:
         apart = [*unshare, sys.executable, str(PARTS / "apart.py"), *words, *hidden]
@@ -56,13 +56,13 @@ def command(name: str, folder: Path, words: tuple[str, ...]) -> list[str]:
     return ["env", "-i", f"HOME={folder}", "PATH=/usr/bin:/bin", *script]
 
 
-def run(packages: Path) -> Iterator[tuple[str, bool]]:
+def run(inputs: Inputs, packages: Path) -> Iterator[tuple[str, bool]]:
     """Whether each thing that was tried is as written. What is skipped is printed."""
     for name, words in TRIALS.items():
         with tempfile.TemporaryDirectory(prefix="trial.") as made:
             folder = Path(made).resolve()
             lay(folder, packages)
-            said = subprocess.run(command(name, folder, words), cwd=folder, capture_output=True, text=True, check=False)
+            said = subprocess.run(command(name, inputs.version, folder, words), cwd=folder, capture_output=True, text=True, check=False)
             tried = 0
             for line in said.stdout.splitlines():
                 what, colon, how = line.rpartition(": ")

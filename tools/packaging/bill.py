@@ -1,30 +1,34 @@
 """What is in the packages, as SPDX 2.3, and their checksums."""
 import hashlib
 import json
+import re
 import time
 from pathlib import Path
 
 import licences
-from inputs import epoch, ran, version
+import sources
+from inputs import Inputs, epoch
 
 NONE = "NOASSERTION"
+SUMS = "SHA256SUMS"
 
 
 def sha256(file: Path) -> str:
     return hashlib.sha256(file.read_bytes()).hexdigest()
 
 
-def package(name: str, number: str | None, licence: str | None, comment: str) -> dict[str, object]:
-    told = {"SPDXID": f"SPDXRef-{name.replace('_', '-')}", "name": name, "downloadLocation": NONE, "filesAnalyzed": False,
-            "licenseConcluded": NONE, "licenseDeclared": licence or NONE, "copyrightText": NONE, "comment": comment}
+def package(name: str, number: str | None, licence: str | None, comment: str, holder: str = NONE) -> dict[str, object]:
+    told = {"SPDXID": f"SPDXRef-{re.sub('[^A-Za-z0-9.-]', '-', name)}", "name": name, "downloadLocation": NONE, "filesAnalyzed": False,
+            "licenseConcluded": NONE, "licenseDeclared": licence or NONE, "copyrightText": holder, "comment": comment}
     return told | ({"versionInfo": number} if number else {})
 
 
-def bill(made: list[Path]) -> dict[str, object]:
-    """One document: each package file is Hourstable, which holds crates of the kit."""
-    commit = ran("git", "rev-parse", "HEAD").strip()
-    kit = licences.kit_name()
-    files = [package(it.name, version(), None, f"made from the commit {commit}") | {
+def bill(inputs: Inputs, made: list[Path]) -> dict[str, object]:
+    """One document: each package file is Hourstable, which holds crates of the kit. It names the sources by their digest,
+    so that the commit which has the packages can have their bill too."""
+    digest = hashlib.sha256("".join(sources.digests().values()).encode()).hexdigest()
+    kit, number = licences.kit_name(), inputs.version
+    files = [package(it.name, number, licences.OWN, f"made from the sources {digest}", licences.HOLDER) | {
         "packageFileName": it.name, "checksums": [{"algorithm": "SHA256", "checksumValue": sha256(it)}]} for it in made]
     crates = [package(f"{kit}-{it.name}", it.follows and f"after {it.follows}", it.licence(), f"a crate of {kit}")
               for it in licences.crates()]
@@ -32,8 +36,8 @@ def bill(made: list[Path]) -> dict[str, object]:
              for file in files for crate in crates]
     return {
         "spdxVersion": "SPDX-2.3", "dataLicense": "CC0-1.0", "SPDXID": "SPDXRef-DOCUMENT",
-        "name": f"hourstable-{version()}",
-        "documentNamespace": f"https://hourstable.invalid/spdx/{version()}/{commit}",
+        "name": f"hourstable-{number}",
+        "documentNamespace": f"https://hourstable.invalid/spdx/{number}/{digest}",
         "creationInfo": {"created": time.strftime("%Y-%m-%dT%H:%M:%SZ", time.gmtime(epoch())),
                          "creators": ["Tool: tools/package"]},
         "documentDescribes": [it["SPDXID"] for it in files],
@@ -41,10 +45,15 @@ def bill(made: list[Path]) -> dict[str, object]:
     }
 
 
-def write(made: list[Path], out: Path) -> list[Path]:
-    """The bill and the checksums of all, beside the packages."""
-    told = out / f"hourstable-{version()}.spdx.json"
-    told.write_text(json.dumps(bill(made), indent=1, sort_keys=True) + "\n", encoding="utf-8")
-    sums = out / "SHA256SUMS"
-    sums.write_text("".join(f"{sha256(it)}  {it.name}\n" for it in [*made, told]), encoding="ascii")
-    return [told, sums]
+def write(inputs: Inputs, made: list[Path], out: Path) -> Path:
+    """The bill, beside the packages."""
+    told = out / f"hourstable-{inputs.version}.spdx.json"
+    told.write_text(json.dumps(bill(inputs, made), indent=1, sort_keys=True) + "\n", encoding="utf-8")
+    return told
+
+
+def write_sums(files: list[Path], out: Path) -> Path:
+    """The checksums of files, beside them."""
+    sums = out / SUMS
+    sums.write_text("".join(f"{sha256(it)}  {it.name}\n" for it in files), encoding="ascii")
+    return sums

@@ -1,4 +1,4 @@
-"""What packages are made of: the proved programs and archive, the kit's archives and licences, and files of the commit."""
+"""What packages are made of: the programs and the archive, the kit's archives and licences, and files of the commit."""
 import functools
 import os
 import re
@@ -10,7 +10,8 @@ from pathlib import Path
 TOP = Path(__file__).resolve().parents[2]
 sys.path.append(str(TOP / "tools"))
 
-from programs import Programs  # noqa: E402
+from building.marks import is_unproved  # noqa: E402
+from programs import ARCHIVE, LIBRARY, Programs  # noqa: E402
 
 PROGRAMS = ("hourstable", "slicer_run", "slicer_live")
 
@@ -69,15 +70,43 @@ def filled(path: str, **words: str) -> bytes:
 
 @dataclass(frozen=True)
 class Inputs:
-    """What was proved, and the kit's archives that it is linked with."""
+    """What was built, whether it was proved, and the kit's archives that it is linked with."""
 
     programs: dict[str, Path]
     archive: Path
     kit_archives: tuple[Path, ...]
+    proved: bool
+
+    @property
+    def version(self) -> str:
+        """That of the packages. It says so if something in them is not proved."""
+        return version() + ("" if self.proved else "+unproved")
 
     @staticmethod
     def found(folder: Path | None) -> "Inputs":
-        """From the folder, or else as the gate leaves them in crates/NAME/out."""
-        proved = Programs(folder)
+        """From the folder, or else as the gate leaves them in crates/NAME/out, or as tools/build proves them there."""
+        given = Programs(folder)
+        return Inputs.of({it: given.find(it) for it in PROGRAMS}, given.archive())
+
+    @staticmethod
+    def proved_here(after_ci: bool) -> "Inputs":
+        """As tools/build proves them where they are not proved of the sources as they are."""
+        words = [str(TOP / "tools/build"), *(["--after-ci"] if after_ci else []), "libhourstable.a", *PROGRAMS]
+        done = subprocess.run(words, stdin=subprocess.DEVNULL, stdout=subprocess.PIPE, text=True, check=False)
+        if done.returncode:
+            raise Missing("tools/build has not proved them all")
+        archive, *programs = map(Path, done.stdout.split())
+        return Inputs.of(dict(zip(PROGRAMS, programs)), archive)
+
+    @staticmethod
+    def standing(folder: Path | None) -> "Inputs | None":
+        """From the folder, or else as the gate leaves them, or None if one is not there."""
+        given = Programs(folder)
+        programs = {it: found for it in PROGRAMS if (found := given.look(it, it))}
+        archive = given.look(LIBRARY, ARCHIVE)
+        return Inputs.of(programs, archive) if archive and len(programs) == len(PROGRAMS) else None
+
+    @staticmethod
+    def of(programs: dict[str, Path], archive: Path) -> "Inputs":
         kit_archives = tuple(kit() / "c" / it for it in ("liblibc_c.a", "libos_c.a"))
-        return Inputs({it: proved.find(it) for it in PROGRAMS}, proved.archive(), kit_archives)
+        return Inputs(programs, archive, kit_archives, not any(map(is_unproved, (*programs.values(), archive))))

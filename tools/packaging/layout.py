@@ -45,6 +45,7 @@ def put_pages(tree: Tree, libdir: str, sources: str) -> None:
     for path in (*PAGES, *tracked("examples/c", "examples/python", "docs/pictures")):
         tree.put(f"{DOC}/{path}", TOP / path)
     tree.put(f"{DOC}/copyright", licences.copyright_page().encode())
+    tree.put(f"{DOC}/LICENSE", TOP / "LICENSE")
     for crate in licences.crates():
         for file in crate.files:
             tree.put(f"{DOC}/licences/{crate.name}/{file.name}", file)

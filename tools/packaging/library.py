@@ -5,6 +5,10 @@ from pathlib import Path
 
 from inputs import TOP, Inputs, Missing, ran, version
 
+# The newest version of glibc of which a program or the shared object may need something.
+GLIBC = "2.34"
+NEEDED = {"libc.so.6", "ld-linux-x86-64.so.2"}
+
 
 def soname() -> str:
     return f"libhourstable.so.{version().partition('.')[0]}"
@@ -40,9 +44,6 @@ def check_shared(shared: Path) -> None:
     dynamic = ran("readelf", "-dW", shared)
     if f"soname: [{soname()}]" not in dynamic:
         raise Missing(f"{shared.name} has another soname than {soname()}")
-    needed = re.findall(r"\(NEEDED\).*\[(.*)\]", dynamic)
-    if not set(needed) <= {"libc.so.6", "ld-linux-x86-64.so.2"}:
-        raise Missing(f"{shared.name} needs {needed}")
     shown = {line.split()[-1] for line in ran("nm", "-D", "--defined-only", shared).splitlines()}
     if shown != functions():
         raise Missing(f"{shared.name} shows other names than the header: {sorted(shown ^ functions())}")
@@ -56,7 +57,26 @@ def check_archive(archive: Path) -> None:
         raise Missing(f"{archive.name} lacks {sorted(functions() - shown)}")
 
 
+def parts(number: str) -> list[int]:
+    return [int(it) for it in number.split(".")]
+
+
+def versions_needed(file: Path) -> set[str]:
+    """The names of the versions of other libraries' symbols that a file needs, as GLIBC_2.34."""
+    return set(re.findall(r"Name: (\S+)\s+Flags:", ran("readelf", "-VW", file)))
+
+
+def check_needs(file: Path) -> None:
+    """It needs the C library alone, and nothing of it that is newer than GLIBC."""
+    needed = set(re.findall(r"\(NEEDED\).*\[(.*)\]", ran("readelf", "-dW", file)))
+    if not needed <= NEEDED:
+        raise Missing(f"{file.name} needs {', '.join(sorted(needed - NEEDED))}")
+    for name in sorted(versions_needed(file)):
+        number = re.fullmatch(r"GLIBC_(\d+(?:\.\d+)+)", name)
+        if not number or parts(number[1]) > parts(GLIBC):
+            raise Missing(f"{file.name} needs {name}, and it may need GLIBC_{GLIBC} at most")
+
+
 def least_libc(*files: Path) -> str:
     """The least version of glibc that has all that these files take from it."""
-    found: set[str] = {it for file in files for it in re.findall(r"GLIBC_([\d.]+)", ran("readelf", "-VW", file))}
-    return max(found, key=lambda it: [int(part) for part in it.split(".")])
+    return max((it.removeprefix("GLIBC_") for file in files for it in versions_needed(file)), key=parts)
