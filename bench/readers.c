@@ -14,8 +14,9 @@
 #define MOST 64
 #define JOB (const uint8_t *)"", 0
 
-static const char grant[] = "{\"type\":\"grant\",\"value\":{\"ends\":1000,\"generation\":1,\"kind\":\"guard\",\"life\":1,"
-                            "\"number\":1,\"ranges\":[[0,9223372036854775808]],\"task\":1,\"until\":1010},\"version\":1}";
+static const char grant[] =
+    "{\"type\":\"grant\",\"value\":{\"ends\":1000,\"generation\":1,\"kind\":\"guard\",\"life\":1,"
+    "\"number\":1,\"ranges\":[[0,9223372036854775808]],\"task\":1,\"until\":1010},\"version\":1}";
 
 static struct hs_place place;
 static pthread_mutex_t mutex = PTHREAD_MUTEX_INITIALIZER;

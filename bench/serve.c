@@ -16,8 +16,9 @@ static char *grant_of(uint64_t ranges, size_t *length) {
     char *text = malloc(room);
     if (!text)
         exit(1);
-    used += (size_t)snprintf(text, room, "{\"type\":\"grant\",\"value\":{\"ends\":1000,\"generation\":1,\"kind\":"
-                                         "\"guard\",\"life\":1,\"number\":1,\"ranges\":[");
+    used += (size_t)snprintf(text, room,
+                             "{\"type\":\"grant\",\"value\":{\"ends\":1000,\"generation\":1,\"kind\":"
+                             "\"guard\",\"life\":1,\"number\":1,\"ranges\":[");
     for (uint64_t range = 0; range < ranges; range++) {
         uint64_t start = KEYS / ranges * range, end = start + KEYS / ranges / 2;
         used += (size_t)snprintf(text + used, room - used, "%s[%" PRIu64 ",%" PRIu64 "]", range ? "," : "", start, end);

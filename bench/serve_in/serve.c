@@ -9,7 +9,8 @@
 #include <time.h>
 
 static const char grant[] =
-    "{\"job\":\"shop\",\"type\":\"grant\",\"value\":{\"ends\":\"1000\",\"generation\":\"1\",\"kind\":\"guard\",\"life\":1,"
+    "{\"job\":\"shop\",\"type\":\"grant\",\"value\":{\"ends\":\"1000\",\"generation\":\"1\",\"kind\":\"guard\","
+    "\"life\":1,"
     "\"number\":\"1\",\"ranges\":[[\"0\",\"9223372036854775808\"]],\"task\":1,\"until\":\"1010\"},\"version\":2}";
 
 static uint64_t now(void) {
@@ -35,8 +36,8 @@ int main(int count, char **words) {
     uint64_t calls = count > 1 ? strtoull(words[1], NULL, 10) : 10000, least = UINT64_MAX;
     struct hs_place place = {0};
     struct hs_told told = {0};
-    if (hs_place_new(&place) || hs_slicelet_open(&place, (const uint8_t *)"shop", 4, 1) || hs_slicelet_start(&place, 1, 0) ||
-        hs_slicelet_hear(&place, (const uint8_t *)grant, strlen(grant), 1, &told))
+    if (hs_place_new(&place) || hs_slicelet_open(&place, (const uint8_t *)"shop", 4, 1) ||
+        hs_slicelet_start(&place, 1, 0) || hs_slicelet_hear(&place, (const uint8_t *)grant, strlen(grant), 1, &told))
         return 1;
     for (int round = 0; round < 100; round++) {
         uint64_t took = round_of(&place, calls);

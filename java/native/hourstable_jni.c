@@ -160,9 +160,9 @@ static int is_again(struct text *text, jint *code) {
 }
 
 /* Makes a call that writes a text to `text`. */
-#define WRITE(code, text, call) \
-    do                          \
-        (code) = (call);        \
+#define WRITE(code, text, call)                                                                                        \
+    do                                                                                                                 \
+        (code) = (call);                                                                                               \
     while (is_again(&(text), &(code)))
 #define INTO(text) (text).at, (text).length, &(text).needed
 

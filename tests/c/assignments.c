@@ -6,7 +6,9 @@
 
 #define KEYS ((uint64_t)1 << 63)
 #define MOST_SLICES 1024
+/* clang-format off */
 #define SLICE(start, ...) {(start), sizeof((uint64_t[]){__VA_ARGS__}) / sizeof(uint64_t), {__VA_ARGS__}}
+/* clang-format on */
 
 static const char halves[] = WRITTEN_ASSIGNMENT("7", "[[\"0\",[1,3]],[\"4611686018427387904\",[2]]]");
 
@@ -117,8 +119,8 @@ static void reads_one(void) {
 
 static int32_t look(const char *job, const char *text, uint64_t slice_key, struct hs_slice *out) {
     memset(out, '-', sizeof *out);
-    int32_t code = hs_assignment_slice((const uint8_t *)job, strlen(job), (const uint8_t *)text, strlen(text), slice_key,
-                                       out);
+    int32_t code =
+        hs_assignment_slice((const uint8_t *)job, strlen(job), (const uint8_t *)text, strlen(text), slice_key, out);
     HOLDS(code == HS_DONE || are_dashes((uint8_t *)out, sizeof *out));
     return code;
 }

@@ -311,8 +311,8 @@ static void no_grant(const char *text, int32_t code) {
 
 /* A grant that the table made at 40: its deadline is 140 there for a guard, and 240 for a bridge. */
 #define MADE_AT_40(kind, until)                                                                                        \
-    MESSAGE("grant", "\"ends\":130,\"generation\":3,\"kind\":\"" kind "\",\"life\":1,\"number\":7,\"ranges\":" ALL_KEYS  \
-                     ",\"task\":2,\"until\":" until)
+    MESSAGE("grant", "\"ends\":130,\"generation\":3,\"kind\":\"" kind                                                  \
+                     "\",\"life\":1,\"number\":7,\"ranges\":" ALL_KEYS ",\"task\":2,\"until\":" until)
 
 static void evidence(void) {
     static const char guard[] = MADE_AT_40("guard", "140"), bridge[] = MADE_AT_40("bridge", "240");
@@ -339,10 +339,10 @@ static void evidence(void) {
 static void no_evidence(void) {
     static const char grant[] = MADE_AT_40("guard", "140");
     uint32_t shown = UNTOLD;
-    const struct hs_policy none[] = {
-        {0, 1, 10, 100, 200, 1000, 1000}, {2, 1, 10, 100, 200, 1000, 1000}, {1, 6, 10, 100, 200, 1000, 1000},
-        {1, 1, 100, 100, 200, 1000, 1000}, {1, 1, 10, 0, 200, 1000, 1000}, {1, 1, 10, 100, 10, 1000, 1000},
-        {1, 1, 10, 100, 200, 0, 1000}, {1, 1, 10, 100, 200, 1000, 0}};
+    const struct hs_policy none[] = {{0, 1, 10, 100, 200, 1000, 1000}, {2, 1, 10, 100, 200, 1000, 1000},
+                                     {1, 6, 10, 100, 200, 1000, 1000}, {1, 1, 100, 100, 200, 1000, 1000},
+                                     {1, 1, 10, 0, 200, 1000, 1000},   {1, 1, 10, 100, 10, 1000, 1000},
+                                     {1, 1, 10, 100, 200, 0, 1000},    {1, 1, 10, 100, 200, 1000, 0}};
     for (size_t at = 0; at < sizeof none / sizeof *none; at++) {
         IS(weigh_bytes(grant, strlen(grant), 0, &none[at], &shown), HS_WRONG_FORM);
         IS(weigh_bytes("{", 1, 0, &none[at], &shown), HS_WRONG_FORM);

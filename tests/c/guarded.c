@@ -102,8 +102,8 @@ int32_t guarded_ended_note(const uint8_t *job, size_t job_len, uint64_t task, ui
 
 int32_t guarded_grant_read(const uint8_t *job, size_t job_len, const uint8_t *grant, size_t grant_len,
                            struct hs_grant *out, uint64_t *boundaries, size_t boundaries_len, size_t *needed) {
-    return returned(hs_grant_read(NAME, READ_ALL(grant, grant_len), WRITTEN(out), WRITTEN_ALL(boundaries, boundaries_len),
-                                  WRITTEN(needed)));
+    return returned(hs_grant_read(NAME, READ_ALL(grant, grant_len), WRITTEN(out),
+                                  WRITTEN_ALL(boundaries, boundaries_len), WRITTEN(needed)));
 }
 
 int32_t guarded_slicelet_held(const struct hs_place *place, uint32_t kind, struct hs_held_lease *out) {
@@ -195,8 +195,9 @@ int32_t guarded_table_save(const struct hs_place *place, const uint8_t *saved, s
     return returned(hs_table_save(READ_PLACE, READ_ALL(saved, saved_len), grants, ticks, OUT));
 }
 
-int32_t guarded_table_restore(struct hs_place *place, const uint8_t *job, size_t job_len, const struct hs_policy *policy,
-                              const uint8_t *kept, size_t kept_len, struct hs_told *told) {
+int32_t guarded_table_restore(struct hs_place *place, const uint8_t *job, size_t job_len,
+                              const struct hs_policy *policy, const uint8_t *kept, size_t kept_len,
+                              struct hs_told *told) {
     return returned(hs_table_restore(PLACE, NAME, READ(policy), READ_ALL(kept, kept_len), TOLD));
 }
 

@@ -49,8 +49,9 @@ int32_t guarded_table_open(struct hs_place *place, const uint8_t *job, size_t jo
 int32_t guarded_table_kept(const struct hs_place *place, uint8_t *out, size_t out_len, size_t *needed);
 int32_t guarded_table_save(const struct hs_place *place, const uint8_t *saved, size_t saved_len, uint64_t grants,
                            uint64_t ticks, uint8_t *out, size_t out_len, size_t *needed);
-int32_t guarded_table_restore(struct hs_place *place, const uint8_t *job, size_t job_len, const struct hs_policy *policy,
-                              const uint8_t *kept, size_t kept_len, struct hs_told *told);
+int32_t guarded_table_restore(struct hs_place *place, const uint8_t *job, size_t job_len,
+                              const struct hs_policy *policy, const uint8_t *kept, size_t kept_len,
+                              struct hs_told *told);
 int32_t guarded_table_take(struct hs_place *place, uint64_t assigner, uint64_t at, struct hs_job_term *out,
                            struct hs_told *told);
 int32_t guarded_table_renew(struct hs_place *place, uint64_t number, uint64_t at, struct hs_job_term *out,

@@ -6,8 +6,9 @@
 #define LONGEST 64
 #define SHOP (const uint8_t *)"shop", 4
 #define GRANT_OF(job)                                                                                                  \
-    WRITTEN_OF(job, "grant", "\"ends\":\"95\",\"generation\":\"3\",\"kind\":\"guard\",\"life\":1,\"number\":\"7\","        \
-                             "\"ranges\":[[\"0\",\"9223372036854775808\"]],\"task\":2,\"until\":\"105\"")
+    WRITTEN_OF(job, "grant",                                                                                           \
+               "\"ends\":\"95\",\"generation\":\"3\",\"kind\":\"guard\",\"life\":1,\"number\":\"7\","                  \
+               "\"ranges\":[[\"0\",\"9223372036854775808\"]],\"task\":2,\"until\":\"105\"")
 
 static int32_t open_with(const char *name, size_t length) {
     struct hs_place place = new_place();
@@ -45,7 +46,8 @@ static void names_without_a_place(void) {
     size_t needed = UNTOLD;
     uint32_t shown = UNTOLD;
     IS(hs_ended_note((const uint8_t *)"\xff", 1, 2, 1, HS_GUARD, out, sizeof out, &needed), HS_WRONG_FORM);
-    IS(hs_plan((const uint8_t *)"\xff", 1, (const uint8_t *)"{", 1, none, 0, none, 0, &bounds, out, sizeof out, &needed),
+    IS(hs_plan((const uint8_t *)"\xff", 1, (const uint8_t *)"{", 1, none, 0, none, 0, &bounds, out, sizeof out,
+               &needed),
        HS_WRONG_FORM);
     IS(hs_clock_evidence((const uint8_t *)"\xff", 1, (const uint8_t *)"{", 1, 5, &policy, &shown), HS_WRONG_FORM);
     HOLDS(needed == UNTOLD && shown == UNTOLD);
@@ -85,8 +87,12 @@ static void in_order(void) {
     IS(hear(&shop, WRITTEN_OF("shop", "grant", ""), 5), HS_WRONG_FORM);
     IS(hear(&shop, "{\"type\":\"grant\",\"value\":{},\"version\":2}", 5), HS_WRONG_FORM);
     IS(hear(&shop, "{\"job\":\"shop\",\"type\":\"grant\",\"value\":{},\"version\":1}", 5), HS_WRONG_FORM);
-    IS(hear(&shop, WRITTEN_OF("shop", "grant", "\"ends\":95,\"generation\":3,\"kind\":\"guard\",\"life\":1,\"number\":7,"
-                                               "\"ranges\":" ALL_KEYS ",\"task\":2,\"until\":105"), 5), HS_WRONG_FORM);
+    IS(hear(&shop,
+            WRITTEN_OF("shop", "grant",
+                       "\"ends\":95,\"generation\":3,\"kind\":\"guard\",\"life\":1,\"number\":7,"
+                       "\"ranges\":" ALL_KEYS ",\"task\":2,\"until\":105"),
+            5),
+       HS_WRONG_FORM);
     hs_place_free(&shop);
 }
 

@@ -9,7 +9,7 @@
 #define TERM "{\"assigner\":\"1\",\"number\":\"1\",\"until\":\"1000\"}"
 #define COMMITTED "{\"generation\":\"1\",\"slices\":" WRITTEN_HALVES "}"
 #define KEPT(committed, deadline, granted, last, pending, term)                                                        \
-    WRITTEN_MESSAGE("kept", "\"committed\":" committed ",\"deadline\":\"" deadline "\",\"granted\":\"" granted            \
+    WRITTEN_MESSAGE("kept", "\"committed\":" committed ",\"deadline\":\"" deadline "\",\"granted\":\"" granted         \
                             "\",\"last\":\"" last "\",\"pending\":" pending "," POLICY ",\"term\":" term)
 
 /* The grant of granted_table, at 6, is the first: its row ends at 106. */
@@ -207,11 +207,16 @@ static void faults(void) {
     IS(hs_table_restore(&table, JOB, &other, (const uint8_t *)"{", 1, fresh_told()), HS_WRONG_FORM);
     FAULTY(KEPT(COMMITTED, "106", "1", "4611686018427387904", "null", TERM), HS_READING_RANGE);
     FAULTY(KEPT(COMMITTED, "106", "1", "6", "null", "null"), HS_NO_TERM);
-    FAULTY(KEPT(COMMITTED, "106", "1", "6", "null", "{\"assigner\":\"1\",\"number\":\"0\",\"until\":\"9\"}"), HS_TERM_RANGE);
-    FAULTY(KEPT(COMMITTED, "106", "1", "6", "null", "{\"assigner\":\"1\",\"number\":\"1\",\"until\":\"1007\"}"), HS_TERM_RANGE);
-    FAULTY(KEPT("{\"generation\":\"0\",\"slices\":" WRITTEN_HALVES "}", "106", "1", "6", "null", TERM), HS_KEPT_GENERATION);
-    FAULTY(KEPT(COMMITTED, "106", "1", "6", "{\"generation\":\"3\",\"slices\":" WRITTEN_HALVES "}", TERM), HS_KEPT_GENERATION);
-    FAULTY(KEPT("{\"generation\":\"1\",\"slices\":[[\"0\",[1,2]]]}", "106", "1", "6", "null", TERM), HS_TOO_MANY_OWNERS_FOR_JOB);
+    FAULTY(KEPT(COMMITTED, "106", "1", "6", "null", "{\"assigner\":\"1\",\"number\":\"0\",\"until\":\"9\"}"),
+           HS_TERM_RANGE);
+    FAULTY(KEPT(COMMITTED, "106", "1", "6", "null", "{\"assigner\":\"1\",\"number\":\"1\",\"until\":\"1007\"}"),
+           HS_TERM_RANGE);
+    FAULTY(KEPT("{\"generation\":\"0\",\"slices\":" WRITTEN_HALVES "}", "106", "1", "6", "null", TERM),
+           HS_KEPT_GENERATION);
+    FAULTY(KEPT(COMMITTED, "106", "1", "6", "{\"generation\":\"3\",\"slices\":" WRITTEN_HALVES "}", TERM),
+           HS_KEPT_GENERATION);
+    FAULTY(KEPT("{\"generation\":\"1\",\"slices\":[[\"0\",[1,2]]]}", "106", "1", "6", "null", TERM),
+           HS_TOO_MANY_OWNERS_FOR_JOB);
     FAULTY(KEPT("null", "106", "1", "6", "null", TERM), HS_NO_ASSIGNMENT);
     FAULTY(KEPT(COMMITTED, "106", "1001", "6", "null", TERM), HS_TOO_MANY_GRANTS);
     FAULTY(KEPT(COMMITTED, "0", "1", "6", "null", TERM), HS_DEADLINE_RANGE);

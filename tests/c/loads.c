@@ -21,8 +21,7 @@ static int32_t gather_over(struct hs_place *place, const char *assignment, uint6
     return code;
 }
 
-static int32_t gather(struct hs_place *place, uint64_t task, const struct hs_load_record *records,
-                      size_t records_len) {
+static int32_t gather(struct hs_place *place, uint64_t task, const struct hs_load_record *records, size_t records_len) {
     uint64_t loads[2];
     return gather_over(place, halves, task, records, records_len, loads);
 }

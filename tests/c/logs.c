@@ -8,17 +8,18 @@
 #define COUNT(list) (sizeof(list) / sizeof *(list))
 #define LINE_HALVES "[[0,[1]],[4611686018427387904,[2]]]"
 #define LINE_GRANT                                                                                                     \
-    "{\"ends\":95,\"generation\":3,\"kind\":\"guard\",\"life\":1,\"number\":7,\"ranges\":" ALL_KEYS                      \
+    "{\"ends\":95,\"generation\":3,\"kind\":\"guard\",\"life\":1,\"number\":7,\"ranges\":" ALL_KEYS                    \
     ",\"task\":2,\"until\":105}"
 #define LINE_HANDLE "{\"life\":8,\"position\":19,\"slice_key\":9,\"task\":2}"
 
 static const char assignment[] = ASSIGNMENT("3", HALVES), grant[] = GRANT("guard", "1", "7", ALL_KEYS, "2"),
                   note[] = NOTE("guard", "1", "7", "2"),
                   kept[] = WRITTEN_MESSAGE(
-                      "kept", "\"committed\":{\"generation\":\"1\",\"slices\":" WRITTEN_HALVES
-                              "},\"deadline\":\"106\",\"granted\":\"1\",\"last\":\"6\",\"pending\":null,\"policy\":"
-                              "{\"bridge\":200,\"guard\":100,\"job\":1000,\"numbers\":1000,\"redundancy\":[1,1],\"skew\":10},"
-                              "\"term\":{\"assigner\":\"1\",\"number\":\"1\",\"until\":\"1000\"}");
+                      "kept",
+                      "\"committed\":{\"generation\":\"1\",\"slices\":" WRITTEN_HALVES
+                      "},\"deadline\":\"106\",\"granted\":\"1\",\"last\":\"6\",\"pending\":null,\"policy\":"
+                      "{\"bridge\":200,\"guard\":100,\"job\":1000,\"numbers\":1000,\"redundancy\":[1,1],\"skew\":10},"
+                      "\"term\":{\"assigner\":\"1\",\"number\":\"1\",\"until\":\"1000\"}");
 
 /* A call in which each member is another number. */
 static struct hs_logged_call call_of(uint32_t call, int32_t code) {
@@ -105,11 +106,13 @@ static void task_lines(void) {
     done(HS_CALL_START, "", "{\"at\":6,\"do\":\"start\",\"life\":8,\"reply\":\"started 8\",\"task\":2,\"ticket\":7}");
     done(HS_CALL_HEAR, grant,
          "{\"at\":6,\"do\":\"hear\",\"grant\":" LINE_GRANT ",\"reply\":\"heard 7\",\"task\":2,\"ticket\":7}");
-    done(HS_CALL_RELEASE, note,
-         "{\"at\":6,\"do\":\"release\",\"kind\":\"bridge\",\"reply\":\"released life 1 number 7\",\"task\":2,\"ticket\":7}");
+    done(
+        HS_CALL_RELEASE, note,
+        "{\"at\":6,\"do\":\"release\",\"kind\":\"bridge\",\"reply\":\"released life 1 number 7\",\"task\":2,\"ticket\":7}");
     done(HS_CALL_SERVE, "",
          "{\"at\":6,\"do\":\"serve\",\"reply\":\"served guard 12\",\"slice_key\":9,\"task\":2,\"ticket\":7}");
-    is_line(bridge, "", "{\"at\":6,\"do\":\"serve\",\"reply\":\"served bridge 12\",\"slice_key\":9,\"task\":2,\"ticket\":7}");
+    is_line(bridge, "",
+            "{\"at\":6,\"do\":\"serve\",\"reply\":\"served bridge 12\",\"slice_key\":9,\"task\":2,\"ticket\":7}");
     done(HS_CALL_HOLD, "",
          "{\"at\":6,\"do\":\"hold\",\"reply\":\"handle life 8 position 19\",\"slice_key\":9,\"task\":2,\"ticket\":7}");
     done(HS_CALL_CHECK, "",
@@ -118,7 +121,8 @@ static void task_lines(void) {
 
 static void clerk_lines(void) {
     done(HS_CALL_LEARN, assignment,
-         "{\"clerk\":3,\"do\":\"learn\",\"generation\":3,\"reply\":\"learnt 3\",\"slices\":" LINE_HALVES ",\"ticket\":7}");
+         "{\"clerk\":3,\"do\":\"learn\",\"generation\":3,\"reply\":\"learnt 3\",\"slices\":" LINE_HALVES
+         ",\"ticket\":7}");
     done(HS_CALL_LOOK, "",
          "{\"clerk\":3,\"do\":\"look\",\"reply\":\"found generation 20 owners 1,3\",\"slice_key\":9,\"ticket\":7}");
     done(HS_CALL_FORGET, "", "{\"clerk\":3,\"do\":\"forget\",\"reply\":\"forgotten\",\"ticket\":7}");
@@ -167,10 +171,10 @@ static void task_refusals(void) {
     static const struct {
         int32_t code;
         const char *words;
-    } refusals[] = {{HS_CLOCK_BACK, "refused clock-back"},   {HS_NOT_STARTED, "refused not-started"},
-                    {HS_OLD_LIFE, "refused old-life"},       {HS_OTHER_TASK, "refused other-task"},
-                    {HS_OTHER_LIFE, "refused other-life"},   {HS_OLD, "refused old 11"},
-                    {HS_TOO_LATE, "refused too-late"},       {HS_NOTHING_HELD, "refused nothing-held"},
+    } refusals[] = {{HS_CLOCK_BACK, "refused clock-back"},    {HS_NOT_STARTED, "refused not-started"},
+                    {HS_OLD_LIFE, "refused old-life"},        {HS_OTHER_TASK, "refused other-task"},
+                    {HS_OTHER_LIFE, "refused other-life"},    {HS_OLD, "refused old 11"},
+                    {HS_TOO_LATE, "refused too-late"},        {HS_NOTHING_HELD, "refused nothing-held"},
                     {HS_HISTORY_FULL, "refused history-full"}},
       grounds[] = {{HS_DOWN, "denied down"},
                    {HS_CLOCK_BACK, "denied clock-back"},
@@ -194,14 +198,15 @@ static void task_refusals(void) {
 
 /* A code that is none of the call has no line. No call has one at a negative code. */
 static void other_codes(void) {
-    static const int32_t none[] = {HS_NO_MEMORY, HS_NO_ROOM, HS_NOT_JSON, HS_WRONG_FORM, HS_OTHER_PLACE, HS_OTHER_JOB,
-                                   INT32_MIN, INT32_MAX, HS_NOT_ADOPTED, HS_NO_SAMPLE, HS_OTHER_POLICY, 47};
+    static const int32_t none[] = {HS_NO_MEMORY,   HS_NO_ROOM,   HS_NOT_JSON,     HS_WRONG_FORM,
+                                   HS_OTHER_PLACE, HS_OTHER_JOB, INT32_MIN,       INT32_MAX,
+                                   HS_NOT_ADOPTED, HS_NO_SAMPLE, HS_OTHER_POLICY, 47};
     for (uint32_t call = HS_CALL_TAKE; call <= HS_CALL_FORGET; call++) {
-        const char *message = call == HS_CALL_HEAR                                 ? grant
-                              : call == HS_CALL_FREE                               ? note
-                              : call == HS_CALL_RESTORE                            ? kept
+        const char *message = call == HS_CALL_HEAR                               ? grant
+                              : call == HS_CALL_FREE                             ? note
+                              : call == HS_CALL_RESTORE                          ? kept
                               : call == HS_CALL_PROPOSE || call == HS_CALL_LEARN ? assignment
-                                                                                   : "";
+                                                                                 : "";
         for (size_t at = 0; at < COUNT(none); at++)
             IS(try_line(call_of(call, none[at]), message), HS_WRONG_FORM);
     }
@@ -247,7 +252,8 @@ static void numbers_beyond_limits(void) {
 
 /* Members that a call does not name are not looked at, nor is the message of a call that has none. */
 static void members_of_others(void) {
-    struct hs_logged_call look = call_of(HS_CALL_LOOK, HS_UNKNOWN), forget = {.ticket = 7, .call = HS_CALL_FORGET, .clerk = 3};
+    struct hs_logged_call look = call_of(HS_CALL_LOOK, HS_UNKNOWN),
+                          forget = {.ticket = 7, .call = HS_CALL_FORGET, .clerk = 3};
     look.owners.count = 6;
     look.kind = 3;
     is_line(look, "{", "{\"clerk\":3,\"do\":\"look\",\"reply\":\"refused unknown\",\"slice_key\":9,\"ticket\":7}");
@@ -270,9 +276,11 @@ static void messages(void) {
     IS(try_line(call_of(HS_CALL_LEARN, HS_DONE), "{\"version\":3}"), HS_VERSION);
     IS(try_line(call_of(HS_CALL_PROPOSE, HS_DONE), ASSIGNMENT("3", "[]")), HS_NO_SLICES);
     IS(try_line(made, of_shop), HS_OTHER_JOB);
-    IS(hs_log_line((const uint8_t *)"shop", 4, &made, (const uint8_t *)of_shop, strlen(of_shop), out, sizeof out, &needed),
+    IS(hs_log_line((const uint8_t *)"shop", 4, &made, (const uint8_t *)of_shop, strlen(of_shop), out, sizeof out,
+                   &needed),
        HS_DONE);
-    IS(hs_log_line((const uint8_t *)"\xff", 1, &made, (const uint8_t *)"{", 1, out, sizeof out, &needed), HS_WRONG_FORM);
+    IS(hs_log_line((const uint8_t *)"\xff", 1, &made, (const uint8_t *)"{", 1, out, sizeof out, &needed),
+       HS_WRONG_FORM);
 }
 
 void check_logs(void) {

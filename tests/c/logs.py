@@ -13,6 +13,7 @@ import random
 import re
 import subprocess
 import sys
+from collections.abc import Callable
 from pathlib import Path
 
 sys.path.insert(0, "python")
@@ -30,17 +31,29 @@ KEYS = [b"hello", b"abc", b"apples", b"pears"]
 ref, library = ctypes.byref, hourstable.library
 
 
+def number_in(member: str, message: bytes) -> int:
+    """Returns the number of the first such member of a message, which may be written as a text."""
+    found = re.search(rf'"{member}":"?(\d+)', message.decode())
+    assert found is not None
+    return int(found[1])
+
+
 class Job:
     """A job, its log, and what was made."""
 
     def __init__(self, seed: int) -> None:
         self.draw = random.Random(seed)
         self.ticket, self.now, self.generation, self.term = 0, 1, 0, 0
-        self.lines, self.seen = [JOB_LINE + "\n"], set()
-        self.grants, self.notes, self.assignments, self.handles = [], [], [], []
+        self.lines = [JOB_LINE + "\n"]
+        self.seen: set[tuple[str, str]] = set()
+        self.grants: list[bytes] = []
+        self.notes: list[bytes] = []
+        self.assignments: list[bytes] = []
+        self.handles: list[bytes] = []
         self.lives = dict.fromkeys((1, 2, 3), 0)
         self.table = self.place("table_open", *NAME, ref(POLICY))
-        self.tasks, self.clerks = {}, {}
+        self.tasks: dict[int, Place] = {}
+        self.clerks: dict[int, Place] = {}
         for task in self.lives:
             self.tasks[task] = self.place("slicelet_open", *NAME, task)
             self.log("open", 0, task=task)
@@ -76,7 +89,7 @@ class Job:
         """The same, and sometimes one that no table accepts."""
         return 1 << 62 if self.draw.randrange(100) == 0 else self.at()
 
-    def text(self, call: object, *given: object) -> tuple[int, bytes]:
+    def text(self, call: Callable[..., int], *given: object) -> tuple[int, bytes]:
         room, needed = ctypes.create_string_buffer(4096), ctypes.c_size_t()
         code = call(*given, room, len(room), ref(needed))
         return code, room.raw[: needed.value] if code == 0 else b""
@@ -175,7 +188,7 @@ class Job:
             return
         call, at = LoggedCall(), self.at()
         grant = self.draw.choice(self.grants[-3:] if self.draw.randrange(5) else self.grants)
-        of = int(re.search(rb'"task":(\d+)', grant)[1])
+        of = number_in("task", grant)
         task = of if self.draw.randrange(10) else self.draw.choice((1, 2, 3))
         code = library.hs_slicelet_hear(ref(self.tasks[task]), grant, len(grant), at, ref(call.told))
         self.log("hear", code, grant, call=call, task=task, at=at)
@@ -219,7 +232,7 @@ class Job:
         if not committed:
             return
         call, clerk, message = LoggedCall(), self.draw.choice((1, 2)), self.draw.choice(committed[-3:])
-        generation = int(re.search(rb'"generation":"(\d+)"', message)[1])
+        generation = number_in("generation", message)
         if generation > self.generation:
             return
         code = library.hs_clerk_learn(ref(self.clerks[clerk]), message, len(message), ref(call.told))
@@ -257,7 +270,16 @@ def other(words: str) -> str:
 
 def kind_of(line: str) -> tuple[str, str]:
     """Returns the call of a line, and the words of its reply without numbers."""
-    return re.search(r'"do":"(\w+)"', line)[1], re.sub(r"\d+", "N", re.search(r'"reply":"([^"]*)"', line)[1])
+    do = re.search(r'"do":"(\w+)"', line)
+    assert do is not None
+    return do[1], re.sub(r"\d+", "N", reply_in(line)[1])
+
+
+def reply_in(line: str) -> re.Match[str]:
+    """Returns where a line has the words of its reply, as the first group."""
+    found = re.search(r'"reply":"([^"]*)"', line)
+    assert found is not None
+    return found
 
 
 def main() -> int:
@@ -282,7 +304,7 @@ def main() -> int:
     changed = given.folder / "changed.jsonl"
     for (do, words), place in firsts.items():
         line = job.lines[place]
-        reply = re.search(r'"reply":"([^"]*)"', line)
+        reply = reply_in(line)
         told = line[: reply.start(1)] + other(reply[1]) + line[reply.end(1):]
         changed.write_text("".join([*job.lines[:place], told, *job.lines[place + 1:]]))
         status, said = audit(program, changed)

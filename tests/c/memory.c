@@ -136,9 +136,10 @@ static int32_t give_kept(struct hs_place *place) {
     return give_text(hs_table_kept, place);
 }
 
-static const char new_kept[] = MESSAGE("kept", "\"committed\":null,\"deadline\":0,\"granted\":0,\"last\":0,\"pending\":null,"
-                                               "\"policy\":{\"bridge\":200,\"guard\":100,\"job\":1000,"
-                                               "\"numbers\":1000,\"redundancy\":[1,1],\"skew\":10},\"term\":null");
+static const char new_kept[] =
+    MESSAGE("kept", "\"committed\":null,\"deadline\":0,\"granted\":0,\"last\":0,\"pending\":null,"
+                    "\"policy\":{\"bridge\":200,\"guard\":100,\"job\":1000,"
+                    "\"numbers\":1000,\"redundancy\":[1,1],\"skew\":10},\"term\":null");
 
 static int32_t save_first(struct hs_place *place) {
     static uint8_t out[512];
@@ -154,8 +155,7 @@ static int32_t save_over(struct hs_place *place) {
     static uint8_t out[512];
     size_t needed = 0;
     memset(out, '-', sizeof out);
-    int32_t code =
-        hs_table_save(place, (const uint8_t *)new_kept, strlen(new_kept), 10, 50, out, sizeof out, &needed);
+    int32_t code = hs_table_save(place, (const uint8_t *)new_kept, strlen(new_kept), 10, 50, out, sizeof out, &needed);
     HOLDS(code == HS_DONE || are_dashes(out, sizeof out));
     return code;
 }
@@ -172,7 +172,8 @@ static int32_t plan(struct hs_place *place) {
     size_t needed = 0;
     (void)place;
     memset(out, '-', sizeof out);
-    int32_t code = hs_plan(JOB, (const uint8_t *)text, strlen(text), loads, 2, tasks, 2, &bounds, out, sizeof out, &needed);
+    int32_t code =
+        hs_plan(JOB, (const uint8_t *)text, strlen(text), loads, 2, tasks, 2, &bounds, out, sizeof out, &needed);
     HOLDS(code == HS_DONE || are_dashes(out, sizeof out));
     return code;
 }

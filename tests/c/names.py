@@ -9,6 +9,7 @@ Run at the top of the repository, with HOURSTABLE_LIBRARY set.
 import ctypes
 import re
 import sys
+from typing import Any
 
 sys.path.insert(0, "python")
 from hourstable import library as hourstable
@@ -32,12 +33,12 @@ task_actions = re.findall(r"HS_(\w+) = \d+", header.split("enum hs_task_action {
 calls = {word.lower(): int(number) for word, number in re.findall(r"HS_CALL_(\w+) = (\d+)", header)}
 
 
-def class_of(struct):
+def class_of(struct: str) -> Any:
     """Returns the class of a struct, such as KeyHandle for hs_key_handle."""
     return getattr(hourstable, "".join(map(str.capitalize, struct.split("_"))), None)
 
 
-def member_of(c_type, length):
+def member_of(c_type: str, length: str) -> Any:
     """Returns the Python type of a member of a struct."""
     struct = re.fullmatch(r"struct hs_(\w+) ", c_type)
     member = class_of(struct[1]) if struct else {
@@ -46,7 +47,7 @@ def member_of(c_type, length):
     return member * int(length) if length else member
 
 
-def parameter_of(c_type):
+def parameter_of(c_type: str) -> Any:
     """Returns the Python type of a parameter."""
     struct = re.fullmatch(r"(?:const )?struct hs_(\w+) (\*?)", c_type)
     if struct:
@@ -59,9 +60,10 @@ def parameter_of(c_type):
     }[c_type]
 
 
-functions, answers = {}, {"int32_t": ctypes.c_int32, "uint64_t": ctypes.c_uint64, "void": None}
+functions: dict[str, tuple[Any, list[Any]]] = {}
+answers = {"int32_t": ctypes.c_int32, "uint64_t": ctypes.c_uint64, "void": None}
 for answer, name, parameters in re.findall(r"^(int32_t|uint64_t|void) hs_(\w+)\(([^;]*)\);", header, re.M):
-    c_types = [re.fullmatch(r"(.*?)\w+", parameter.strip(), re.S)[1] for parameter in parameters.split(",")]
+    c_types = [re.sub(r"\w+$", "", parameter.strip()) for parameter in parameters.split(",")]
     functions[name] = (answers[answer], [parameter_of(c_type) for c_type in c_types])
 declared = {name: (function.restype, list(function.argtypes)) for name, function in (
     (name, getattr(hourstable.library, f"hs_{name}"))

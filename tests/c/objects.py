@@ -11,6 +11,8 @@ import json
 import pickle
 import sys
 import time
+from collections.abc import Callable
+from typing import Any
 
 sys.path[:0] = ["python", "examples/python"]
 import handover
@@ -22,15 +24,15 @@ from hourstable.library import (
 )
 
 U32, U64 = 1 << 32, 1 << 64
-faults = []
+faults: list[str] = []
 
 
-def holds(fact, what):
+def holds(fact: bool, what: str) -> None:
     if not fact:
         faults.append(what)
 
 
-def raises(error, what, call, *given):
+def raises(error: type[Exception] | tuple[type[Exception], ...], what: str, call: Callable[..., Any], *given: Any) -> None:
     try:
         call(*given)
     except error:
@@ -38,7 +40,7 @@ def raises(error, what, call, *given):
     faults.append(what)
 
 
-def refuses(text, what, call, *given):
+def refuses(text: str, what: str, call: Callable[..., Any], *given: Any) -> None:
     """The call is refused with this text."""
     try:
         holds(False, f"{what} is refused: {call(*given)}")
@@ -46,7 +48,7 @@ def refuses(text, what, call, *given):
         holds(str(refusal) == text, f"{what} is refused as {text}: {refusal}")
 
 
-def refused(code, **told):
+def refused(code: int, **told: int) -> Refused | None:
     """Returns the exception that a code of the library raises."""
     try:
         hourstable.done(code, Told(**told))
@@ -55,13 +57,13 @@ def refused(code, **told):
     return None
 
 
-def check_numbers():
+def check_numbers() -> None:
     for struct, limits in [
         (KeyHandle, [U64, U64, U64, U32]), (Policy, [U64] * 7), (JobTerm, [U64] * 3), (Phase, [U64] * 2),
         (PlanPolicy, [U64] * 6), (HeldLease, [U64] * 3), (LoadRecord, [U64] * 2),
     ]:
         most = struct(*[limit - 1 for limit in limits])
-        for at, (limit, (name, _)) in enumerate(zip(limits, struct._fields_)):
+        for at, (limit, name) in enumerate(zip(limits, [it[0] for it in struct._fields_])):
             what = f"{struct.__name__}.{name}"
             holds(getattr(most, name) == limit - 1, f"{what} takes its greatest number")
             for value in (limit, limit + 1, -1, 1.0, "1", None):
@@ -77,8 +79,8 @@ def check_numbers():
     raises(ctypes.ArgumentError, "a life of 2^32 + 1", hourstable.library.hs_slicelet_start, None, U32 + 1, 0)
 
 
-def check_refusals():
-    for code, told, name, carried, text in [
+def check_refusals() -> None:
+    cases: list[tuple[int, dict[str, int], str, dict[str, Any], str]] = [
         (4, {"generation": 3}, "NOT_OWNED", {"generation": 3}, "not-owned 3"),
         (10, {"number": 7}, "OLD", {"number": 7}, "old 7"),
         (15, {}, "STRANGER", {}, "stranger"),
@@ -94,7 +96,8 @@ def check_refusals():
         (47, {}, "CODE 47", {}, "code 47"),
         (-19, {}, "CODE -19", {}, "code -19"),
         (-21, {}, "CODE -21", {}, "code -21"),
-    ]:
+    ]
+    for code, told, name, carried, text in cases:
         refusal = refused(code, **told)
         for one in (refusal, copy.copy(refusal), copy.deepcopy(refusal), pickle.loads(pickle.dumps(refusal))):
             told_by = (type(one), one.code, one.name, one.carried, str(one))
@@ -102,17 +105,19 @@ def check_refusals():
     raises(MemoryError, "code -1 is out of memory", hourstable.done, -1)
 
 
-def check_replies():
-    for do, code, told, reply in [
+def check_replies() -> None:
+    tell_refusal: Callable[[str, Refused | None], str] = handover.tell_refusal
+    cases: list[tuple[str, int, dict[str, int], str]] = [
         ("serve", 2, {}, "denied clock-back"), ("hold", 4, {"generation": 3}, "denied not-owned 3"),
         ("check", 14, {}, "broken"), ("check", 15, {}, "refused stranger"),
         ("start", 2, {}, "refused clock-back"), ("hear", 10, {"number": 7}, "refused old 7"),
-    ]:
-        told_as = handover.tell_refusal(do, refused(code, **told))
+    ]
+    for do, code, told, reply in cases:
+        told_as = tell_refusal(do, refused(code, **told))
         holds(told_as == reply, f"{do} is logged as {reply}: {told_as}")
 
 
-def check_places():
+def check_places() -> None:
     with Clerk("") as clerk:
         raises(TypeError, "a place is not copied", copy.copy, clerk)
         raises(TypeError, "a place is not copied deeply", copy.deepcopy, clerk)
@@ -124,8 +129,7 @@ GRANT = (b'{"type":"grant","value":{"ends":130,"generation":3,"kind":"guard","li
          b'"ranges":[[0,9223372036854775808]],"task":2,"until":140},"version":1}')
 
 
-
-def check_leases():
+def check_leases() -> None:
     """GRANT is of guard lease 7 of generation 3, on all keys until 130."""
     lease = ("guard", 3, 7, 130)
     with Slicelet("", 2) as task:
@@ -136,7 +140,7 @@ def check_leases():
         holds(task.permitted(129) == [(0, 1 << 63)] and task.permitted(130) == [], "what the task may serve")
 
 
-def check_assignments():
+def check_assignments() -> None:
     holds(new_assignment("shop", 1, [(0, [1])]) == FIRST, "the message of an assignment")
     holds(read_assignment("shop", FIRST) == (1, [(0, [1])]), "what an assignment says")
     slices = [(at << 50, [64, at % 63 + 1]) for at in range(100)]
@@ -158,11 +162,11 @@ def check_assignments():
     raises(ValueError, "a slice that starts at 2^64", new_assignment, "", 1, [(U64, [1])])
 
 
-def numbers_of(clock):
+def numbers_of(clock: Any) -> list[int]:
     return [getattr(clock, name) for name, _ in clock._fields_]
 
 
-def is_refused(text, what, call, *given):
+def is_refused(text: str, what: str, call: Any, *given: Any) -> None:
     """The call is refused with this text, and leaves the clock as it was."""
     before = numbers_of(call.__self__)
     try:
@@ -172,7 +176,7 @@ def is_refused(text, what, call, *given):
     holds(numbers_of(call.__self__) == before, f"{what} changes nothing")
 
 
-def check_task_clocks():
+def check_task_clocks() -> None:
     clock = TaskClock(1, 3, 1, oldest=30)
     holds(numbers_of(clock) == [1, 3, 1, 30, 0, 0, 0, 0, 0, 0], "a new clock of a task")
     is_refused("no-sample", "a read before the first sample", clock.read, 5)
@@ -197,7 +201,7 @@ def check_task_clocks():
         raises((ValueError, ctypes.ArgumentError), f"a sample of {value!r}", clock.sample, 0, value, 0)
 
 
-def check_table_clocks():
+def check_table_clocks() -> None:
     clock = TableClock(1000, 100, now=7)
     holds(numbers_of(clock) == [900, 7, 1000, 7], "a new clock of the table")
     is_refused("not-yet 1000", "a read below what was kept", clock.read, 106)
@@ -208,7 +212,7 @@ def check_table_clocks():
     raises(AttributeError, "a field of the table's clock is not set", setattr, clock, "kept", 0)
 
 
-def check_evidence():
+def check_evidence() -> None:
     policy = Policy(1, 1, 10, 100, 200, 1000, 1000)
     holds(clock_evidence("", GRANT, 29, policy) is True, "a grant made at 40 is evidence at 29, with a skew of 10")
     holds(clock_evidence("", GRANT, 30, policy) is False, "a grant that was made at 40 is no evidence at 30")
@@ -218,7 +222,7 @@ def check_evidence():
     refuses("other-job", "evidence of a grant of another job", clock_evidence, "shop", GRANT, 30, policy)
 
 
-def check_keeping():
+def check_keeping() -> None:
     policy = Policy(1, 1, 10, 100, 200, 1000, 1000)
     with Table("shop", policy) as table:
         term = table.take(1, at=5)
@@ -226,8 +230,8 @@ def check_keeping():
         holds(table.save(kept, 10, 50) is None, "nothing is saved in place of what the table keeps")
         holds(table.save(b"", 0, 50) == kept, "where nothing was saved, all is saved that the table keeps")
         table.propose(term.number, FIRST, at=5)
-        saved = json.loads(table.save(kept, 10, 50))["value"]
-        holds((saved["granted"], saved["last"]) == ("10", "55"), f"10 grants and 50 ticks ahead: {saved}")
+        saved = json.loads(table.save(kept, 10, 50) or b"{}").get("value", {})
+        holds((saved.get("granted"), saved.get("last")) == ("10", "55"), f"10 grants and 50 ticks ahead: {saved}")
         refuses("not-json", "values saved in place of bytes that are none", table.save, b"{", 10, 50)
     with Table.restore("shop", policy, kept) as restored:
         holds(restored.kept() == kept, "a restored table keeps the values that it was restored from")
@@ -238,7 +242,7 @@ def check_keeping():
     refuses("wrong-form", "a name of more than 64 bytes", Table, "j" * 65, policy)
 
 
-def check_grants():
+def check_grants() -> None:
     read = read_grant("", GRANT)
     holds(read[:7] == (7, 2, 1, "guard", 3, 130, 140) and read.ranges == [(0, 9223372036854775808)], f"a grant: {read}")
     pairs = [[2 * at, 2 * at + 1] for at in range(100)]
@@ -247,7 +251,7 @@ def check_grants():
     refuses("other-job", "a grant of another job", read_grant, "shop", GRANT)
 
 
-def check_loads():
+def check_loads() -> None:
     """A hundred slices find no room at first, and the records are counted once all the same."""
     message = new_assignment("shop", 1, [(at << 50, [1]) for at in range(100)])
     with LoadBook("shop") as book:
@@ -267,7 +271,7 @@ def check_loads():
     refuses("wrong-form", "a name of more than 64 bytes", LoadBook, "j" * 65)
 
 
-def check_ticks():
+def check_ticks() -> None:
     before = time.clock_gettime(time.CLOCK_BOOTTIME)
     ticks = boottime_ticks()
     after = time.clock_gettime(time.CLOCK_BOOTTIME)

@@ -28,8 +28,8 @@ static struct question good_question(void) {
 
 static int32_t plan(const struct question *question, uint8_t *out, size_t out_len, size_t *needed) {
     uint8_t *copy = block_of(question->assignment, strlen(question->assignment));
-    int32_t code = hs_plan(JOB, copy, strlen(question->assignment), question->loads, question->loads_len, question->tasks,
-                           question->tasks_len, &question->policy, out, out_len, needed);
+    int32_t code = hs_plan(JOB, copy, strlen(question->assignment), question->loads, question->loads_len,
+                           question->tasks, question->tasks_len, &question->policy, out, out_len, needed);
     drop_block(copy);
     return code;
 }

@@ -110,7 +110,8 @@ static void holds(struct hs_place *place, struct hs_key_handle *handle) {
     IS(hs_slicelet_check(place, handle, 4), HS_BROKEN);
 }
 
-static int32_t check_other(struct hs_place *place, uint64_t task, uint64_t slice_key, uint64_t position, uint32_t life) {
+static int32_t check_other(struct hs_place *place, uint64_t task, uint64_t slice_key, uint64_t position,
+                           uint32_t life) {
     const struct hs_key_handle handle = {task, slice_key, position, life};
     return hs_slicelet_check(place, &handle, 6);
 }
@@ -367,8 +368,8 @@ static void permits_ranges(void) {
 
 static int32_t read(const char *job, const char *text, struct hs_grant *grant, uint64_t *boundaries, size_t room,
                     size_t *needed) {
-    return hs_grant_read((const uint8_t *)job, strlen(job), (const uint8_t *)text, strlen(text), grant, boundaries, room,
-                         needed);
+    return hs_grant_read((const uint8_t *)job, strlen(job), (const uint8_t *)text, strlen(text), grant, boundaries,
+                         room, needed);
 }
 
 /* What a grant says: its numbers all differ. */

@@ -10,10 +10,9 @@ into one bash at the top of the repository: variables and the current directory 
 120 seconds, and what it left running is ended with it. `/tmp/` in a block is a folder of this check, which is removed
 when the page is done.
 
-No block proves, and none compiles Rattle. `hourstable`, `slicer_run` and `slicer_live` are on the PATH as the gate
-built them (programs.py). `rt` on that PATH is a stand-in: `rt try` and `rt run` in the folder of a program run the
-proved program at once, with the arguments after `--`; `rt lib` in crates/hourstable_c leaves the proved archive in
-out/; `rt doc` and `rt version` are those of the kit; all else fails.
+No block proves, and none compiles Rattle. `hourstable`, `slicer_run` and `slicer_live` are on the PATH as they were built
+(tools/built.py), and HOURSTABLE_BUILT names their folder. `rt` on that PATH is a stand-in, so that no kit is needed: `rt
+try` and `rt run` in the folder of a program run the built program at once, with the arguments after `--`; all else fails.
 """
 import difflib
 import os
@@ -23,12 +22,11 @@ import signal
 import subprocess
 import tempfile
 import time
-from collections.abc import Callable, Iterator
-from functools import partial
+from collections.abc import Iterator
 from pathlib import Path
 
+from built import PROGRAMS, Built
 from pages import TOP, Fault, Fence, Page, Result, all_pages, repository_files
-from programs import ARCHIVE, Missing, Programs
 
 SECONDS = 120
 NOT_RUN = re.compile(r"^not run: \S")
@@ -37,8 +35,6 @@ COMMANDS = r"rt|hourstable|slicer_run|slicer_live|python3?|gcc|g\+\+|cargo|rustc
 LIKE_COMMAND = re.compile(
     rf"^(?: {{4,}}|\t)\(?(?:\$ )?(?:[A-Z_]+=\S+ )*(?:{COMMANDS}|[A-Z]+=\S+|\.ci/run|(?:tools|tests|bench)/[\w/-]+)(?: |$)"
 )
-IN_CRATE = re.compile(r"cd crates/(\w+) && rt (?:try|run)\b")
-ON_PATH = ("hourstable", "slicer_run", "slicer_live")
 
 STAND_IN = """#!/usr/bin/env bash
 name=$(basename "$PWD")
@@ -46,8 +42,6 @@ words=("${@:2}")
 [ "${words[0]:-}" != -- ] || words=("${words[@]:1}")
 case "${1:-} $name" in
   "try "* | "run "*) [ ! -x "out/$name" ] || exec "out/$name" "${words[@]}" ;;
-  "lib hourstable_c") [ ! -e "out/@ARCHIVE@" ] || exit 0 ;;
-  "doc "* | "version "*) exec "@RT@" "$@" ;;
 esac
 echo "rt $*: tests/docs/run does not run this in $name" >&2
 exit 2
@@ -62,9 +56,9 @@ set -a
 
 
 class Copy:
-    """A copy of the checkout with the proved programs, in which the blocks of one page are run."""
+    """A copy of the checkout with the built programs, in which the blocks of one page are run."""
 
-    def __init__(self, room: Path, programs: Programs, page: Page) -> None:
+    def __init__(self, room: Path, built: Built) -> None:
         self.room, self.top, self.temporary = room, room / "repository", room / "tmp"
         self.bin = room / "bin"
         self.folder = self.top
@@ -74,34 +68,21 @@ class Copy:
             target = self.top / path
             target.parent.mkdir(parents=True, exist_ok=True)
             shutil.copy2(TOP / path, target, follow_symlinks=False)
-        text = "".join(it.text for it in page.fences if is_run(it))
-        # Why a program that the page runs is not there.
-        self.missing: list[str] = []
-        for name in sorted({*(it for it in ON_PATH if re.search(rf"\b{it}\b", text)), *IN_CRATE.findall(text)}):
-            self.lay(partial(programs.find, name), self.top / f"crates/{name}/out/{name}", self.bin / name)
-        if "rt lib" in text:
-            self.lay(programs.archive, self.top / "crates/hourstable_c/out" / ARCHIVE)
+        for name in PROGRAMS:
+            for place in (self.top / f"crates/{name}/out/{name}", self.bin / name):
+                place.parent.mkdir(parents=True, exist_ok=True)
+                place.symlink_to(built.program(name))
         stand_in = self.bin / "rt"
-        stand_in.write_text(STAND_IN.replace("@RT@", shutil.which("rt") or "rt").replace("@ARCHIVE@", ARCHIVE))
+        stand_in.write_text(STAND_IN)
         stand_in.chmod(0o755)
         self.variables = {
             **os.environ,
             "PATH": f"{self.bin}:{os.environ['PATH']}",
+            "HOURSTABLE_BUILT": str(built.folder),
             "TMPDIR": str(self.temporary),
             "LC_ALL": "C.UTF-8",
             "PYTHONDONTWRITEBYTECODE": "1",
         }
-
-    def lay(self, find: Callable[[], Path], *places: Path) -> None:
-        """Links a program that is found to these places."""
-        try:
-            program = find()
-        except Missing as why:
-            self.missing.append(str(why))
-            return
-        for place in places:
-            place.parent.mkdir(parents=True, exist_ok=True)
-            place.symlink_to(program)
 
     def run(self, text: str, strict: bool) -> tuple[int | None, str]:
         """Runs a block: its status, None if time ran out, and what it printed."""
@@ -132,10 +113,12 @@ def wait_for(ran: "subprocess.Popen[bytes]", seconds: float) -> bool:
     """Waits for a process that leads a group, ends what is left of the group, and says whether it ended in time."""
     until = time.monotonic() + seconds
     options = os.WEXITED | os.WNOHANG | os.WNOWAIT
-    while not (ended := os.waitid(os.P_PID, ran.pid, options)) and time.monotonic() < until:
-        time.sleep(0.02)
-    os.killpg(ran.pid, signal.SIGKILL)
-    ran.wait()
+    try:
+        while not (ended := os.waitid(os.P_PID, ran.pid, options)) and time.monotonic() < until:
+            time.sleep(0.02)
+    finally:
+        os.killpg(ran.pid, signal.SIGKILL)
+        ran.wait()
     return ended is not None
 
 
@@ -189,22 +172,19 @@ def outcome(copy: Copy, page: Page, fence: Fence, text: Fence | None) -> list[Fa
     return []
 
 
-def check_page(page: Page, programs: Programs) -> Iterator[Result]:
+def check_page(page: Page, built: Built) -> Iterator[Result]:
     with tempfile.TemporaryDirectory(prefix="docs.") as room:
-        copy = Copy(Path(room).resolve(), programs, page)
-        if copy.missing:
-            first = next(it for it in page.fences if is_run(it))
-            yield Result(page.path, [Fault(page.path, first.line, it) for it in copy.missing])
-        for fence in page.fences:
-            if is_run(fence):
-                yield Result(f"{page.path}:{fence.line}", outcome(copy, page, fence, text_after(page, fence)))
-            elif fence.language == "sh":
-                print(f"{page.path}:{fence.line}: {fence.comment}")
+        copy = Copy(Path(room).resolve(), built)
+        for fence in filter(is_run, page.fences):
+            yield Result(f"{page.path}:{fence.line}", outcome(copy, page, fence, text_after(page, fence)))
 
 
-def check(programs: Programs) -> Iterator[Result]:
+def check(built: Built) -> Iterator[Result]:
     """A result for each command block, and for each page whose blocks are as they should be."""
     for page in all_pages():
         yield Result(page.path, list(misplaced(page)))
-        if any(it.language == "sh" for it in page.fences):
-            yield from check_page(page, programs)
+        for fence in page.fences:
+            if fence.language == "sh" and not is_run(fence):
+                print(f"{page.path}:{fence.line}: {fence.comment}")
+        if any(map(is_run, page.fences)):
+            yield from check_page(page, built)

@@ -10,8 +10,8 @@ from collections.abc import Iterator
 from dataclasses import dataclass
 from pathlib import Path
 
+from built import Built
 from pages import TOP, Fault, Result
-from programs import Missing, Programs
 
 JOB = (
     '{"job":{"redundancy":1,"skew":10,"guard":100,"bridge":100,"job":1000,"numbers":1000,'
@@ -60,32 +60,32 @@ SAVING = Run(
 )
 
 
-def fault_of_saving(programs: Programs, folder: str) -> str | None:
+def fault_of_saving(built: Built, folder: str) -> str | None:
     """What is wrong with the state that an audit saves, or None."""
     shutil.copy(DATA / "day-1.jsonl", folder)
-    why = fault_of(SAVING, programs, folder)
+    why = fault_of(SAVING, built, folder)
     saved = Path(folder, "saved.state")
     if why is None and saved.read_bytes() != (DATA / "day-1.state").read_bytes():
         why = f"the state of day-1.jsonl is\n{saved.read_text()}"
     return why
 
 
-def fault_of(run: Run, programs: Programs, folder: str) -> str | None:
+def fault_of(run: Run, built: Built, folder: str) -> str | None:
     """What is wrong with a run in a folder, or None."""
     try:
-        words = [str(programs.find(run.program)), *run.words]
+        words = [str(built.program(run.program)), *run.words]
         ran = subprocess.run(words, cwd=folder, input=run.stdin, capture_output=True, text=True, timeout=LIMIT)
-    except (Missing, subprocess.TimeoutExpired) as why:
+    except (OSError, subprocess.TimeoutExpired) as why:
         return str(why)
     wanted = (run.status, run.stdout, run.stderr)
     found = (ran.returncode, ran.stdout, ran.stderr)
     return None if found == wanted else f"{[run.program, *run.words]} on {run.stdin!r} ends with {found}, not {wanted}"
 
 
-def check(programs: Programs) -> Iterator[Result]:
+def check(built: Built) -> Iterator[Result]:
     """A result for each run."""
     with tempfile.TemporaryDirectory() as folder:
-        found = [(run, fault_of(run, programs, folder)) for run in RUNS]
-        found.append((SAVING, fault_of_saving(programs, folder)))
+        found = [(run, fault_of(run, built, folder)) for run in RUNS]
+        found.append((SAVING, fault_of_saving(built, folder)))
     for run, why in found:
         yield Result(run.program, [Fault("tests/docs/endings.py", 1, why)] if why else [])

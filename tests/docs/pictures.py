@@ -10,8 +10,8 @@ import subprocess
 import xml.etree.ElementTree as ElementTree
 from collections.abc import Iterator
 
+from built import Built
 from pages import COMMENT, TOP, Fault, Page, Result, all_pages, repository_files
-from programs import Missing, Programs
 
 IMAGE = re.compile(r"(?:!\[[^\]]*\]\(|<img\s[^>]*src=[\"'])([^)\s\"']+\.svg)")
 CLAIM = re.compile(r"^picture: (timeline\b.*?) < (\S+)$")
@@ -19,13 +19,13 @@ BY_HAND = "picture: by hand"
 SVG = "{http://www.w3.org/2000/svg}"
 
 
-def drawn(words: list[str], script: str, programs: Programs) -> bytes | str:
+def drawn(words: list[str], script: str, built: Built) -> bytes | str:
     """The picture of a script, or why there is none."""
     try:
-        command = [str(programs.find("hourstable")), *words]
+        command = [str(built.program("hourstable")), *words]
         text = (TOP / script).read_bytes()
         ran = subprocess.run(command, input=text, capture_output=True, timeout=120, check=False)
-    except (OSError, subprocess.TimeoutExpired, Missing) as why:
+    except (OSError, subprocess.TimeoutExpired) as why:
         return str(why)
     return ran.stdout if ran.returncode == 0 else ran.stderr.decode(errors="replace").strip()
 
@@ -43,7 +43,7 @@ def lacks(shown: str) -> str | None:
     return None if "prefers-color-scheme: dark" in text else f"{shown}: it has no colours for a dark page"
 
 
-def look(page: Page, number: int, shown: str, programs: Programs) -> str | None:
+def look(page: Page, number: int, shown: str, built: Built) -> str | None:
     """What is wrong with a picture that a page shows on a line, or None."""
     above = next((it for it in reversed(page.lines[: number - 1]) if it.strip()), "")
     comment = COMMENT.match(above)
@@ -52,7 +52,7 @@ def look(page: Page, number: int, shown: str, programs: Programs) -> str | None:
     claim = CLAIM.match(comment[1]) if comment else None
     if not claim:
         return f"{shown}: no line `<!-- picture: timeline ARGS < FILE -->` stands above it"
-    made = drawn(shlex.split(claim[1]), claim[2], programs)
+    made = drawn(shlex.split(claim[1]), claim[2], built)
     if isinstance(made, str):
         return f"{shown}: {made}"
     picture = TOP / shown
@@ -63,7 +63,7 @@ def look(page: Page, number: int, shown: str, programs: Programs) -> str | None:
     return None
 
 
-def check(programs: Programs) -> Iterator[Result]:
+def check(built: Built) -> Iterator[Result]:
     """A result for each picture that a page shows, and one for each that none shows."""
     claimed: set[str] = set()
     for page in all_pages():
@@ -72,7 +72,7 @@ def check(programs: Programs) -> Iterator[Result]:
                 place = ((TOP / page.path).parent / target).resolve()
                 shown = str(place.relative_to(TOP)) if place.is_relative_to(TOP) else target
                 claimed.add(shown)
-                why = look(page, number, shown, programs)
+                why = look(page, number, shown, built)
                 yield Result(shown, [Fault(page.path, number, why)] if why else [])
     for path in repository_files():
         if path.startswith("docs/") and path.endswith(".svg") and path not in claimed:

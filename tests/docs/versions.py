@@ -4,8 +4,8 @@ import subprocess
 from collections.abc import Iterator
 from pathlib import Path
 
+from built import Built
 from pages import TOP, Fault, Result, repository_files
-from programs import Missing, Programs
 
 NUMBER = r"(\d+\.\d+\.\d+)"
 HEADER = re.compile(rf'^#define HS_LIBRARY_VERSION "{NUMBER}"$', re.MULTILINE)
@@ -20,12 +20,12 @@ def written(path: str, pattern: re.Pattern[str]) -> str | None:
     return match[1] if match else None
 
 
-def told(programs: Programs) -> str | None:
+def told(built: Built) -> str | None:
     """The version that the program prints."""
     try:
-        words = [str(programs.find("hourstable")), "--version"]
+        words = [str(built.program("hourstable")), "--version"]
         ran = subprocess.run(words, input="", capture_output=True, text=True, timeout=120, check=False)
-    except (OSError, subprocess.TimeoutExpired, Missing):
+    except (OSError, subprocess.TimeoutExpired):
         return None
     match = re.match(rf"hourstable {NUMBER}\b", ran.stdout)
     return match[1] if match and ran.returncode == 0 else None
@@ -37,12 +37,12 @@ def is_project(path: str) -> bool:
     return name == "pyproject.toml" or (name == "Cargo.toml" and "[workspace]" not in (TOP / path).read_text())
 
 
-def check(programs: Programs) -> Iterator[Result]:
+def check(built: Built) -> Iterator[Result]:
     """A result for each place that gives the version; the first is what the others are compared with."""
     newest = written("CHANGELOG.md", CHANGES)
     if newest is None:
         yield Result("CHANGELOG.md", [Fault("CHANGELOG.md", 1, "no heading `## X.Y.Z` gives the newest version")])
-    places = {"include/hourstable.h": written("include/hourstable.h", HEADER), "hourstable --version": told(programs)}
+    places = {"include/hourstable.h": written("include/hourstable.h", HEADER), "hourstable --version": told(built)}
     places |= {it: written(it, PROJECT) for it in repository_files() if is_project(it)}
     for place, version in places.items():
         why = f"version {version}, and the newest of CHANGELOG.md is {newest}" if version else "gives no version"

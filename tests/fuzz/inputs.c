@@ -58,10 +58,12 @@ static void replace(size_t at, size_t taken, const char *put, size_t put_length)
 
 /* Replaces a number by another one. */
 static void change_number(void) {
+    /* clang-format off */
     static const char *const numbers[] = {
         "0", "1", "2", "3", "7", "64", "65", "4294967295", "4294967296", "4611686018427387904", "9223372036854775807",
         "9223372036854775808", "9223372036854775809", "18446744073709551615", "18446744073709551616", "-1", "1.5", "1e3",
         "1e999", "01", "\"1\"", "null", "[]", "{}"};
+    /* clang-format on */
     const char *put = numbers[draw(sizeof numbers / sizeof *numbers)];
     size_t at = draw(length), end;
     while (at < length && (text[at] < '0' || text[at] > '9'))

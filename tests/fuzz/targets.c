@@ -9,20 +9,22 @@
 #define GRANT(kind, number, ranges)                                                                                    \
     MESSAGE("grant", "\"ends\":95,\"generation\":3,\"kind\":\"" kind "\",\"life\":1,\"number\":" number                \
                      ",\"ranges\":" ranges ",\"task\":2,\"until\":105")
-#define NOTE(kind, number, task) MESSAGE("note", "\"kind\":\"" kind "\",\"life\":1,\"number\":" number ",\"task\":" task)
+#define NOTE(kind, number, task)                                                                                       \
+    MESSAGE("note", "\"kind\":\"" kind "\",\"life\":1,\"number\":" number ",\"task\":" task)
 #define ASSIGNMENT(generation, slices) MESSAGE("assignment", "\"generation\":" generation ",\"slices\":" slices)
 #define HALVES "[[0,[1]],[4611686018427387904,[2]]]"
 #define COUNT(list) (sizeof(list) / sizeof *(list))
 
-static const char *const grants[] = {
-    GRANT("guard", "7", "[[0,9223372036854775808]]"), GRANT("guard", "8", "[]"),
-    GRANT("bridge", "9", "[[0,4611686018427387904]]"), GRANT("bridge", "3", "[[1,2],[3,4],[4,9],[11,4000000000000000000]]")};
+static const char *const grants[] = {GRANT("guard", "7", "[[0,9223372036854775808]]"), GRANT("guard", "8", "[]"),
+                                     GRANT("bridge", "9", "[[0,4611686018427387904]]"),
+                                     GRANT("bridge", "3", "[[1,2],[3,4],[4,9],[11,4000000000000000000]]")};
 static const char *const assignments[] = {
-    ASSIGNMENT("1", HALVES), ASSIGNMENT("2", HALVES), ASSIGNMENT("2", "[[0,[2]]]"), ASSIGNMENT("3", "[[0,[1,2,3,4,5]]]"),
+    ASSIGNMENT("1", HALVES), ASSIGNMENT("2", HALVES), ASSIGNMENT("2", "[[0,[2]]]"),
+    ASSIGNMENT("3", "[[0,[1,2,3,4,5]]]"),
     ASSIGNMENT("2", "[[0,[1]],[1,[2]],[2,[1]],[3,[2]],[4,[64]],[9223372036854775807,[1]]]")};
 static const char *const notes[] = {NOTE("guard", "1", "1"), NOTE("guard", "9", "2"), NOTE("bridge", "1", "1")};
-static const char *const delivered[] = {
-    GRANT("guard", "7", "[[0,9223372036854775808]]"), ASSIGNMENT("1", HALVES), NOTE("guard", "1", "1")};
+static const char *const delivered[] = {GRANT("guard", "7", "[[0,9223372036854775808]]"), ASSIGNMENT("1", HALVES),
+                                        NOTE("guard", "1", "1")};
 static const struct hs_policy policy = {
     .low = 1, .high = 2, .skew = 10, .guard = 100, .bridge = 100, .job = 1000, .numbers = 50};
 
@@ -57,7 +59,8 @@ static uint64_t slicelet_state(struct hs_place *place) {
         struct hs_told told = {0, 0, 0, 0, 0};
         struct hs_key_handle handle = {0, 0, 0, 0};
         sum = sum_number(sum, (uint64_t)hs_slicelet_serve(place, (const uint8_t *)"hello", 5, readings[at], &told));
-        sum = sum_number(sum, (uint64_t)hs_slicelet_hold(place, (const uint8_t *)"abc", 3, readings[at], &handle, &told));
+        sum =
+            sum_number(sum, (uint64_t)hs_slicelet_hold(place, (const uint8_t *)"abc", 3, readings[at], &handle, &told));
         sum = sum_number(sum_bytes(sum, &told, sizeof told), handle.position);
     }
     for (uint32_t kind = HS_GUARD; kind <= HS_BRIDGE; kind++) {
@@ -108,7 +111,8 @@ static uint64_t draw_number(uint64_t below) {
 }
 
 static struct hs_plan_policy draw_policy(void) {
-    struct hs_plan_policy policy = {1, 1 + draw(3), draw(2) ? (uint64_t)1 << 63 : draw(9), draw(3), draw(20), 1 + draw(64)};
+    struct hs_plan_policy policy = {1,       1 + draw(3), draw(2) ? (uint64_t)1 << 63 : draw(9),
+                                    draw(3), draw(20),    1 + draw(64)};
     if (draw(16) == 0)
         policy.low = draw(7);
     if (draw(32) == 0)
@@ -126,7 +130,8 @@ static int32_t plan(struct hs_place *place, struct input input, struct hs_told *
         loads[at] = draw_number(100);
     for (size_t at = 0; at < tasks_len; at++)
         tasks[at] = draw(32) ? 1 + at : draw_number(66);
-    int32_t code = hs_plan(NO_NAME, input.bytes, input.length, loads, loads_len, tasks, tasks_len, &policy, out, room, &needed);
+    int32_t code =
+        hs_plan(NO_NAME, input.bytes, input.length, loads, loads_len, tasks, tasks_len, &policy, out, room, &needed);
     MUST(code != HS_NO_ROOM || needed > room);
     if (code == HS_DONE) {
         MUST(needed <= room && hs_clerk_forget(place) == HS_DONE);
