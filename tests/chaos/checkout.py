@@ -2,24 +2,25 @@
 
 import importlib.util
 import os
-import subprocess
 import sys
 from pathlib import Path
+from typing import NamedTuple
 
 TOP = Path(__file__).resolve().parents[2]
-PACKAGE = TOP / "python"
-ARCHIVE = TOP / "crates/hourstable_c/out/libhourstable_c.a"
-PROGRAM = TOP / "crates/hourstable/out/hourstable"
 SYSTEM = "/usr/bin/python3"
+sys.path[:0] = [str(TOP / "python"), str(TOP / "tools")]
 
-if str(PACKAGE) not in sys.path:
-    sys.path.insert(0, str(PACKAGE))
-
+import built  # noqa: E402
 from hourstable import installed  # noqa: E402
 
+Missing = built.Missing
 
-class Missing(Exception):
-    """Something that a run cannot do without."""
+
+class Used(NamedTuple):
+    """The shared object of the library, and the program `hourstable`."""
+
+    library: Path
+    program: Path
 
 
 def run_with_packages() -> None:
@@ -32,33 +33,11 @@ def run_with_packages() -> None:
     sys.exit(f"{sys.argv[0]}: there is no {', '.join(lacking)}: `tools/setup demo` installs what is missing")
 
 
-def library(made: Path) -> Path:
-    """Returns the shared object of the library. It is that of HOURSTABLE_LIBRARY, or is linked in the folder `made`
-    from the archive that tools/build makes."""
-    given = os.environ.get("HOURSTABLE_LIBRARY")
-    if given:
-        return Path(given).resolve()
-    if not ARCHIVE.exists():
-        raise Missing(
-            "there is no libhourstable.so: `tools/build libhourstable.so` proves and builds it; or set"
-            " HOURSTABLE_LIBRARY"
-        )
-    shared = made / "libhourstable.so"
-    words = [str(TOP / "tools/link-library"), str(ARCHIVE), str(shared)]
-    try:
-        subprocess.run(words, check=True, capture_output=True, text=True)
-    except subprocess.CalledProcessError as why:
-        raise Missing(f"{' '.join(words)}: {why.stderr[-500:]}") from why
-    return shared
-
-
-def program(given: str | None) -> Path:
-    """Returns the program `hourstable`, which audits: the given one, the one that the service finds, or the one that
-    tools/build makes."""
-    found = installed.program(given) or (str(PROGRAM) if PROGRAM.exists() else None)
-    if found is None:
-        raise Missing(
-            "there is no hourstable to audit with: `tools/build hourstable` proves and builds it; or say where by"
-            " --hourstable"
-        )
-    return Path(found).resolve()
+def used(room: Path) -> Used:
+    """Returns those that HOURSTABLE_LIBRARY and HOURSTABLE_PROGRAM name, if both do, or else those that
+    tools/built.py finds, and lays in a folder if need be. Raises Missing."""
+    library, program = os.environ.get("HOURSTABLE_LIBRARY"), os.environ.get(installed.PROGRAM)
+    if library and program:
+        return Used(Path(library).resolve(), Path(program).resolve())
+    found = built.find(room)
+    return Used(found.shared, found.program("hourstable"))

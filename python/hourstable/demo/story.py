@@ -154,8 +154,8 @@ class Story:
         self.states[ADDED] = "answers"
         self.end(
             f"It owned {counted(self.service.sessions()[ADDED], 'session')} after {{took:.1f}} s."
-            " The other tasks stopped to answer for these keys and handed them over, so nobody"
-            " waited for a lease to end."
+            " The other tasks stopped answering for these keys and handed them over, so nobody had"
+            " to wait for a lease to end."
         )
 
     def drain_task(self) -> None:
@@ -167,7 +167,7 @@ class Story:
         )
         self.end(
             f"It handed over its {counted(owned[DRAINED], 'session')} in {{took:.1f}} s, again"
-            " without waiting for a lease to end: do so before each deployment."
+            " without a wait for a lease to end: do so before each deployment."
         )
         process = self.service.tasks[DRAINED]
         if process.end(20.0) != 0:
