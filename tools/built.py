@@ -3,8 +3,8 @@
   bin/hourstable  bin/slicer_run  bin/slicer_live
   lib/libhourstable.a  lib/libhourstable.so  include/hourstable.h
 
-HOURSTABLE_BUILT names such a folder: an unpacked tarball is one. If it is not set, `find` lays one, of the first of these
-that fits the sources:
+HOURSTABLE_BUILT names such a folder: an unpacked tarball is one. If it is not set, `find` lays one, of the first of
+these that fits the sources:
 
   1. crates/*/out, if they hold what a proof built
   2. the wheel of dist/
@@ -32,7 +32,7 @@ PROGRAMS = ("hourstable", "slicer_run", "slicer_live")
 SHARED, ARCHIVE, HEADER = "lib/libhourstable.so", "lib/libhourstable.a", "include/hourstable.h"
 FILES = (*(f"bin/{it}" for it in PROGRAMS), SHARED, ARCHIVE)
 TARGETS = ("libhourstable.so", "libhourstable.a", *PROGRAMS)
-NOTHING = "nothing is built of these sources, and there is no kit (rt): unpack a dist/ that was made of them"
+NOTHING = "neither crates/*/out nor dist/ was made of these sources, and there is no kit (rt) that builds them"
 sys.path.append(str(TOP / "tools/packaging"))
 
 
@@ -59,8 +59,8 @@ class Built(NamedTuple):
 
 
 def find(room: Path, after_ci: bool = False) -> Built:
-    """Returns what HOURSTABLE_BUILT names, or else what is laid in `room`. With `after_ci` it is what a run of `rt ci` has
-    just left in this checkout."""
+    """Returns what HOURSTABLE_BUILT names, or else what is laid in `room`. With `after_ci` it is what a run of
+    `rt ci` has just left in this checkout."""
     given = os.environ.get("HOURSTABLE_BUILT")
     if given:
         return checked(Built(Path(given).resolve(), f"over HOURSTABLE_BUILT, {given}"))

@@ -1,8 +1,8 @@
 """The proved programs that the blocks and pictures of the pages run.
 
 A program NAME is taken, in this order, from the folder given by --programs (NAME, NAME/out/NAME), from
-crates/NAME/out/NAME of this checkout, or else tools/build proves and builds it there. The archive of the library for C,
-libhourstable_c.a, is looked for in the same places.
+crates/NAME/out/NAME of this checkout, or else tools/build proves and builds it there. The archive of the library for
+C, libhourstable_c.a, is looked for in the same places.
 """
 import subprocess
 from pathlib import Path

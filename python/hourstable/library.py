@@ -331,7 +331,6 @@ class TableClock(Clock):
         return reading.value
 
 
-
 class Version(NamedTuple):
     major: int
     minor: int

@@ -184,7 +184,7 @@ def test_an_audit_is_that_of_the_program(
 
 
 def test_the_audit_of_a_run(tmp_path: Path, capfd: pytest.CaptureFixture[str]) -> None:
-    program = needed.program()
+    needed.program()
 
     async def play() -> None:
         words = ["--store", f"sqlite:{tmp_path}/jobs", "--logs", f"{tmp_path}/logs"]

@@ -1,10 +1,10 @@
 """Plays random calls of a table, three tasks and two clerks through the library, writes each call's line by
-hs_log_line, and has an audit judge the log: it is one run. Then one reply of each kind is changed, and the audit names
-its line.
+hs_log_line, and has an audit judge the log: it is one run. Then one reply of each kind is changed, and the audit
+names its line.
 
 Usage: logs.py PROGRAM FOLDER [--calls N] [--seed N]
-PROGRAM is a built `hourstable`. Run at the top of the repository, with HOURSTABLE_LIBRARY set. The status is 0 if all is
-as it should be.
+PROGRAM is a built `hourstable`. Run at the top of the repository, with HOURSTABLE_LIBRARY set. The status is 0 if all
+is as it should be.
 """
 
 import argparse
@@ -17,8 +17,8 @@ from collections.abc import Callable
 from pathlib import Path
 
 sys.path.insert(0, "python")
-from hourstable import library as hourstable
-from hourstable.library import CALLS, KINDS, LoggedCall, Place, Policy
+from hourstable import library as hourstable  # noqa: E402
+from hourstable.library import CALLS, KINDS, LoggedCall, Place, Policy  # noqa: E402
 
 JOB = b"shop"
 NAME = (JOB, len(JOB))
@@ -66,7 +66,9 @@ class Job:
         assert getattr(library, f"hs_{opened}")(ref(place), *given) == 0
         return place
 
-    def log(self, do: str, code: int, message: bytes = b"", call: LoggedCall | None = None, **members: object) -> None:
+    def log(
+        self, do: str, code: int, message: bytes = b"", call: LoggedCall | None = None, **members: object
+    ) -> None:
         """Writes the line of a call, if its machine was asked."""
         call = call or LoggedCall()
         self.seen.add((do, hourstable.name_of(code)))
@@ -201,7 +203,9 @@ class Job:
         self.log("release", code, note, task=task, at=at, kind=kind)
 
     def key(self) -> int:
-        return hourstable.slice_key(self.draw.choice(KEYS)) if self.draw.randrange(3) else self.draw.randrange(1 << 63)
+        if self.draw.randrange(3):
+            return hourstable.slice_key(self.draw.choice(KEYS))
+        return self.draw.randrange(1 << 63)
 
     def serve(self) -> None:
         call, task, at, key = LoggedCall(), self.draw.choice((1, 2, 3)), self.at(), self.key()

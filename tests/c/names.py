@@ -12,7 +12,7 @@ import sys
 from typing import Any
 
 sys.path.insert(0, "python")
-from hourstable import library as hourstable
+from hourstable import library as hourstable  # noqa: E402
 
 with open("include/hourstable.h", encoding="utf-8") as file:
     header = file.read()
@@ -24,7 +24,7 @@ in_header = {name: int(number) for name, number in re.findall(r"HS_(\w+) = (-?\d
 in_python = {name: number for number, name in hourstable.CODES.items()}
 in_page = {name: int(number) for number, name in re.findall(r"^\| (-?\d+) \| `HS_(\w+)`", page, re.M)}
 named = {name: text for name, text in re.findall(r'case HS_(\w+):\s*return "HS_(\w+)";', header)}
-version = tuple(int(number) for number in re.findall(r"^#define HS_LIBRARY_(?:MAJOR|MINOR|PATCH) (\d+)$", header, re.M))
+version = tuple(map(int, re.findall(r"^#define HS_LIBRARY_(?:MAJOR|MINOR|PATCH) (\d+)$", header, re.M)))
 version_text = re.findall(r'^#define HS_LIBRARY_VERSION "(.*)"$', header, re.M)
 kinds, actions = ({word.lower(): int(number) for word, number in re.findall(r"HS_(\w+) = (\d+)", words)}
                   for words in re.findall(r"enum hs_(?:kind|action) \{(.*?)\}", header, re.S))
@@ -42,7 +42,8 @@ def member_of(c_type: str, length: str) -> Any:
     """Returns the Python type of a member of a struct."""
     struct = re.fullmatch(r"struct hs_(\w+) ", c_type)
     member = class_of(struct[1]) if struct else {
-        "void *": ctypes.c_void_p, "uint64_t ": ctypes.c_uint64, "uint32_t ": ctypes.c_uint32, "int32_t ": ctypes.c_int32,
+        "void *": ctypes.c_void_p, "uint64_t ": ctypes.c_uint64, "uint32_t ": ctypes.c_uint32,
+        "int32_t ": ctypes.c_int32,
     }[c_type]
     return member * int(length) if length else member
 

@@ -1,6 +1,6 @@
-"""Checks what python/hourstable/library.py adds to the library: numbers that do not fit are refused, refusals have the
-texts of scripts, objects cannot be copied, and clocks can. Expected values are those of include/hourstable.h and of the
-refusals in docs/FORMATS.md.
+"""Checks what python/hourstable/library.py adds to the library: numbers that do not fit are refused, refusals have
+the texts of scripts, objects cannot be copied, and clocks can. Expected values are those of include/hourstable.h and
+of the refusals in docs/FORMATS.md.
 
 Run at the top of the repository, with HOURSTABLE_LIBRARY set.
 """
@@ -15,9 +15,9 @@ from collections.abc import Callable
 from typing import Any
 
 sys.path[:0] = ["python", "examples/python"]
-import handover
-from hourstable import library as hourstable
-from hourstable.library import (
+import handover  # noqa: E402
+from hourstable import library as hourstable  # noqa: E402
+from hourstable.library import (  # noqa: E402
     Clerk, HeldLease, JobTerm, KeyHandle, LoadBook, LoadRecord, Phase, PlanPolicy, Policy, Refused, Slicelet, Table,
     TableClock, TaskClock, Told, boottime_ticks, clock_evidence, new_assignment, read_assignment, read_grant,
     slice_of,
@@ -32,7 +32,9 @@ def holds(fact: bool, what: str) -> None:
         faults.append(what)
 
 
-def raises(error: type[Exception] | tuple[type[Exception], ...], what: str, call: Callable[..., Any], *given: Any) -> None:
+def raises(
+    error: type[Exception] | tuple[type[Exception], ...], what: str, call: Callable[..., Any], *given: Any
+) -> None:
     try:
         call(*given)
     except error:
@@ -86,7 +88,8 @@ def check_refusals() -> None:
         (15, {}, "STRANGER", {}, "stranger"),
         (17, {"until": 1001}, "JOB_HELD", {"until": 1001}, "job-held 1001"),
         (22, {}, "TOO_MANY_OWNERS_FOR_JOB", {}, "too-many-owners-for-job"),
-        (24, {"task": 2, "kind": 2, "number": 9}, "HELD", {"task": 2, "kind": "bridge", "number": 9}, "held 2 bridge 9"),
+        (24, {"task": 2, "kind": 2, "number": 9}, "HELD",
+         {"task": 2, "kind": "bridge", "number": 9}, "held 2 bridge 9"),
         (28, {"generation": 4}, "OLD_GENERATION", {"generation": 4}, "old 4"),
         (-7, {}, "PAST_END", {}, "past-end"),
         (34, {}, "SENT_AHEAD", {}, "sent-ahead"),
@@ -207,7 +210,8 @@ def check_table_clocks() -> None:
     is_refused("not-yet 1000", "a read below what was kept", clock.read, 106)
     holds(clock.read(107) == 1000 and clock.read(110) == 1003, "the table's clock goes on from what was kept")
     is_refused("clock-back", "a read at 109", clock.read, 109)
-    holds(copy.copy(clock).read(111) == 1004 and numbers_of(clock) == [900, 7, 1000, 110], "a copy of the table's clock")
+    copied = copy.copy(clock).read(111)
+    holds(copied == 1004 and numbers_of(clock) == [900, 7, 1000, 110], "a copy of the table's clock")
     is_refused("too-large", "a reading of 2^64", TableClock(U64 - 1, 0, 0).read, 1)
     raises(AttributeError, "a field of the table's clock is not set", setattr, clock, "kept", 0)
 
@@ -244,7 +248,7 @@ def check_keeping() -> None:
 
 def check_grants() -> None:
     read = read_grant("", GRANT)
-    holds(read[:7] == (7, 2, 1, "guard", 3, 130, 140) and read.ranges == [(0, 9223372036854775808)], f"a grant: {read}")
+    holds(read[:7] == (7, 2, 1, "guard", 3, 130, 140) and read.ranges == [(0, 1 << 63)], f"a grant: {read}")
     pairs = [[2 * at, 2 * at + 1] for at in range(100)]
     long = GRANT.replace(b"[[0,9223372036854775808]]", json.dumps(pairs).encode())
     holds(read_grant("", long).ranges == [tuple(pair) for pair in pairs], "a grant of 100 ranges")

@@ -16,7 +16,8 @@ def judge(table: Sequence[Read], tasks: Sequence[Sequence[Read]]) -> Iterator[st
     """What is wrong: a task read a value below a reading of the table that was finished before its read began, or
     readings of the table fell, or values of one task did.
 
-    The readings of the table are in order, also those of several processes, since one is gone before the next begins."""
+    The readings of the table are in order, also those of several processes, since one is gone before the next
+    begins."""
     yield from falls("the table", table)
     finished = [reading.after for reading in table]
     values = [reading.value for reading in table]

@@ -41,7 +41,8 @@ class Cell:
 
 
 class Log:
-    """The entries of a process. Each has the number of its schedule: one that is late in a schedule counts in no other."""
+    """The entries of a process. Each has the number of its schedule: one that is late in a schedule counts in no
+    other."""
 
     def __init__(self) -> None:
         self.schedule = 0

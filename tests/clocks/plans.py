@@ -118,7 +118,9 @@ def plan_of(seed: int, index: int, is_beyond: bool) -> Plan:
         saved=draw.randrange(draw.choice((1, 2, 10)) * MILLISECOND) // tick,
         hosts=[draw_host(draw, rates.table, 1, tick) for _ in range(restarts + 1)],
         tasks=[draw_host(draw, rates.tasks, 0, tick) for _ in range(TASKS)],
-        network=draw.choice((Network(0, 0, 0, 0), Network(10, 20, 20, 3 * MILLISECOND), Network(40, 40, 10, MILLISECOND))),
+        network=draw.choice((
+            Network(0, 0, 0, 0), Network(10, 20, 20, 3 * MILLISECOND), Network(40, 40, 10, MILLISECOND),
+        )),
         turns=turns,
         happens=happens,
     )

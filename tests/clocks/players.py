@@ -15,7 +15,8 @@ hourstable = importlib.import_module("hourstable.library")
 # What a set orders: a schedule begins; the table closes its clock, and opens it anew; a schedule is over.
 BEGIN, CLOSE, OPEN, END = b"B", b"C", b"O", b"E"
 ORDER = struct.Struct("<cQQ?")
-# A request and its answer: the schedule, the number of the request, and a reading. One of another schedule is left out.
+# A request and its answer: the schedule, the number of the request, and a reading. One of another schedule is left
+# out.
 MESSAGE = struct.Struct("<QQQ")
 
 
@@ -59,7 +60,8 @@ class Player:
 
 
 class Table(Player):
-    """The table keeps a value before it uses a reading, and answers nothing while its clock is below what was kept."""
+    """The table keeps a value before it uses a reading, and answers nothing while its clock is below what was
+    kept."""
 
     def __init__(self, log: Log, line: socket.socket, peers: list[socket.socket], kept: Cell) -> None:
         super().__init__(TABLE, log, line, peers)

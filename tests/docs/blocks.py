@@ -10,9 +10,10 @@ into one bash at the top of the repository: variables and the current directory 
 120 seconds, and what it left running is ended with it. `/tmp/` in a block is a folder of this check, which is removed
 when the page is done.
 
-No block proves, and none compiles Rattle. `hourstable`, `slicer_run` and `slicer_live` are on the PATH as they were built
-(tools/built.py), and HOURSTABLE_BUILT names their folder. `rt` on that PATH is a stand-in, so that no kit is needed: `rt
-try` and `rt run` in the folder of a program run the built program at once, with the arguments after `--`; all else fails.
+No block proves, and none compiles Rattle. `hourstable`, `slicer_run` and `slicer_live` are on the PATH as they were
+built (tools/built.py), and HOURSTABLE_BUILT names their folder. `rt` on that PATH is a stand-in, so that no kit is
+needed: `rt try` and `rt run` in the folder of a program run the built program at once, with the arguments after `--`;
+all else fails.
 """
 import difflib
 import os
@@ -33,7 +34,8 @@ NOT_RUN = re.compile(r"^not run: \S")
 OTHER_NAMES = {"bash", "shell", "console", "shell-session", "sh-session", "zsh"}
 COMMANDS = r"rt|hourstable|slicer_run|slicer_live|python3?|gcc|g\+\+|cargo|rustc|go|git|cd|cp|mkdir|pip|curl|export"
 LIKE_COMMAND = re.compile(
-    rf"^(?: {{4,}}|\t)\(?(?:\$ )?(?:[A-Z_]+=\S+ )*(?:{COMMANDS}|[A-Z]+=\S+|\.ci/run|(?:tools|tests|bench)/[\w/-]+)(?: |$)"
+    rf"^(?: {{4,}}|\t)\(?(?:\$ )?(?:[A-Z_]+=\S+ )*"
+    rf"(?:{COMMANDS}|[A-Z]+=\S+|\.ci/run|(?:tools|tests|bench)/[\w/-]+)(?: |$)"
 )
 
 STAND_IN = """#!/usr/bin/env bash

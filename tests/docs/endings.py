@@ -79,7 +79,9 @@ def fault_of(run: Run, built: Built, folder: str) -> str | None:
         return str(why)
     wanted = (run.status, run.stdout, run.stderr)
     found = (ran.returncode, ran.stdout, ran.stderr)
-    return None if found == wanted else f"{[run.program, *run.words]} on {run.stdin!r} ends with {found}, not {wanted}"
+    if found == wanted:
+        return None
+    return f"{[run.program, *run.words]} on {run.stdin!r} ends with {found}, not {wanted}"
 
 
 def check(built: Built) -> Iterator[Result]:

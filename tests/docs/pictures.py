@@ -1,8 +1,8 @@
 """Each picture docs/NAME.svg that a page shows is what `hourstable timeline` draws, or is drawn by hand.
 
 A line `<!-- picture: timeline ARGS < FILE -->` stands directly above the image, with FILE from the top of the
-repository; or `<!-- picture: by hand -->`, and then the picture has a title, a description, and colours for a dark page.
-Every picture under docs/ is shown in one of these ways by some page.
+repository; or `<!-- picture: by hand -->`, and then the picture has a title, a description, and colours for a dark
+page. Every picture under docs/ is shown in one of these ways by some page.
 """
 import re
 import shlex

@@ -1,4 +1,4 @@
-"""One version: that of `hourstable --version`, of the header, of each package of Python and Rust, and of CHANGELOG.md."""
+"""One version: that of `hourstable --version`, the header, each package of Python and Rust, and CHANGELOG.md."""
 import re
 import subprocess
 from collections.abc import Iterator

@@ -7,7 +7,7 @@ from concurrent.futures import FIRST_COMPLETED, Future, ThreadPoolExecutor, wait
 from pathlib import Path
 
 from building import marks
-from building.kit import ARCHIVE, ARCHIVES, KIT, SHARED, TOP, Crate, crate_name, crates, file_of, rtlib, share, tell, told, wanted_by
+from building.kit import ARCHIVE, ARCHIVES, KIT, SHARED, Crate, crate_name, crates, file_of, rtlib, share, tell, told, wanted_by
 
 # What a line of a crate costs at first, in seconds of one processor: code, specs and proofs alike.
 SECONDS_A_LINE = 0.05

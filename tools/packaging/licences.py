@@ -1,7 +1,7 @@
 """The licence of the repository, and the kit's crates that are in the packages, with theirs.
 
-A crate of the kit that follows a crate of crates.io has that crate's licence files in its folder. Of the others the kit
-states no licence.
+A crate of the kit that follows a crate of crates.io has that crate's licence files in its folder. Of the others the
+kit states no licence.
 """
 import functools
 import re
@@ -74,9 +74,9 @@ def crate_of(name: str) -> Crate:
 
 def copyright_page() -> str:
     """The licences of what is inside, and no more than is stated."""
-    lines = [f"Hourstable: {HOLDER}. Licensed under the Apache License, Version 2.0 ({OWN}): LICENSE, beside this file.",
-             "", f"The programs and the libraries hold these crates of {kit_name()}. Files of their licences are in the folder of",
-             "the crate below licences/.", ""]
+    lines = [f"Hourstable: {HOLDER}", f"Licensed under the Apache License, Version 2.0 ({OWN}): LICENSE, beside this file.",
+             "", f"The programs and the libraries hold these crates of {kit_name()}.",
+             "Files of their licences are in the folder of the crate below licences/, beside this file.", ""]
     for crate in crates():
         follows = f", after {crate.name} {crate.follows} of crates.io" if crate.follows else ""
         lines.append(f"{crate.name}{follows}: {crate.licence() or 'the kit states no licence'}")
