@@ -16,8 +16,8 @@ prove: ## prove, build and run all crates with the kit, in 90 minutes
 build: ## prove and build the libraries and programs, and nothing that stands already
 	@tools/build libhourstable.so libhourstable.a hourstable slicer_run slicer_live
 
-package: ## make the packages in dist/ from what was proved
-	@tools/package --out dist
+package: ## make dist/ with the wheel, and first prove what is not proved of these sources
+	@tools/package --dist $(ARGS)
 
 release: ## run what is too long for the gate: all wrong bodies, each refused allocation; hours
 	@tools/release
@@ -25,7 +25,7 @@ release: ## run what is too long for the gate: all wrong bodies, each refused al
 bench: ## measure the steps of the machines at two sizes
 	@bench/run
 
-docs: ## make docs/API.md again, and check the pages
+docs: ## make docs/API.md anew, and check the pages
 	@docs/api && tests/docs/run
 
 lint: ## check types, form and scripts

@@ -9,7 +9,6 @@ import hmac
 import json
 import logging
 import math
-import socket
 import ssl
 import time
 from collections.abc import Awaitable, Callable
