@@ -60,7 +60,7 @@ class Process:
         self.name, self.words, self.folder, self.heard = name, words, folder, heard
         self.variables = dict(variables or {})
         self.running: subprocess.Popen[str] | None = None
-        self.is_stopped = False
+        self.is_stopped = self.is_asked = False
 
     @property
     def out(self) -> Path:
@@ -83,7 +83,7 @@ class Process:
                 process_group=0,
                 preexec_fn=die_with_parent,
             )
-        self.is_stopped = False
+        self.is_stopped = self.is_asked = False
         if self.heard:
             threading.Thread(target=self._listen, args=(self.running,), daemon=True).start()
 
@@ -119,12 +119,18 @@ class Process:
             self.running.send_signal(signal.SIGCONT)
         self.is_stopped = False
 
+    def ask_to_end(self) -> None:
+        """Sends it SIGTERM, once: a second one could come when it no longer handles it."""
+        if self.running is not None and not self.is_asked:
+            self.is_asked = True
+            self.go_on()
+            self.running.terminate()
+
     def end(self, seconds: float = 10.0) -> int | None:
         """Asks it to end, waits, and returns its status; None if it did not run or was killed."""
         if self.running is None:
             return None
-        self.go_on()
-        self.running.terminate()
+        self.ask_to_end()
         try:
             status = self.running.wait(seconds)
         except subprocess.TimeoutExpired:

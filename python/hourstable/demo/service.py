@@ -139,13 +139,13 @@ class Service:
         self.clients = Process(
             "clients",
             module("hourstable.demo.clients", "--tasks", addresses, *given, "--logs",
-                   "--keys", str(SESSIONS), "--clients", "12", "--pause", "15",
+                   "--keys", str(SESSIONS), "--clients", "20", "--pause", "60",
                    "--every", str(EVERY)),
             folder, variables, self.heard.hear,
         )
 
     def processes(self) -> list[Process]:
-        """Returns all processes, in the order in which they should end."""
+        """Returns all processes."""
         return [self.clients, *self.tasks.values(), self.control]
 
     def start(self, tasks: range, patience: float = PATIENCE) -> None:
@@ -181,11 +181,14 @@ class Service:
         Ended if one does not end well."""
         self.check()
         self.plane.stop()
-        for process in self.processes():
-            was_running = process.running is not None
-            status = process.end(20.0)
-            if was_running and status != 0:
-                raise process.failed(f"ended with status {status}")
+        for kind in ([self.clients], list(self.tasks.values()), [self.control]):
+            for process in kind:
+                process.ask_to_end()
+            for process in kind:
+                was_running = process.running is not None
+                status = process.end(20.0)
+                if was_running and status != 0:
+                    raise process.failed(f"ended with status {status}")
 
     def kill(self) -> None:
         """Kills all processes that are left."""
