@@ -7,7 +7,7 @@ HOURSTABLE_BUILT names such a folder: an unpacked tarball is one. If it is not s
 these that fits the sources:
 
   1. crates/*/out, if they hold what a proof built
-  2. the wheel of dist/
+  2. the wheel of dist/, if its programs and libraries were made of the crates and the header as they are
   3. with a kit, an unproved build by `tools/build --unproved`
 
 libhourstable.a has the archives of the kit in it, so that C is linked with it alone.
@@ -32,7 +32,7 @@ PROGRAMS = ("hourstable", "slicer_run", "slicer_live")
 SHARED, ARCHIVE, HEADER = "lib/libhourstable.so", "lib/libhourstable.a", "include/hourstable.h"
 FILES = (*(f"bin/{it}" for it in PROGRAMS), SHARED, ARCHIVE)
 TARGETS = ("libhourstable.so", "libhourstable.a", *PROGRAMS)
-NOTHING = "neither crates/*/out nor dist/ was made of these sources, and there is no kit (rt) that builds them"
+NOTHING = "neither crates/*/out nor dist/ was made of these crates, and there is no kit (rt) that builds them"
 sys.path.append(str(TOP / "tools/packaging"))
 
 
@@ -150,8 +150,15 @@ def wheel_of(dist: Path) -> Path | None:
 
 
 def wheel_fits() -> bool:
-    """Whether dist/ has a wheel, and the digests of its sources are those of the checkout."""
-    return wheel_of(DIST) is not None and bool(importlib.import_module("sources").fits(DIST))
+    """Whether dist/ has a wheel, and its SOURCES has the digests of the crates and the header of the checkout. What
+    else is in a wheel, as the package for Python, is tested as the checkout has it."""
+    if wheel_of(DIST) is None:
+        return False
+    sources, inputs = map(importlib.import_module, ("sources", "inputs"))
+    try:
+        return not {"crates", "include"}.intersection(sources.changed(sources.read(DIST)))
+    except inputs.Missing:
+        return False
 
 
 def lay_wheel(room: Path) -> Built:
@@ -166,4 +173,4 @@ def lay_wheel(room: Path) -> Built:
                 place.parent.mkdir(parents=True, exist_ok=True)
                 place.write_bytes(packed.read(name))
                 place.chmod(0o755 if place.parent.name == "bin" else 0o644)
-    return finished(Built(room, f"over dist/{wheel.name}, whose sources are these"))
+    return finished(Built(room, f"over dist/{wheel.name}, of these crates"))
