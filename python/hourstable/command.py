@@ -22,6 +22,7 @@ from hourstable.desk import HttpDesk, LocalDesk, Unreachable
 from hourstable.jobs import Settings
 from hourstable.plans import Hysteresis, slices_in
 from hourstable.store import StoreFailed, open_store
+from hourstable.task import FIRST_PROCESS as PROCESSES
 from hourstable.tickets import Tickets
 
 DEMO_SECONDS = 34
@@ -65,7 +66,7 @@ def _control_words(words: argparse.ArgumentParser) -> None:
     words.add_argument("--logs", required=True, metavar="FOLDER",
                        help="for the logs of all jobs, and the ticket of this process")
     words.add_argument("--process", type=int, default=0, metavar="N",
-                       help="its number among all processes of its jobs, 0 to 255 (0)")
+                       help="its number among all planes and assigners, 0 to 63 (0)")
     shared = words.add_mutually_exclusive_group()
     shared.add_argument("--shared", action="store_true", default=None, dest="shared",
                         help="other planes may use the store (the default but for SQLite)")
@@ -116,7 +117,7 @@ def _assigner_words(words: argparse.ArgumentParser) -> None:
     words.add_argument("--assigner", type=int, required=True, metavar="N",
                        help="its number, which no other assigner has")
     words.add_argument("--process", type=int, required=True, metavar="N",
-                       help="its number among all processes, 0 to 255")
+                       help="its number among all planes and assigners, 0 to 63")
     words.add_argument("--ticket", metavar="FILE", help="the file of its last ticket")
     _rule_words(words)
 
@@ -173,19 +174,28 @@ def _control(chosen: argparse.Namespace) -> int:
     return asyncio.run(_run_control(chosen))
 
 
+def _process_number(chosen: argparse.Namespace) -> int:
+    """Returns the number of the process, below those under which tasks and clients draw tickets."""
+    number: int = chosen.process
+    if not 0 <= number < PROCESSES:
+        raise ValueError(f"process {number} is not 0 to {PROCESSES - 1}")
+    return number
+
+
 async def _run_control(chosen: argparse.Namespace) -> int:
     ended = signalled()
     host, _, port = chosen.listen.rpartition(":")
     if not host or not port.isdigit():
         raise ValueError(f"{chosen.listen!r} is not HOST:PORT")
+    process = _process_number(chosen)
     raise_open_files(chosen.most_connections)
     store = open_store(chosen.store)
     shared = store.several if chosen.shared is None else chosen.shared
     folder = Path(chosen.logs)
     folder.mkdir(parents=True, exist_ok=True)
-    tickets = Tickets(chosen.process, folder / f"control-{chosen.process}.ticket")
+    tickets = Tickets(process, folder / f"control-{process}.ticket")
     local = local_clock()
-    settings = Settings(folder, chosen.process, shared, chosen.standby, local=local)
+    settings = Settings(folder, process, shared, chosen.standby, local=local)
     limits = Limits(
         jobs=chosen.most_jobs, connections=chosen.most_connections, grants=chosen.grants,
         burst=2 * chosen.grants,
@@ -278,7 +288,7 @@ def _assigner(chosen: argparse.Namespace) -> int:
 
 
 async def _run_assigner(chosen: argparse.Namespace) -> int:
-    ended, tickets = signalled(), Tickets(chosen.process, chosen.ticket)
+    ended, tickets = signalled(), Tickets(_process_number(chosen), chosen.ticket)
     desk = desk_of(chosen, tickets)
     jobs = AssignerOfJobs(chosen.assigner, desk, local_clock(), _rules_in(chosen))
     running = asyncio.create_task(jobs.run())
