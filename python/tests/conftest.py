@@ -80,7 +80,7 @@ def running() -> Iterator[Callable[[str], str]]:
         def url_of(kind: str) -> str:
             why = engines.missing(kind)
             if why:
-                pytest.skip(why)
+                pytest.fail(why, pytrace=False)
             if kind not in urls:
                 urls[kind] = stack.enter_context(engines.STARTS[kind](top / kind)).url
             return urls[kind]

@@ -1,4 +1,4 @@
-"""Says why tests are skipped where what they need is missing."""
+"""Fails tests where what they need is missing. `tools/setup tests` installs it."""
 
 import os
 import shutil
@@ -7,22 +7,23 @@ import pytest
 
 
 def library() -> None:
-    """Skips the module if the shared object of the library cannot be loaded."""
+    """Fails the module if the shared object of the library cannot be loaded."""
     try:
         import hourstable.library  # noqa: F401
     except OSError as error:
-        pytest.skip(f"there is no library: {error}", allow_module_level=True)
+        pytest.fail(f"there is no library: {error}", pytrace=False)
 
 
 def command(name: str) -> None:
-    """Skips the test if there is no such command."""
+    """Fails the test if there is no such command."""
     if shutil.which(name) is None:
-        pytest.skip(f"there is no {name} (tools/setup tests)")
+        pytest.fail(f"there is no {name} (tools/setup tests)", pytrace=False)
 
 
 def program() -> str:
-    """Returns the program `hourstable`, or skips the test."""
+    """Returns the program `hourstable`, or fails the test."""
     found = os.environ.get("HOURSTABLE_PROGRAM") or shutil.which("hourstable")
     if found is None:
-        pytest.skip("there is no program hourstable: HOURSTABLE_PROGRAM says where it is")
+        why = "there is no program hourstable: HOURSTABLE_PROGRAM says where it is"
+        pytest.fail(why, pytrace=False)
     return found

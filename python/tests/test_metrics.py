@@ -7,7 +7,7 @@ from collections.abc import Iterator
 from pathlib import Path
 from typing import Any
 
-import pytest
+import yaml  # type: ignore[import]
 from prometheus_client.parser import text_string_to_metric_families
 
 import needed
@@ -93,7 +93,6 @@ def expressions_of_the_dashboard() -> list[str]:
 
 
 def rules() -> list[dict[str, Any]]:
-    yaml = pytest.importorskip("yaml", reason="there is no yaml (tools/setup tests)")
     loaded = yaml.safe_load(ALERTS.read_text(encoding="utf-8"))
     found = [rule for group in loaded["groups"] for rule in group["rules"]]
     assert all({"alert", "expr", "labels", "annotations"} <= set(it) for it in found)
