@@ -10,7 +10,7 @@ demo: ## run a small service from the wheel of dist/; ARGS="--store etcd" and so
 test: ## test this checkout over what was built of it, in five minutes, without the kit
 	@tests/run $(ARGS)
 
-prove: ## prove, build and run all crates with the kit, in 90 minutes
+prove: ## prove, build and run all crates with the kit, in an hour or two
 	@tools/proof-costs $(ARGS) rt ci
 
 build: ## prove and build the libraries and programs, and nothing that stands already
