@@ -78,9 +78,7 @@ def running() -> Iterator[Callable[[str], str]]:
         urls: dict[str, str] = {}
 
         def url_of(kind: str) -> str:
-            why = engines.missing(kind)
-            if why:
-                pytest.fail(why, pytrace=False)
+            needed.engine(kind)
             if kind not in urls:
                 urls[kind] = stack.enter_context(engines.STARTS[kind](top / kind)).url
             return urls[kind]

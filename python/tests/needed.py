@@ -20,6 +20,15 @@ def command(name: str) -> None:
         pytest.fail(f"there is no {name} (tools/setup tests)", pytrace=False)
 
 
+def engine(kind: str) -> None:
+    """Fails the test if the servers of a kind of store are not there."""
+    from hourstable.demo import engines
+
+    why = engines.missing(kind)
+    if why:
+        pytest.fail(why, pytrace=False)
+
+
 def program() -> str:
     """Returns the program `hourstable`, or fails the test."""
     found = os.environ.get("HOURSTABLE_PROGRAM") or shutil.which("hourstable")

@@ -13,6 +13,7 @@ from pathlib import Path
 
 import pytest
 
+import needed
 from conftest import folder_for_engines
 from hourstable.demo import engines
 from hourstable.store import (
@@ -186,9 +187,7 @@ def test_what_is_written_outlasts_the_store(url: str, job: str) -> None:
 
 @pytest.mark.parametrize("kind", ["postgresql", "etcd"])
 def test_an_engine_that_is_killed(kind: str) -> None:
-    why = engines.missing(kind)
-    if why:
-        pytest.skip(why)
+    needed.engine(kind)
     with folder_for_engines() as top, engines.STARTS[kind](top / kind) as engine:
         store = open_store(engine.url)
         version = store.swap("shop", store.create("shop", POLICY, b"one"), b"two", "line")
@@ -206,9 +205,7 @@ def test_an_engine_that_is_killed(kind: str) -> None:
 
 
 def test_a_member_of_etcd_that_is_killed() -> None:
-    why = engines.missing("etcd")
-    if why:
-        pytest.skip(why)
+    needed.engine("etcd")
     with folder_for_engines() as top, ExitStack() as stack:
         members = engines.etcd_members(top / "etcd", 3)
         for member in members:
@@ -242,9 +239,7 @@ def written_surely(store: Store, before: Stored, kept: bytes) -> Stored:
 
 
 def test_etcd_that_wants_certificates(certificates: Path) -> None:
-    why = engines.missing("etcd")
-    if why:
-        pytest.skip(why)
+    needed.engine("etcd")
     ca, plane, caller = (certificates / name for name in ("ca.pem", "plane", "caller"))
     keys = f"cert={caller}.pem&key={caller}.key"
     with folder_for_engines() as top, engines.etcd_with_tls(
