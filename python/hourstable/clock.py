@@ -8,28 +8,30 @@ import os
 import re
 from collections.abc import Callable
 
-from hourstable.library import Refused, TableClock, boottime_ticks
+from hourstable.library import Refused, TableClock
+from hourstable.system import SYSTEM, System
 
 GRAIN = 2  # ticks that rounding down may show, for a drift of at most 1
 VARIABLE = "HOURSTABLE_CLOCK"
 FORM = re.compile(r"epoch=(\d+),ppm=([+-]?\d+)")
 
 
-def local_clock(text: str | None = None) -> Callable[[], int]:
-    """Returns the local clock of the process: CLOCK_BOOTTIME in ticks.
+def local_clock(text: str | None = None, system: System = SYSTEM) -> Callable[[], int]:
+    """Returns the local clock of the process: CLOCK_BOOTTIME of its system in ticks.
 
     For tests, `epoch=N,ppm=P` is a clock that is N ticks ahead of it and P parts in a million
     faster. If `text` is None, that of the variable HOURSTABLE_CLOCK is taken. Raises ValueError if
     it has another form.
     """
     text = os.environ.get(VARIABLE, "") if text is None else text
+    ticks = system.ticks
     if not text:
-        return boottime_ticks
+        return ticks
     found = FORM.fullmatch(text)
     if found is None or int(found[2]) <= -1_000_000:
         raise ValueError(f"{text!r} is no clock: epoch=N,ppm=P")
     epoch, per = int(found[1]), 1_000_000 + int(found[2])
-    return lambda: epoch + boottime_ticks() * per // 1_000_000
+    return lambda: epoch + ticks() * per // 1_000_000
 
 
 class JobClock:

@@ -12,8 +12,11 @@ import os
 import re
 import time
 from collections.abc import Callable, Iterator, Mapping, Sequence
+from functools import partial
 from pathlib import Path
 from typing import Any
+
+from hourstable.system import SYSTEM, System
 
 ASSIGNERS, TASKS = 8, 64  # the most that a job may have
 CLERKS = 128  # as many as have a ticket process of their own
@@ -72,9 +75,9 @@ def folder_of(top: str | os.PathLike[str], job: str) -> Path:
     return Path(top) / job
 
 
-def utc_day() -> str:
+def utc_day(system: System = SYSTEM) -> str:
     """Returns the day as YYYY-MM-DD."""
-    return time.strftime("%Y-%m-%d", time.gmtime())
+    return time.strftime("%Y-%m-%d", time.gmtime(system.real_nanoseconds() // 1_000_000_000))
 
 
 class Log:
@@ -91,19 +94,21 @@ class Log:
         name: str,
         job: str,
         *,
-        today: Callable[[], str] = utc_day,
+        today: Callable[[], str] | None = None,
+        system: System = SYSTEM,
     ) -> None:
         self.folder, self.name, self.job = Path(folder), name, job
-        self._today, self._day, self._file = today, "", -1
+        self._system = system
+        self._today, self._day, self._file = today or partial(utc_day, system), "", -1
         self.folder.mkdir(parents=True, exist_ok=True)
-        self._turn_to(today())
+        self._turn_to(self._today())
 
     def append(self, *lines: str) -> None:
         """Writes lines, which the system has when this returns."""
         day = self._today()
         if day != self._day:
             self._turn_to(day)
-        _write_all(self._file, "".join(f"{line}\n" for line in lines).encode())
+        _write_all(self._system, self._file, "".join(f"{line}\n" for line in lines).encode())
 
     def lacking(self, lines: Sequence[str]) -> list[str]:
         """Returns those of the lines that are not in the two newest files. The lines are of line_of
@@ -115,17 +120,18 @@ class Log:
     def close(self) -> None:
         """Closes the file. Nothing is written later."""
         if self._file >= 0:
-            os.close(self._file)
+            self._system.close(self._file)
         self._file, self._day = -1, ""
 
     def _turn_to(self, day: str) -> None:
         path = self.folder / f"{self.name}.{day}{ENDING}"
-        file = os.open(path, os.O_RDWR | os.O_CREAT | os.O_APPEND | os.O_CLOEXEC, 0o644)
+        flags = os.O_RDWR | os.O_CREAT | os.O_APPEND | os.O_CLOEXEC
+        file = self._system.open(path, flags, 0o644)
         try:
-            _mend(file)
+            _mend(self._system, file)
             self._begin(file, path)
         except BaseException:
-            os.close(file)
+            self._system.close(file)
             raise
         self.close()
         self._file, self._day = file, day
@@ -134,17 +140,17 @@ class Log:
         first = self.job.encode() + b"\n"
         found = os.pread(file, len(first), 0)
         if not found:
-            _write_all(file, first)
+            _write_all(self._system, file, first)
         elif found != first:
             raise ValueError(f"{path} begins with another job line")
 
 
-def _write_all(file: int, data: bytes) -> None:
+def _write_all(system: System, file: int, data: bytes) -> None:
     while data:
-        data = data[os.write(file, data):]
+        data = data[system.write(file, data):]
 
 
-def _mend(file: int) -> None:
+def _mend(system: System, file: int) -> None:
     """Ends the last line of a file if it lacks its end and is a JSON text, and leaves it out if it
     is none."""
     size = os.fstat(file).st_size
@@ -161,7 +167,7 @@ def _mend(file: int) -> None:
     except ValueError:
         os.ftruncate(file, size - len(torn))
     else:
-        _write_all(file, b"\n")
+        _write_all(system, file, b"\n")
 
 
 def _lines_from(path: Path, line: bytes) -> list[bytes]:

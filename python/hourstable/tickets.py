@@ -13,9 +13,10 @@ import fcntl
 import mmap
 import os
 import threading
-import time
 from collections.abc import Callable
 from pathlib import Path
+
+from hourstable.system import SYSTEM, System
 
 HEADER = "Hourstable-Ticket"
 COUNTER_BITS = 8
@@ -28,7 +29,7 @@ MAGIC = b"hourstable-ticket"
 
 def real_milliseconds() -> int:
     """Returns the real time in milliseconds since 1970."""
-    return time.time_ns() // 1_000_000
+    return SYSTEM.real_nanoseconds() // 1_000_000
 
 
 def process_of(ticket: int) -> int:
@@ -61,6 +62,9 @@ class Tickets:
     machine. It is locked, so that no other process draws from it. With no path, nothing outlasts
     the process.
 
+    `now` returns milliseconds of real time, and `boot` is the id of this boot of the machine; both
+    are by default those of `system`.
+
     Raises ValueError if `process` is not 0 to 255 or the file is none of tickets, and
     BlockingIOError if another process draws from the file.
     """
@@ -72,16 +76,23 @@ class Tickets:
         *,
         now: Callable[[], int] | None = None,
         ahead: int = 10_000,
+        boot: bytes | None = None,
+        system: System = SYSTEM,
     ) -> None:
         if not 0 <= process < 1 << PROCESS_BITS:
             raise ValueError(f"process {process} is not 0 to 255")
         self.process = process
-        self._now = real_milliseconds if now is None else now
-        self._real = real_milliseconds if now is follow else self._now
+        self._system = system
+        self._now = self._real_milliseconds if now is None else now
+        self._real = self._real_milliseconds if now is follow else self._now
         self._ahead = ahead << COUNTER_BITS
         self._lock = threading.Lock()
-        self._file = None if path is None else _Kept(Path(path))
+        boot = system.boot() if boot is None else boot
+        self._file = None if path is None else _Kept(Path(path), boot, system)
         self._last = 0 if self._file is None else self._file.last()
+
+    def _real_milliseconds(self) -> int:
+        return self._system.real_nanoseconds() // 1_000_000
 
     def draw(self) -> int:
         """Returns a ticket above all that were drawn or observed before. Raises OverflowError if
@@ -141,14 +152,14 @@ class _Fields(ctypes.Structure):
 class _Kept:
     """The file of a process, in shared memory: what is written there outlasts a killed process."""
 
-    def __init__(self, path: Path) -> None:
-        self.path = path
-        self.file = os.open(path, os.O_RDWR | os.O_CREAT | os.O_CLOEXEC, 0o644)
+    def __init__(self, path: Path, boot: bytes, system: System) -> None:
+        self.path, self.boot, self.system = path, boot, system
+        self.file = system.open(path, os.O_RDWR | os.O_CREAT | os.O_CLOEXEC, 0o644)
         try:
             fcntl.flock(self.file, fcntl.LOCK_EX | fcntl.LOCK_NB)
             self._open()
         except BaseException:
-            os.close(self.file)
+            system.close(self.file)
             raise
 
     def _open(self) -> None:
@@ -167,7 +178,7 @@ class _Kept:
 
     def last(self) -> int:
         """Returns a place that is not below the last one drawn."""
-        boot, ceiling = _boot(), self.fields.ceiling
+        boot, ceiling = self.boot, self.fields.ceiling
         if boot and boot == self.fields.boot and self.fields.last < ceiling:
             return int(self.fields.last)
         self.fields.last = max(0, ceiling - 1)
@@ -178,18 +189,10 @@ class _Kept:
         """Keeps a place that is about to be drawn, and if need be a new one above it."""
         if place >= self.fields.ceiling:
             self.fields.ceiling = min(place + ahead + 1, PLACES)
-            self.memory.flush()
+            self.system.flush(self.memory)
         self.fields.last = place
 
     def close(self) -> None:
         del self.fields
         self.memory.close()
-        os.close(self.file)
-
-
-def _boot() -> bytes:
-    """Returns the id of this boot of the machine, or nothing where the system tells none."""
-    try:
-        return Path("/proc/sys/kernel/random/boot_id").read_bytes().strip()
-    except OSError:
-        return b""
+        self.system.close(self.file)

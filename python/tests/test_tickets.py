@@ -1,16 +1,17 @@
 """Tests of hourstable.tickets. Expected numbers are worked by hand from ms << 16 | counter << 8 |
 process."""
 
+import mmap
 import os
 import random
 import subprocess
 import sys
 import time
 from pathlib import Path
-from types import SimpleNamespace
 
 import pytest
 
+from hourstable.system import System
 from hourstable.tickets import DAY, Tickets, follow, milliseconds_of, process_of
 
 
@@ -150,32 +151,26 @@ def test_the_last_ticket_outlasts_a_killed_process(tmp_path: Path) -> None:
     assert len(drawn) > 100
 
 
-def at_another_boot(monkeypatch: pytest.MonkeyPatch) -> None:
-    monkeypatch.setattr("hourstable.tickets._boot", lambda: b"another")
-
-
-def test_the_machine_may_crash_before_the_last_is_on_the_disk(
-    tmp_path: Path, monkeypatch: pytest.MonkeyPatch
-) -> None:
+def test_the_machine_may_crash_before_the_last_is_on_the_disk(tmp_path: Path) -> None:
     path = tmp_path / "ticket"
     clock = Clock(1000)
     first = Tickets(4, path, now=clock, ahead=50)
     first.draw()  # what is above all places is then 1050 << 8 | 1
     first.close()
-    at_another_boot(monkeypatch)
     clock.now = 3
-    second = Tickets(4, path, now=clock, ahead=50)
+    second = Tickets(4, path, now=clock, ahead=50, boot=b"another")
     assert second.draw() == 1050 << 16 | 1 << 8 | 4
 
 
-def test_most_draws_write_nothing(tmp_path: Path, monkeypatch: pytest.MonkeyPatch) -> None:
+def test_most_draws_write_nothing(tmp_path: Path) -> None:
     clock = Clock(1000)
     flushes = []
-    tickets = Tickets(4, tmp_path / "ticket", now=clock, ahead=50)
-    assert tickets._file is not None
-    monkeypatch.setattr(
-        tickets._file, "memory", SimpleNamespace(flush=lambda: flushes.append(clock.now))
-    )
+
+    class Watched(System):
+        def flush(self, memory: mmap.mmap) -> None:
+            flushes.append(clock.now)
+
+    tickets = Tickets(4, tmp_path / "ticket", now=clock, ahead=50, system=Watched())
     for now in [1000, 1000, 1001, 1049, 1050, 1051, 1100, 1101, 1102]:
         clock.now = now
         tickets.draw()

@@ -1,0 +1,57 @@
+"""What a process asks of its operating system: clocks, chance and files.
+
+Planes, tasks, routers, logs and tickets take a `System`, by default the one that they run on. A test or a simulator
+passes one of its own, whose clocks run wrong, whose chance is seeded or whose disk is full.
+"""
+
+import mmap
+import os
+import random
+import time
+from pathlib import Path
+
+BOOT_ID = Path("/proc/sys/kernel/random/boot_id")
+
+
+class System:
+    """The operating system of this process."""
+
+    open = staticmethod(os.open)
+    """Opens a file by flags and a mode as `os.open` does, and returns its number. Raises OSError."""
+
+    write = staticmethod(os.write)
+    """Writes bytes to an open file, and returns how many it took. Raises OSError."""
+
+    close = staticmethod(os.close)
+    """Closes an open file, and ends its lock."""
+
+    @staticmethod
+    def ticks() -> int:
+        """Returns CLOCK_BOOTTIME in ticks. It counts the time for which the machine is suspended."""
+        return time.clock_gettime_ns(time.CLOCK_BOOTTIME) // 1_000_000
+
+    def monotonic(self) -> float:
+        """Returns seconds that never fall, from any start."""
+        return time.monotonic()
+
+    def real_nanoseconds(self) -> int:
+        """Returns the nanoseconds of real time since 1970, which may jump."""
+        return time.time_ns()
+
+    def boot(self) -> bytes:
+        """Returns the id of this boot of the machine, or nothing where the system tells none."""
+        try:
+            return BOOT_ID.read_bytes().strip()
+        except OSError:
+            return b""
+
+    def flush(self, memory: mmap.mmap) -> None:
+        """Returns when the bytes of a mapped file are on the disk. Raises OSError."""
+        memory.flush()
+
+    def random(self) -> random.Random:
+        """Returns a generator of random numbers with a seed of its own."""
+        return random.Random()
+
+
+SYSTEM = System()
