@@ -10,9 +10,9 @@ from urllib.parse import quote
 import aiohttp
 
 from .tickets import HEADER, Tickets
+from .transport import Fetched, Http, Transport
 from .waiting import within
 
-Fetched = tuple[int, Mapping[str, str], bytes]
 READING = "Hourstable-Reading"
 TIMEOUT = 2.0  # seconds that a call may take
 WAIT = 30.0  # seconds that a waiting GET takes if nothing happens
@@ -56,7 +56,8 @@ class Control:
 
     A call goes to the one that answered last. At a failed connection, an answer that does not come
     in time or a 503 it goes to the next one, each once. A request that is sent again is another
-    request, with a `sent` of its own.
+    request, with a `sent` of its own. `transport` brings requests to planes in place of HTTP by
+    `tls`; its owner closes it.
     """
 
     def __init__(
@@ -69,15 +70,19 @@ class Control:
         secret: str | None = None,
         tls: ssl.SSLContext | None = None,
         timeout: float = TIMEOUT,
+        transport: Transport | None = None,
     ) -> None:
         self.urls = [urls] if isinstance(urls, str) else list(urls)
         if not self.urls:
             raise ValueError("there is no control plane")
         self.job, self.tickets, self.local_clock = job, tickets, local_clock
         self.timeout = timeout
-        self._secret, self._tls = secret, tls
+        self._headers = {"Content-Type": "application/json"}
+        if secret is not None:
+            self._headers["Authorization"] = f"Bearer {secret}"
+        self._own = Http(tls)
+        self._transport = transport or self._own
         self._at = 0
-        self._session: aiohttp.ClientSession | None = None
 
     async def call(
         self,
@@ -109,26 +114,12 @@ class Control:
         return _taken(status, headers, found, sent)
 
     async def _fetch(self, method: str, url: str, body: bytes | None) -> Fetched:
-        headers = {HEADER: str(self.tickets.draw())}
-        async with self._opened().request(
-            method, url, data=body, headers=headers, ssl=self._tls
-        ) as response:
-            return response.status, response.headers, await response.read()
-
-    def _opened(self) -> aiohttp.ClientSession:
-        if self._session is None:
-            headers = {"Content-Type": "application/json"}
-            if self._secret is not None:
-                headers["Authorization"] = f"Bearer {self._secret}"
-            forever = aiohttp.ClientTimeout()  # `within` limits each call
-            self._session = aiohttp.ClientSession(headers=headers, timeout=forever)
-        return self._session
+        headers = {**self._headers, HEADER: str(self.tickets.draw())}
+        return await self._transport.fetch(method, url, headers, body)
 
     async def close(self) -> None:
         """Closes all connections."""
-        session, self._session = self._session, None
-        if session is not None:
-            await session.close()
+        await self._own.close()
 
     async def __aenter__(self) -> "Control":
         return self

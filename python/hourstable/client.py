@@ -10,18 +10,18 @@ the key says so, and `send` tries again.
 import asyncio
 import logging
 import os
-import random
 import ssl
-import time
 from collections import Counter as Counts
 from collections.abc import Awaitable, Callable, Sequence
 from typing import Any, TypeVar
 
 from .calls import TIMEOUT, WAIT, Backoff, Control, Unreachable
-from .clock import local_clock
+from .clock import local_clock as local_clock_of
 from .library import CALLS, Clerk, Found, LoggedCall, Refused, log_line, owners_of, slice_key
 from .logs import Log, folder_of, job_line
+from .system import SYSTEM, System
 from .tickets import Tickets, follow
+from .transport import Transport
 from .waiting import pause
 
 FIRST_PROCESS = 128  # of clients
@@ -42,7 +42,8 @@ class Router:
 
     With `by_load` it picks, of several owners, the one to which the fewest attempts are underway,
     and else one at random. With `logs` it writes a log of its clerk, which is number `clerk` of
-    the job, 1 to 128.
+    the job, 1 to 128. `transport` brings its requests to planes in place of HTTP, `local_clock` is
+    the clock by which answers are timed, and `system` has its other clocks, chance and files.
     """
 
     def __init__(
@@ -57,16 +58,20 @@ class Router:
         secret: str | None = None,
         tls: ssl.SSLContext | None = None,
         timeout: float = TIMEOUT,
+        local_clock: Callable[[], int] | None = None,
+        transport: Transport | None = None,
+        system: System = SYSTEM,
     ) -> None:
         self.job, self.clerk, self.by_load = job, clerk, by_load
-        self._logs = logs
+        self._logs, self._system = logs, system
         self._tickets = self._tickets_of(process)
         self._control = Control(
-            control, job, self._tickets, local_clock(), secret=secret, tls=tls, timeout=timeout
+            control, job, self._tickets, local_clock or local_clock_of(system=system),
+            secret=secret, tls=tls, timeout=timeout, transport=transport,
         )
         self._clerk = Clerk(job)
         self._log: Log | None = None
-        self._random = random.Random()
+        self._random = system.random()
         self._generation = 0
         self._heard: float | None = None  # when a control plane last answered
         self._underway: Counts[int] = Counts()
@@ -76,10 +81,11 @@ class Router:
     def _tickets_of(self, process: int | None) -> Tickets:
         number = FIRST_PROCESS + self.clerk - 1 if process is None else process
         if self._logs is None:
-            return Tickets(number, None, now=follow)
+            return Tickets(number, None, now=follow, system=self._system)
         folder = folder_of(self._logs, self.job)
         folder.mkdir(parents=True, exist_ok=True)
-        return Tickets(number, folder / f"clerk-{self.clerk}.ticket", now=follow)
+        path = folder / f"clerk-{self.clerk}.ticket"
+        return Tickets(number, path, now=follow, system=self._system)
 
     async def start(self) -> None:
         """Begins to follow the assignments of the job."""
@@ -114,7 +120,7 @@ class Router:
     def stale(self) -> float:
         """Returns for how many seconds no control plane has said that the known assignment is the
         newest: the time since the last answer, and so up to 30 s if all is well."""
-        return float("inf") if self._heard is None else time.monotonic() - self._heard
+        return float("inf") if self._heard is None else self._system.monotonic() - self._heard
 
     def owners(self, key: str) -> Found:
         """Returns the owners of a key and the generation. Raises NoOwner if nothing is known."""
@@ -146,14 +152,14 @@ class Router:
         the client.
         """
         backoff = Backoff(self._random.random, least=0.01, most=0.5)
-        end = time.monotonic() + patience
+        end = self._system.monotonic() + patience
         while True:
             if self._running is not None and self._running.done():
                 self._running.result()
             try:
                 return await self._attempt(self.pick(key), attempt)
             except (Again, NoOwner):
-                left = end - time.monotonic()
+                left = end - self._system.monotonic()
                 if left <= 0:
                     raise
             await self._pause(min(backoff.seconds(), left))
@@ -186,14 +192,15 @@ class Router:
 
     async def _open_log(self, logs: str | os.PathLike[str]) -> None:
         policy = (await self._control.call("GET")).value()["policy"]
-        self._log = Log(folder_of(logs, self.job), f"clerk-{self.clerk}", job_line(policy))
+        folder, name = folder_of(logs, self.job), f"clerk-{self.clerk}"
+        self._log = Log(folder, name, job_line(policy), system=self._system)
         self._tell("forget")  # what an earlier process of this clerk had learnt
 
     async def _learn(self) -> None:
         """Learns the next assignment, as soon as there is one."""
         path = f"/assignment?after={self._generation}"
         answer = await self._control.call("GET", path, timeout=WAIT + self._control.timeout)
-        self._heard = time.monotonic()
+        self._heard = self._system.monotonic()
         if answer.status == 204:
             return
         value = answer.value()["value"]

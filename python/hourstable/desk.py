@@ -3,9 +3,9 @@
 import asyncio
 import json
 import ssl
-import time
 from collections.abc import Sequence
 from typing import Any, NamedTuple, Protocol
+from urllib.parse import urlencode
 
 import aiohttp
 
@@ -14,6 +14,7 @@ from hourstable.jobs import Call, Commit, Malformed, Propose, Renew, Replaced, T
 from hourstable.metrics import word_of
 from hourstable.store import Conflict, NoSuchJob, StoreFailed
 from hourstable.tickets import HEADER, Tickets
+from hourstable.transport import Http, Transport
 
 
 class Unreachable(Exception):
@@ -62,7 +63,8 @@ class LocalDesk:
             raise Unreachable(str(error)) from error
 
     async def loads(self, job: str) -> list[list[Any]]:
-        return self._plane.jobs[job].loads.newest(time.monotonic())
+        now = self._plane.settings.system.monotonic()
+        return self._plane.jobs[job].loads.newest(now)
 
     async def assignment(self, job: str) -> bytes | None:
         return self._plane.jobs[job].job.view.assignment
@@ -94,16 +96,16 @@ class LocalDesk:
 
 class HttpDesk:
     """The desk of control planes elsewhere: the first of them that answers is asked, until it does
-    not."""
+    not. `transport` brings requests to them in place of HTTP by `tls`; its owner closes it."""
 
     def __init__(
         self, urls: Sequence[str], tickets: Tickets, secret: str | None = None,
-        tls: ssl.SSLContext | None = None,
+        tls: ssl.SSLContext | None = None, transport: Transport | None = None,
     ) -> None:
         self._urls, self._tickets = [url.rstrip("/") for url in urls], tickets
         self._headers = {"Authorization": f"Bearer {secret}"} if secret else {}
-        self._tls = tls
-        self._session: aiohttp.ClientSession | None = None
+        self._own = Http(tls)
+        self._transport = transport or self._own
 
     async def ask(
         self, method: str, path: str, body: bytes | None = None, **query: int
@@ -111,8 +113,9 @@ class HttpDesk:
         """Returns the status, the body and the reading of an answer. Raises Unreachable if no plane
         answers with less than 429."""
         why = "there is no control plane"
+        path += f"?{urlencode(query)}" if query else ""
         for _ in self._urls:
-            asked = asyncio.create_task(self._try(method, self._urls[0] + path, body, query))
+            asked = asyncio.create_task(self._try(method, self._urls[0] + path, body))
             try:
                 await asyncio.wait([asked], timeout=PATIENCE)
                 if asked.done():
@@ -130,18 +133,13 @@ class HttpDesk:
         raise Unreachable(why)
 
     async def _try(
-        self, method: str, url: str, body: bytes | None, query: dict[str, int]
+        self, method: str, url: str, body: bytes | None
     ) -> tuple[int, bytes, int | None]:
-        if self._session is None:
-            self._session = aiohttp.ClientSession(timeout=aiohttp.ClientTimeout())
         headers = {**self._headers, HEADER: str(self._tickets.draw())}
-        async with self._session.request(
-            method, url, data=body, params=query, headers=headers, ssl=self._tls
-        ) as answer:
-            text = await answer.read()
-            self._tickets.observe_text(answer.headers.get(HEADER))
-            reading = answer.headers.get(READING)
-            return answer.status, text, int(reading) if reading else None
+        status, told, text = await self._transport.fetch(method, url, headers, body)
+        self._tickets.observe_text(told.get(HEADER))
+        reading = told.get(READING)
+        return status, text, int(reading) if reading else None
 
     async def _value(self, method: str, path: str, body: object = None) -> dict[str, Any]:
         given = None if body is None else json.dumps(body).encode()
@@ -198,5 +196,4 @@ class HttpDesk:
 
     async def close(self) -> None:
         """Closes all connections."""
-        if self._session is not None:
-            await self._session.close()
+        await self._own.close()

@@ -13,7 +13,6 @@ message is on its way.
 import asyncio
 import logging
 import os
-import random
 import ssl
 from collections import Counter as Counts
 from collections.abc import AsyncIterator, Awaitable, Callable, Coroutine, Mapping, Sequence
@@ -28,7 +27,9 @@ from .leases import KINDS, ClockBehind, Leases, policy_of
 from .library import KeyHandle, Phase, Policy, Refused, TaskClock, slice_key
 from .logs import Log, folder_of, job_line
 from .ranges import KEYS, Ranges, holds, minus
+from .system import SYSTEM, System
 from .tickets import Tickets, follow
+from .transport import Transport
 from .waiting import pause, within
 
 GRAIN = 2
@@ -64,6 +65,14 @@ class LeaseLost(Exception):
 
 class ClockBroken(Exception):
     """A clock breaks the drift that it was given. The task gave up its leases, and has ended."""
+
+
+class Renewed(NamedTuple):
+    """How many leases a task heard since its start, and when it heard the last one, by the seconds
+    of its system that never fall; None if it heard none."""
+
+    times: int
+    last: float | None
 
 
 class Lease:
@@ -155,6 +164,9 @@ class Task:
     seconds, before the lease is released. Then blocks of `serving` that are open on these keys
     have as long to end, and new ones are denied as `moving`. `deadline` is the reading of the
     task's clock at which the lease ends anyway.
+
+    `transport` brings its requests to planes in place of HTTP by `tls`. `system` has its clocks but
+    for `local_clock`, its chance and its files.
     """
 
     def __init__(
@@ -177,22 +189,27 @@ class Task:
         timeout: float = TIMEOUT,
         patience: float = 1.0,
         report: float = 5.0,
+        transport: Transport | None = None,
+        system: System = SYSTEM,
     ) -> None:
         self.job, self.task = job, task
         self.metrics = Metrics(job, task)
         self.clock_behind_total = 0  # how often its clock stopped the task
+        self.renewed = Renewed(0, None)
+        self._system = system
         self._folder = folder_of(logs, job)
         self._folder.mkdir(parents=True, exist_ok=True)
         self._tickets = tickets or self._tickets_of(process)
-        self._local_clock = local_clock or local_clock_of()
+        self._local_clock = local_clock or local_clock_of(system=system)
         self._control = Control(
-            control, job, self._tickets, self._local_clock, secret=secret, tls=tls, timeout=timeout
+            control, job, self._tickets, self._local_clock, secret=secret, tls=tls, timeout=timeout,
+            transport=transport,
         )
         self._given_policy = policy
         self._on_gain, self._on_lose = on_gain, on_lose
         self._drift, self._oldest = drift, oldest
         self._patience, self._report_every = patience, report
-        self._random = random.Random()
+        self._random = system.random()
         self._policy: Policy | None = None
         self._most = TIMEOUT  # seconds of a call, and between two that fail
         self._log: Log | None = None
@@ -211,7 +228,7 @@ class Task:
     def _tickets_of(self, process: int | None) -> Tickets:
         number = FIRST_PROCESS + self.task - 1 if process is None else process
         path = self._folder / f"task-{self.task}.ticket"
-        return Tickets(number, path, now=follow)
+        return Tickets(number, path, now=follow, system=self._system)
 
     # Life of the process. -----------------------------------------------------------------------
 
@@ -222,7 +239,8 @@ class Task:
         # A lease that is renewed at half of it leaves time for two calls that are lost.
         self._most = min(TIMEOUT, self._policy.guard / 5000)
         self._control.timeout = min(self._control.timeout, self._most)
-        self._log = Log(self._folder, f"task-{self.task}", job_line(members))
+        name = f"task-{self.task}"
+        self._log = Log(self._folder, name, job_line(members), system=self._system)
         loops = (self._watch(), self._act(), self._report())
         self._running = [asyncio.create_task(loop) for loop in loops]
 
@@ -302,6 +320,11 @@ class Task:
         finally:
             self._open.discard(lease)
             self._left.set()
+
+    def ask(self, key: str) -> Lease:
+        """Asks for a key as the entry of a block of `serving` does, and returns the right to it.
+        Nobody waits for its end before the key moves. Raises Denied."""
+        return self._enter(key)
 
     def hold(self, key: str) -> Hold:
         """Takes a handle on a key, for work that takes a while. Raises Denied."""
@@ -493,6 +516,7 @@ class Task:
         kind = str(answer.value()["value"]["kind"])
         self._learn_phase(kind, leases.held[kind].generation)
         self.metrics.heard(kind)
+        self.renewed = Renewed(self.renewed.times + 1, self._system.monotonic())
         self.metrics.left.set(leases.calls_left())
         at = leases.read()
         half = max(0, leases.held[kind].until - at) / 2
