@@ -10,19 +10,17 @@ import ssl
 import subprocess
 import sys
 import tempfile
-import time
 from collections.abc import Sequence
 from pathlib import Path
 
 from hourstable import installed, logs
 from hourstable.assigner import AssignerOfJobs
 from hourstable.clock import local_clock
-from hourstable.control import Limits, Plane
-from hourstable.desk import HttpDesk, LocalDesk, Unreachable
-from hourstable.jobs import Settings
+from hourstable.control import Limits
+from hourstable.desk import HttpDesk, Unreachable
 from hourstable.plans import Hysteresis, slices_in
-from hourstable.store import StoreFailed, open_store
-from hourstable.task import FIRST_PROCESS as PROCESSES
+from hourstable.service import ControlPlane, Options, process_number
+from hourstable.store import StoreFailed
 from hourstable.tickets import Tickets
 
 DEMO_SECONDS = 34
@@ -174,53 +172,38 @@ def _control(chosen: argparse.Namespace) -> int:
     return asyncio.run(_run_control(chosen))
 
 
-def _process_number(chosen: argparse.Namespace) -> int:
-    """Returns the number of the process, below those under which tasks and clients draw tickets."""
-    number: int = chosen.process
-    if not 0 <= number < PROCESSES:
-        raise ValueError(f"process {number} is not 0 to {PROCESSES - 1}")
-    return number
-
-
-async def _run_control(chosen: argparse.Namespace) -> int:
-    ended = signalled()
+def options_of(chosen: argparse.Namespace) -> Options:
+    """Returns the options of a control plane from the words of the command. Raises ValueError."""
     host, _, port = chosen.listen.rpartition(":")
     if not host or not port.isdigit():
         raise ValueError(f"{chosen.listen!r} is not HOST:PORT")
-    process = _process_number(chosen)
-    raise_open_files(chosen.most_connections)
-    store = open_store(chosen.store)
-    shared = store.several if chosen.shared is None else chosen.shared
-    folder = Path(chosen.logs)
-    folder.mkdir(parents=True, exist_ok=True)
-    tickets = Tickets(process, folder / f"control-{process}.ticket")
-    local = local_clock()
-    settings = Settings(folder, process, shared, chosen.standby, local=local)
     limits = Limits(
         jobs=chosen.most_jobs, connections=chosen.most_connections, grants=chosen.grants,
         burst=2 * chosen.grants,
     )
-    secrets = secrets_in(chosen.secret_file) if chosen.secret_file else []
-    tls = server_tls(chosen)
-    plane = Plane(store, settings, tickets, limits, secrets)
-    made = await plane.start(host.strip("[]"), int(port), tls)
-    print(f"listening on {'https' if tls else 'http'}://{host}:{made}", flush=True)
-    if not secrets and not chosen.tls_client_ca:
+    return Options(
+        chosen.store, Path(chosen.logs), host.strip("[]"), int(port),
+        process=process_number(chosen.process), shared=chosen.shared, standby=chosen.standby,
+        assigner=chosen.assigner,
+        secrets=secrets_in(chosen.secret_file) if chosen.secret_file else [],
+        tls=server_tls(chosen), limits=limits, rules=_rules_in(chosen),
+    )
+
+
+async def _run_control(chosen: argparse.Namespace) -> int:
+    """Runs a control plane until the process is told to end."""
+    ended, options = signalled(), options_of(chosen)
+    raise_open_files(chosen.most_connections)
+    running = ControlPlane(options)
+    port = await running.start()
+    url = f"{'https' if options.tls else 'http'}://{chosen.listen.rpartition(':')[0]}:{port}"
+    print(f"listening on {url}", flush=True)
+    if not options.secrets and not chosen.tls_client_ca:
         logging.getLogger("hourstable").warning(
             "callers are not known: set --secret-file or --tls-client-ca"
         )
-    assigner = None
-    if chosen.assigner:
-        rules = _rules_in(chosen)
-        jobs = AssignerOfJobs(chosen.assigner, LocalDesk(plane), local, rules)
-        assigner = asyncio.create_task(jobs.run())
     await ended.wait()
-    if assigner is not None:
-        assigner.cancel()
-        await asyncio.gather(assigner, return_exceptions=True)
-    await plane.stop()
-    store.close()
-    tickets.close()
+    await running.stop()
     return 0
 
 
@@ -288,7 +271,7 @@ def _assigner(chosen: argparse.Namespace) -> int:
 
 
 async def _run_assigner(chosen: argparse.Namespace) -> int:
-    ended, tickets = signalled(), Tickets(_process_number(chosen), chosen.ticket)
+    ended, tickets = signalled(), Tickets(process_number(chosen.process), chosen.ticket)
     desk = desk_of(chosen, tickets)
     jobs = AssignerOfJobs(chosen.assigner, desk, local_clock(), _rules_in(chosen))
     running = asyncio.create_task(jobs.run())
@@ -309,11 +292,12 @@ def _drain(chosen: argparse.Namespace) -> int:
 async def _run_drain(chosen: argparse.Namespace) -> int:
     """Drains a task, and waits until it owns no key, if that is asked for."""
     desk = desk_of(chosen, Tickets(255, None))
-    end = time.monotonic() + chosen.wait
+    loop = asyncio.get_running_loop()
+    end = loop.time() + chosen.wait
     try:
         await desk.drain(chosen.job, chosen.task)
         while chosen.wait and chosen.task in owners_in(await desk.assignment(chosen.job)):
-            if time.monotonic() > end:
+            if loop.time() > end:
                 raise Unreachable(f"task {chosen.task} still owns keys")
             await asyncio.sleep(0.2)
     finally:

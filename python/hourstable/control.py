@@ -10,7 +10,6 @@ import json
 import logging
 import math
 import ssl
-import time
 from collections.abc import Awaitable, Callable
 from concurrent.futures import ThreadPoolExecutor
 from dataclasses import dataclass, field
@@ -126,6 +125,7 @@ class Plane:
         self.store, self.settings, self.tickets = store, settings, tickets
         self.limits = limits or Limits()
         self.metrics = Metrics()
+        self._now = settings.system.monotonic
         self.jobs: dict[str, Followed] = {}
         self.is_closing = False
         self._secrets = [secret.encode() for secret in secrets or []]
@@ -172,6 +172,10 @@ class Plane:
         for followed in self.jobs.values():
             followed.job.close()
         self._pool.shutdown(wait=False, cancel_futures=True)
+
+    def idle(self) -> bool:
+        """Whether no call of a job waits, and nothing of one is being read, made or stored."""
+        return all(followed.job.idle() for followed in self.jobs.values())
 
     async def _settle(self, job: Job) -> None:
         """Makes the calls of a job that wait, and settles it."""
@@ -256,7 +260,7 @@ class Plane:
         self, name: str, task: int, life: int
     ) -> "asyncio.Future[Made[bytes]]":
         """Asks the table for a grant. Raises NoSuchJob and Limited."""
-        followed, now = await self.followed(name), time.monotonic()
+        followed, now = await self.followed(name), self._now()
         bucket = followed.buckets.setdefault(
             task, Bucket(self.limits.grants, self.limits.burst, now)
         )
@@ -293,7 +297,7 @@ class Plane:
     async def status(self, name: str) -> dict[str, Any]:
         """Returns what GET /jobs/J answers."""
         followed = await self.followed(name)
-        job, now = followed.job, time.monotonic()
+        job, now = followed.job, self._now()
         committed, proposed, _ = job.view
         return {
             "job": name, "policy": job.members, "holder": job.is_held,
@@ -308,7 +312,7 @@ class Plane:
 
     def shown(self) -> list[Shown]:
         """Returns what the gauges show."""
-        now = time.monotonic()
+        now = self._now()
         return [Shown(name, _numbers_of(one, now)) for name, one in self.jobs.items()]
 
     # HTTP ------------------------------------------------------------------------------------
@@ -348,7 +352,7 @@ class Plane:
     async def _around(self, request: web.Request, handler: Handler) -> web.StreamResponse:
         """Checks the secret, observes the ticket, and counts. What is answered without a secret
         observes no ticket, so that a stranger does not move those of the plane."""
-        begun, is_public = time.monotonic(), request.path in PUBLIC
+        begun, is_public = self._now(), request.path in PUBLIC
         if not is_public and not self._knows(request):
             self.metrics.unauthorized.inc()
             answer = failure(401, "the secret is missing or wrong")
@@ -364,7 +368,7 @@ class Plane:
         if request.method != "GET":
             route = request.match_info.route.resource
             call = route.canonical.rpartition("/")[2] if route else "none"
-            self.metrics.request_seconds.labels(call).observe(time.monotonic() - begun)
+            self.metrics.request_seconds.labels(call).observe(self._now() - begun)
         return made
 
     def _knows(self, request: web.Request) -> bool:
@@ -423,30 +427,30 @@ class Plane:
         return answer_of(await self.status(job_in(request)))
 
     async def _get_overview(self, _: web.Request) -> web.Response:
-        now = time.monotonic()
+        now = self._now()
         return answer_of({"jobs": [page.overview_of(it, now) for it in self.jobs.values()]})
 
     async def _get_leases(self, request: web.Request) -> web.Response:
         followed = await self.followed(job_in(request))
-        return answer_of(page.leases_of(followed, time.monotonic()))
+        return answer_of(page.leases_of(followed, self._now()))
 
     async def _get_slices(self, request: web.Request) -> web.Response:
         followed = await self.followed(job_in(request))
-        return answer_of(page.slices_of(followed, time.monotonic()))
+        return answer_of(page.slices_of(followed, self._now()))
 
     async def _get_key(self, request: web.Request) -> web.Response:
         followed, key = await self.followed(job_in(request)), request.query.get("key")
         if key is None or len(key) > MOST_KEY:
             raise Malformed(f"key is missing or has more than {MOST_KEY} characters")
-        alive = followed.alive(time.monotonic())
+        alive = followed.alive(self._now())
         told = KeyTold(followed.job, followed.lanes, alive, followed.draining(), key)
         return answer_of(told.value())
 
     async def _get_assignment(self, request: web.Request) -> web.Response:
         job = (await self.followed(job_in(request))).job
-        after, until = number_in(request, "after", 0), time.monotonic() + LONGEST_WAIT
+        after, until = number_in(request, "after", 0), self._now() + LONGEST_WAIT
         while job.view.committed <= after:
-            left = until - time.monotonic()
+            left = until - self._now()
             if left <= 0 or self.is_closing:
                 return web.Response(status=204)
             await job.changed(left)
@@ -454,11 +458,11 @@ class Plane:
         return message_of(job.view.assignment)
 
     async def _get_phase(self, request: web.Request) -> web.Response:
-        job, until = (await self.followed(job_in(request))).job, time.monotonic() + LONGEST_WAIT
+        job, until = (await self.followed(job_in(request))).job, self._now() + LONGEST_WAIT
         waits = {"committed", "pending"} <= set(request.query)
         known = number_in(request, "committed", 0), number_in(request, "pending", 0)
         while waits and job.view[:2] == known and not self.is_closing:
-            left = until - time.monotonic()
+            left = until - self._now()
             if left <= 0:
                 break
             await job.changed(left)
@@ -468,14 +472,14 @@ class Plane:
 
     async def _get_loads(self, request: web.Request) -> web.Response:
         followed = await self.followed(job_in(request))
-        return answer_of({"loads": followed.loads.newest(time.monotonic())})
+        return answer_of({"loads": followed.loads.newest(self._now())})
 
     async def _post_loads(self, request: web.Request) -> web.Response:
         followed, given = await self.followed(job_in(request)), await json_of(request)
         task = member(given, "task", TASKS)
         try:
             denials = Denials.read(given)
-            followed.loads.report(task, given.get("loads"), time.monotonic())
+            followed.loads.report(task, given.get("loads"), self._now())
             followed.denials[task] = denials
         except ValueError as error:
             raise Malformed(str(error)) from error

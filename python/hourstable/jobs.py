@@ -9,7 +9,6 @@ call restores a table from what is stored, as after a restart.
 
 import asyncio
 import json
-import time
 from abc import ABC, abstractmethod
 from collections import OrderedDict, deque
 from collections.abc import Callable, Sequence
@@ -20,8 +19,9 @@ from typing import Any, Generic, NamedTuple, TypeVar
 
 from hourstable import library, logs
 from hourstable.clock import JobClock
-from hourstable.library import JobTerm, Policy, Refused, Table, boottime_ticks
+from hourstable.library import JobTerm, Policy, Refused, Table
 from hourstable.store import Conflict, Life, NoSuchJob, Store, Stored, StoreFailed
+from hourstable.system import SYSTEM, System
 from hourstable.tickets import Tickets, process_of
 
 T = TypeVar("T")
@@ -149,7 +149,8 @@ class Played(NamedTuple):
 
 @dataclass
 class Settings:
-    """How a control plane keeps its jobs."""
+    """How a control plane keeps its jobs. `local` is the clock that the tables' clocks go by;
+    `system` has its other clocks and its files."""
 
     logs: Path
     process: int
@@ -157,7 +158,8 @@ class Settings:
     standby: float = 2.0  # seconds for which a store stands still before another plane takes over
     grants_ahead: int = 256  # if no other plane uses the store
     ticks_ahead: int = 1000
-    local: Callable[[], int] = field(default=boottime_ticks)
+    local: Callable[[], int] = field(default=SYSTEM.ticks)
+    system: System = SYSTEM
 
 
 class Counters:
@@ -185,6 +187,7 @@ class Job:
     ) -> None:
         self.name, self.settings, self.tickets = name, settings, tickets
         self._store, self._pool, self._counters = store, pool, counters
+        self._now = settings.system.monotonic
         self._lock = asyncio.Lock()
         self._waiting: deque[Waiting] = deque()
         self._working: asyncio.Task[None] | None = None  # while calls wait
@@ -199,7 +202,7 @@ class Job:
         self.view = View(0, 0, None)
         self.term: dict[str, int] | None = None
         self.lives: dict[int, Life] = {}  # as they were read last
-        self.since = self.last_commit = self.held_since = time.monotonic()
+        self.since = self.last_commit = self.held_since = self._now()
         self.grace = 0  # the reading until which no commit is accepted
         self.notes: OrderedDict[str, int] = OrderedDict()  # the answers to them
         self.committed_by: tuple[int, int] | None = None  # the last term, and its generation
@@ -208,7 +211,7 @@ class Job:
 
     async def ask(self, what: str, call: Callable[..., T], *given: object) -> T:
         """Asks the store in a thread, and counts it."""
-        begun, failed = time.monotonic(), True
+        begun, failed = self._now(), True
         try:
             made = await asyncio.get_running_loop().run_in_executor(
                 self._pool, lambda: call(*given)
@@ -219,7 +222,7 @@ class Job:
             failed = False
             raise
         finally:
-            self._counters.stored(what, time.monotonic() - begun, failed)
+            self._counters.stored(what, self._now() - begun, failed)
 
     async def load(self) -> None:
         """Reads what is stored, for those who only ask. Raises NoSuchJob."""
@@ -232,12 +235,13 @@ class Job:
         if stored is None:
             raise NoSuchJob(self.name)
         if self._seen is None or self._seen[0] != stored.version:
-            self._seen = stored.version, time.monotonic()
+            self._seen = stored.version, self._now()
         if self.policy is None:
             self.policy, self.members = policy_of(json.loads(stored.policy))
             job_line = logs.job_line(self.members)
             folder = logs.folder_of(self.settings.logs, self.name)
-            self._log = logs.Log(folder, f"control-{self.settings.process}", job_line)
+            name, system = f"control-{self.settings.process}", self.settings.system
+            self._log = logs.Log(folder, name, job_line, system=system)
         return stored
 
     async def refresh(self) -> None:
@@ -288,9 +292,9 @@ class Job:
         assignment = self.view.assignment
         if phase.committed != self.view.committed:
             assignment = table.committed() if phase.committed else None
-            self.last_commit = time.monotonic()
+            self.last_commit = self._now()
         self.view = View(phase.committed, phase.proposed, assignment)
-        self.since = time.monotonic()
+        self.since = self._now()
         self.wake()
 
     def wake(self) -> None:
@@ -345,7 +349,7 @@ class Job:
             self._show(stored)
             self._stand_by(stored)
             self._held = await self._take_over(stored)
-            self.held_since = time.monotonic()
+            self.held_since = self._now()
         return self._held
 
     def _stand_by(self, stored: Stored) -> None:
@@ -354,7 +358,7 @@ class Job:
             return
         if process_of(Row.read(stored.line).ticket()) == self.settings.process:
             return
-        left = self._seen[1] + self.settings.standby - time.monotonic()
+        left = self._seen[1] + self.settings.standby - self._now()
         if left > 0:
             raise Replaced(left)
 
@@ -411,6 +415,10 @@ class Job:
         if self._working is None:
             self._working = asyncio.create_task(self._work())
         return answer
+
+    def idle(self) -> bool:
+        """Whether no call waits, and nothing of the job is being read, made or stored."""
+        return not (self._waiting or self._working or self._lock.locked())
 
     async def finish(self) -> None:
         """Returns when no call waits."""

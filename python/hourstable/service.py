@@ -1,0 +1,122 @@
+"""A control plane with all that it stands on: its store, its tickets, its clock and its assigner.
+
+    async with ControlPlane(Options("sqlite:jobs", Path("logs"), port=7000)) as running:
+        ...
+
+It is what `hourstable-service control` runs. Several may run in one process, and each may be stopped and made anew.
+"""
+
+import asyncio
+import ssl
+from collections.abc import Callable
+from contextlib import AsyncExitStack
+from dataclasses import dataclass, field
+from pathlib import Path
+
+from hourstable.assigner import AssignerOfJobs
+from hourstable.clock import local_clock as local_clock_of
+from hourstable.control import Limits, Plane
+from hourstable.desk import LocalDesk
+from hourstable.jobs import Settings
+from hourstable.plans import Hysteresis
+from hourstable.store import Store, open_store
+from hourstable.system import SYSTEM, System
+from hourstable.task import FIRST_PROCESS as PROCESSES
+from hourstable.tickets import Tickets
+
+
+@dataclass
+class Options:
+    """What a control plane is started with. `docs/OPERATIONS.md` says what each word of the command does."""
+
+    store: str  # the URL
+    logs: Path
+    host: str = "127.0.0.1"
+    port: int = 0  # 0: any
+    process: int = 0  # its number among all planes and assigners, 0 to 63
+    shared: bool | None = None  # whether other planes use the store; None: if they may
+    standby: float = 2.0  # seconds
+    assigner: int = 1  # its number, 0 for none
+    secrets: list[str] = field(default_factory=list)
+    tls: ssl.SSLContext | None = None
+    limits: Limits = field(default_factory=Limits)
+    rules: Hysteresis = field(default_factory=Hysteresis)
+    poll: float = 1.0  # seconds between two looks at what other planes wrote
+
+
+class ControlPlane:
+    """A control plane that runs from `start`, or from the entry of an `async with`, to `stop`.
+
+    `opens` opens the store of a URL; it is closed at the end. `local_clock` is the clock that the tables' clocks go
+    by, and `system` has the other clocks, chance and files.
+    """
+
+    def __init__(
+        self,
+        options: Options,
+        *,
+        opens: Callable[[str], Store] = open_store,
+        local_clock: Callable[[], int] | None = None,
+        system: System = SYSTEM,
+    ) -> None:
+        self.options = options
+        self.plane: Plane | None = None  # from the start on, until it has stopped
+        self.port = 0  # on which it listens
+        self._opens, self._local_clock, self._system = opens, local_clock, system
+        self._ending = AsyncExitStack()
+
+    async def start(self) -> int:
+        """Listens, and returns the port. Raises ValueError if an option is refused, BlockingIOError if another
+        process draws its tickets, StoreFailed and OSError; then nothing is left open."""
+        try:
+            async with AsyncExitStack() as ending:
+                self.port = await self._start(ending)
+                self._ending = ending.pop_all()
+            return self.port
+        except BaseException:
+            self.plane = None
+            raise
+
+    async def _start(self, ending: AsyncExitStack) -> int:
+        chosen, system = self.options, self._system
+        process = process_number(chosen.process)
+        store = self._opens(chosen.store)
+        ending.callback(store.close)
+        chosen.logs.mkdir(parents=True, exist_ok=True)
+        tickets = Tickets(process, chosen.logs / f"control-{process}.ticket", system=system)
+        ending.callback(tickets.close)
+        local = self._local_clock or local_clock_of(system=system)
+        shared = store.several if chosen.shared is None else chosen.shared
+        settings = Settings(chosen.logs, process, shared, chosen.standby, local=local, system=system)
+        plane = self.plane = Plane(store, settings, tickets, chosen.limits, chosen.secrets)
+        ending.push_async_callback(plane.stop)
+        port = await plane.start(chosen.host, chosen.port, chosen.tls, chosen.poll)
+        if chosen.assigner:
+            jobs = AssignerOfJobs(chosen.assigner, LocalDesk(plane), local, chosen.rules)
+            ending.push_async_callback(_ended, asyncio.create_task(jobs.run()))
+        return port
+
+    async def stop(self) -> None:
+        """Answers what was asked, and closes all."""
+        await self._ending.aclose()
+        self.plane = None
+
+    async def __aenter__(self) -> "ControlPlane":
+        await self.start()
+        return self
+
+    async def __aexit__(self, *_: object) -> None:
+        await self.stop()
+
+
+async def _ended(running: "asyncio.Task[None]") -> None:
+    running.cancel()
+    await asyncio.gather(running, return_exceptions=True)
+
+
+def process_number(number: int) -> int:
+    """Returns the number of a plane or an assigner, below those under which tasks and clients draw tickets. Raises
+    ValueError if it is none."""
+    if not 0 <= number < PROCESSES:
+        raise ValueError(f"process {number} is not 0 to {PROCESSES - 1}")
+    return number
