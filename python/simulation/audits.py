@@ -1,0 +1,37 @@
+"""The audit of the logs of a run, by the program `hourstable`."""
+
+import subprocess
+from pathlib import Path
+
+from hourstable import logs
+
+SECONDS = 600  # that it may take
+
+
+def gather(folder: Path, job: str) -> Path:
+    """Copies the logs of a job from the disks of all hosts into one folder."""
+    into = folder / "gathered" / job
+    into.mkdir(parents=True, exist_ok=True)
+    for path in sorted(folder.glob(f"10.*/{job}/*{logs.ENDING}")):
+        (into / path.name).write_bytes(path.read_bytes())
+    return into
+
+
+def audit(folder: Path, job: str, program: str, may_be_untimely: bool) -> str:
+    """Audits the logs of a job, and returns what is wrong: nothing, if all its calls are one run and
+    its clocks were timely, or may not have been."""
+    gathered = gather(folder, job)
+    files = logs.lay_out(gathered, folder / "audit" / job)
+    if not files:
+        return ""
+    made = subprocess.run(
+        [program, "audit", *map(str, files)], capture_output=True, text=True, timeout=SECONDS,
+        check=False,
+    )
+    said = made.stdout.splitlines()
+    is_one = made.returncode == 0 and any(line.startswith("audit one") for line in said)
+    is_timely = "timely yes" in said
+    if is_one and (is_timely or may_be_untimely):
+        return ""
+    told = (made.stdout + made.stderr).replace(f"{folder}/", "").strip().splitlines()
+    return f"{job}: status {made.returncode}: " + "; ".join(told)[-500:]

@@ -1,0 +1,168 @@
+"""The command tools/simulate."""
+
+import argparse
+import os
+import sys
+import time
+from collections.abc import Iterator
+from pathlib import Path
+
+from . import known
+from .many import all_of, one
+from .run import CHECKS, Found, Wanted
+from .scene import WORLDS, world_of
+from .shrink import Shrinking, timeline, told
+
+SHOWN = 3  # findings of a check that are shown
+WIDTH = 220
+
+
+def seeds_in(text: str) -> range:
+    """Returns the seeds of N or A..B. Raises ValueError."""
+    first, dots, last = text.partition("..")
+    return range(int(first), int(last if dots else first) + 1)
+
+
+def parser() -> argparse.ArgumentParser:
+    made = argparse.ArgumentParser(
+        prog="tools/simulate", description="Runs the service in virtual time, by seeds, and checks each run."
+    )
+    made.add_argument("--seeds", metavar="A..B", type=seeds_in, help="runs of these seeds")
+    made.add_argument("--seed", type=int, help="one run")
+    made.add_argument("--world", choices=sorted(WORLDS), help="in place of that of the seed")
+    made.add_argument("--trace", action="store_true", help="tell what happens in a run, and what is logged")
+    made.add_argument("--shrink", action="store_true", help="make a run that fails smaller, and tell it")
+    made.add_argument("--twice", action="store_true", help="run each seed twice, and compare the digests")
+    made.add_argument("--digests", action="store_true", help="print the digest of each seed")
+    made.add_argument("--jobs", type=int, default=len(os.sched_getaffinity(0)), help="runs at once")
+    made.add_argument("--no-audit", action="store_true", help="audit no logs")
+    made.add_argument("--keep", type=Path, help="keep the folders of runs that fail here")
+    made.add_argument("--bounds", action="store_true", help="tell for how long keys were denied, by faults")
+    made.add_argument("--mutants", nargs="*", metavar="NAME", help="plant bugs, and say which seed finds each")
+    made.add_argument("--most", type=int, default=200, help="seeds that are tried for a planted bug")
+    return made
+
+
+def wanted_of(seed: int, given: argparse.Namespace) -> Wanted:
+    program = "" if given.no_audit else os.environ.get("HOURSTABLE_PROGRAM", "")
+    return Wanted(seed, given.world, program=program, keeps=given.keep)
+
+
+def line_of(found: Found) -> str:
+    """Returns the lines of a run."""
+    causes = known.causes_of(found)
+    how = "ok" if not found.failed else f"FAILS {' '.join(found.wrong)}"
+    if found.failed and causes:
+        how += f" [{', '.join(sorted(causes))}]"
+    speed = found.virtual / found.took if found.took else 0
+    lines = [
+        f"seed {found.seed} {found.world}: {how} ({found.virtual:.0f} s, {speed:.0f} a second,"
+        f" {found.digest})"
+    ]
+    for name in CHECKS:
+        for one_of in found.wrong.get(name, [])[:SHOWN]:
+            lines.append(f"    {name}: {one_of[-WIDTH * 8 if name == 'broken' else 0:][:WIDTH * 8]}")
+    return "\n".join(lines)
+
+
+class Totals:
+    """What many runs came to."""
+
+    def __init__(self, count: int) -> None:
+        self.count, self.done, self.failed = count, 0, list[Found]()
+        self.virtual = self.took = 0.0
+        self.begun = time.monotonic()
+        self.bounds: dict[str, list[float]] = {}
+
+    def add(self, found: Found) -> None:
+        self.done += 1
+        self.virtual += found.virtual
+        self.took += found.took
+        if found.failed:
+            self.failed.append(found)
+        for kinds, longest in found.figures.get("denied", {}).items():
+            known_of = self.bounds.setdefault(kinds, [0.0, 0.0])
+            self.bounds[kinds] = [max(a, b) for a, b in zip(known_of, longest)]
+
+    def progress(self) -> None:
+        if sys.stderr.isatty():
+            left = (time.monotonic() - self.begun) / max(1, self.done) * (self.count - self.done)
+            told_ = f"\r\x1b[K{self.done} of {self.count}, {len(self.failed)} fail, {left:.0f} s left"
+            print(told_, end="", file=sys.stderr, flush=True)
+
+    def tell(self, with_bounds: bool) -> None:
+        if sys.stderr.isatty():
+            print("\r\x1b[K", end="", file=sys.stderr)
+        if with_bounds:
+            print(f"{'longest denial, in seconds':60} stays  moves")
+            for kinds, (stays, moves) in sorted(self.bounds.items()):
+                if "+" not in kinds:
+                    print(f"{kinds:60} {stays:5.2f}  {moves:5.2f}")
+        if self.failed:
+            print("failing seeds: " + " ".join(str(it.seed) for it in sorted(self.failed, key=_seed)))
+        wall = time.monotonic() - self.begun
+        print(
+            f"{self.done} seeds, {len(self.failed)} fail, {self.virtual:.0f} virtual seconds in"
+            f" {wall:.0f} s, {self.virtual / max(self.took, 0.001):.0f} a second of a processor"
+        )
+
+
+def _seed(found: Found) -> int:
+    return found.seed
+
+
+def run_many(seeds: range, given: argparse.Namespace) -> int:
+    totals = Totals(len(seeds))
+    digests: dict[int, str] = {}
+    for found in all_of(_each(seeds, given), max(1, given.jobs)):
+        totals.add(found)
+        if given.digests:
+            print(f"{found.seed} {found.digest}", flush=True)
+        elif found.failed:
+            if sys.stderr.isatty():
+                print("\r\x1b[K", end="", file=sys.stderr)
+            print(line_of(found), flush=True)
+        before = digests.setdefault(found.seed, found.digest)
+        if before != found.digest:
+            print(f"seed {found.seed} is not deterministic: {before} and {found.digest}", flush=True)
+            totals.failed.append(found)
+        totals.progress()
+    totals.tell(given.bounds)
+    return int(bool(totals.failed))
+
+
+def _each(seeds: range, given: argparse.Namespace) -> Iterator[Wanted]:
+    for seed in seeds:
+        yield wanted_of(seed, given)
+        if given.twice:
+            yield wanted_of(seed, given)
+
+
+def run_one(given: argparse.Namespace) -> int:
+    wanted = wanted_of(given.seed, given)
+    wanted.prints = wanted.logs = given.trace
+    found = one(wanted)
+    print(line_of(found))
+    if given.trace:
+        print(f"figures: {found.figures}")
+    if found.failed and given.shrink:
+        wanted.prints, wanted.logs = False, True
+        shrinking = Shrinking(wanted, lambda text: print(text, flush=True))
+        print(line_of(shrinking.shrink()))
+        print(*told(shrinking.smallest), sep="\n")
+        print(*timeline(shrinking.smallest), sep="\n")
+    return int(found.failed)
+
+
+def main() -> int:
+    given = parser().parse_args()
+    if given.mutants is not None:
+        from .mutants import find_all
+
+        return find_all(given.mutants, given.most, given.jobs)
+    if given.seed is not None:
+        return run_one(given)
+    return run_many(given.seeds or range(1, 21), given)
+
+
+__all__ = ["main", "world_of"]

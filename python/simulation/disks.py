@@ -1,0 +1,101 @@
+"""The disks of hosts: files of the real folder of a run, of which a power loss takes what was not yet
+on the disk, and which may be full."""
+
+import errno
+import fcntl
+import mmap
+import os
+from dataclasses import dataclass, field
+from pathlib import Path
+from random import Random
+from typing import TYPE_CHECKING
+
+if TYPE_CHECKING:
+    from .world import Process
+
+WRITE_BACK = 30_000_000_000  # ns after which the kernel has written what nobody synced
+
+
+@dataclass
+class File:
+    """What the disk knows of a file: its lengths as it grew, and its bytes as they were flushed."""
+
+    grown: list[tuple[int, int]] = field(default_factory=list)  # the time, and the length from then on
+    flushed: bytes | None = None
+
+
+class Disk:
+    """The disk of a host."""
+
+    def __init__(self, folder: Path) -> None:
+        self.folder = folder
+        self.full_below: str = ""  # a part of the paths of files that cannot be written
+        self.has_lost = False  # whether a power loss took something
+        self._files: dict[str, File] = {}
+        self._open: dict[int, tuple["Process", str]] = {}
+
+    def open(self, process: "Process", path: object, flags: int, mode: int) -> int:
+        name = str(path)
+        if self._is_full(name) and flags & os.O_CREAT:
+            raise OSError(errno.ENOSPC, "no space left on device", name)
+        file = os.open(name, flags, mode)
+        self._open[file] = process, name
+        self._files.setdefault(name, File())
+        return file
+
+    def write(self, process: "Process", file: int, data: bytes) -> int:
+        _, name = self._open[file]
+        if self._is_full(name):
+            raise OSError(errno.ENOSPC, "no space left on device", name)
+        length = os.write(file, data)
+        self._files[name].grown.append((process.world.now, os.fstat(file).st_size))
+        return length
+
+    def close(self, file: int) -> None:
+        self._open.pop(file, None)
+        os.close(file)
+
+    def flush(self, memory: mmap.mmap) -> None:
+        """Notes that the bytes of a mapped file, which has its mark, are on the disk."""
+        found = bytes(memory[:])
+        for _, name in self._open.values():
+            if name.endswith(".ticket") and Path(name).read_bytes() == found:
+                self._files[name].flushed = found
+
+    def _is_full(self, name: str) -> bool:
+        return bool(self.full_below) and self.full_below in name
+
+    def opened_by(self, process: "Process") -> int:
+        """Returns how many files a process has open."""
+        return sum(owner is process for owner, _ in self._open.values())
+
+    def release(self, process: "Process") -> None:
+        """Closes the files of a process that is dead, as its kernel does."""
+        for file in [file for file, (owner, _) in self._open.items() if owner is process]:
+            fcntl.flock(file, fcntl.LOCK_UN)  # also where a mapping still has the file open
+            self.close(file)
+
+    def lose_power(self, now: int, rng: Random) -> None:
+        """Takes what is not on the disk. All files are closed."""
+        for name, file in self._files.items():
+            path = Path(name)
+            if name.endswith(".ticket"):
+                self._lose_flushes(path, file, rng)
+            else:
+                self._lose_lines(path, file, now, rng)
+
+    def _lose_flushes(self, path: Path, file: File, rng: Random) -> None:
+        """A page of a mapped file may have been written by the kernel at any time after its flush."""
+        if path.exists() and rng.random() < 0.5:
+            path.write_bytes(file.flushed if file.flushed is not None else b"")
+
+    def _lose_lines(self, path: Path, file: File, now: int, rng: Random) -> None:
+        if not path.exists():
+            return
+        size = path.stat().st_size
+        least = max([length for at, length in file.grown if at <= now - WRITE_BACK], default=0)
+        kept = rng.randint(least, size) if least < size and rng.random() < 0.5 else size
+        if kept < size:
+            self.has_lost = True
+            os.truncate(path, kept)
+        file.grown = [(now, kept)]

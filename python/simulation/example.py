@@ -1,0 +1,101 @@
+"""The example of a run: sessions that tasks keep in memory while they own their keys, over a shelf
+that all tasks share. What clients were told of each key is kept as a history."""
+
+import asyncio
+from dataclasses import dataclass, field
+from typing import NamedTuple
+
+from hourstable.demo.shelf import NOTHING, Session, Taken
+from hourstable.task import Hold, Task
+
+from .world import Process
+
+FOR_EVER = 1 << 62  # when an operation ended whose caller was told nothing
+
+
+class Operation(NamedTuple):
+    """A write or a read of a key as its client saw it: from when to when, the id of the write, and
+    what the read found: the version and the id of the write that made it."""
+
+    begun: int
+    ended: int
+    write: str | None
+    version: int = 0
+    found: str = ""
+
+    def __str__(self) -> str:
+        end = "-" if self.ended == FOR_EVER else f"{self.ended / 1e9:.6f}"
+        did = f"write {self.write}" if self.write else f"read {self.version} {self.found or '-'}"
+        return f"[{self.begun / 1e9:.6f}, {end}] {did}"
+
+
+@dataclass
+class Shelf:
+    """Where sessions stand that a write was acknowledged for. A slot is filled once."""
+
+    rows: dict[str, list[Session]] = field(default_factory=dict)
+    history: dict[str, list[Operation]] = field(default_factory=dict)
+
+    def newest(self, key: str) -> Session:
+        return self.rows[key][-1] if key in self.rows else NOTHING
+
+    def fill(self, key: str, session: Session) -> None:
+        """Raises Taken if the slot of the version is filled."""
+        row = self.rows.setdefault(key, [])
+        if len(row) != session.version - 1:
+            raise Taken(f"{key} {session.version}")
+        row.append(session)
+
+    def begin(self, key: str, now: int, write: str) -> int:
+        """Notes a write that begins, and returns its place in the history of the key."""
+        history = self.history.setdefault(key, [])
+        history.append(Operation(now, FOR_EVER, write))
+        return len(history) - 1
+
+    def acknowledge(self, key: str, place: int, now: int) -> None:
+        """Notes that the client of a write was told that it is done."""
+        self.history[key][place] = self.history[key][place]._replace(ended=now)
+
+    def note_read(self, key: str, begun: int, now: int, version: int, found: str) -> None:
+        self.history.setdefault(key, []).append(Operation(begun, now, None, version, found))
+
+
+class Sessions:
+    """The sessions of a task. One in memory counts as long as its handle is continuous."""
+
+    def __init__(self, process: Process, task: Task, shelf: Shelf) -> None:
+        self._process, self._task, self._shelf = process, task, shelf
+        self._memory: dict[str, tuple[Hold, Session]] = {}
+        self._turns: dict[str, asyncio.Lock] = {}
+
+    def _session(self, key: str) -> tuple[Hold, Session]:
+        if key in self._memory:
+            hold, session = self._memory[key]
+            if hold.continuous():
+                return hold, session
+        hold = self._task.hold(key)
+        self._memory[key] = hold, self._shelf.newest(key)
+        return self._memory[key]
+
+    async def write(self, key: str, write: str, length: float) -> None:
+        """Writes once, also if it is asked again. Raises Denied, LeaseLost and Taken."""
+        async with self._turns.setdefault(key, asyncio.Lock()):
+            async with self._task.serving(key) as lease:
+                hold, session = self._session(key)
+                await asyncio.sleep(length)
+                if write not in session.ids:
+                    session = session.after(write, write)
+                    lease.check()
+                    try:
+                        self._shelf.fill(key, session)
+                    except Taken:
+                        self._memory.pop(key, None)
+                        raise
+                    self._memory[key] = hold, session
+
+    async def read(self, key: str, length: float) -> Session:
+        """Reads, from memory if that counts. Raises Denied and LeaseLost."""
+        async with self._task.serving(key):
+            _, session = self._session(key)
+            await asyncio.sleep(length)
+        return session

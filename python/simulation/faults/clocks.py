@@ -1,0 +1,43 @@
+"""Faults of clocks."""
+
+from ..world import SECOND
+from .base import Strike, kind
+
+DAYS = 2 * 86_400 * SECOND
+
+
+@kind
+def strike_set_clock(strike: Strike) -> None:
+    """The real time of a host is set."""
+    host = strike.any().host
+    by = int(strike.rng.gauss(0, 30) * SECOND)
+    host.wall += by
+    strike.tell(f"{host.address} by {by / SECOND:.3f} s")
+
+
+@kind
+def strike_wrong_day(strike: Strike) -> None:
+    """The real time of a host is two days ahead for a while, as after a boot with a bad clock."""
+    host = strike.any("plane", "task").host
+    host.wall += DAYS
+    strike.tell(host.address)
+    strike.lasts(4, lambda: setattr(host, "wall", host.wall - DAYS))
+
+
+@kind
+def strike_wrong_rate(strike: Strike) -> None:
+    """The clocks of a host run faster or slower than any drift allows."""
+    host = strike.any("plane", "task").host
+    before, drift = host.ppm, strike.cluster.scene.drift
+    host.set_rate(strike.rng.choice((-drift, -drift // 10, drift // 10, drift)))
+    strike.tell(f"{host.address} runs at {host.ppm} ppm")
+    strike.lasts(strike.leases(4), lambda: host.set_rate(before))
+
+
+@kind
+def strike_jump(strike: Strike) -> None:
+    """The clocks of a host jump ahead, which those of Linux do not."""
+    host = strike.any("plane", "task").host
+    by = int(strike.rng.choice((0.1, 1.0, strike.leases(1))) * SECOND)
+    host.jump(by)
+    strike.tell(f"{host.address} by {by / SECOND} s")

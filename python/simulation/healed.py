@@ -1,0 +1,126 @@
+"""Whether all is well again after the faults of a run have ended."""
+
+import asyncio
+from dataclasses import dataclass, field
+from typing import Any
+
+from hourstable.task import Denied, LeaseLost
+
+from .services import Cluster, Service
+from .world import SECOND, Process
+
+RENEWALS = 2  # that each task must make in the time
+SOME_FILES = 3  # beside a log for each job
+CALLS_SETTLE = 20  # looks at which a plane may be busy before it counts as one that waits
+
+
+@dataclass
+class Health:
+    """What does not work again: keys that nobody serves, tasks that do not renew, planes in which
+    calls wait, and processes that have more than they need."""
+
+    unserved: list[str] = field(default_factory=list)
+    not_renewed: list[str] = field(default_factory=list)
+    waiting: list[str] = field(default_factory=list)
+    grown: list[str] = field(default_factory=list)
+    seconds: float | None = None  # until each key was served
+
+
+def health(cluster: Cluster) -> Health:
+    """Lets the service go on without faults for three guard terms, and looks what is not well."""
+    world, term = cluster.world, int(cluster.scene.term * SECOND)
+    begun, end = world.now, world.now + 3 * term
+    before = {one.name: _renewed(one) for one in _tasks(cluster)}
+    missing, late = set(unserved(cluster)), set[str]()
+    made = Health()
+    while world.now < end:
+        world.run_until(world.now + term // 10)
+        found = set(unserved(cluster))
+        missing &= found
+        if made.seconds is None and not missing:
+            made.seconds = (world.now - begun) / SECOND
+        if world.now > end - term // 2:  # a key that moves is denied for a moment
+            late = found if not late else late & found
+    made.unserved = sorted(late)
+    made.not_renewed = [
+        one.name for one in _tasks(cluster)
+        if one.task is None or _renewed(one) - before[one.name] < RENEWALS
+    ]
+    made.waiting = _waiting(cluster)
+    made.grown = _grown(cluster)
+    for name in (*made.not_renewed, *made.waiting):
+        world.tell(f"{name} waits in {where(cluster.services[name].process)}")
+    return made
+
+
+def _tasks(cluster: Cluster) -> list[Service]:
+    return [one for one in cluster.of("task") if one.is_wanted]
+
+
+def _renewed(service: Service) -> int:
+    return service.task.renewed.times if service.task is not None else 0
+
+
+def unserved(cluster: Cluster) -> list[str]:
+    """Returns the keys that no task serves now. It asks tasks as their applications may."""
+    return [
+        key for job in cluster.scene.jobs for key in job.keys
+        if not any(
+            _serves(cluster, process, task, key) for process, task in cluster.running(job)
+        )
+    ]
+
+
+def _serves(cluster: Cluster, process: Process, task: Any, key: str) -> bool:
+    if process.stops or not task.served():
+        return False
+    with cluster.world.inside(process):
+        try:
+            task.ask(key).check()
+            return True
+        except (Denied, LeaseLost, OSError):
+            return False
+
+
+def _waiting(cluster: Cluster) -> list[str]:
+    """Returns the planes that are never idle in a while, and those that do not run."""
+    busy = {one.name for one in cluster.of("plane")}
+    for _ in range(CALLS_SETTLE):
+        for name in list(busy):
+            running = cluster.services[name].plane
+            if running is not None and running.plane is not None and running.plane.idle():
+                busy.discard(name)
+        if not busy:
+            break
+        cluster.world.run_until(cluster.world.now + SECOND // 13)
+    return sorted(busy)
+
+
+def _grown(cluster: Cluster) -> list[str]:
+    """Returns the processes that have more tasks, files or connections than they need."""
+    jobs, made = len(cluster.scene.jobs), []
+    others = len(cluster.services)
+    for service in cluster.services.values():
+        process = service.process
+        if process is None:
+            continue
+        tasks = sum(not it.done() for it in process.loop.tasks)
+        files = service.host.disk.opened_by(process)
+        used = cluster.network.used_by(process)
+        if tasks > 16 + 6 * others or files > jobs + SOME_FILES or used > 8 + 4 * others:
+            made.append(f"{service.name}: {tasks} tasks, {files} files, {used} connections")
+    return made
+
+
+def where(process: Process | None) -> list[str]:
+    """Returns where each task of asyncio of a process waits."""
+    made = []
+    for task in asyncio.all_tasks(process.loop) if process is not None else ():
+        at: Any = task.get_coro()
+        places: list[str] = []
+        while at is not None and hasattr(at, "cr_frame"):
+            frame = at.cr_frame
+            places.append(f"{at.__qualname__}:{frame.f_lineno if frame else '-'}")
+            at = at.cr_await
+        made.append(" > ".join(places))
+    return sorted(made)

@@ -1,0 +1,47 @@
+"""The operating system that the package sees in a simulated process."""
+
+import mmap
+from random import Random
+from typing import Any
+
+from hourstable.system import System
+
+from .world import MILLISECOND, SECOND, Process
+
+
+class Machine(System):
+    """The clocks, the chance and the files of a process. At a reading of a clock and at a write of a
+    file the process may stall."""
+
+    def __init__(self, process: Process) -> None:
+        self.process, self._host = process, process.host
+
+    def ticks(self) -> int:  # type: ignore[override]
+        self.process.world.may_stall()
+        return self._host.boottime() // MILLISECOND
+
+    def monotonic(self) -> float:
+        return self._host.monotonic() / SECOND
+
+    def real_nanoseconds(self) -> int:
+        self.process.world.may_stall()
+        return self._host.real_time()
+
+    def boot(self) -> bytes:
+        return self._host.boot_id()
+
+    def random(self) -> Random:
+        return Random(self.process.rng.getrandbits(64))
+
+    def flush(self, memory: mmap.mmap) -> None:
+        self._host.disk.flush(memory)
+
+    def open(self, path: Any, flags: int, mode: int = 0o777) -> int:  # type: ignore[override]
+        return self._host.disk.open(self.process, path, flags, mode)
+
+    def write(self, file: int, data: Any) -> int:  # type: ignore[override]
+        self.process.world.may_stall()
+        return self._host.disk.write(self.process, file, data)
+
+    def close(self, file: int) -> None:  # type: ignore[override]
+        self._host.disk.close(file)
