@@ -13,6 +13,7 @@ import ssl
 from collections.abc import Awaitable, Callable
 from concurrent.futures import ThreadPoolExecutor
 from dataclasses import dataclass, field
+from functools import partial
 from typing import Any, TypeVar
 
 from aiohttp import web
@@ -133,6 +134,7 @@ class Plane:
         self._runner: web.AppRunner | None = None
         self._server: asyncio.Server | None = None
         self._poller: asyncio.Task[None] | None = None
+        self._looking: dict[str, asyncio.Task[None]] = {}  # jobs at which it looks now
 
     # Starting and ending ---------------------------------------------------------------------
 
@@ -158,6 +160,8 @@ class Plane:
             self._server.close()
         if self._poller is not None:
             self._poller.cancel()
+            for looking in self._looking.values():
+                looking.cancel()
         for followed in self.jobs.values():
             followed.job.wake()
         if self._runner is not None and self._runner.server is not None:
@@ -207,8 +211,13 @@ class Plane:
             except StoreFailed as error:
                 log.warning("the store was not read: %s", error)
                 continue
-            for name in names:
-                await self._look_at(name)
+            for name in names:  # a job whose row is locked keeps up no other
+                if name not in self._looking:
+                    self._looking[name] = asyncio.create_task(self._look_at(name))
+                    self._looking[name].add_done_callback(partial(self._looked, name))
+
+    def _looked(self, name: str, _: "asyncio.Task[None]") -> None:
+        del self._looking[name]
 
     async def _look_at(self, name: str) -> None:
         """Reads what is stored of a job. One that is damaged keeps no other from being served."""
@@ -374,7 +383,7 @@ class Plane:
     def _knows(self, request: web.Request) -> bool:
         if not self._secrets:
             return True
-        given = request.headers.get("Authorization", "").encode()
+        given = request.headers.get("Authorization", "").encode("utf-8", "surrogateescape")
         equal = [hmac.compare_digest(given, b"Bearer " + secret) for secret in self._secrets]
         return any(equal)
 

@@ -234,6 +234,7 @@ class Job:
         stored = await self.ask("load", self._store.load, self.name)
         if stored is None:
             raise NoSuchJob(self.name)
+        self._observe(stored)
         if self._seen is None or self._seen[0] != stored.version:
             self._seen = stored.version, self._now()
         if self.policy is None:
@@ -243,6 +244,16 @@ class Job:
             name, system = f"control-{self.settings.process}", self.settings.system
             self._log = logs.Log(folder, name, job_line, system=system)
         return stored
+
+    def _observe(self, stored: Stored) -> None:
+        """Observes the ticket of the line that is stored: what is shown of it comes after the call
+        that stored it."""
+        if stored.line is None:
+            return
+        try:
+            self.tickets.observe(Row.read(stored.line).ticket())
+        except ValueError as error:  # a host whose real time is a day ahead wrote it
+            raise StoreFailed(f"the line that is stored of {self.name}: {error}") from error
 
     async def refresh(self) -> None:
         """Looks whether another plane has written, and reads the lives of tasks."""
@@ -380,11 +391,6 @@ class Job:
         """Logs the last calls that are stored, if that was not done, and stores and logs that the
         table is restored. Returns the new version and the line."""
         assert self._log is not None
-        ticket = row.ticket()
-        try:
-            self.tickets.observe(ticket)
-        except ValueError as error:  # a host whose real time is a day ahead wrote it
-            raise StoreFailed(f"the line that is stored of {self.name}: {error}") from error
         lacking = self._log.lacking(row.lines)
         if lacking:
             self._log.append(*lacking)
@@ -774,7 +780,7 @@ def numbers_of(assignment: dict[str, Any]) -> dict[str, Any]:
         slices = [[int(start), [int(owner) for owner in owners]]
                   for start, owners in assignment["slices"]]
         return {"generation": int(assignment["generation"]), "slices": slices}
-    except (KeyError, TypeError, ValueError) as error:
+    except (KeyError, TypeError, ValueError, OverflowError) as error:  # 1e999 is no whole number
         raise Malformed("the body is not an assignment") from error
 
 

@@ -113,9 +113,10 @@ class Planner:
         owners = {owner for _, some in slices for owner in some}
         must = not owners <= set(tasks)
         may = bool(set(tasks) - owners) and since_commit >= self._rules.settle
-        if not (must or may or since_commit >= self._rules.rest):
-            return None
         loads = loads_over(slices, reported)
+        is_uneven = since_commit >= self._rules.rest and self._is_uneven(slices, loads, tasks)
+        if not (must or may or is_uneven):
+            return None
         plan = self._plan(assignment, loads, tasks, low, high)
         if must or (may and self._gives_to_all(plan, tasks, owners)):
             return plan
@@ -136,9 +137,16 @@ class Planner:
         owners = {owner for _, some in slices_in(plan) for owner in some}
         return bool(owners - before) or bool(set(tasks) - owners)
 
+    def _is_uneven(self, slices: Slices, loads: list[int], tasks: list[int]) -> bool:
+        """Whether the task with the greatest load has so much more than the mean that keys move."""
+        greatest = max(task_loads(slices, loads, tasks).values())
+        return greatest > self._rules.above * sum(loads) / len(tasks)
+
     def _is_worth(
         self, slices: Slices, loads: list[int], plan: bytes, tasks: list[int]
     ) -> bool:
+        if not self._is_uneven(slices, loads, tasks):
+            return False
         planned = slices_in(plan)
         widths = widths_of(slices)
         spread = [
@@ -146,8 +154,7 @@ class Planner:
         ]
         before = max(task_loads(slices, loads, tasks).values())
         after = max(task_loads(planned, _shared(planned, spread), tasks).values())
-        mean = sum(loads) / len(tasks)
-        return before > self._rules.above * mean and before - after >= self._rules.gain * mean
+        return before - after >= self._rules.gain * sum(loads) / len(tasks)
 
 
 def _shared(slices: Slices, spread: list[tuple[int, int, int]]) -> list[int]:

@@ -11,6 +11,7 @@ message is on its way.
 """
 
 import asyncio
+import json
 import logging
 import os
 import ssl
@@ -298,6 +299,8 @@ class Task:
         answer = await self._control.call("PUT", body=dict(self._given_policy))
         if answer.status == 409:
             raise Rejected(409, f"job {self.job} has another policy")
+        if not _is_object(answer.body):
+            raise Unreachable("what answered is no control plane")
         return self._given_policy
 
     # What is asked for a key. -------------------------------------------------------------------
@@ -662,6 +665,13 @@ class Task:
         self._others.discard(other)
         if not other.cancelled() and other.exception() is not None:
             logger.error("task %d", self.task, exc_info=other.exception())
+
+
+def _is_object(body: bytes) -> bool:
+    try:
+        return isinstance(json.loads(body), dict)
+    except (ValueError, RecursionError):
+        return False
 
 
 def _place(phase: Phase) -> tuple[int, int]:
