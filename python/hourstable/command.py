@@ -20,7 +20,7 @@ from hourstable.control import Limits
 from hourstable.desk import HttpDesk, Unreachable
 from hourstable.plans import Hysteresis, slices_in
 from hourstable.service import ControlPlane, Options, process_number
-from hourstable.store import StoreFailed
+from hourstable.store import DEADLINE, StoreFailed
 from hourstable.tickets import Tickets
 
 DEMO_SECONDS = 34
@@ -33,6 +33,7 @@ def main(words: list[str] | None = None) -> int:
     chosen = parser().parse_args(words)
     level = logging.DEBUG if chosen.verbose else logging.INFO
     logging.basicConfig(level=level, format="%(asctime)s %(name)s: %(message)s")
+    logging.getLogger("psycopg.pool").setLevel(logging.WARNING)  # it tells of each call
     try:
         status: int = chosen.run(chosen)
         return status
@@ -60,6 +61,8 @@ def _control_words(words: argparse.ArgumentParser) -> None:
     words.set_defaults(run=_control)
     words.add_argument("--store", required=True, metavar="URL",
                        help="sqlite:FILE, postgresql://.., etcd://HOST:PORT,.. or etcds://..")
+    words.add_argument("--store-deadline", type=float, default=DEADLINE, metavar="SECONDS",
+                       help=f"in which a call of the store is answered, or fails ({DEADLINE:g})")
     words.add_argument("--listen", required=True, metavar="HOST:PORT")
     words.add_argument("--logs", required=True, metavar="FOLDER",
                        help="for the logs of all jobs, and the ticket of this process")
@@ -187,6 +190,7 @@ def options_of(chosen: argparse.Namespace) -> Options:
         assigner=chosen.assigner,
         secrets=secrets_in(chosen.secret_file) if chosen.secret_file else [],
         tls=server_tls(chosen), limits=limits, rules=_rules_in(chosen),
+        store_deadline=chosen.store_deadline,
     )
 
 

@@ -11,7 +11,6 @@ import logging
 import math
 import ssl
 from collections.abc import Awaitable, Callable
-from concurrent.futures import ThreadPoolExecutor
 from dataclasses import dataclass, field
 from functools import partial
 from typing import Any, TypeVar
@@ -130,7 +129,6 @@ class Plane:
         self.jobs: dict[str, Followed] = {}
         self.is_closing = False
         self._secrets = [secret.encode() for secret in secrets or []]
-        self._pool = ThreadPoolExecutor(32, thread_name_prefix="store")
         self._runner: web.AppRunner | None = None
         self._server: asyncio.Server | None = None
         self._poller: asyncio.Task[None] | None = None
@@ -142,7 +140,7 @@ class Plane:
         self, host: str, port: int, tls: ssl.SSLContext | None = None, poll: float = 1.0
     ) -> int:
         """Listens, and returns the port."""
-        for name in await self._ask(self.store.jobs):
+        for name in await self.store.jobs():
             await self._look_at(name)
         self._runner = web.AppRunner(self.application(), access_log=None)
         await self._runner.setup()
@@ -175,7 +173,6 @@ class Plane:
                 one.cancel()
         for followed in self.jobs.values():
             followed.job.close()
-        self._pool.shutdown(wait=False, cancel_futures=True)
 
     def idle(self) -> bool:
         """Whether no call of a job waits, and nothing of one is being read, made or stored."""
@@ -199,15 +196,12 @@ class Plane:
         protocol: asyncio.Protocol = server()
         return protocol
 
-    async def _ask(self, call: Callable[..., T], *given: object) -> T:
-        return await asyncio.get_running_loop().run_in_executor(self._pool, lambda: call(*given))
-
     async def _poll(self, every: float) -> None:
         """Looks what other planes wrote, where several share the store."""
         while True:
             await asyncio.sleep(every)
             try:
-                names = await self._ask(self.store.jobs) if self.settings.shared else []
+                names = await self.store.jobs() if self.settings.shared else []
             except StoreFailed as error:
                 log.warning("the store was not read: %s", error)
                 continue
@@ -230,11 +224,9 @@ class Plane:
         """Returns a job. Raises NoSuchJob."""
         found = self.jobs.get(name)
         if found is None:
-            job = Job(
-                name, self.store, self.settings, self.tickets, self._pool, self.metrics
-            )
+            job = Job(name, self.store, self.settings, self.tickets, self.metrics)
             await job.load()
-            job.lives = await self._ask(self.store.lives, name)
+            job.lives = await self.store.lives(name)
             found = self.jobs.setdefault(name, Followed(job, Loads(), {}, {}))
             if found.job is not job:
                 job.close()
@@ -289,12 +281,12 @@ class Plane:
         except Refused as refusal:
             raise Malformed("a number of the policy or the name is outside its limits") from refusal
         text = json.dumps(members, sort_keys=True)
-        names = await self._ask(self.store.jobs)
+        names = await self.store.jobs()
         if name not in names:
             if len(names) >= self.limits.jobs:
                 raise Limited("jobs", 60)
             try:
-                await self._ask(self.store.create, name, text, kept)
+                await self.store.create(name, text, kept)
                 await self.followed(name)
                 return True
             except Conflict:
@@ -426,7 +418,7 @@ class Plane:
         return web.Response(body=text, headers={"Content-Type": CONTENT_TYPE})
 
     async def _get_jobs(self, _: web.Request) -> web.Response:
-        return answer_of({"jobs": await self._ask(self.store.jobs)})
+        return answer_of({"jobs": await self.store.jobs()})
 
     async def _put_job(self, request: web.Request) -> web.Response:
         is_new = await self.create(job_in(request), await json_of(request))

@@ -11,8 +11,7 @@ import asyncio
 import json
 from abc import ABC, abstractmethod
 from collections import OrderedDict, deque
-from collections.abc import Callable, Sequence
-from concurrent.futures import ThreadPoolExecutor
+from collections.abc import Awaitable, Callable, Sequence
 from dataclasses import dataclass, field
 from pathlib import Path
 from typing import Any, Generic, NamedTuple, TypeVar
@@ -182,11 +181,10 @@ class Job:
     """A job of the plane. All of it runs in one event loop."""
 
     def __init__(
-        self, name: str, store: Store, settings: Settings, tickets: Tickets,
-        pool: ThreadPoolExecutor, counters: Counters,
+        self, name: str, store: Store, settings: Settings, tickets: Tickets, counters: Counters,
     ) -> None:
         self.name, self.settings, self.tickets = name, settings, tickets
-        self._store, self._pool, self._counters = store, pool, counters
+        self._store, self._counters = store, counters
         self._now = settings.system.monotonic
         self._lock = asyncio.Lock()
         self._waiting: deque[Waiting] = deque()
@@ -209,13 +207,11 @@ class Job:
 
     # Asking the store ------------------------------------------------------------------------
 
-    async def ask(self, what: str, call: Callable[..., T], *given: object) -> T:
-        """Asks the store in a thread, and counts it."""
+    async def ask(self, what: str, call: Callable[..., Awaitable[T]], *given: object) -> T:
+        """Asks the store, and counts it."""
         begun, failed = self._now(), True
         try:
-            made = await asyncio.get_running_loop().run_in_executor(
-                self._pool, lambda: call(*given)
-            )
+            made = await call(*given)
             failed = False
             return made
         except (Conflict, NoSuchJob):

@@ -8,7 +8,7 @@ It is what `hourstable-service control` runs. Several may run in one process, an
 
 import asyncio
 import ssl
-from collections.abc import Callable
+from collections.abc import Awaitable, Callable
 from contextlib import AsyncExitStack
 from dataclasses import dataclass, field
 from pathlib import Path
@@ -19,7 +19,7 @@ from hourstable.control import Limits, Plane
 from hourstable.desk import LocalDesk
 from hourstable.jobs import Settings
 from hourstable.plans import Hysteresis
-from hourstable.store import Store, open_store
+from hourstable.store import DEADLINE, Store, open_store
 from hourstable.system import SYSTEM, System
 from hourstable.task import FIRST_PROCESS as PROCESSES
 from hourstable.tickets import Tickets
@@ -42,27 +42,29 @@ class Options:
     limits: Limits = field(default_factory=Limits)
     rules: Hysteresis = field(default_factory=Hysteresis)
     poll: float = 1.0  # seconds between two looks at what other planes wrote
+    store_deadline: float = DEADLINE  # seconds in which a call of the store returns or fails
 
 
 class ControlPlane:
     """A control plane that runs from `start`, or from the entry of an `async with`, to `stop`.
 
-    `opens` opens the store of a URL; it is closed at the end. `local_clock` is the clock that the tables' clocks go
-    by, and `system` has the other clocks, chance and files.
+    `opens` opens the store of a URL with a deadline, by default `open_store`; the store is closed at the end.
+    `local_clock` is the clock that the tables' clocks go by, and `system` has the other clocks, chance and files.
     """
 
     def __init__(
         self,
         options: Options,
         *,
-        opens: Callable[[str], Store] = open_store,
+        opens: Callable[[str, float, System], Awaitable[Store]] | None = None,
         local_clock: Callable[[], int] | None = None,
         system: System = SYSTEM,
     ) -> None:
         self.options = options
         self.plane: Plane | None = None  # from the start on, until it has stopped
         self.port = 0  # on which it listens
-        self._opens, self._local_clock, self._system = opens, local_clock, system
+        self._opens = opens or open_store
+        self._local_clock, self._system = local_clock, system
         self._ending = AsyncExitStack()
 
     async def start(self) -> int:
@@ -80,8 +82,8 @@ class ControlPlane:
     async def _start(self, ending: AsyncExitStack) -> int:
         chosen, system = self.options, self._system
         process = process_number(chosen.process)
-        store = self._opens(chosen.store)
-        ending.callback(store.close)
+        store = await self._opens(chosen.store, chosen.store_deadline, system)
+        ending.push_async_callback(store.close)
         chosen.logs.mkdir(parents=True, exist_ok=True)
         tickets = Tickets(process, chosen.logs / f"control-{process}.ticket", system=system)
         ending.callback(tickets.close)

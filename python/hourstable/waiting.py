@@ -25,6 +25,8 @@ async def within(seconds: float, work: Coroutine[Any, Any, T]) -> T:
         if not child.done():
             child.cancel()
             await asyncio.gather(child, return_exceptions=True)
+        elif not child.cancelled():
+            child.exception()  # it is told, or the caller was cancelled at the same time
 
 
 async def pause(seconds: float, event: asyncio.Event) -> None:

@@ -6,7 +6,7 @@ import os
 import shutil
 import subprocess
 import tempfile
-from collections.abc import Callable, Generator, Iterator
+from collections.abc import AsyncIterator, Callable, Generator, Iterator
 from contextlib import ExitStack, contextmanager
 from pathlib import Path
 from typing import Any
@@ -15,7 +15,8 @@ import pytest
 
 import needed
 from hourstable.demo import engines
-from hourstable.store import Store, open_store
+from hourstable.store import Store
+from stores import opened
 
 KINDS = ("sqlite", "postgresql", "etcd")
 MAY_SKIP = Path(__file__).with_name("may-skip.txt")
@@ -95,10 +96,16 @@ def url(request: pytest.FixtureRequest, running: Callable[[str], str], tmp_path:
 
 
 @pytest.fixture
-def store(url: str) -> Iterator[Store]:
-    opened = open_store(url)
-    yield opened
-    opened.close()
+async def store(url: str) -> AsyncIterator[Store]:
+    async with opened(url) as made:
+        yield made
+
+
+@pytest.fixture
+async def file(tmp_path: Path) -> AsyncIterator[Store]:
+    """A store in a file of SQLite."""
+    async with opened(f"sqlite:{tmp_path}/jobs.sqlite") as made:
+        yield made
 
 
 @pytest.fixture

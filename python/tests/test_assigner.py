@@ -21,17 +21,12 @@ from hourstable.loads import KEYS, Loads  # noqa: E402
 from hourstable.plans import (  # noqa: E402
     Hysteresis, Planner, first_assignment, loads_over, message_of, slices_in, task_loads,
 )
-from hourstable.store import Store, open_store  # noqa: E402
+from hourstable.store import Store  # noqa: E402
 from hourstable.tickets import Tickets  # noqa: E402
 from serving import POLICY, Caller, Task, lines_of, running  # noqa: E402
 
 QUICK = Hysteresis(settle=0.3, rest=1.0)
 QUARTER = KEYS // 4
-
-
-@pytest.fixture
-def file(tmp_path: Path) -> Store:
-    return open_store(f"sqlite:{tmp_path}/jobs.sqlite")
 
 
 @asynccontextmanager

@@ -3,9 +3,8 @@ it."""
 
 import asyncio
 import json
-import threading
 import time
-from collections.abc import Callable
+from collections.abc import Awaitable, Callable
 from pathlib import Path
 from typing import Any
 
@@ -21,16 +20,13 @@ from prometheus_client.parser import text_string_to_metric_families  # noqa: E40
 from hourstable import control  # noqa: E402
 from hourstable.control import Limits, Plane  # noqa: E402
 from hourstable.library import Slicelet  # noqa: E402
-from hourstable.store import Store, StoreFailed, open_store  # noqa: E402
+from hourstable.store import Store, StoreFailed  # noqa: E402
+from hourstable.waiting import within  # noqa: E402
 from serving import HALF, POLICY, Answer, Caller, assignment, lines_of, running  # noqa: E402
+from stores import opened  # noqa: E402
 
 WHOLE = [[0, [1]]]
 HALVES = [[0, [1]], [HALF, [2]]]
-
-
-@pytest.fixture
-def file(tmp_path: Path) -> Store:
-    return open_store(f"sqlite:{tmp_path}/jobs.sqlite")
 
 
 class Trouble:
@@ -38,20 +34,25 @@ class Trouble:
 
     def __init__(self, store: Store) -> None:
         self._store = store
-        self.before: Callable[[], None] | None = None
-        self.after: Callable[[], None] | None = None
+        self.before: Callable[[], object] | None = None
+        self.after: Callable[[], object] | None = None
 
     def __getattr__(self, name: str) -> Any:
         return getattr(self._store, name)
 
-    def swap(self, job: str, version: int, kept: bytes, line: str | None) -> int:
+    async def swap(self, job: str, version: int, kept: bytes, line: str | None) -> int:
         before, after = self.before, self.after
-        if before is not None:
-            before()
-        made = self._store.swap(job, version, kept, line)
-        if after is not None:
-            after()
+        await done(before)
+        made = await self._store.swap(job, version, kept, line)
+        await done(after)
         return made
+
+
+async def done(action: Callable[[], object] | None) -> None:
+    """Does something, and waits for it if it takes time."""
+    made = None if action is None else action()
+    if isinstance(made, Awaitable):
+        await made
 
 
 def fail() -> None:
@@ -305,11 +306,11 @@ async def test_a_plane_that_stops_answers_who_waits(file: Store, tmp_path: Path)
 async def test_no_answer_leaves_before_the_store_has_it(file: Store, tmp_path: Path) -> None:
     """A swap is held up; until it is let go there is no answer, and no line in the log."""
     trouble = Trouble(file)
-    gate, reached = threading.Event(), threading.Event()
+    gate, reached = asyncio.Event(), asyncio.Event()
 
-    def wait() -> None:
+    async def wait() -> None:
         reached.set()
-        assert gate.wait(10)
+        await within(10, gate.wait())
 
     async with running(trouble, tmp_path / "logs") as (_, caller):  # type: ignore[arg-type]
         await begun(caller)
@@ -319,7 +320,7 @@ async def test_no_answer_leaves_before_the_store_has_it(file: Store, tmp_path: P
             reached.clear()
             setattr(trouble, point, wait)
             asked = asyncio.create_task(caller.grant(1))
-            await asyncio.to_thread(reached.wait, 10)
+            await within(10, reached.wait())
             await asyncio.sleep(0.2)
             assert not asked.done()
             assert len(lines_of(tmp_path / "logs")) == before + at
@@ -338,7 +339,7 @@ async def test_a_store_that_is_too_slow(file: Store, tmp_path: Path) -> None:
         _, caller,
     ):
         await begun(caller)
-        trouble.before = lambda: time.sleep(0.8)
+        trouble.before = lambda: asyncio.sleep(0.8)
         late = await caller.grant(1)
         assert (late.status, late.json["refused"]) == (503, "store")
         assert late.headers["Retry-After"] == "1"
@@ -392,23 +393,23 @@ class Slow(Trouble):
     def __init__(self, store: Store) -> None:
         super().__init__(store)
         self.swaps = 0
-        self._next: list[threading.Event] = []
+        self._next: list[asyncio.Event] = []
 
-    def hold_up(self) -> threading.Event:
+    def hold_up(self) -> asyncio.Event:
         """Lets the next swap wait for what is returned."""
-        self._next.append(threading.Event())
+        self._next.append(asyncio.Event())
         return self._next[-1]
 
-    def swap(self, job: str, version: int, kept: bytes, line: str | None) -> int:
+    async def swap(self, job: str, version: int, kept: bytes, line: str | None) -> int:
         self.swaps += 1
         if self._next:
-            assert self._next.pop(0).wait(10)
-        return super().swap(job, version, kept, line)
+            await within(10, self._next.pop(0).wait())
+        return await super().swap(job, version, kept, line)
 
 
 async def told_together(
     plane: Plane, slow: Slow, caller: Caller, calls: list[tuple[str, object]],
-    then: Callable[[], None] = lambda: None,
+    then: Callable[[], object] | None = None,
 ) -> list[Answer]:
     """Makes a grant, and calls that wait while it is stored; calls `then` before they are. Returns
     the answers to these calls."""
@@ -426,7 +427,7 @@ async def told_together(
     assert (await first).status == 200
     while slow._next:  # else the plane may look at what `then` wrote before it makes the calls
         await asyncio.sleep(0.001)
-    then()
+    await done(then)
     held_up.set()
     return list(await asyncio.gather(*waiting))
 
@@ -449,7 +450,7 @@ async def test_calls_that_wait_are_stored_by_one_write(file: Store, tmp_path: Pa
         ]
         readings = {one.reading for one in told[:8] + told[9:]}
         assert len(readings) == 1
-        stored = file.load("shop")
+        stored = await file.load("shop")
         assert stored is not None and stored.line is not None
         lines = [json.loads(line) for line in stored.line.removeprefix("0 ").split("\n")]
         assert [line["reply"].split()[0] for line in lines] == ["grant"] * 8 + ["refused"]
@@ -495,10 +496,10 @@ async def test_a_conflict_answers_none_of_them(file: Store, tmp_path: Path) -> N
     async with running(slow, logs, shared=True) as (plane, caller):  # type: ignore[arg-type]
         await begun(caller)
 
-        def write_first() -> None:
-            stored = file.load("shop")
+        async def write_first() -> None:
+            stored = await file.load("shop")
             assert stored is not None
-            file.swap("shop", stored.version, stored.kept, stored.line)
+            await file.swap("shop", stored.version, stored.kept, stored.line)
 
         told = await told_together(plane, slow, caller, GRANTS, write_first)
         assert [(one.status, one.json["refused"]) for one in told] == [(503, "replaced")] * 8
@@ -558,7 +559,7 @@ async def test_several_grants_while_the_store_is_slow(file: Store, tmp_path: Pat
         trouble, tmp_path / "logs", limits=limits  # type: ignore[arg-type]
     ) as (_, caller):
         await begun(caller)
-        trouble.before = lambda: time.sleep(0.8)
+        trouble.before = lambda: asyncio.sleep(0.8)
         body = {"grants": [{"job": "shop", "task": 1, "life": 1}]}
         told = (await caller.ask("POST", "/grants", body)).json["answers"]
         assert [(one["status"], one["body"]["refused"]) for one in told] == [(503, "store")]
@@ -670,9 +671,11 @@ async def test_a_restart_after_saving_ahead_waits(file: Store, tmp_path: Path) -
 async def test_two_planes_never_both_write(url: str, job: str, tmp_path: Path) -> None:
     """The second takes over when the first is still; the first then drops its table. Numbers of
     grants are not given twice, and readings do not fall."""
-    first, second = open_store(url), open_store(url)
     logs = tmp_path / "logs"
-    async with running(first, logs, 0, True) as (one, a), running(second, logs, 1, True) as (_, b):
+    async with (
+        opened(url) as first, running(first, logs, 0, True) as (one, a),
+        opened(url) as second, running(second, logs, 1, True) as (_, b),
+    ):
         a.job = b.job = job
         await a.create()
         term = await a.take()
@@ -702,8 +705,6 @@ async def test_two_planes_never_both_write(url: str, job: str, tmp_path: Path) -
     ]
     restores = [line["file"].split(".")[0] for line in lines if line["do"] == "restore"]
     assert restores == ["control-1", "control-0"]
-    first.close()
-    second.close()
 
 
 async def test_a_plane_that_was_replaced_unseen(file: Store, tmp_path: Path) -> None:
@@ -711,11 +712,11 @@ async def test_a_plane_that_was_replaced_unseen(file: Store, tmp_path: Path) -> 
     async with running(file, tmp_path / "logs", shared=True) as (plane, caller):
         await begun(caller)
         job = plane.jobs["shop"].job
-        stored = file.load("shop")
+        stored = await file.load("shop")
         assert stored is not None and stored.line is not None
         line = json.loads(stored.line.removeprefix("0 "))
         line["ticket"] += (1 << 16) + 5  # a ticket of process 5
-        file.swap("shop", stored.version, stored.kept, "0 " + json.dumps(line))
+        await file.swap("shop", stored.version, stored.kept, "0 " + json.dumps(line))
         job_held = job.is_held
         answer = await caller.grant(1)
         assert job_held and (answer.status, answer.json["refused"]) == (503, "replaced")
@@ -726,9 +727,11 @@ async def test_a_plane_that_was_replaced_unseen(file: Store, tmp_path: Path) -> 
 
 
 async def test_a_standby_sees_what_the_other_commits(url: str, job: str, tmp_path: Path) -> None:
-    first, second = open_store(url), open_store(url)
     logs = tmp_path / "logs"
-    async with running(first, logs, 0, True) as (_, a), running(second, logs, 1, True) as (_, b):
+    async with (
+        opened(url) as first, running(first, logs, 0, True) as (_, a),
+        opened(url) as second, running(second, logs, 1, True) as (_, b),
+    ):
         a.job = b.job = job
         await a.create()
         assert (await b.get("/phase")).json["committed"] == 0
@@ -739,8 +742,6 @@ async def test_a_standby_sees_what_the_other_commits(url: str, job: str, tmp_pat
         assert (await asyncio.wait_for(waiting, 5)).json["value"]["generation"] == "1"
         assert (await b.post("tasks/3/life")).json["life"] == 1
         assert (await a.post("tasks/3/life")).json["life"] == 2
-    first.close()
-    second.close()
 
 
 # Limits and callers ----------------------------------------------------------------------------
@@ -863,9 +864,9 @@ async def test_a_damaged_job_keeps_no_other_from_being_served(
         for name in ("bad", "good"):
             caller.job = name
             await begun(caller)
-    stored = file.load("bad")
+    stored = await file.load("bad")
     assert stored is not None
-    file.swap("bad", stored.version, b'{"no":"message"}', stored.line)
+    await file.swap("bad", stored.version, b'{"no":"message"}', stored.line)
     async with running(file, tmp_path / "logs") as (_, caller):
         caller.job = "bad"
         assert (await caller.grant(1)).status == 503

@@ -16,8 +16,8 @@ needed.library()
 
 from hourstable import task as tasks  # noqa: E402
 from hourstable.metrics import Metrics, Shown  # noqa: E402
-from hourstable.store import SqliteStore  # noqa: E402
 from serving import running  # noqa: E402
+from stores import opened  # noqa: E402
 from test_page import begun  # noqa: E402
 
 TOP = Path(__file__).resolve().parents[2]
@@ -39,7 +39,10 @@ def exported_by_a_task() -> str:
 
 async def exported_by_a_plane(tmp_path: Path) -> str:
     """What a plane exports that has done calls of each sort."""
-    async with running(SqliteStore(str(tmp_path / "jobs")), tmp_path / "logs") as (plane, caller):
+    async with (
+        opened(f"sqlite:{tmp_path}/jobs") as store,
+        running(store, tmp_path / "logs") as (plane, caller),
+    ):
         await begun(caller)
         await caller.grant(1)
         await caller.post("take", {"assigner": 2})

@@ -18,7 +18,7 @@ needed.library()
 
 import browser  # noqa: E402
 from hourstable import page  # noqa: E402
-from hourstable.store import SqliteStore, Store  # noqa: E402
+from hourstable.store import Store  # noqa: E402
 from hourstable.task import Denied, Task  # noqa: E402
 from hourstable.tickets import HEADER, real_milliseconds  # noqa: E402
 from serving import HALF, POLICY, Caller, assignment, running  # noqa: E402
@@ -28,11 +28,6 @@ SLOW = {**POLICY, "guard": 5000, "bridge": 5000, "job": 60_000}
 # SHA-256 of "hello" begins 2cf24dba5fb0a30e, and that of "abc" ba7816bf8f01cfea.
 HELLO, ABC = 0x2CF24DBA5FB0A30E >> 1, 0xBA7816BF8F01CFEA >> 1
 HOSTILE = "<img src=x onerror=document.title='owned'>&\"'"
-
-
-@pytest.fixture
-def file(tmp_path: Path) -> Store:
-    return SqliteStore(str(tmp_path / "jobs"))
 
 
 class Inline(HTMLParser):

@@ -19,7 +19,7 @@ from hourstable import logs  # noqa: E402
 from hourstable.client import Router  # noqa: E402
 from hourstable.plans import Hysteresis  # noqa: E402
 from hourstable.service import ControlPlane, Options  # noqa: E402
-from hourstable.store import SqliteStore, Store  # noqa: E402
+from hourstable.store import Store, open_store  # noqa: E402
 from hourstable.system import System  # noqa: E402
 from hourstable.task import Denied, Task  # noqa: E402
 from hourstable.tickets import Tickets, milliseconds_of  # noqa: E402
@@ -100,13 +100,14 @@ async def test_a_plane_is_started_and_stopped_in_one_process(tmp_path: Path) -> 
 async def test_the_store_of_a_plane_is_opened_by_the_caller(tmp_path: Path) -> None:
     opened = []
 
-    def opens(url: str) -> Store:
-        opened.append(url)
-        return SqliteStore(str(tmp_path / "elsewhere"))
+    async def opens(url: str, deadline: float, system: System) -> Store:
+        opened.append((url, deadline))
+        return await open_store(f"sqlite:{tmp_path}/elsewhere", deadline, system)
 
-    async with ControlPlane(options(tmp_path), opens=opens) as running:
+    given = options(tmp_path, store_deadline=1.5)
+    async with ControlPlane(given, opens=opens) as running:
         assert running.plane is not None and running.plane.store.several is False
-    assert opened == [f"sqlite:{tmp_path}/jobs"]
+    assert opened == [(f"sqlite:{tmp_path}/jobs", 1.5)]
     assert not (tmp_path / "jobs").exists() and (tmp_path / "elsewhere").exists()
 
 

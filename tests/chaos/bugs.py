@@ -1,10 +1,9 @@
 """Bugs that are put in on purpose, which a run of chaos must find. Each changes what the package
 does in one process, and leaves the package alone."""
 
-import queue
-import threading
+import asyncio
 import time
-from collections.abc import Callable
+from collections.abc import Awaitable, Callable
 from typing import Any
 
 LATE = 0.5  # seconds after which a late store writes
@@ -12,16 +11,14 @@ LATE = 0.5  # seconds after which a late store writes
 
 def answer_before_the_store() -> None:
     """The control plane answers, and what the answer rests on is stored half a second later."""
-    from hourstable import command, control, store
+    from hourstable import service, store
 
     real = store.open_store
 
-    def open_late(url: str) -> Any:
-        return LateStore(real(url))
+    async def open_late(*given: Any) -> Any:
+        return LateStore(await real(*given))
 
-    for module in (store, control, command):
-        if hasattr(module, "open_store"):
-            setattr(module, "open_store", open_late)
+    setattr(service, "open_store", open_late)
 
 
 class LateStore:
@@ -31,25 +28,25 @@ class LateStore:
         self._store = store
         self._versions: dict[tuple[str, Any], Any] = {}  # the real version of one that was told
         self._told: dict[str, Any] = {}  # the last one that was told of a job
-        self._later: queue.Queue[tuple[Any, ...]] = queue.Queue()
-        threading.Thread(target=self._write, daemon=True).start()
+        self._later: asyncio.Queue[tuple[Any, ...]] = asyncio.Queue()
+        self._writing = asyncio.create_task(self._write())
 
-    def swap(self, job: str, version: Any, kept: Any, line: Any) -> Any:
+    async def swap(self, job: str, version: Any, kept: Any, line: Any) -> Any:
         told = ("told", time.monotonic_ns())
-        self._later.put((time.monotonic() + LATE, job, version, kept, line, told))
+        self._later.put_nowait((time.monotonic() + LATE, job, version, kept, line, told))
         self._told[job] = told
         return told
 
-    def version(self, job: str) -> Any:
-        return self._told.get(job) or self._store.version(job)
+    async def version(self, job: str) -> Any:
+        return self._told.get(job) or await self._store.version(job)
 
-    def _write(self) -> None:
+    async def _write(self) -> None:
         while True:
-            at, job, version, kept, line, told = self._later.get()
-            time.sleep(max(0.0, at - time.monotonic()))
+            at, job, version, kept, line, told = await self._later.get()
+            await asyncio.sleep(max(0.0, at - time.monotonic()))
             version = self._versions.pop((job, version), version)
             try:
-                self._versions[job, told] = self._store.swap(job, version, kept, line)
+                self._versions[job, told] = await self._store.swap(job, version, kept, line)
             except Exception:
                 pass
 
@@ -61,10 +58,10 @@ def use_a_life_twice() -> None:
     """The control plane gives a task that begins the life that it had before."""
     from hourstable import store
 
-    def same_life(real: Callable[..., int]) -> Callable[..., int]:
-        def raise_life(self: Any, job: str, task: int) -> int:
-            last = self.lives(job).get(task)
-            return real(self, job, task) if last is None else int(getattr(last, "life", last))
+    def same_life(real: Callable[..., Awaitable[int]]) -> Callable[..., Awaitable[int]]:
+        async def raise_life(self: Any, job: str, task: int) -> int:
+            last = (await self.lives(job)).get(task)
+            return await real(self, job, task) if last is None else int(last.life)
 
         return raise_life
 

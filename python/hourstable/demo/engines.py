@@ -30,8 +30,10 @@ def missing(kind: str) -> str | None:
     if kind == "postgresql":
         if _initdb() is None:
             return f"there is no {POSTGRESQL}: install it by `apt-get install postgresql`"
-        if importlib.util.find_spec("psycopg") is None:
-            return "there is no psycopg: install it by `apt-get install python3-psycopg`"
+        for name in ("psycopg", "psycopg_pool"):
+            if importlib.util.find_spec(name) is None:
+                package = f"python3-{name.replace('_', '-')}"
+                return f"there is no {name}: install it by `apt-get install {package}`"
         if os.geteuid() == 0 and _other_user() is None:
             return "PostgreSQL does not run as root, and there is no user postgres or nobody"
     return None

@@ -1,0 +1,208 @@
+"""The store of jobs in a table of PostgreSQL, over a pool of connections."""
+
+import asyncio
+from collections.abc import AsyncIterator
+from contextlib import asynccontextmanager
+from typing import Any
+
+import psycopg
+from psycopg import waiting
+from psycopg.abc import RV, PQGen
+from psycopg_pool import AsyncConnectionPool
+
+from hourstable.store import (
+    DEADLINE, Conflict, Store, Stored, StoreFailed, after_swap, lives_in, stored_in,
+)
+from hourstable.system import SYSTEM, System
+
+CONNECTIONS = 32  # of a store at most
+Rows = tuple[list[Any], int]  # that were read, and the count of those that were written
+
+
+class Connection(psycopg.AsyncConnection[Any]):
+    """A connection that is closed where a call on it is cancelled. Psycopg would ask the server to
+    cancel the call and wait until it says so, which a server that is stopped never does."""
+
+    async def wait(self, gen: PQGen[RV]) -> RV:
+        try:
+            return await waiting.wait_async(gen, self.pgconn.socket)
+        except asyncio.CancelledError:
+            await self.close()
+            raise
+
+
+class Pool:
+    """Connections to a server. It is made for the calls of one store in one event loop."""
+
+    def __init__(self, url: str, settings: dict[str, Any], deadline: float) -> None:
+        self._deadline = deadline
+        self._failed = asyncio.get_running_loop().create_future()  # when no connection is made
+        self._leaving: set[asyncio.Task[None]] = set()
+        self._pool = AsyncConnectionPool(
+            url, connection_class=Connection, kwargs=settings, min_size=0, max_size=CONNECTIONS,
+            open=False, reconnect_timeout=0, reconnect_failed=self._fail, num_workers=2,
+        )
+
+    async def open(self) -> "Pool":
+        await self._pool.open()
+        return self
+
+    @asynccontextmanager
+    async def connection(self) -> AsyncIterator[psycopg.AsyncConnection[Any]]:
+        """A connection. One that is closed in the block does not go back to the pool. Raises
+        psycopg.OperationalError if none can be made."""
+        connection = await self._take()
+        try:
+            yield connection
+        finally:
+            await self._pool.putconn(connection)
+
+    async def _take(self) -> psycopg.AsyncConnection[Any]:
+        """Takes a connection, or fails as soon as the server refuses one. The pool would give one
+        to a call that was cancelled, and lose it; so what takes it is not cancelled."""
+        taking = asyncio.create_task(self._pool.getconn(self._deadline))
+        taken = None
+        try:
+            await asyncio.wait({taking, self._failed}, return_when=asyncio.FIRST_COMPLETED)
+            if not taking.done():
+                raise psycopg.OperationalError("no connection is made")
+            taken = taking.result()
+            return taken
+        finally:
+            if taken is None:
+                taking.add_done_callback(self._leave)
+
+    def _leave(self, taking: "asyncio.Task[psycopg.AsyncConnection[Any]]") -> None:
+        """Gives back a connection for which nobody waits any more."""
+        if not taking.cancelled() and taking.exception() is None:
+            leaving = asyncio.create_task(self._pool.putconn(taking.result()))
+            self._leaving.add(leaving)
+            leaving.add_done_callback(self._leaving.discard)
+
+    def _fail(self, _: object) -> None:
+        """Fails the calls that wait for a connection."""
+        failed, self._failed = self._failed, asyncio.get_running_loop().create_future()
+        failed.set_result(None)
+
+    async def close(self) -> None:
+        """Closes the connections that are not in use, and each of the others after its call."""
+        await self._pool.close(self._deadline)
+
+
+class PostgresqlStore(Store):
+    """A store in the table hourstable_jobs of a PostgreSQL database. A write is on the disk of the
+    server, and of its synchronous standbys, before it returns.
+
+    Once a connection is broken or late, all that are kept are dropped with it, as they are of the
+    same server."""
+
+    name = "PostgreSQL"
+
+    def __init__(
+        self, url: str, deadline: float = DEADLINE, system: System = SYSTEM
+    ) -> None:
+        super().__init__(deadline, system)
+        self._url = url
+        self._settings: dict[str, Any] = {
+            "autocommit": True, "connect_timeout": max(1, round(deadline)),
+            "options": f"-c synchronous_commit=on -c statement_timeout={round(deadline * 1000)}",
+        }
+        self._pool: Pool | None = None
+        self._closing: set[asyncio.Task[None]] = set()
+
+    async def open(self) -> None:
+        for last in (False, True):  # two planes that create it at once may both fail
+            try:
+                return await self.in_time(self._make_table())
+            except StoreFailed:
+                if last:
+                    raise
+
+    async def _make_table(self) -> None:
+        try:
+            async with await Connection.connect(self._url, **self._settings) as connection:
+                await connection.execute(
+                    "CREATE TABLE IF NOT EXISTS hourstable_jobs (job text PRIMARY KEY,"
+                    " version bigint NOT NULL, policy text NOT NULL, kept text NOT NULL,"
+                    " line text, lives text NOT NULL)"
+                )
+        except psycopg.Error as error:
+            raise StoreFailed(f"PostgreSQL: {error}") from error
+
+    async def _try(self, statement: str, values: tuple[object, ...]) -> Rows:
+        if self._pool is None:
+            pool = self._pool = Pool(self._url, self._settings, self.deadline)
+            await pool.open()
+        pool = self._pool
+        try:
+            async with pool.connection() as connection:
+                try:
+                    cursor = await connection.execute(statement, values)
+                    return await cursor.fetchall() if cursor.description else [], cursor.rowcount
+                finally:
+                    if connection.closed:
+                        self._drop(pool)
+        except psycopg.IntegrityError as error:
+            raise Conflict(str(error)) from error
+        except psycopg.Error as error:
+            raise StoreFailed(f"PostgreSQL: {error}") from error
+
+    def _drop(self, pool: Pool) -> None:
+        """Drops all connections: the next call makes a new one."""
+        if self._pool is pool:
+            self._pool = None
+            closing = asyncio.create_task(pool.close())
+            self._closing.add(closing)
+            closing.add_done_callback(self._closing.discard)
+
+    async def _run(self, statement: str, *values: object) -> Rows:
+        return await self.in_time(self._try(statement, values))
+
+    async def _read(self, statement: str, *values: object) -> list[Any]:
+        return (await self.in_time(self._tried_twice(statement, values)))[0]
+
+    async def _tried_twice(self, statement: str, values: tuple[object, ...]) -> Rows:
+        """Reads; again by a new connection if the one that was kept is broken."""
+        try:
+            return await self._try(statement, values)
+        except StoreFailed:
+            return await self._try(statement, values)
+
+    async def jobs(self) -> list[str]:
+        rows = await self._read('SELECT job FROM hourstable_jobs ORDER BY job COLLATE "C"')
+        return [job for job, in rows]
+
+    async def create(self, job: str, policy: str, kept: bytes) -> int:
+        insert = "INSERT INTO hourstable_jobs VALUES (%s, 1, %s, %s, NULL, '{}')"
+        await self._run(insert, job, policy, kept.decode())
+        return 1
+
+    async def load(self, job: str) -> Stored | None:
+        select = "SELECT version, policy, kept, line FROM hourstable_jobs WHERE job = %s"
+        return stored_in(await self._read(select, job))
+
+    async def version(self, job: str) -> int | None:
+        rows = await self._read("SELECT version FROM hourstable_jobs WHERE job = %s", job)
+        return int(rows[0][0]) if rows else None
+
+    async def swap(self, job: str, version: int, kept: bytes, line: str | None) -> int:
+        _, count = await self._run(
+            "UPDATE hourstable_jobs SET version = version + 1, kept = %s, line = %s"
+            " WHERE job = %s AND version = %s",
+            kept.decode(), line, job, version,
+        )
+        return after_swap(job, version, count)
+
+    async def read_lives(self, job: str) -> tuple[str, Any]:
+        select = "SELECT lives FROM hourstable_jobs WHERE job = %s"
+        return lives_in(job, await self._read(select, job))
+
+    async def swap_lives(self, job: str, compared: Any, lives: str) -> bool:
+        update = "UPDATE hourstable_jobs SET lives = %s WHERE job = %s AND lives = %s"
+        return (await self._run(update, lives, job, compared))[1] == 1
+
+    async def close(self) -> None:
+        if self._pool is not None:
+            self._drop(self._pool)
+        if self._closing:
+            await asyncio.wait(self._closing)

@@ -1,0 +1,196 @@
+"""The store of jobs in a file of SQLite."""
+
+import asyncio
+import sqlite3
+from collections import deque
+from collections.abc import Callable
+from concurrent.futures import ThreadPoolExecutor
+from contextlib import suppress
+from typing import Any, NamedTuple, TypeVar
+
+from hourstable.store import (
+    DEADLINE, Conflict, Store, Stored, StoreFailed, after_swap, lives_in, stored_in,
+)
+from hourstable.system import SYSTEM, System
+
+T = TypeVar("T")
+
+
+class Write(NamedTuple):
+    """A write that waits for its turn, and who waits for the count of rows that it wrote."""
+
+    statement: str
+    values: tuple[object, ...]
+    answer: "asyncio.Future[int]"
+
+
+class Connected:
+    """A connection to a file, in a thread of its own. What waits longer than `patience` seconds for
+    another process fails."""
+
+    def __init__(self, path: str, patience: float) -> None:
+        self._path, self._patience = path, patience
+        self._thread = ThreadPoolExecutor(1, thread_name_prefix="sqlite")
+        self._connection: sqlite3.Connection | None = None
+
+    async def run(self, call: Callable[[sqlite3.Connection], T]) -> T:
+        """Returns what a call makes of the connection. One that is cancelled before its turn is not
+        begun. Raises StoreFailed."""
+        loop = asyncio.get_running_loop()
+        try:
+            return await loop.run_in_executor(self._thread, lambda: call(self._opened()))
+        except sqlite3.Error as error:
+            raise StoreFailed(f"SQLite: {error}") from error
+
+    def _opened(self) -> sqlite3.Connection:
+        if self._connection is None:
+            self._connection = sqlite3.connect(
+                self._path, timeout=self._patience, isolation_level=None, check_same_thread=False
+            )
+            self._connection.execute("PRAGMA synchronous = FULL")
+        return self._connection
+
+    async def close(self) -> None:
+        """Closes the connection, after the calls that were begun."""
+        try:
+            if self._connection is not None:
+                await self.run(sqlite3.Connection.close)
+        finally:
+            self._thread.shutdown(wait=False)
+
+
+class SqliteStore(Store):
+    """A store in a file, for control planes on one host. A write is synced before it returns.
+
+    Writes that come during another one are done in one transaction, with one sync. Reads have a
+    connection of their own, and do not wait for writes."""
+
+    name = "SQLite"
+    several = False
+
+    def __init__(
+        self, path: str, deadline: float = DEADLINE, system: System = SYSTEM
+    ) -> None:
+        super().__init__(deadline, system)
+        self.reads, self.writes = (Connected(path, deadline) for _ in range(2))
+        self._waiting: deque[Write] = deque()
+        self._working: asyncio.Task[None] | None = None  # while writes wait
+
+    async def open(self) -> None:
+        await self.in_time(self.writes.run(_make_table))
+
+    def waiting(self) -> int:
+        """Returns how many writes wait for the end of another one."""
+        return len(self._waiting)
+
+    async def _read(self, statement: str, *values: object) -> list[Any]:
+        return await self.in_time(
+            self.reads.run(lambda connection: connection.execute(statement, values).fetchall())
+        )
+
+    async def _write(self, statement: str, *values: object) -> int:
+        """Returns how many rows were written. Raises Conflict at a row that is there already."""
+        mine = Write(statement, values, asyncio.get_running_loop().create_future())
+        self._waiting.append(mine)
+        if self._working is None:
+            self._working = asyncio.create_task(self._write_waiting())
+        return await self.in_time(_answer_of(mine))
+
+    async def _write_waiting(self) -> None:
+        """Does the writes that wait: all of them in one transaction, and then those that came
+        during it. After an error none of them is known to be done."""
+        try:
+            while self._waiting:
+                writes = [self._waiting.popleft() for _ in range(len(self._waiting))]
+                try:
+                    counts = await self.writes.run(lambda connection: _written(connection, writes))
+                except Exception as error:
+                    _tell(writes, [StoreFailed(str(error)) for _ in writes])
+                else:
+                    _tell(writes, counts)
+        finally:
+            self._working = None
+
+    async def jobs(self) -> list[str]:
+        return [job for job, in await self._read("SELECT job FROM jobs ORDER BY job")]
+
+    async def create(self, job: str, policy: str, kept: bytes) -> int:
+        await self._write(
+            "INSERT INTO jobs VALUES (?, 1, ?, ?, NULL, '{}')", job, policy, kept.decode()
+        )
+        return 1
+
+    async def load(self, job: str) -> Stored | None:
+        select = "SELECT version, policy, kept, line FROM jobs WHERE job = ?"
+        return stored_in(await self._read(select, job))
+
+    async def version(self, job: str) -> int | None:
+        rows = await self._read("SELECT version FROM jobs WHERE job = ?", job)
+        return int(rows[0][0]) if rows else None
+
+    async def swap(self, job: str, version: int, kept: bytes, line: str | None) -> int:
+        count = await self._write(
+            "UPDATE jobs SET version = version + 1, kept = ?, line = ?"
+            " WHERE job = ? AND version = ?",
+            kept.decode(), line, job, version,
+        )
+        return after_swap(job, version, count)
+
+    async def read_lives(self, job: str) -> tuple[str, Any]:
+        return lives_in(job, await self._read("SELECT lives FROM jobs WHERE job = ?", job))
+
+    async def swap_lives(self, job: str, compared: Any, lives: str) -> bool:
+        update = "UPDATE jobs SET lives = ? WHERE job = ? AND lives = ?"
+        return await self._write(update, lives, job, compared) == 1
+
+    async def close(self) -> None:
+        for connected in (self.reads, self.writes):
+            with suppress(StoreFailed):
+                await self.in_time(connected.close())
+
+
+async def _answer_of(write: Write) -> int:
+    return await write.answer
+
+
+def _tell(writes: list[Write], outcomes: list[int | Exception]) -> None:
+    """Tells those who still wait what came of their writes."""
+    for write, outcome in zip(writes, outcomes):
+        if write.answer.done():
+            continue
+        if isinstance(outcome, Exception):
+            write.answer.set_exception(outcome)
+        else:
+            write.answer.set_result(outcome)
+
+
+def _make_table(connection: sqlite3.Connection) -> None:
+    connection.execute("PRAGMA journal_mode = WAL")
+    connection.execute(
+        "CREATE TABLE IF NOT EXISTS jobs (job TEXT PRIMARY KEY, version INTEGER NOT NULL,"
+        " policy TEXT NOT NULL, kept TEXT NOT NULL, line TEXT, lives TEXT NOT NULL) STRICT"
+    )
+
+
+def _written(connection: sqlite3.Connection, writes: list[Write]) -> list[int | Exception]:
+    """Does writes in one transaction, and returns for each the count of rows or Conflict. One for
+    which nobody waits any more, as the lock was held for so long, is left out."""
+    connection.execute("BEGIN IMMEDIATE")
+    try:
+        counts = [_tried(connection, write) for write in writes]
+        connection.execute("COMMIT")
+        return counts
+    except BaseException:
+        with suppress(sqlite3.Error):
+            connection.rollback()
+        raise
+
+
+def _tried(connection: sqlite3.Connection, write: Write) -> int | Exception:
+    """Does a write of the transaction. One that meets a row that is there does nothing."""
+    if write.answer.cancelled():
+        return 0
+    try:
+        return connection.execute(write.statement, write.values).rowcount
+    except sqlite3.IntegrityError as error:
+        return Conflict(str(error))
