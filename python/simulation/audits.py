@@ -17,9 +17,9 @@ def gather(folder: Path, job: str) -> Path:
     return into
 
 
-def audit(folder: Path, job: str, program: str, may_be_untimely: bool) -> str:
+def audit(folder: Path, job: str, program: str, must_be_timely: bool) -> str:
     """Audits the logs of a job, and returns what is wrong: nothing, if all its calls are one run and
-    its clocks were timely, or may not have been."""
+    its clocks were timely, where they must be."""
     gathered = gather(folder, job)
     files = logs.lay_out(gathered, folder / "audit" / job)
     if not files:
@@ -31,7 +31,7 @@ def audit(folder: Path, job: str, program: str, may_be_untimely: bool) -> str:
     said = made.stdout.splitlines()
     is_one = made.returncode == 0 and any(line.startswith("audit one") for line in said)
     is_timely = "timely yes" in said
-    if is_one and (is_timely or may_be_untimely):
+    if is_one and (is_timely or not must_be_timely):
         return ""
     told = (made.stdout + made.stderr).replace(f"{folder}/", "").strip().splitlines()
     return f"{job}: status {made.returncode}: " + "; ".join(told)[-500:]

@@ -4,6 +4,8 @@ import asyncio
 from dataclasses import dataclass, field
 from typing import Any
 
+from hourstable.library import slice_key
+from hourstable.ranges import holds
 from hourstable.task import Denied, LeaseLost
 
 from .services import Cluster, Service
@@ -72,7 +74,7 @@ def unserved(cluster: Cluster) -> list[str]:
 
 
 def _serves(cluster: Cluster, process: Process, task: Any, key: str) -> bool:
-    if process.stops or not task.served():
+    if process.stops or not holds(task.served(), slice_key(key.encode())):
         return False
     with cluster.world.inside(process):
         try:

@@ -3,6 +3,7 @@
 import asyncio
 from collections import deque
 from collections.abc import Callable
+from concurrent.futures import Executor
 from functools import partial
 from typing import TYPE_CHECKING, Any
 from weakref import WeakSet
@@ -137,7 +138,8 @@ class Loop(asyncio.AbstractEventLoop):
         workers = self._workers.get(executor)
         if workers is None:
             most = getattr(executor, "_max_workers", THREADS)
-            workers = self._workers[executor] = Workers(self, most)
+            is_thread = isinstance(executor, Executor)
+            workers = self._workers[executor] = Workers(self, most, is_thread)
         return workers.submit(partial(func, *args))
 
     async def create_server(  # type: ignore[override]
@@ -168,8 +170,8 @@ class Workers:
     """The threads of an executor. A call has its effect at one later moment, and its caller hears of
     it at another one. Of a process that is dead, half of the calls under way still have it."""
 
-    def __init__(self, loop: Loop, most: int) -> None:
-        self._loop, self._free = loop, most
+    def __init__(self, loop: Loop, most: int, is_thread: bool) -> None:
+        self._loop, self._free, self._is_thread = loop, most, is_thread
         self._waiting: deque[tuple[Action, "asyncio.Future[Any]"]] = deque()
 
     def submit(self, call: Action) -> "asyncio.Future[Any]":
@@ -195,7 +197,7 @@ class Workers:
         error: Exception | None = None
         with world.inside(process):
             try:
-                made = call()
+                made = world.call_through(call) if self._is_thread else call()
             except Held as why:
                 soon = min(why.until, world.now + SECOND // 4)  # or it is freed before
                 world.at(soon, partial(self._effect, call, future, after))

@@ -43,6 +43,7 @@ def begin(wanted: Wanted) -> Child:
         return Child(wanted, process, reading, time.monotonic())
     os.close(reading)
     signal.signal(signal.SIGINT, signal.SIG_DFL)
+    gc.disable()  # a run is short
     try:
         made = run(wanted, folder_of(wanted))
     except BaseException:

@@ -14,7 +14,8 @@ from hourstable.desk import HttpDesk
 from hourstable.plans import Hysteresis
 from hourstable.ranges import Ranges
 from hourstable.service import ControlPlane, Options
-from hourstable.store import Store
+from hourstable.store import Store, open_store
+from hourstable.system import System
 from hourstable.task import Denied, LeaseLost, Task
 from hourstable.tickets import Tickets
 from hourstable.transport import Transport
@@ -92,8 +93,10 @@ async def run_plane(at: int, service: Service) -> None:
     await running.stop()
 
 
-def open_shared(cluster: Cluster, _: str) -> Store:
-    return SharedStore(cluster.engine)
+async def open_shared(cluster: Cluster, _: str, deadline: float, system: System) -> Store:
+    if not cluster.engine.is_sqlite:
+        return SharedStore(cluster.engine, deadline, system)
+    return await open_store(f"sqlite:{cluster.folder}/jobs.sqlite", deadline, system)
 
 
 def answer_exchanges(

@@ -160,7 +160,7 @@ class Run:
             "probed": cluster.oracle.probed, "writes": cluster.engine.writes, "well": well.seconds,
             "operations": sum(map(len, cluster.shelf.history.values())),
             "denied": self.watch.worst(), "whole": scene.is_whole, "engine": scene.engine,
-            "is_audited": not (back or scene.seconds or self._has_lost()), "wild": wild,
+            "is_audited": not (back or scene.seconds or self._has_lost()), "is_timely": scene.has_timely_tickets,
         }
         made.wrong = {name: all_of for name, all_of in found.items() if all_of}
         made.digest = f"{self.world.digest & (1 << 64) - 1:016x}"
@@ -179,7 +179,7 @@ def judged(made: Found, folder: Path, program: str) -> Found:
         digest ^= crc32(file.read_bytes(), crc32(file.name.encode())) << 16
     made.digest = f"{digest & (1 << 64) - 1:016x}"
     if program and made.figures.get("is_audited"):
-        wrong = [audit(folder, job, program, made.figures["wild"]) for job in sorted(jobs)]
+        wrong = [audit(folder, job, program, made.figures["is_timely"]) for job in sorted(jobs)]
         if any(wrong):
             made.wrong["audit"] = [it for it in wrong if it]
     return made

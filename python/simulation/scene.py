@@ -40,6 +40,7 @@ class Scene:
     seconds: tuple[int, ...] = ()  # tasks of the first job that have a second process elsewhere
     waits: bool = True  # whether the application awaits Task.wait()
     drift: int = 100  # parts in a million by which clocks of hosts may be wrong
+    is_skewed: bool = False  # whether the real times of hosts differ
     late: float = 0.0  # when the second job begins
     second_of_day: int = 0
     kinds: tuple[str, ...] = ()
@@ -56,6 +57,11 @@ class Scene:
     def end(self) -> float:
         """When the last fault has ended: four guard terms before the end."""
         return self.length - 4.0 * self.term
+
+    @property
+    def has_timely_tickets(self) -> bool:
+        """Whether tickets go by one real time, so that the audit finds right clocks timely."""
+        return not self.is_skewed and not {"set_clock", "wrong_day", "wrong_rate", "jump"} & set(self.kinds)
 
     def job_of(self, key: str) -> JobScene:
         return next(it for it in self.jobs if key in it.keys)
@@ -113,6 +119,7 @@ def scene_of(seed: int, world: str | None = None) -> Scene:
     made.waits = rng.random() < 0.7
     made.every = rng.choice((1.5, 3.0, 6.0))
     made.late = rng.choice((0.0, 15.0))
+    made.is_skewed = rng.random() < 0.5
     made.second_of_day = rng.choice((rng.randrange(86_400), 86_400 - rng.randrange(100)))
     tasks = tuple(range(1, rng.choice((4, 4, 5)) + 1))
     owners = 2 if rng.random() < 0.15 else 1

@@ -147,7 +147,7 @@ class Cluster:
         ppm = rng.choice((-drift, 0, drift, rng.randint(-drift, drift)))
         folder = self.folder / address
         folder.mkdir(parents=True, exist_ok=True)
-        wall = int(rng.gauss(0, 2) * SECOND)
+        wall = int(rng.gauss(0, 2) * SECOND) if self.scene.is_skewed else 0
         host = self.network.hosts[address] = Host(self.world, address, ppm, wall, Disk(folder))
         return host
 

@@ -1,18 +1,21 @@
-"""The store of a run, behind the package's interface: rows in memory, or SQLite in memory, that all
-planes share.
+"""The store of a run, behind the package's interface: rows in memory that all planes share, or the
+package's SQLite over a file in memory.
 
 A call of a process has its effect at one moment of virtual time. Faults make it hang before that,
 fail before or after its effect, or fail first and have its effect seconds later; a row may be locked
 by somebody else, and the whole may go back to a backup.
 """
 
+import asyncio
+import sqlite3
 from collections.abc import Callable
 from copy import deepcopy
 from dataclasses import dataclass
 from random import Random
 from typing import Any, TypeVar
 
-from hourstable.store import Conflict, NoSuchJob, SqliteStore, Store, Stored, StoreFailed
+from hourstable.store import Conflict, NoSuchJob, Store, Stored, StoreFailed
+from hourstable.system import System
 
 from .loop import Held
 from .world import MILLISECOND, Process, World
@@ -31,8 +34,8 @@ class Row:
     lives: str
 
 
-class Rows(Store):
-    """Rows in memory."""
+class Rows:
+    """Rows in memory. Each method has its effect at once."""
 
     def __init__(self) -> None:
         self.rows: dict[str, Row] = {}
@@ -61,31 +64,25 @@ class Rows(Store):
         row.version, row.kept, row.line = version + 1, kept, line
         return row.version
 
-    def close(self) -> None:
-        pass
-
-    def _read_lives(self, job: str) -> tuple[str, Any]:
+    def read_lives(self, job: str) -> tuple[str, Any]:
         if job not in self.rows:
             raise NoSuchJob(job)
         return self.rows[job].lives, self.rows[job].lives
 
-    def _swap_lives(self, job: str, compared: Any, lives: str) -> bool:
+    def swap_lives(self, job: str, compared: Any, lives: str) -> bool:
         row = self.rows[job]
         is_same: bool = row.lives == compared
         row.lives = lives if is_same else row.lives
         return is_same
-
-    def copy(self) -> dict[str, Row]:
-        """Returns a backup."""
-        return deepcopy(self.rows)
 
 
 class Engine:
     """The engine of the store, and its faults."""
 
     def __init__(self, world: World, is_sqlite: bool) -> None:
-        self.world, self.rng = world, Random(f"{world.seed} store")
-        self.inner: Store = SqliteStore(":memory:") if is_sqlite else Rows()
+        self.world, self.is_sqlite = world, is_sqlite
+        self.rng = Random(f"{world.seed} store")
+        self.rows = Rows()  # unless it is SQLite, which has a file
         self.fails = 0.0  # the part of calls that fail
         self.slow = 1.0
         self.frozen: dict[str, int] = {}  # hosts, and until when their calls hang
@@ -93,6 +90,7 @@ class Engine:
         self.backup: dict[str, Row] | None = None
         self.writes = 0
         world.call_delay = self.delay
+        world.call_through = self.perform
 
     def delay(self, process: Process) -> tuple[int, int]:
         """Returns the ns before the effect of a call, and from it to the answer."""
@@ -101,10 +99,12 @@ class Engine:
         before += max(0, self.frozen.get(process.host.address, 0) - now)
         return before, int(rng.expovariate(1) * MILLISECOND * self.slow)
 
-    def perform(self, call: Callable[[], T], job: str, writes: bool) -> T:
-        """Does a call, or lets it fail. Raises Held while the row is locked."""
-        if self.locked.get(job, 0) > self.world.now:
-            raise Held(self.locked[job])
+    def perform(self, call: Callable[[], T], job: str | None = None, writes: bool = True) -> T:
+        """Does a call, or lets it fail. Raises Held while the row of the job is locked, or that of
+        any job, if none is given: SQLite locks the whole file."""
+        until = max(self.locked.values(), default=0) if job is None else self.locked.get(job, 0)
+        if until > self.world.now:
+            raise Held(until)
         self.writes += writes
         if not self.fails or self.rng.random() >= self.fails:
             return call()
@@ -116,52 +116,67 @@ class Engine:
         raise StoreFailed(f"the engine failed {kind} the effect")
 
     def keep_backup(self) -> None:
-        if isinstance(self.inner, Rows):
-            self.backup = self.inner.copy()
+        if not self.is_sqlite:
+            self.backup = deepcopy(self.rows.rows)
 
     def go_back(self) -> bool:
         """Goes back to the backup, and returns whether there is one."""
-        if isinstance(self.inner, Rows) and self.backup is not None:
-            self.inner.rows = deepcopy(self.backup)
-            return True
-        return False
+        if self.backup is None:
+            return False
+        self.rows.rows = deepcopy(self.backup)
+        return True
 
 
 def _quietly(call: Callable[[], Any]) -> None:
     try:
         call()
-    except (Conflict, NoSuchJob):
-        pass
+    except Exception as why:
+        if not isinstance(why, (Conflict, NoSuchJob, sqlite3.Error)):
+            raise
+
+
+class Connections:
+    """Stands for an executor: as many calls of a process go on at once as it has connections."""
+
+    _max_workers = 16
 
 
 class SharedStore(Store):
-    """The store as a process sees it."""
+    """The rows as a process sees them, over a network. A call that is given up may be done later."""
 
-    def __init__(self, engine: Engine) -> None:
-        self._engine, self._inner = engine, engine.inner
+    def __init__(self, engine: Engine, deadline: float, system: System) -> None:
+        super().__init__(deadline, system)
+        self._engine, self._rows, self._connections = engine, engine.rows, Connections()
 
-    def jobs(self) -> list[str]:
-        return self._engine.perform(self._inner.jobs, "", False)
+    async def _do(self, call: Callable[[], T], job: str, writes: bool) -> T:
+        perform = self._engine.perform
+        return await self.in_time(self._done(lambda: perform(call, job, writes)))
 
-    def create(self, job: str, policy: str, kept: bytes) -> int:
-        return self._engine.perform(lambda: self._inner.create(job, policy, kept), job, True)
+    async def _done(self, call: Callable[[], T]) -> T:
+        executor: Any = self._connections
+        made: T = await asyncio.get_running_loop().run_in_executor(executor, call)
+        return made
 
-    def load(self, job: str) -> Stored | None:
-        return self._engine.perform(lambda: self._inner.load(job), job, False)
+    async def jobs(self) -> list[str]:
+        return await self._do(self._rows.jobs, "", False)
 
-    def version(self, job: str) -> int | None:
-        return self._engine.perform(lambda: self._inner.version(job), job, False)
+    async def create(self, job: str, policy: str, kept: bytes) -> int:
+        return await self._do(lambda: self._rows.create(job, policy, kept), job, True)
 
-    def swap(self, job: str, version: int, kept: bytes, line: str | None) -> int:
-        call = lambda: self._inner.swap(job, version, kept, line)  # noqa: E731
-        return self._engine.perform(call, job, True)
+    async def load(self, job: str) -> Stored | None:
+        return await self._do(lambda: self._rows.load(job), job, False)
 
-    def close(self) -> None:
+    async def version(self, job: str) -> int | None:
+        return await self._do(lambda: self._rows.version(job), job, False)
+
+    async def swap(self, job: str, version: int, kept: bytes, line: str | None) -> int:
+        return await self._do(lambda: self._rows.swap(job, version, kept, line), job, True)
+
+    async def read_lives(self, job: str) -> tuple[str, Any]:
+        return await self._do(lambda: self._rows.read_lives(job), job, False)
+
+    async def swap_lives(self, job: str, compared: Any, lives: str) -> bool:
+        return await self._do(lambda: self._rows.swap_lives(job, compared, lives), job, True)
+
+    async def close(self) -> None:
         pass
-
-    def _read_lives(self, job: str) -> tuple[str, Any]:
-        return self._engine.perform(lambda: self._inner._read_lives(job), job, False)
-
-    def _swap_lives(self, job: str, compared: Any, lives: str) -> bool:
-        call = lambda: self._inner._swap_lives(job, compared, lives)  # noqa: E731
-        return self._engine.perform(call, job, True)

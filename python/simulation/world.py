@@ -90,7 +90,7 @@ class Process:
         self.main: "asyncio.Task[None] | None" = None
         self.on_signal: Action | None = None
         self.at_kill: list[Action] = []  # what its kernel does when it is killed
-        self.loop: "Loop" = Loop(self)
+        self.loop: "Loop" = Loop(self)  # type: ignore[abstract]
 
     def stop(self) -> None:
         self.stops += 1
@@ -140,6 +140,7 @@ class World:
         self.grave: list[object] = []  # what dead processes had, so that nothing of it is collected
         self.died: list[Death] = []
         self.call_delay: Callable[[Process], tuple[int, int]] = lambda _: (0, 0)  # of executors
+        self.call_through: Callable[[Action], object] = lambda call: call()  # of real executors
         self.stall_every = 0.0  # the part of clock readings and writes at which a process stalls
         self.stall_most = 0
         self.stall_rng = Random(f"{seed} stalls")
