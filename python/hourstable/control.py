@@ -217,7 +217,7 @@ class Plane:
         """Reads what is stored of a job. One that is damaged keeps no other from being served."""
         try:
             await (await self.followed(name)).job.refresh()
-        except (StoreFailed, NoSuchJob, Malformed, ValueError) as error:
+        except (StoreFailed, NoSuchJob, Malformed, ValueError, OSError) as error:
             log.warning("%s was not read: %s", name, error)
 
     async def followed(self, name: str) -> Followed:

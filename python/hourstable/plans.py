@@ -158,12 +158,15 @@ class Planner:
 
 
 def _shared(slices: Slices, spread: list[tuple[int, int, int]]) -> list[int]:
-    """Returns the load of each slice, from ranges that cover all keys."""
+    """Returns the load of each slice, from ranges that cover all keys, in their order."""
     ends = [start for start, _ in slices[1:]] + [KEYS]
-    return [
-        sum(
-            load * max(0, min(high, end) - max(low, start)) // (high - low)
-            for low, high, load in spread
-        )
-        for (start, _), end in zip(slices, ends)
-    ]
+    made, at = [0] * len(slices), 0
+    for low, high, load in spread:
+        while ends[at] <= low:
+            at += 1
+        over = at
+        while over < len(slices) and slices[over][0] < high:
+            part = min(high, ends[over]) - max(low, slices[over][0])
+            made[over] += load * part // (high - low)
+            over += 1
+    return made

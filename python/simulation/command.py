@@ -38,6 +38,9 @@ def parser() -> argparse.ArgumentParser:
     made.add_argument("--no-audit", action="store_true", help="audit no logs")
     made.add_argument("--keep", type=Path, help="keep the folders of runs that fail here")
     made.add_argument("--bounds", action="store_true", help="tell for how long keys were denied, by faults")
+    made.add_argument("--first-new", action="store_true",
+                      help="end at the first seed that shows something new, and tell it: status 1")
+    made.add_argument("--lists", action="store_true", help="print the lists of known.md for these seeds")
     made.add_argument("--mutants", nargs="*", metavar="NAME", help="plant bugs, and say which seed finds each")
     made.add_argument("--most", type=int, default=200, help="seeds that are tried for a planted bug")
     return made
@@ -127,6 +130,8 @@ def run_many(seeds: range, given: argparse.Namespace) -> int:
             print(f"seed {found.seed} is not deterministic: {before} and {found.digest}", flush=True)
             totals.failed.append(found)
         totals.progress()
+    if given.lists:
+        print(*known.lists_of(totals.failed), sep="\n")
     totals.tell(given.bounds)
     return int(bool(totals.failed))
 
@@ -136,6 +141,16 @@ def _each(seeds: range, given: argparse.Namespace) -> Iterator[Wanted]:
         yield wanted_of(seed, given)
         if given.twice:
             yield wanted_of(seed, given)
+
+
+def first_new(seeds: range, given: argparse.Namespace) -> int:
+    """Tells the first seed, in the order of their ends, that shows what no known cause explains."""
+    for found in all_of(_each(seeds, given), max(1, given.jobs)):
+        if "new" in known.causes_of(found):
+            check, shown = next(iter(found.wrong.items()))
+            print(f"{found.seed} {found.world}: {check}: {shown[0]}")
+            return 1
+    return 0
 
 
 def run_one(given: argparse.Namespace) -> int:
@@ -160,6 +175,8 @@ def main() -> int:
         from .mutants import find_all
 
         return find_all(given.mutants, given.most, given.jobs)
+    if given.first_new:
+        return first_new(given.seeds or range(1, given.most + 1), given)
     if given.seed is not None:
         return run_one(given)
     return run_many(given.seeds or range(1, 21), given)

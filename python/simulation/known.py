@@ -1,8 +1,92 @@
-"""What the package is known not to survive: the causes, and which seeds show them (known.md)."""
+"""What the package is known not to survive: the causes, and the seeds that show them (known.md)."""
+
+import re
+from pathlib import Path
+from typing import NamedTuple
 
 from .run import Found
 
+LIST = Path(__file__).with_name("known.md")
+SEEDS = re.compile(r"^Seeds of `([a-z-]+)`: (.*?)$", re.MULTILINE)
+RANGE = re.compile(r"(\d+)(?:\.\.(\d+))?")
+FOLLOWS = {"unserved", "not_renewed", "waiting"}  # what a task or a plane that has ended brings about
+
+
+class Cause(NamedTuple):
+    """A fault of the package, by what it shows: the checks, and what is found."""
+
+    name: str
+    checks: frozenset[str]
+    shows: "re.Pattern[str]"
+    worlds: frozenset[str] = frozenset()  # in which alone it counts; none: in all
+
+
+def _cause(name: str, checks: str, shows: str, worlds: str = "") -> Cause:
+    return Cause(name, frozenset(checks.split()), re.compile(shows), frozenset(worlds.split()))
+
+
+CAUSES = (
+    _cause("secret", "exited died", r"Rejected.*401|Rejected: 401"),
+    _cause(
+        "odd-answer", "exited died",
+        r"JSONDecodeError|an answer is no object|Refused\('?-|Refused: |KeyError|TypeError",
+    ),
+    _cause("callback", "exited died", r"on_(lose|gain) fails"),
+    _cause("failover", "denied", r"", "failover"),
+    _cause("wrong-day", "exited died", r"more than a day ahead"),
+    _cause("backup", "unsafe history exited died", r"", "backup"),
+    _cause("second-process", "unsafe history", r"", "seconds"),
+)
+
 
 def causes_of(found: Found) -> set[str]:
-    """Returns the names of the known causes that a run shows."""
-    return set()
+    """Returns the names of the known causes that a run shows, and `new` if it shows something that
+    none of them explains."""
+    made, is_explained = set(), True
+    for check, all_of in found.wrong.items():
+        for one in all_of:
+            names = [it.name for it in CAUSES if _explains(it, found, check, one)]
+            made |= set(names[:1])
+            is_explained &= bool(names) or check in FOLLOWS
+    if found.wrong and not (is_explained and made):
+        made.add("new")
+    return made
+
+
+def _explains(cause: Cause, found: Found, check: str, one: str) -> bool:
+    if check not in cause.checks or (cause.worlds and found.world not in cause.worlds):
+        return False
+    return cause.shows.search(one) is not None
+
+
+def listed() -> dict[int, set[str]]:
+    """Returns the seeds of the list, and the causes that each is to show."""
+    made: dict[int, set[str]] = {}
+    if not LIST.exists():
+        return made
+    text = re.sub(r"\n(?=\d)", " ", LIST.read_text(encoding="utf-8"))
+    for name, seeds in SEEDS.findall(text):
+        for first, last in RANGE.findall(seeds):
+            for seed in range(int(first), int(last or first) + 1):
+                made.setdefault(seed, set()).add(name)
+    return made
+
+
+def lists_of(all_found: list[Found]) -> list[str]:
+    """Returns the lines of the list for runs: for each cause the seeds that show it."""
+    seeds: dict[str, list[int]] = {}
+    for found in all_found:
+        for name in causes_of(found):
+            seeds.setdefault(name, []).append(found.seed)
+    made = []
+    for name, them in sorted(seeds.items()):
+        words = [f"Seeds of `{name}`:", *map(str, sorted(set(them)))]
+        line = ""
+        for word in words:
+            if line and len(line) + len(word) >= 115:
+                made.append(line)
+                line = word
+            else:
+                line = f"{line} {word}" if line else word
+        made.append(line)
+    return made

@@ -31,7 +31,7 @@ from .strangers import listen
 from .world import Process
 
 RULES = Hysteresis(settle=1.0, rest=2.0)
-REPORT = 3.0  # seconds between two reports of loads
+REPORT = 5.0  # seconds between two reports of loads
 
 
 def add_all(cluster: Cluster) -> None:

@@ -19,6 +19,7 @@ from .trace import Trace, take_logs
 from .world import SECOND, World
 
 MAY_EXIT = ("None", "OSError", "BlockingIOError", "StoreFailed")  # None: as it was asked to
+MOST_BEHIND = 6  # seconds by which a plane may show an older generation than another one
 FAILOVER_BOUND = 1.0  # seconds for which a key may be denied when one of two planes is lost
 CHECKS = (
     "unsafe", "history", "unserved", "not_renewed", "waiting", "grown", "died", "exited", "answered_500",
@@ -77,6 +78,7 @@ class Run:
         self.faults = Faults(self.cluster, plan)
         self.watch = Watch(self.cluster, self._kinds)
         self.behind: list[str] = []
+        self._newest: list[tuple[int, int]] = []  # times, and the newest generation that was shown
 
     def _kinds(self) -> tuple[str, ...]:
         """Returns the kinds of the faults that are there, or were a moment ago."""
@@ -119,18 +121,19 @@ class Run:
         """Where only the row of another job is locked, all planes show one generation of the first."""
         if self.scene.world not in ("isolation", "disks"):
             return
-        found = [it.plane.plane for it in self.cluster.of("plane") if it.plane is not None]
-        views = {
-            plane.jobs["shop"].job.view.committed for plane in found
-            if plane is not None and "shop" in plane.jobs
-        }
-        self._differ = self._differ + 1 if len(views) > 1 else 0
-        if self._differ == 4:
-            told = f"{self.world.now / SECOND:.1f}: planes show generations {sorted(views)} for 6 s"
-            self.behind.append(told)
-            self.world.tell(told)
-
-    _differ = 0
+        now, views = self.world.now, dict[str, int]()
+        for service in self.cluster.of("plane"):
+            plane = service.plane.plane if service.plane is not None else None
+            if plane is not None and "shop" in plane.jobs:
+                views[service.name] = plane.jobs["shop"].job.view.committed
+        self._newest.append((now, max(views.values(), default=0)))
+        due = max([it for at, it in self._newest if at <= now - MOST_BEHIND * SECOND], default=0)
+        for name, shown in views.items():
+            since = self.cluster.services[name].process
+            if shown < due and since is not None and now - since.begun > 2 * MOST_BEHIND * SECOND:
+                told = f"{now / SECOND:.1f}: {name} shows generation {shown}, and not {due}"
+                self.behind.append(told)
+                self.world.tell(told)
 
     def _judge(self, made: Found, well: Health) -> None:
         scene, cluster = self.scene, self.cluster

@@ -7,7 +7,7 @@ from random import Random
 TASKS_OF_SECOND_JOB = 2
 KEYS = 8  # of each job
 LENGTH = 120.0  # seconds of a run
-WHOLE_EVERY = 5  # one seed of so many goes all the way through aiohttp
+WHOLE_EVERY = 10  # one seed of so many goes all the way through aiohttp
 
 
 @dataclass(frozen=True)
@@ -111,17 +111,17 @@ def scene_of(seed: int, world: str | None = None) -> Scene:
     """Returns the scene of a seed, in its world or in the one that is named."""
     rng = Random(f"{seed} scene")
     made = Scene(seed, world or world_of(seed))
-    made.guard = rng.choice((4000, 6000, 10_000))
+    made.guard = rng.choice((5000, 10_000, 10_000))
     made.planes = rng.choice((1, 2, 2, 2, 3))
     made.is_whole = seed % WHOLE_EVERY == 0
     made.engine = "sqlite" if rng.random() < 0.15 else "rows"
-    made.lone_assigners = rng.choice((0, 0, 0, 0, 1, 2))
+    made.lone_assigners = rng.choice((0,) * 8 + (1, 2))
     made.waits = rng.random() < 0.7
     made.every = rng.choice((1.5, 3.0, 6.0))
     made.late = rng.choice((0.0, 15.0))
     made.is_skewed = rng.random() < 0.5
     made.second_of_day = rng.choice((rng.randrange(86_400), 86_400 - rng.randrange(100)))
-    tasks = tuple(range(1, rng.choice((4, 4, 5)) + 1))
+    tasks = tuple(range(1, rng.choice((3, 4, 4)) + 1))
     owners = 2 if rng.random() < 0.15 else 1
     made.jobs = [JobScene("shop", tasks, owners)]
     if rng.random() < 0.25:
@@ -156,6 +156,8 @@ def _adapt(made: Scene, rng: Random) -> None:
         made.drift = 100_000
     if made.world in ("clocks", "strangers", "secrets"):
         made.planes = 2
+    if made.is_whole:
+        made.lone_assigners = min(made.lone_assigners, 1)  # they make most requests
     if "join" in made.kinds:
         last = max(it.tasks[-1] for it in made.jobs)
         made.spare_tasks = (last + 1, last + 2)

@@ -176,7 +176,7 @@ class Cluster:
         """Looks from time to time whether too many processes serve one key."""
         job = self.rng.choice(self.scene.jobs)
         self.oracle.scan(self.running(job), self.rng.choice(job.keys))
-        self.world.after(self.rng.expovariate(0.7), self.scan)
+        self.world.after(self.rng.expovariate(0.5), self.scan)
 
     def holder(self, job: str) -> Service | None:
         """Returns the plane that holds a job."""

@@ -82,7 +82,7 @@ class Process:
         from .loop import Loop
 
         self.world, self.name, self.host = world, name, host
-        self.number = world.next_number()
+        self.number, self.begun = world.next_number(), world.now
         self.rng = Random(f"{world.seed} {name} {self.number}")  # of its own code
         self.is_dead = self.is_stalled = False
         self.stops = 0  # how many reasons there are for which it stands still

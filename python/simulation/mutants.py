@@ -1,0 +1,187 @@
+"""Bugs that are planted in a copy of the package, one at a time, to see that seeds find them."""
+
+import os
+import shutil
+import subprocess
+import sys
+import tempfile
+from pathlib import Path
+from typing import NamedTuple
+
+TOP = Path(__file__).resolve().parents[1]
+
+
+class Mutant(NamedTuple):
+    """A bug: its name, the file, and each old text, which stands once, with the new one. `seed` is one
+    that finds it; `why_not` says why none does."""
+
+    name: str
+    file: str
+    edits: tuple[tuple[str, str], ...]
+    seed: int = 0
+    why_not: str = ""
+
+
+MUTANTS = (
+    Mutant("answered-first", "jobs.py", ((
+        "        lines = [one.line for one in played]\n",
+        "        lines = [one.line for one in played]\n"
+        "        for waiting, made, _ in played:\n            waiting.tell(made)\n",
+    ),)),
+    Mutant("version-not-compared", "store_sqlite.py", ((
+        '" WHERE job = ? AND version = ?",', '" WHERE job = ? AND version >= 0 * ?",',
+    ),)),
+    Mutant("conflict-ignored", "jobs.py", ((
+        "        except Conflict:\n            self._counters.replaced(self.name)\n",
+        "        except Conflict:\n            return\n            self._counters.replaced(self.name)\n",
+    ),)),
+    Mutant("conflict-overwritten", "jobs.py", ((
+        "        held.version = await self.ask(\n"
+        "            \"swap\", self._store.swap, self.name, held.version, kept, text\n        )\n",
+        "        newest = await self._store.version(self.name) or 0\n"
+        "        held.version = await self.ask(\n"
+        "            \"swap\", self._store.swap, self.name, newest, kept, text\n        )\n",
+    ),)),
+    Mutant("ticket-before-claim", "jobs.py", (
+        ("        self._waiting.append(Waiting(call, answer))\n",
+         "        call.drawn = self.tickets.draw()\n        self._waiting.append(Waiting(call, answer))\n"),
+        ("            ticket = self.tickets.draw()  # after", "            ticket = call.drawn  # after"),
+        ("    key: str | None = None\n\n    @abstractmethod\n",
+         "    key: str | None = None\n    drawn = 0\n\n    @abstractmethod\n"),
+    )),
+    Mutant("reading-before-ticket", "leases.py", ((
+        "        call = LoggedCall(self._tickets.draw(), CALLS[do], task=self.task, **members)\n"
+        "        call.at = self.read()\n",
+        "        at = self.read()\n"
+        "        call = LoggedCall(self._tickets.draw(), CALLS[do], task=self.task, **members)\n"
+        "        call.at = at\n",
+    ),)),
+    Mutant("check-always", "task.py", ((
+        "        except (Refused, ClockBehind):\n            return False\n        return True\n",
+        "        except (Refused, ClockBehind):\n            return True\n        return True\n",
+    ),)),
+    Mutant("old-leases", "task.py", ((
+        "        if self._task._leases is not self._leases:\n            return False",
+        "        if False:\n            return False",
+    ),)),
+    Mutant("clock-behind", "leases.py", ((
+        "            return self.clock.read(self.local_clock())",
+        "            return self.clock.read(self.local_clock()) - 1500",
+    ),)),
+    Mutant("clock-stops-asleep", "clock.py", ((
+        "    ticks = system.ticks\n", "    ticks = lambda: int(system.monotonic() * 1000)\n",
+    ),)),
+    Mutant("sent-is-late", "calls.py", ((
+        "        return _taken(status, headers, found, sent)",
+        "        return _taken(status, headers, found, self.local_clock())",
+    ),)),
+    Mutant("life-twice", "store.py", ((
+        "            return Life(life.life + 1, life.drained)",
+        "            return Life(max(life.life, 1), life.drained)",
+    ),)),
+    Mutant("lives-not-compared", "store_sqlite.py", ((
+        'update = "UPDATE jobs SET lives = ? WHERE job = ? AND lives = ?"',
+        'update = "UPDATE jobs SET lives = ? WHERE job = ? AND lives <> ? || \'x\'"',
+    ),)),
+    Mutant("no-lock", "jobs.py", ((
+        "                async with self._lock:\n                    await self._make",
+        "                if True:\n                    await self._make",
+    ),)),
+    Mutant("observe-nothing", "calls.py", (
+        ("            self.tickets.observe_text(headers.get(HEADER))\n", ""),
+    )),
+    Mutant("plane-observes-nothing", "control.py", ((
+        "                self.tickets.observe_text(request.headers.get(ticketing.HEADER))",
+        "                pass",
+    ),)),
+    Mutant("restore-not-stored", "jobs.py", ((
+        "            version, line = await self._write_restore(stored, row)",
+        "            version, line = stored.version, stored.line",
+    ),)),
+    Mutant("clock-ahead", "clock.py", (("TableClock(kept, ahead + GRAIN + 1, local())", "TableClock(kept, 0, local())"),)),
+    Mutant("lines-not-logged", "jobs.py", (
+        ("            self._log.append(*lines)\n            held.line", "            held.line"),
+    )),
+    Mutant("last-not-kept", "tickets.py", (("        self.fields.last = place\n", "        pass\n"),)),
+    Mutant("boot-not-compared", "tickets.py", (
+        ("        if boot and boot == self.fields.boot and", "        if boot and"),
+    )),
+    Mutant("poller-ends", "control.py", ((
+        '                log.warning("the store was not read: %s", error)\n                continue',
+        '                log.warning("the store was not read: %s", error)\n                return',
+    ),)),
+    Mutant("notes-not-brought", "task.py", ((
+        '                await self._control.call("POST", "/free", note)\n                return',
+        "                return",
+    ),)),
+    Mutant("renews-late", "task.py", ((
+        "        half = max(0, leases.held[kind].until - at) / 2",
+        "        half = max(0, leases.held[kind].until - at) * 1.2",
+    ),)),
+    Mutant("work-not-ended", "jobs.py", ((
+        "                    await self._make(self._next_together())\n"
+        "        finally:\n            self._working = None",
+        "                    await self._make(self._next_together())\n        finally:\n            pass",
+    ),)),
+    Mutant("line-not-observed", "jobs.py", (("        self._observe(stored)\n        if self._seen", "        if self._seen"),)),
+    Mutant("looks-one-by-one", "control.py", ((
+        "                if name not in self._looking:\n"
+        "                    self._looking[name] = asyncio.create_task(self._look_at(name))\n"
+        "                    self._looking[name].add_done_callback(partial(self._looked, name))",
+        "                await self._look_at(name)",
+    ),)),
+    Mutant("policy-from-anything", "task.py", (("        if not _is_object(answer.body):", "        if False:"),)),
+)
+
+
+def planted(mutant: Mutant, folder: Path) -> Path:
+    """Copies the package into a folder with a bug, and returns the folder. Raises ValueError if the
+    old text does not stand there once."""
+    shutil.copytree(TOP / "hourstable", folder / "hourstable", ignore=shutil.ignore_patterns("__pycache__"))
+    path = folder / "hourstable" / mutant.file
+    text = path.read_text(encoding="utf-8")
+    for old, new in mutant.edits:
+        if text.count(old) != 1:
+            raise ValueError(f"{mutant.name}: {mutant.file} has {old!r} {text.count(old)} times")
+        text = text.replace(old, new)
+    path.write_text(text, encoding="utf-8")
+    return folder
+
+
+def found_at(mutant: Mutant, most: int, jobs: int) -> tuple[int, str] | None:
+    """Returns the first seed that finds a bug, and what it shows; that of the list is tried first."""
+    with tempfile.TemporaryDirectory(prefix="mutant.") as folder:
+        package = planted(mutant, Path(folder))
+        path = os.pathsep.join((str(package), str(TOP)))
+        environment = {**os.environ, "PYTHONPATH": path, "PYTHONDONTWRITEBYTECODE": "1"}
+        seeds = [f"{mutant.seed}"] if mutant.seed else []
+        for some in (*seeds, f"1..{most}"):
+            words = [sys.executable, "-m", "simulation", "--seeds", some, "--jobs", str(jobs), "--first-new"]
+            ran = subprocess.run(words, capture_output=True, text=True, env=environment, check=False)
+            if ran.returncode == 1:
+                seed, _, shown = ran.stdout.partition(" ")
+                return int(seed), " ".join(shown.split())[:200]
+            if ran.returncode:
+                raise RuntimeError(f"{mutant.name}: {ran.stderr[-2000:]}")
+    return None
+
+
+def find_all(names: list[str], most: int, jobs: int) -> int:
+    """Looks for the bugs with these names, or for all, and returns the status: 0 if each was found,
+    but for those that say why not."""
+    unknown = set(names) - {it.name for it in MUTANTS}
+    if unknown:
+        raise SystemExit(f"no bug {' '.join(sorted(unknown))}")
+    missed = found = 0
+    for mutant in MUTANTS:
+        if names and mutant.name not in names:
+            continue
+        seen = found_at(mutant, most, jobs)
+        if seen is None:
+            missed += not mutant.why_not
+            print(f"{mutant.name}: not found{': ' if mutant.why_not else ''}{mutant.why_not}", flush=True)
+        else:
+            found += 1
+            print(f"{mutant.name}: seed {seen[0]}: {seen[1]}", flush=True)
+    print(f"{found} passed, {missed} failed")
+    return int(missed > 0)
