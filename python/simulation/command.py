@@ -14,7 +14,7 @@ from .scene import WORLDS, world_of
 from .shrink import Shrinking, timeline, told
 
 SHOWN = 3  # findings of a check that are shown
-WIDTH = 220
+LONGEST = 1600  # characters of a finding that are shown
 
 
 def seeds_in(text: str) -> range:
@@ -38,6 +38,7 @@ def parser() -> argparse.ArgumentParser:
     made.add_argument("--no-audit", action="store_true", help="audit no logs")
     made.add_argument("--keep", type=Path, help="keep the folders of runs that fail here")
     made.add_argument("--bounds", action="store_true", help="tell for how long keys were denied, by faults")
+    made.add_argument("--gate", action="store_true", help="run the seeds of the gate, and compare with known.md")
     made.add_argument("--first-new", action="store_true",
                       help="end at the first seed that shows something new, and tell it: status 1")
     made.add_argument("--lists", action="store_true", help="print the lists of known.md for these seeds")
@@ -63,8 +64,9 @@ def line_of(found: Found) -> str:
         f" {found.digest})"
     ]
     for name in CHECKS:
-        for one_of in found.wrong.get(name, [])[:SHOWN]:
-            lines.append(f"    {name}: {one_of[-WIDTH * 8 if name == 'broken' else 0:][:WIDTH * 8]}")
+        all_found = sorted(found.wrong.get(name, []), key=lambda it: bool(known.cause_of(found, name, it)))
+        for one_of in all_found[:SHOWN]:
+            lines.append(f"    {name}: {one_of[-LONGEST if name == 'broken' else 0:][:LONGEST]}")
     return "\n".join(lines)
 
 
@@ -143,6 +145,23 @@ def _each(seeds: range, given: argparse.Namespace) -> Iterator[Wanted]:
             yield wanted_of(seed, given)
 
 
+def run_gate(given: argparse.Namespace) -> int:
+    """Runs the seeds of the gate, and tells those that do not show what known.md says."""
+    listed = known.listed()
+    totals, wrong = Totals(len(known.gate())), 0
+    for found in all_of((wanted_of(it, given) for it in known.gate()), max(1, given.jobs)):
+        totals.add(found)
+        causes, due = known.causes_of(found), listed.get(found.seed, set())
+        if causes != due:
+            wrong += 1
+            print(f"known.md says of it: {', '.join(sorted(due)) or 'nothing'}")
+            print(line_of(found), flush=True)
+        totals.progress()
+    totals.tell(given.bounds)
+    print(f"{totals.done - wrong} as known, {wrong} not")
+    return int(wrong > 0)
+
+
 def first_new(seeds: range, given: argparse.Namespace) -> int:
     """Tells the first seed, in the order of their ends, that shows what no known cause explains."""
     for found in all_of(_each(seeds, given), max(1, given.jobs)):
@@ -175,6 +194,8 @@ def main() -> int:
         from .mutants import find_all
 
         return find_all(given.mutants, given.most, given.jobs)
+    if given.gate:
+        return run_gate(given)
     if given.first_new:
         return first_new(given.seeds or range(1, given.most + 1), given)
     if given.seed is not None:

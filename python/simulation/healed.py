@@ -19,12 +19,13 @@ CALLS_SETTLE = 20  # looks at which a plane may be busy before it counts as one 
 @dataclass
 class Health:
     """What does not work again: keys that nobody serves, tasks that do not renew, planes in which
-    calls wait, and processes that have more than they need."""
+    calls wait or that show what was before, and processes that have more than they need."""
 
     unserved: list[str] = field(default_factory=list)
     not_renewed: list[str] = field(default_factory=list)
     waiting: list[str] = field(default_factory=list)
     grown: list[str] = field(default_factory=list)
+    behind: list[str] = field(default_factory=list)
     seconds: float | None = None  # until each key was served
 
 
@@ -48,6 +49,7 @@ def health(cluster: Cluster) -> Health:
         one.name for one in _tasks(cluster)
         if one.task is None or _renewed(one) - before[one.name] < RENEWALS
     ]
+    made.behind = _behind(cluster)
     made.waiting = _waiting(cluster)
     made.grown = _grown(cluster)
     for name in (*made.not_renewed, *made.waiting):
@@ -82,6 +84,28 @@ def _serves(cluster: Cluster, process: Process, task: Any, key: str) -> bool:
             return True
         except (Denied, LeaseLost, OSError):
             return False
+
+
+def _behind(cluster: Cluster) -> list[str]:
+    """Returns the planes that show another generation of a job than all did a while ago."""
+    before = _shown(cluster)
+    cluster.world.run_until(cluster.world.now + 4 * SECOND)
+    made = []
+    for (name, job), generation in _shown(cluster).items():
+        due = max([it for (_, other), it in before.items() if other == job], default=0)
+        if generation < due:
+            made.append(f"{name} shows generation {generation} of {job}, and not {due}")
+    return made
+
+
+def _shown(cluster: Cluster) -> dict[tuple[str, str], int]:
+    """Returns the generation that each plane shows of each job."""
+    made = {}
+    for service in cluster.of("plane"):
+        plane = service.plane.plane if service.plane is not None else None
+        for name, followed in plane.jobs.items() if plane is not None else ():
+            made[service.name, name] = followed.job.view.committed
+    return made
 
 
 def _waiting(cluster: Cluster) -> list[str]:

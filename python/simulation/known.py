@@ -9,6 +9,8 @@ from .run import Found
 LIST = Path(__file__).with_name("known.md")
 SEEDS = re.compile(r"^Seeds of `([a-z-]+)`: (.*?)$", re.MULTILINE)
 RANGE = re.compile(r"(\d+)(?:\.\.(\d+))?")
+GATE = 100  # seeds that the gate runs in any case
+OF_EACH = 3  # seeds of each cause that it runs as well
 FOLLOWS = {"unserved", "not_renewed", "waiting"}  # what a task or a plane that has ended brings about
 
 
@@ -29,11 +31,12 @@ CAUSES = (
     _cause("secret", "exited died", r"Rejected.*401|Rejected: 401"),
     _cause(
         "odd-answer", "exited died",
-        r"JSONDecodeError|an answer is no object|Refused\('?-|Refused: |KeyError|TypeError",
+        r"JSONDecodeError|an answer is no object|Refused\('|Refused: |KeyError|TypeError",
     ),
     _cause("callback", "exited died", r"on_(lose|gain) fails"),
     _cause("failover", "denied", r"", "failover"),
     _cause("wrong-day", "exited died", r"more than a day ahead"),
+    _cause("full-disk", "answered_500", r"No space left|no space left"),
     _cause("backup", "unsafe history exited died", r"", "backup"),
     _cause("second-process", "unsafe history", r"", "seconds"),
 )
@@ -42,15 +45,20 @@ CAUSES = (
 def causes_of(found: Found) -> set[str]:
     """Returns the names of the known causes that a run shows, and `new` if it shows something that
     none of them explains."""
-    made, is_explained = set(), True
+    made, is_explained = set[str](), True
     for check, all_of in found.wrong.items():
         for one in all_of:
-            names = [it.name for it in CAUSES if _explains(it, found, check, one)]
-            made |= set(names[:1])
-            is_explained &= bool(names) or check in FOLLOWS
+            name = cause_of(found, check, one)
+            made |= {name} if name else set()
+            is_explained &= bool(name) or check in FOLLOWS
     if found.wrong and not (is_explained and made):
         made.add("new")
     return made
+
+
+def cause_of(found: Found, check: str, one: str) -> str:
+    """Returns the name of the known cause of a finding, nothing if there is none."""
+    return next((it.name for it in CAUSES if _explains(it, found, check, one)), "")
 
 
 def _explains(cause: Cause, found: Found, check: str, one: str) -> bool:
@@ -70,6 +78,15 @@ def listed() -> dict[int, set[str]]:
             for seed in range(int(first), int(last or first) + 1):
                 made.setdefault(seed, set()).add(name)
     return made
+
+
+def gate() -> list[int]:
+    """Returns the seeds of the gate: the first ones, and the first of those that show each cause."""
+    made = set(range(1, GATE + 1))
+    for name in {name for names in listed().values() for name in names}:
+        seeds = sorted(seed for seed, names in listed().items() if name in names)
+        made |= set(seeds[:OF_EACH])
+    return sorted(made)
 
 
 def lists_of(all_found: list[Found]) -> list[str]:

@@ -137,7 +137,7 @@ class Loop(asyncio.AbstractEventLoop):
     def run_in_executor(self, executor: Any, func: Callable[..., Any], *args: Any) -> Any:
         workers = self._workers.get(executor)
         if workers is None:
-            most = getattr(executor, "_max_workers", THREADS)
+            most = int(getattr(executor, "most", 0)) or int(getattr(executor, "_max_workers", THREADS))
             is_thread = isinstance(executor, Executor)
             workers = self._workers[executor] = Workers(self, most, is_thread)
         return workers.submit(partial(func, *args))

@@ -98,7 +98,9 @@ MUTANTS = (
         "            version, line = await self._write_restore(stored, row)",
         "            version, line = stored.version, stored.line",
     ),)),
-    Mutant("clock-ahead", "clock.py", (("TableClock(kept, ahead + GRAIN + 1, local())", "TableClock(kept, 0, local())"),)),
+    Mutant("clock-ahead", "clock.py", (
+        ("TableClock(kept, ahead + GRAIN + 1, local())", "TableClock(kept, 0, local())"),
+    )),
     Mutant("lines-not-logged", "jobs.py", (
         ("            self._log.append(*lines)\n            held.line", "            held.line"),
     )),
@@ -123,7 +125,9 @@ MUTANTS = (
         "        finally:\n            self._working = None",
         "                    await self._make(self._next_together())\n        finally:\n            pass",
     ),)),
-    Mutant("line-not-observed", "jobs.py", (("        self._observe(stored)\n        if self._seen", "        if self._seen"),)),
+    Mutant("line-not-observed", "jobs.py", (
+        ("        self._observe(stored)\n        if self._seen", "        if self._seen"),
+    )),
     Mutant("looks-one-by-one", "control.py", ((
         "                if name not in self._looking:\n"
         "                    self._looking[name] = asyncio.create_task(self._look_at(name))\n"

@@ -20,6 +20,7 @@ from .world import SECOND, World
 
 MAY_EXIT = ("None", "OSError", "BlockingIOError", "StoreFailed")  # None: as it was asked to
 MOST_BEHIND = 6  # seconds by which a plane may show an older generation than another one
+QUIET_BOUND = 2.0  # seconds for which a key that moves may be denied while nothing fails
 FAILOVER_BOUND = 1.0  # seconds for which a key may be denied when one of two planes is lost
 CHECKS = (
     "unsafe", "history", "unserved", "not_renewed", "waiting", "grown", "died", "exited", "answered_500",
@@ -143,6 +144,11 @@ class Run:
                 str(it) for it in self.watch.denials
                 if it.seconds > FAILOVER_BOUND and it.begun > scene.begin * SECOND
             ]
+        if scene.world == "quiet":  # only keys that become hot move
+            denied = [
+                str(it) for it in self.watch.denials
+                if it.seconds > (QUIET_BOUND if it.moved else 0) and it.begun > scene.begin * SECOND
+            ]
         wild = scene.world == "wild"  # beyond the drift nothing is promised
         back = any(it.kind == "go_back" for it in self.faults.struck)
         found: dict[str, list[str]] = {
@@ -154,7 +160,7 @@ class Run:
                 str(it) for it in cluster.exits if not it.why.startswith(MAY_EXIT)
                 and not (wild and "ClockBroken" in it.why)
             ],
-            "answered_500": cluster.failed, "denied": denied, "behind": self.behind,
+            "answered_500": cluster.failed, "denied": denied, "behind": [*self.behind, *well.behind],
         }
         made.faults = self.faults.struck
         made.lines = self.trace.lines

@@ -74,7 +74,7 @@ USUAL = (
     "store_freezes", "store_locks", "store_slow", "term",
 )
 WORLDS: dict[str, tuple[str, ...]] = {
-    "quiet": (),
+    "quiet": ("lose_task",),
     "usual": USUAL,
     "failover": ("failover",),
     "isolation": ("lock_second_job", "lose_task"),
@@ -152,10 +152,14 @@ def _adapt(made: Scene, rng: Random) -> None:
         made.jobs.append(JobScene("cart", _after(shop.tasks, TASKS_OF_SECOND_JOB)))
     if made.world == "seconds":
         made.seconds = shop.tasks[:2]
+    if made.world == "quiet":
+        made.planes, made.every, made.engine, made.lone_assigners = 2, 1000.0, "rows", 0
     if made.world == "wild":
         made.drift = 100_000
     if made.world in ("clocks", "strangers", "secrets"):
         made.planes = 2
+    if {"disk", "disk_of_job"} & set(made.kinds):
+        made.waits = True  # else the application never hears that its task has ended
     if made.is_whole:
         made.lone_assigners = min(made.lone_assigners, 1)  # they make most requests
     if "join" in made.kinds:

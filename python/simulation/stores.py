@@ -136,9 +136,10 @@ def _quietly(call: Callable[[], Any]) -> None:
 
 
 class Connections:
-    """Stands for an executor: as many calls of a process go on at once as it has connections."""
+    """Stands for an executor that gives each call a connection of its own: a call that is given up
+    leaves its connection, and keeps up no other."""
 
-    _max_workers = 16
+    most = 1 << 30
 
 
 class SharedStore(Store):

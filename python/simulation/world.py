@@ -79,7 +79,7 @@ class Process:
     """One run of a program on a host, from its start to its end."""
 
     def __init__(self, world: "World", name: str, host: Host) -> None:
-        from .loop import Loop
+        from . import loop
 
         self.world, self.name, self.host = world, name, host
         self.number, self.begun = world.next_number(), world.now
@@ -90,7 +90,7 @@ class Process:
         self.main: "asyncio.Task[None] | None" = None
         self.on_signal: Action | None = None
         self.at_kill: list[Action] = []  # what its kernel does when it is killed
-        self.loop: "Loop" = Loop(self)  # type: ignore[abstract]
+        self.loop: "Loop" = loop.Loop(self)  # type: ignore[abstract]
 
     def stop(self) -> None:
         self.stops += 1
