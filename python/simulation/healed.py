@@ -34,7 +34,8 @@ def health(cluster: Cluster) -> Health:
     world, term = cluster.world, int(cluster.scene.term * SECOND)
     begun, end = world.now, world.now + 3 * term
     before = {one.name: _renewed(one) for one in _tasks(cluster)}
-    missing, late = set(unserved(cluster)), set[str]()
+    missing = set(unserved(cluster))
+    late: set[str] | None = None
     made = Health()
     while world.now < end:
         world.run_until(world.now + term // 10)
@@ -43,8 +44,8 @@ def health(cluster: Cluster) -> Health:
         if made.seconds is None and not missing:
             made.seconds = (world.now - begun) / SECOND
         if world.now > end - term // 2:  # a key that moves is denied for a moment
-            late = found if not late else late & found
-    made.unserved = sorted(late)
+            late = found if late is None else late & found
+    made.unserved = sorted(late or ())
     made.not_renewed = [
         one.name for one in _tasks(cluster)
         if one.task is None or _renewed(one) - before[one.name] < RENEWALS
