@@ -49,13 +49,14 @@ class Pool:
 
     @asynccontextmanager
     async def connection(self) -> AsyncIterator[psycopg.AsyncConnection[Any]]:
-        """A connection. One that is closed in the block does not go back to the pool. Raises
-        psycopg.OperationalError if none can be made."""
+        """A connection. One that is closed in the block does not go back: then the pool is to be
+        closed. Raises psycopg.OperationalError if none can be made."""
         connection = await self._take()
         try:
             yield connection
         finally:
-            await self._pool.putconn(connection)
+            if not connection.closed:
+                await self._pool.putconn(connection)
 
     async def _take(self) -> psycopg.AsyncConnection[Any]:
         """Takes a connection, or fails as soon as the server refuses one. The pool would give one
