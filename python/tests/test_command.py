@@ -144,6 +144,7 @@ def test_words_that_are_refused(tmp_path: Path) -> None:
     assert main([*control, "mysql://x"]) == 2
     assert main(["control", "--listen", "8000", "--logs", folder, "--store", store]) == 2
     assert main([*control, store, "--process", "64"]) == 2
+    assert main([*control, store, "--store-deadline", "0"]) == 2
     assert main([*control, store, "--process", "-1"]) == 2
     assigner = ["assigner", "--control", "http://127.0.0.1:1", "--assigner", "1"]
     assert main([*assigner, "--process", "64"]) == 2

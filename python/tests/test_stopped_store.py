@@ -21,6 +21,7 @@ needed.library()
 from conftest import folder_for_engines  # noqa: E402
 from hourstable.demo import engines  # noqa: E402
 from hourstable.store import Store, Stored, StoreFailed  # noqa: E402
+from hourstable.store_postgresql import CONNECTIONS  # noqa: E402
 from serving import Caller, running  # noqa: E402
 from stores import opened  # noqa: E402
 from test_page import begun  # noqa: E402
@@ -179,6 +180,21 @@ async def test_a_locked_row_of_postgresql() -> None:
             assert found.version in (shop, shop + 1)
             assert await store.raise_life("shop", 1) in (1, 2)
             assert await store.swap("shop", found.version, b"three", None) == found.version + 1
+
+
+async def test_more_locked_rows_than_connections() -> None:
+    """A call of another job waits for a connection, and gets one when the first of them is given up."""
+    with engine_of("postgresql") as engine, ExitStack() as stack:
+        async with opened(engine.url, DEADLINE) as store:
+            jobs = [f"shop-{at}" for at in range(CONNECTIONS)]
+            for job in ["cart", *jobs]:
+                assert await store.create(job, POLICY, b"one") == 1
+            other = stack.enter_context(psycopg.connect(engine.url))
+            other.execute("SELECT FROM hourstable_jobs WHERE job <> 'cart' FOR UPDATE")
+            locked = asyncio.gather(*(in_time(store.swap(job, 1, b"two", None)) for job in jobs))
+            await asyncio.sleep(DEADLINE / 2)
+            assert await in_time(store.swap("cart", 1, b"two", None)) == 2
+            assert {type(one) for one in await locked} == {StoreFailed}
 
 
 async def test_a_stopped_member_of_etcd() -> None:
