@@ -8,7 +8,7 @@ import os
 import re
 from collections.abc import Callable
 
-from hourstable.library import Refused, TableClock
+from hourstable.library import Refused, TableClock, boottime_ticks
 from hourstable.system import SYSTEM, System
 
 GRAIN = 2  # ticks that rounding down may show, for a drift of at most 1
@@ -24,7 +24,7 @@ def local_clock(text: str | None = None, system: System = SYSTEM) -> Callable[[]
     it has another form.
     """
     text = os.environ.get(VARIABLE, "") if text is None else text
-    ticks = system.ticks
+    ticks = boottime_ticks if system is SYSTEM else system.ticks  # the same, by one call less
     if not text:
         return ticks
     found = FORM.fullmatch(text)

@@ -180,6 +180,8 @@ def options_of(chosen: argparse.Namespace) -> Options:
     host, _, port = chosen.listen.rpartition(":")
     if not host or not port.isdigit():
         raise ValueError(f"{chosen.listen!r} is not HOST:PORT")
+    if not chosen.store_deadline > 0:
+        raise ValueError("--store-deadline is above 0")
     limits = Limits(
         jobs=chosen.most_jobs, connections=chosen.most_connections, grants=chosen.grants,
         burst=2 * chosen.grants,

@@ -74,6 +74,7 @@ class Store(ABC):
     def __init__(self, deadline: float = DEADLINE, system: System = SYSTEM) -> None:
         self.deadline = deadline
         self._random = system.random()
+        self._changing: dict[str, asyncio.Lock] = {}  # of the lives of jobs
 
     async def open(self) -> None:
         """Makes what the engine lacks. It is called once, before all others."""
@@ -134,14 +135,17 @@ class Store(ABC):
         return await self.in_time(drained)
 
     async def _change_life(self, job: str, task: int, change: Callable[[Life], Life]) -> Life:
-        for _ in range(TRIES):
-            text, compared = await self.read_lives(job)
-            lives = _lives_of(text)
-            life = lives[task] = change(lives.get(task, Life(0, 0)))
-            written = json.dumps({str(number): list(lives[number]) for number in sorted(lives)})
-            if written == text or await self.swap_lives(job, compared, written):
-                return life
-            await asyncio.sleep(self._random.uniform(0, 0.01))
+        """Changes the life of a task, one after the other of a job: those that wait while a row is
+        locked take no connections from other jobs."""
+        async with self._changing.setdefault(job, asyncio.Lock()):
+            for _ in range(TRIES):
+                text, compared = await self.read_lives(job)
+                lives = _lives_of(text)
+                life = lives[task] = change(lives.get(task, Life(0, 0)))
+                written = json.dumps({str(number): list(lives[number]) for number in sorted(lives)})
+                if written == text or await self.swap_lives(job, compared, written):
+                    return life
+                await asyncio.sleep(self._random.uniform(0, 0.01))
         raise StoreFailed(f"lives of {job}: other writers came first {TRIES} times")
 
     async def in_time(self, call: Coroutine[Any, Any, T]) -> T:

@@ -8,7 +8,7 @@ from typing import Any
 import psycopg
 from psycopg import waiting
 from psycopg.abc import RV, PQGen
-from psycopg_pool import AsyncConnectionPool
+from psycopg_pool import AsyncConnectionPool, PoolClosed
 
 from hourstable.store import (
     DEADLINE, Conflict, Store, Stored, StoreFailed, after_swap, lives_in, stored_in,
@@ -49,13 +49,14 @@ class Pool:
 
     @asynccontextmanager
     async def connection(self) -> AsyncIterator[psycopg.AsyncConnection[Any]]:
-        """A connection. One that is closed in the block does not go back to the pool. Raises
-        psycopg.OperationalError if none can be made."""
+        """A connection. One that is closed in the block does not go back: then the pool is to be
+        closed. Raises psycopg.OperationalError if none can be made."""
         connection = await self._take()
         try:
             yield connection
         finally:
-            await self._pool.putconn(connection)
+            if not connection.closed:
+                await self._pool.putconn(connection)
 
     async def _take(self) -> psycopg.AsyncConnection[Any]:
         """Takes a connection, or fails as soon as the server refuses one. The pool would give one
@@ -108,6 +109,7 @@ class PostgresqlStore(Store):
             "options": f"-c synchronous_commit=on -c statement_timeout={round(deadline * 1000)}",
         }
         self._pool: Pool | None = None
+        self._is_closed = False
         self._closing: set[asyncio.Task[None]] = set()
 
     async def open(self) -> None:
@@ -130,22 +132,29 @@ class PostgresqlStore(Store):
             raise StoreFailed(f"PostgreSQL: {error}") from error
 
     async def _try(self, statement: str, values: tuple[object, ...]) -> Rows:
-        if self._pool is None:
+        while not self._is_closed:
+            try:
+                return await self._executed(statement, values)
+            except PoolClosed:
+                pass  # for another call, while this one had no connection yet
+            except psycopg.IntegrityError as error:
+                raise Conflict(str(error)) from error
+            except psycopg.Error as error:
+                raise StoreFailed(f"PostgreSQL: {error}") from error
+        raise StoreFailed("PostgreSQL: the store is closed")
+
+    async def _executed(self, statement: str, values: tuple[object, ...]) -> Rows:
+        pool = self._pool
+        if pool is None:
             pool = self._pool = Pool(self._url, self._settings, self.deadline)
             await pool.open()
-        pool = self._pool
-        try:
-            async with pool.connection() as connection:
-                try:
-                    cursor = await connection.execute(statement, values)
-                    return await cursor.fetchall() if cursor.description else [], cursor.rowcount
-                finally:
-                    if connection.closed:
-                        self._drop(pool)
-        except psycopg.IntegrityError as error:
-            raise Conflict(str(error)) from error
-        except psycopg.Error as error:
-            raise StoreFailed(f"PostgreSQL: {error}") from error
+        async with pool.connection() as connection:
+            try:
+                cursor = await connection.execute(statement, values)
+                return await cursor.fetchall() if cursor.description else [], cursor.rowcount
+            finally:
+                if connection.closed:
+                    self._drop(pool)
 
     def _drop(self, pool: Pool) -> None:
         """Drops all connections: the next call makes a new one."""
@@ -202,6 +211,7 @@ class PostgresqlStore(Store):
         return (await self._run(update, lives, job, compared))[1] == 1
 
     async def close(self) -> None:
+        self._is_closed = True
         if self._pool is not None:
             self._drop(self._pool)
         if self._closing:

@@ -16,17 +16,7 @@ BOOT_ID = Path("/proc/sys/kernel/random/boot_id")
 class System:
     """The operating system of this process."""
 
-    open = staticmethod(os.open)
-    """Opens a file by flags and a mode as `os.open` does, and returns its number. Raises OSError."""
-
-    write = staticmethod(os.write)
-    """Writes bytes to an open file, and returns how many it took. Raises OSError."""
-
-    close = staticmethod(os.close)
-    """Closes an open file, and ends its lock."""
-
-    @staticmethod
-    def ticks() -> int:
+    def ticks(self) -> int:
         """Returns CLOCK_BOOTTIME in ticks. It counts the time for which the machine is suspended."""
         return time.clock_gettime_ns(time.CLOCK_BOOTTIME) // 1_000_000
 
@@ -44,6 +34,18 @@ class System:
             return BOOT_ID.read_bytes().strip()
         except OSError:
             return b""
+
+    def open(self, path: str | os.PathLike[str], flags: int, mode: int = 0o777) -> int:
+        """Opens a file as `os.open` does, and returns its number. Raises OSError."""
+        return os.open(path, flags, mode)
+
+    def write(self, file: int, data: bytes) -> int:
+        """Writes bytes to an open file, and returns how many it took. Raises OSError."""
+        return os.write(file, data)
+
+    def close(self, file: int) -> None:
+        """Closes an open file, which ends its lock."""
+        os.close(file)
 
     def flush(self, memory: mmap.mmap) -> None:
         """Returns when the bytes of a mapped file are on the disk. Raises OSError."""

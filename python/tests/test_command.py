@@ -144,6 +144,7 @@ def test_words_that_are_refused(tmp_path: Path) -> None:
     assert main([*control, "mysql://x"]) == 2
     assert main(["control", "--listen", "8000", "--logs", folder, "--store", store]) == 2
     assert main([*control, store, "--process", "64"]) == 2
+    assert main([*control, store, "--store-deadline", "0"]) == 2
     assert main([*control, store, "--process", "-1"]) == 2
     assigner = ["assigner", "--control", "http://127.0.0.1:1", "--assigner", "1"]
     assert main([*assigner, "--process", "64"]) == 2
@@ -189,19 +190,24 @@ def test_an_audit_is_that_of_the_program(
 def test_the_audit_of_a_run(tmp_path: Path, capfd: pytest.CaptureFixture[str]) -> None:
     needed.program()
 
-    async def play() -> None:
+    async def play() -> int:
+        """Makes calls, and returns how many of them have a reading, as those that are logged."""
         words = ["--store", f"sqlite:{tmp_path}/jobs", "--logs", f"{tmp_path}/logs"]
         with process(*words, "--assigner", "0") as (_, url):
             async with aiohttp.ClientSession() as session:
                 caller = Caller(url, session)
                 await caller.create()
-                await caller.grant(1)
+                early = await caller.grant(1)  # before an assignment no reading but 0 can be stored
+                assert early.status == 409 and early.reading in (None, 0)
                 await caller.change(await caller.take(), 1, [[0, [1]], [HALF, [2]]])
                 for task in (1, 2, 1):
                     assert (await caller.grant(task)).status == 200
                 await caller.post("renew", {"term": 5})
+                return 7 if early.reading is None else 8
 
-    asyncio.run(play())
+    calls = asyncio.run(play())
     time.sleep(0.1)
     assert main(["audit", f"{tmp_path}/logs"]) == 0
-    assert capfd.readouterr().out == "audit one\nsteps 8\ncalls table 8\nno calls of task 1 2\ntimely yes\n"
+    assert capfd.readouterr().out == (
+        f"audit one\nsteps {calls}\ncalls table {calls}\nno calls of task 1 2\ntimely yes\n"
+    )

@@ -38,7 +38,7 @@ class Simulated(System):
     def real_nanoseconds(self) -> int:
         return self.real
 
-    def write(self, file: int, data: bytes) -> int:  # type: ignore[override]
+    def write(self, file: int, data: bytes) -> int:
         if self.is_full:
             raise OSError(errno.ENOSPC, "no space left on device")
         return os.write(file, data)

@@ -118,6 +118,22 @@ class Engine:
                 raise RuntimeError((self.folder / "engine.log").read_text()[-2000:])
             time.sleep(0.05)
 
+    def stop(self) -> None:
+        """Lets it stand still, its children too. Its kernel goes on: it takes connections, and
+        acknowledges what they send."""
+        assert self.process is not None
+        self.process.send_signal(signal.SIGSTOP)  # it starts no more children
+        for child in _children_of(self.process.pid):
+            with suppress(ProcessLookupError):
+                os.kill(child, signal.SIGSTOP)
+
+    def go_on(self) -> None:
+        """Lets it go on after it was stopped."""
+        assert self.process is not None
+        for process in (*_children_of(self.process.pid), self.process.pid):
+            with suppress(ProcessLookupError):
+                os.kill(process, signal.SIGCONT)
+
     def kill(self) -> None:
         """Kills the process and its children, which outlive it for a while in PostgreSQL, and waits
         for their end."""
