@@ -4,7 +4,8 @@ import argparse
 import os
 import sys
 import time
-from collections.abc import Iterator
+from collections.abc import Iterator, Sequence
+from dataclasses import replace
 from pathlib import Path
 
 from . import known
@@ -17,10 +18,13 @@ SHOWN = 3  # findings of a check that are shown
 LONGEST = 1600  # characters of a finding that are shown
 
 
-def seeds_in(text: str) -> range:
-    """Returns the seeds of N or A..B. Raises ValueError."""
-    first, dots, last = text.partition("..")
-    return range(int(first), int(last if dots else first) + 1)
+def seeds_in(text: str) -> list[int]:
+    """Returns the seeds of N, A..B, or several of these with commas. Raises ValueError."""
+    made: list[int] = []
+    for part in text.split(","):
+        first, dots, last = part.partition("..")
+        made += range(int(first), int(last if dots else first) + 1)
+    return made
 
 
 def parser() -> argparse.ArgumentParser:
@@ -34,6 +38,7 @@ def parser() -> argparse.ArgumentParser:
     made.add_argument("--shrink", action="store_true", help="make a run that fails smaller, and tell it")
     made.add_argument("--twice", action="store_true", help="run each seed twice, and compare the digests")
     made.add_argument("--digests", action="store_true", help="print the digest of each seed")
+    made.add_argument("--each", action="store_true", help="print a line for each seed, also for those that are ok")
     made.add_argument("--jobs", type=int, default=len(os.sched_getaffinity(0)), help="runs at once")
     made.add_argument("--no-audit", action="store_true", help="audit no logs")
     made.add_argument("--keep", type=Path, help="keep the folders of runs that fail here")
@@ -42,6 +47,7 @@ def parser() -> argparse.ArgumentParser:
     made.add_argument("--first-new", action="store_true",
                       help="end at the first seed that shows something new, and tell it: status 1")
     made.add_argument("--lists", action="store_true", help="print the lists of known.md for these seeds")
+    made.add_argument("--write-known", action="store_true", help="write the lists of known.md anew for these seeds")
     made.add_argument("--mutants", nargs="*", metavar="NAME", help="plant bugs, and say which seed finds each")
     made.add_argument("--most", type=int, default=200, help="seeds that are tried for a planted bug")
     return made
@@ -74,13 +80,14 @@ class Totals:
     """What many runs came to."""
 
     def __init__(self, count: int) -> None:
-        self.count, self.done, self.failed = count, 0, list[Found]()
+        self.count, self.done, self.failed, self.all = count, 0, list[Found](), list[Found]()
         self.virtual = self.took = 0.0
         self.begun = time.monotonic()
         self.bounds: dict[str, list[float]] = {}
 
     def add(self, found: Found) -> None:
         self.done += 1
+        self.all.append(replace(found, lines=[]))
         self.virtual += found.virtual
         self.took += found.took
         if found.failed:
@@ -116,14 +123,14 @@ def _seed(found: Found) -> int:
     return found.seed
 
 
-def run_many(seeds: range, given: argparse.Namespace) -> int:
+def run_many(seeds: Sequence[int], given: argparse.Namespace) -> int:
     totals = Totals(len(seeds))
     digests: dict[int, str] = {}
     for found in all_of(_each(seeds, given), max(1, given.jobs)):
         totals.add(found)
         if given.digests:
             print(f"{found.seed} {found.digest}", flush=True)
-        elif found.failed:
+        elif found.failed or given.each:
             if sys.stderr.isatty():
                 print("\r\x1b[K", end="", file=sys.stderr)
             print(line_of(found), flush=True)
@@ -133,12 +140,14 @@ def run_many(seeds: range, given: argparse.Namespace) -> int:
             totals.failed.append(found)
         totals.progress()
     if given.lists:
-        print(*known.lists_of(totals.failed), sep="\n")
+        print(*known.lists_of(known.shown_by(totals.all)), sep="\n")
+    if given.write_known:
+        known.write(totals.all)
     totals.tell(given.bounds)
     return int(bool(totals.failed))
 
 
-def _each(seeds: range, given: argparse.Namespace) -> Iterator[Wanted]:
+def _each(seeds: Sequence[int], given: argparse.Namespace) -> Iterator[Wanted]:
     for seed in seeds:
         yield wanted_of(seed, given)
         if given.twice:
@@ -162,7 +171,7 @@ def run_gate(given: argparse.Namespace) -> int:
     return int(wrong > 0)
 
 
-def first_new(seeds: range, given: argparse.Namespace) -> int:
+def first_new(seeds: Sequence[int], given: argparse.Namespace) -> int:
     """Tells the first seed, in the order of their ends, that shows what no known cause explains."""
     for found in all_of(_each(seeds, given), max(1, given.jobs)):
         if "new" in known.causes_of(found):

@@ -9,7 +9,8 @@ from .run import Found
 LIST = Path(__file__).with_name("known.md")
 SEEDS = re.compile(r"^Seeds of `([a-z-]+)`: (.*?)$", re.MULTILINE)
 RANGE = re.compile(r"(\d+)(?:\.\.(\d+))?")
-GATE = 100  # seeds that the gate runs in any case
+GATE = re.compile(r"^The gate runs the seeds 1\.\.(\d+)\.$", re.MULTILINE)
+HEAD = "## The lists\n\n"
 OF_EACH = 3  # seeds of each cause that it runs as well
 FOLLOWS = {"unserved", "not_renewed", "waiting"}  # what a task or a plane that has ended brings about
 
@@ -36,6 +37,8 @@ CAUSES = (
     _cause("callback", "exited died", r"on_(lose|gain) fails"),
     _cause("failover", "denied", r"", "failover"),
     _cause("wrong-day", "exited died", r"more than a day ahead"),
+    _cause("wrong-day", "unserved not_renewed waiting behind", r"", "clocks"),
+    _cause("never-retrieved", "died", r": (Control\._fetch|Direct\.fetch|Http\.fetch|[A-Za-z]*Store\.): "),
     _cause("full-disk", "answered_500", r"No space left|no space left"),
     _cause("backup", "unsafe history exited died", r"", "backup"),
     _cause("second-process", "unsafe history", r"", "seconds"),
@@ -82,22 +85,32 @@ def listed() -> dict[int, set[str]]:
 
 def gate() -> list[int]:
     """Returns the seeds of the gate: the first ones, and the first of those that show each cause."""
-    made = set(range(1, GATE + 1))
+    last = GATE.search(LIST.read_text(encoding="utf-8"))
+    made = set(range(1, int(last[1]) + 1)) if last else set[int]()
     for name in {name for names in listed().values() for name in names}:
         seeds = sorted(seed for seed, names in listed().items() if name in names)
         made |= set(seeds[:OF_EACH])
     return sorted(made)
 
 
-def lists_of(all_found: list[Found]) -> list[str]:
-    """Returns the lines of the list for runs: for each cause the seeds that show it."""
-    seeds: dict[str, list[int]] = {}
-    for found in all_found:
-        for name in causes_of(found):
-            seeds.setdefault(name, []).append(found.seed)
+def shown_by(all_found: list[Found]) -> dict[int, set[str]]:
+    """Returns the seeds of runs, each with the causes that it shows."""
+    return {found.seed: causes_of(found) for found in all_found}
+
+
+def write(all_found: list[Found]) -> None:
+    """Writes the lists of known.md anew for the seeds of runs, and leaves those of others."""
+    before, _, _ = LIST.read_text(encoding="utf-8").partition(HEAD)
+    lines = lists_of({**listed(), **shown_by(all_found)})
+    LIST.write_text(before + HEAD + "\n".join(lines) + "\n", encoding="utf-8")
+
+
+def lists_of(shown: dict[int, set[str]]) -> list[str]:
+    """Returns the lines of the list: for each cause the seeds that show it."""
     made = []
-    for name, them in sorted(seeds.items()):
-        words = [f"Seeds of `{name}`:", *map(str, sorted(set(them)))]
+    for name in sorted({name for names in shown.values() for name in names}):
+        them = sorted(seed for seed, names in shown.items() if name in names)
+        words = [f"Seeds of `{name}`:", *map(str, them)]
         line = ""
         for word in words:
             if line and len(line) + len(word) >= 115:

@@ -16,7 +16,7 @@ class Machine(System):
     def __init__(self, process: Process) -> None:
         self.process, self._host = process, process.host
 
-    def ticks(self) -> int:  # type: ignore[override]
+    def ticks(self) -> int:
         self.process.world.may_stall()
         return self._host.boottime() // MILLISECOND
 
@@ -36,12 +36,12 @@ class Machine(System):
     def flush(self, memory: mmap.mmap) -> None:
         self._host.disk.flush(memory)
 
-    def open(self, path: Any, flags: int, mode: int = 0o777) -> int:  # type: ignore[override]
+    def open(self, path: Any, flags: int, mode: int = 0o777) -> int:
         return self._host.disk.open(self.process, path, flags, mode)
 
-    def write(self, file: int, data: Any) -> int:  # type: ignore[override]
+    def write(self, file: int, data: Any) -> int:
         self.process.world.may_stall()
         return self._host.disk.write(self.process, file, data)
 
-    def close(self, file: int) -> None:  # type: ignore[override]
+    def close(self, file: int) -> None:
         self._host.disk.close(file)
