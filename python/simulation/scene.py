@@ -60,8 +60,9 @@ class Scene:
 
     @property
     def has_timely_tickets(self) -> bool:
-        """Whether tickets go by one real time, so that the audit finds right clocks timely."""
-        return not self.is_skewed and not {"set_clock", "wrong_day", "wrong_rate", "jump"} & set(self.kinds)
+        """Whether tickets go by one real time, so that the audit finds right clocks timely. After the
+        crash of its host a plane draws those that it had kept ahead."""
+        return not self.is_skewed and not UNTIMELY & set(self.kinds)
 
     def job_of(self, key: str) -> JobScene:
         return next(it for it in self.jobs if key in it.keys)
@@ -91,6 +92,7 @@ WORLDS: dict[str, tuple[str, ...]] = {
     "stores": ("store_fails", "store_freezes", "store_slow", "stop", "kill"),
     "partitions": ("cut", "one_way", "part", "reset", "slow"),
 }
+UNTIMELY = {"set_clock", "wrong_day", "wrong_rate", "jump", "crash", "power", "failover"}
 SHARES = {  # how many of a hundred seeds have a world; the others are usual
     "quiet": 2, "failover": 6, "isolation": 4, "clocks": 4, "wild": 4, "seconds": 3, "backup": 2, "power": 5,
     "secrets": 3, "strangers": 3, "disks": 4, "callers": 2, "joiners": 8, "stores": 8, "partitions": 8,
@@ -155,7 +157,7 @@ def _adapt(made: Scene, rng: Random) -> None:
     if made.world == "quiet":
         made.planes, made.every, made.engine, made.lone_assigners = 2, 1000.0, "rows", 0
     if made.world == "wild":
-        made.drift = 100_000
+        made.drift, made.waits = 100_000, True  # else nobody hears of clocks that are broken
     if made.world in ("clocks", "strangers", "secrets"):
         made.planes = 2
     if {"disk", "disk_of_job"} & set(made.kinds):
