@@ -8,7 +8,7 @@ from typing import Any
 import psycopg
 from psycopg import waiting
 from psycopg.abc import RV, PQGen
-from psycopg_pool import AsyncConnectionPool, PoolClosed
+from psycopg_pool import AsyncConnectionPool, PoolClosed, PoolTimeout
 
 from hourstable.store import (
     DEADLINE, Conflict, Store, Stored, StoreFailed, after_swap, lives_in, stored_in,
@@ -163,13 +163,17 @@ class PostgresqlStore(Store):
         if pool is None:
             pool = self._pool = Pool(self._url, self._settings, self.deadline)
             await pool.open()
-        async with pool.connection() as connection:
-            try:
-                cursor = await connection.execute(statement, values)
-                return await cursor.fetchall() if cursor.description else [], cursor.rowcount
-            finally:
-                if connection.closed:
-                    self._drop(pool)
+        try:
+            async with pool.connection() as connection:
+                try:
+                    cursor = await connection.execute(statement, values)
+                    return await cursor.fetchall() if cursor.description else [], cursor.rowcount
+                finally:
+                    if connection.closed:
+                        self._drop(pool)
+        except (asyncio.CancelledError, PoolTimeout):
+            self._drop(pool)  # it is late, perhaps as no connection came
+            raise
 
     def _drop(self, pool: Pool) -> None:
         """Drops all connections: the next call makes a new one."""

@@ -11,12 +11,14 @@ from contextlib import ExitStack, contextmanager
 from pathlib import Path
 from typing import Any, TypeVar
 
-import psycopg
 import pytest
 
 import needed
 
 needed.library()
+needed.engine("postgresql")
+
+import psycopg  # noqa: E402
 
 from conftest import folder_for_engines  # noqa: E402
 from hourstable.demo import engines  # noqa: E402
