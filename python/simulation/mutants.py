@@ -157,7 +157,7 @@ def found_at(mutant: Mutant, most: int, jobs: int) -> tuple[int, str] | None:
     with tempfile.TemporaryDirectory(prefix="mutant.") as folder:
         package = planted(mutant, Path(folder))
         path = os.pathsep.join((str(package), str(TOP)))
-        environment = {**os.environ, "PYTHONPATH": path, "PYTHONDONTWRITEBYTECODE": "1"}
+        environment = {**os.environ, "PYTHONPATH": path, "PYTHONDONTWRITEBYTECODE": "1", "PYTHONSAFEPATH": "1"}
         seeds = [f"{mutant.seed}"] if mutant.seed else []
         for some in (*seeds, f"1..{most}"):
             words = [sys.executable, "-m", "simulation", "--seeds", some, "--jobs", str(jobs), "--first-new"]
