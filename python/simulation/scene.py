@@ -152,6 +152,9 @@ def _adapt(made: Scene, rng: Random) -> None:
     if made.world in ("isolation", "disks"):
         made.guard, made.late = 4000, 0.0
         made.jobs.append(JobScene("cart", _after(shop.tasks, TASKS_OF_SECOND_JOB)))
+    if made.world in ("strangers", "secrets"):  # the second job is not yet created when they come
+        made.jobs[1:] = [JobScene("cart", _after(shop.tasks, TASKS_OF_SECOND_JOB))]
+        made.late, made.every = 15.0, 1.5
     if made.world == "seconds":
         made.seconds = shop.tasks[:2]
     if made.world == "quiet":
