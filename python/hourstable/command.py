@@ -33,7 +33,7 @@ def main(words: list[str] | None = None) -> int:
     chosen = parser().parse_args(words)
     level = logging.DEBUG if chosen.verbose else logging.INFO
     logging.basicConfig(level=level, format="%(asctime)s %(name)s: %(message)s")
-    logging.getLogger("psycopg.pool").setLevel(logging.WARNING)  # it tells of each call
+    logging.getLogger("psycopg.pool").setLevel(logging.ERROR)  # what fails is told by the plane
     try:
         status: int = chosen.run(chosen)
         return status

@@ -8,7 +8,7 @@ from typing import Any
 import psycopg
 from psycopg import waiting
 from psycopg.abc import RV, PQGen
-from psycopg_pool import AsyncConnectionPool, PoolClosed
+from psycopg_pool import AsyncConnectionPool, PoolClosed, PoolTimeout
 
 from hourstable.store import (
     DEADLINE, Conflict, Store, Stored, StoreFailed, after_swap, lives_in, stored_in,
@@ -35,13 +35,28 @@ class Pool:
     """Connections to a server. It is made for the calls of one store in one event loop."""
 
     def __init__(self, url: str, settings: dict[str, Any], deadline: float) -> None:
-        self._deadline = deadline
+        self._deadline, self._why = deadline, "no connection is made"
         self._failed = asyncio.get_running_loop().create_future()  # when no connection is made
         self._leaving: set[asyncio.Task[None]] = set()
         self._pool = AsyncConnectionPool(
-            url, connection_class=Connection, kwargs=settings, min_size=0, max_size=CONNECTIONS,
+            url, connection_class=self._told(), kwargs=settings, min_size=0, max_size=CONNECTIONS,
             open=False, reconnect_timeout=0, reconnect_failed=self._fail, num_workers=2,
         )
+
+    def _told(self) -> type[Connection]:
+        """Returns a class of connections which tells this pool why one cannot be made."""
+        pool = self
+
+        class Told(Connection):
+            @classmethod
+            async def connect(cls, *given: Any, **named: Any) -> Any:
+                try:
+                    return await super().connect(*given, **named)
+                except psycopg.Error as error:
+                    pool._why = str(error)
+                    raise
+
+        return Told
 
     async def open(self) -> "Pool":
         await self._pool.open()
@@ -66,7 +81,7 @@ class Pool:
         try:
             await asyncio.wait({taking, self._failed}, return_when=asyncio.FIRST_COMPLETED)
             if not taking.done():
-                raise psycopg.OperationalError("no connection is made")
+                raise psycopg.OperationalError(self._why)
             taken = taking.result()
             return taken
         finally:
@@ -148,13 +163,17 @@ class PostgresqlStore(Store):
         if pool is None:
             pool = self._pool = Pool(self._url, self._settings, self.deadline)
             await pool.open()
-        async with pool.connection() as connection:
-            try:
-                cursor = await connection.execute(statement, values)
-                return await cursor.fetchall() if cursor.description else [], cursor.rowcount
-            finally:
-                if connection.closed:
-                    self._drop(pool)
+        try:
+            async with pool.connection() as connection:
+                try:
+                    cursor = await connection.execute(statement, values)
+                    return await cursor.fetchall() if cursor.description else [], cursor.rowcount
+                finally:
+                    if connection.closed:
+                        self._drop(pool)
+        except (asyncio.CancelledError, PoolTimeout):
+            self._drop(pool)  # it is late, perhaps as no connection came
+            raise
 
     def _drop(self, pool: Pool) -> None:
         """Drops all connections: the next call makes a new one."""
