@@ -55,7 +55,7 @@ MUTANTS = (
         "        at = self.read()\n"
         "        call = LoggedCall(self._tickets.draw(), CALLS[do], task=self.task, **members)\n"
         "        call.at = at\n",
-    ),), seeds="9,23,82"),
+    ),), why_not="tickets of tasks follow messages, and none comes in between"),
     Mutant("check-always", "task.py", ((
         "        except (Refused, ClockBehind):\n            return False\n        return True\n",
         "        except (Refused, ClockBehind):\n            return True\n        return True\n",
@@ -130,13 +130,13 @@ MUTANTS = (
     ),), seeds="2"),
     Mutant("line-not-observed", "jobs.py", (
         ("        self._observe(stored)\n        if self._seen", "        if self._seen"),
-    ), seeds="6,9,12"),
+    ), seeds="9"),
     Mutant("looks-one-by-one", "control.py", ((
         "                if name not in self._looking:\n"
         "                    self._looking[name] = asyncio.create_task(self._look_at(name))\n"
         "                    self._looking[name].add_done_callback(partial(self._looked, name))",
         "                await self._look_at(name)",
-    ),), seeds="24,35,56"),
+    ),), seeds="24"),
     Mutant("policy-from-anything", "task.py", (
         ("        if not _is_object(answer.body):", "        if False:"),
     ), seeds="46,98,117,45,68"),
