@@ -43,7 +43,7 @@ def health(cluster: Cluster) -> Health:
         missing &= found
         if made.seconds is None and not missing:
             made.seconds = (world.now - begun) / SECOND
-        if world.now > end - term // 2:  # a key that moves is denied for a moment
+        if world.now > end - term:  # a key that moves is denied for a lease at most
             late = found if late is None else late & found
     made.unserved = sorted(late or ())
     made.not_renewed = [

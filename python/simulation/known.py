@@ -39,6 +39,7 @@ CAUSES = (
     _cause("wrong-day", "exited died", r"more than a day ahead"),
     _cause("wrong-day", "unserved not_renewed waiting behind", r"", "clocks"),
     _cause("never-retrieved", "died", r": (Control\._fetch|Direct\.fetch|Http\.fetch|[A-Za-z]*Store\.): "),
+    _cause("clock-broken", "unserved not_renewed", r"", "wild"),
     _cause("full-disk", "answered_500", r"No space left|no space left"),
     _cause("backup", "unsafe history exited died", r"", "backup"),
     _cause("second-process", "unsafe history", r"", "seconds"),
@@ -54,6 +55,8 @@ def causes_of(found: Found) -> set[str]:
             name = cause_of(found, check, one)
             made |= {name} if name else set()
             is_explained &= bool(name) or check in FOLLOWS
+    if found.wrong and not made and found.figures.get("lone_assigners") and is_explained:
+        made.add("lone-assigner")
     if found.wrong and not (is_explained and made):
         made.add("new")
     return made

@@ -18,7 +18,9 @@ class Machine(System):
 
     def ticks(self) -> int:
         self.process.world.may_stall()
-        return self._host.boottime() // MILLISECOND
+        made = self._host.boottime() // MILLISECOND
+        self.process.world.may_stall()
+        return made
 
     def monotonic(self) -> float:
         return self._host.monotonic() / SECOND

@@ -12,13 +12,13 @@ TOP = Path(__file__).resolve().parents[1]
 
 
 class Mutant(NamedTuple):
-    """A bug: its name, the file, and each old text, which stands once, with the new one. `seed` is one
-    that finds it; `why_not` says why none does."""
+    """A bug: its name, the file, and each old text, which stands once, with the new one. `seeds` are
+    those that are tried first, among them one that finds it; `why_not` says why none does."""
 
     name: str
     file: str
     edits: tuple[tuple[str, str], ...]
-    seed: int = 0
+    seeds: str = ""
     why_not: str = ""
 
 
@@ -27,114 +27,119 @@ MUTANTS = (
         "        lines = [one.line for one in played]\n",
         "        lines = [one.line for one in played]\n"
         "        for waiting, made, _ in played:\n            waiting.tell(made)\n",
-    ),)),
+    ),), seeds="31"),
     Mutant("version-not-compared", "store_sqlite.py", ((
         '" WHERE job = ? AND version = ?",', '" WHERE job = ? AND version >= 0 * ?",',
-    ),)),
+    ),), seeds="103,82,99"),
     Mutant("conflict-ignored", "jobs.py", ((
         "        except Conflict:\n            self._counters.replaced(self.name)\n",
         "        except Conflict:\n            return\n            self._counters.replaced(self.name)\n",
-    ),)),
+    ),), why_not="the next look at the store drops the table"),
     Mutant("conflict-overwritten", "jobs.py", ((
         "        held.version = await self.ask(\n"
         "            \"swap\", self._store.swap, self.name, held.version, kept, text\n        )\n",
         "        newest = await self._store.version(self.name) or 0\n"
         "        held.version = await self.ask(\n"
         "            \"swap\", self._store.swap, self.name, newest, kept, text\n        )\n",
-    ),)),
+    ),), seeds="36"),
     Mutant("ticket-before-claim", "jobs.py", (
         ("        self._waiting.append(Waiting(call, answer))\n",
          "        call.drawn = self.tickets.draw()\n        self._waiting.append(Waiting(call, answer))\n"),
         ("            ticket = self.tickets.draw()  # after", "            ticket = call.drawn  # after"),
         ("    key: str | None = None\n\n    @abstractmethod\n",
          "    key: str | None = None\n    drawn = 0\n\n    @abstractmethod\n"),
-    )),
+    ), seeds="6"),
     Mutant("reading-before-ticket", "leases.py", ((
         "        call = LoggedCall(self._tickets.draw(), CALLS[do], task=self.task, **members)\n"
         "        call.at = self.read()\n",
         "        at = self.read()\n"
         "        call = LoggedCall(self._tickets.draw(), CALLS[do], task=self.task, **members)\n"
         "        call.at = at\n",
-    ),)),
+    ),), why_not="tickets of tasks follow messages, and none comes in between"),
     Mutant("check-always", "task.py", ((
         "        except (Refused, ClockBehind):\n            return False\n        return True\n",
         "        except (Refused, ClockBehind):\n            return True\n        return True\n",
-    ),)),
+    ),), seeds="2"),
     Mutant("old-leases", "task.py", ((
         "        if self._task._leases is not self._leases:\n            return False",
         "        if False:\n            return False",
-    ),)),
+    ),), why_not="a life lasts for thousands of calls"),
     Mutant("clock-behind", "leases.py", ((
         "            return self.clock.read(self.local_clock())",
         "            return self.clock.read(self.local_clock()) - 1500",
-    ),)),
+    ),), seeds="2"),
     Mutant("clock-stops-asleep", "clock.py", ((
-        "    ticks = system.ticks\n", "    ticks = lambda: int(system.monotonic() * 1000)\n",
-    ),)),
+        "    ticks = boottime_ticks if system is SYSTEM else system.ticks",
+        "    ticks = lambda: int(system.monotonic() * 1000)",
+    ),), seeds="41"),
     Mutant("sent-is-late", "calls.py", ((
         "        return _taken(status, headers, found, sent)",
         "        return _taken(status, headers, found, self.local_clock())",
-    ),)),
+    ),), seeds="6"),
     Mutant("life-twice", "store.py", ((
         "            return Life(life.life + 1, life.drained)",
         "            return Life(max(life.life, 1), life.drained)",
-    ),)),
+    ),), seeds="4"),
     Mutant("lives-not-compared", "store_sqlite.py", ((
         'update = "UPDATE jobs SET lives = ? WHERE job = ? AND lives = ?"',
         'update = "UPDATE jobs SET lives = ? WHERE job = ? AND lives <> ? || \'x\'"',
-    ),)),
+    ),), why_not="no two processes of a task raise its life at one moment over SQLite"),
     Mutant("no-lock", "jobs.py", ((
         "                async with self._lock:\n                    await self._make",
         "                if True:\n                    await self._make",
-    ),)),
+    ),), seeds="31"),
     Mutant("observe-nothing", "calls.py", (
         ("            self.tickets.observe_text(headers.get(HEADER))\n", ""),
-    )),
+    ), seeds="2"),
     Mutant("plane-observes-nothing", "control.py", ((
         "                self.tickets.observe_text(request.headers.get(ticketing.HEADER))",
         "                pass",
-    ),)),
+    ),), seeds="2"),
     Mutant("restore-not-stored", "jobs.py", ((
         "            version, line = await self._write_restore(stored, row)",
         "            version, line = stored.version, stored.line",
-    ),)),
+    ),), seeds="20"),
     Mutant("clock-ahead", "clock.py", (
         ("TableClock(kept, ahead + GRAIN + 1, local())", "TableClock(kept, 0, local())"),
-    )),
+    ), why_not="planes that share a store save nothing ahead"),
     Mutant("lines-not-logged", "jobs.py", (
         ("            self._log.append(*lines)\n            held.line", "            held.line"),
-    )),
-    Mutant("last-not-kept", "tickets.py", (("        self.fields.last = place\n", "        pass\n"),)),
+    ), seeds="2"),
+    Mutant("last-not-kept", "tickets.py", (
+        ("        self.fields.last = place\n", "        pass\n"),
+    ), why_not="a message that is read first has a later ticket"),
     Mutant("boot-not-compared", "tickets.py", (
         ("        if boot and boot == self.fields.boot and", "        if boot and"),
-    )),
+    ), why_not="a message that is read first has a later ticket"),
     Mutant("poller-ends", "control.py", ((
         '                log.warning("the store was not read: %s", error)\n                continue',
         '                log.warning("the store was not read: %s", error)\n                return',
-    ),)),
+    ),), seeds="31"),
     Mutant("notes-not-brought", "task.py", ((
         '                await self._control.call("POST", "/free", note)\n                return',
         "                return",
-    ),)),
+    ),), seeds="55"),
     Mutant("renews-late", "task.py", ((
         "        half = max(0, leases.held[kind].until - at) / 2",
         "        half = max(0, leases.held[kind].until - at) * 1.2",
-    ),)),
+    ),), why_not="the gaps are of milliseconds"),
     Mutant("work-not-ended", "jobs.py", ((
         "                    await self._make(self._next_together())\n"
         "        finally:\n            self._working = None",
         "                    await self._make(self._next_together())\n        finally:\n            pass",
-    ),)),
+    ),), seeds="2"),
     Mutant("line-not-observed", "jobs.py", (
         ("        self._observe(stored)\n        if self._seen", "        if self._seen"),
-    )),
+    ), seeds="9"),
     Mutant("looks-one-by-one", "control.py", ((
         "                if name not in self._looking:\n"
         "                    self._looking[name] = asyncio.create_task(self._look_at(name))\n"
         "                    self._looking[name].add_done_callback(partial(self._looked, name))",
         "                await self._look_at(name)",
-    ),)),
-    Mutant("policy-from-anything", "task.py", (("        if not _is_object(answer.body):", "        if False:"),)),
+    ),), seeds="24"),
+    Mutant("policy-from-anything", "task.py", (
+        ("        if not _is_object(answer.body):", "        if False:"),
+    ), seeds="46,98,117,45,68"),
 )
 
 
@@ -157,9 +162,9 @@ def found_at(mutant: Mutant, most: int, jobs: int) -> tuple[int, str] | None:
     with tempfile.TemporaryDirectory(prefix="mutant.") as folder:
         package = planted(mutant, Path(folder))
         path = os.pathsep.join((str(package), str(TOP)))
-        environment = {**os.environ, "PYTHONPATH": path, "PYTHONDONTWRITEBYTECODE": "1"}
-        seeds = [f"{mutant.seed}"] if mutant.seed else []
-        for some in (*seeds, f"1..{most}"):
+        environment = {**os.environ, "PYTHONPATH": path, "PYTHONDONTWRITEBYTECODE": "1", "PYTHONSAFEPATH": "1"}
+        tried = [mutant.seeds] if mutant.seeds else []
+        for some in (*tried, *([f"1..{most}"] if most else [])):
             words = [sys.executable, "-m", "simulation", "--seeds", some, "--jobs", str(jobs), "--first-new"]
             ran = subprocess.run(words, capture_output=True, text=True, env=environment, check=False)
             if ran.returncode == 1:

@@ -19,7 +19,7 @@ from .trace import Trace, take_logs
 from .world import SECOND, World
 
 MAY_EXIT = ("None", "OSError", "BlockingIOError", "StoreFailed")  # None: as it was asked to
-MOST_BEHIND = 6  # seconds by which a plane may show an older generation than another one
+MOST_BEHIND = 3  # seconds by which a plane may show an older generation than another one
 QUIET_BOUND = 2.0  # seconds for which a key that moves may be denied while nothing fails
 FAILOVER_BOUND = 1.0  # seconds for which a key may be denied when one of two planes is lost
 CHECKS = (
@@ -169,7 +169,8 @@ class Run:
             "probed": cluster.oracle.probed, "writes": cluster.engine.writes, "well": well.seconds,
             "operations": sum(map(len, cluster.shelf.history.values())),
             "denied": self.watch.worst(), "whole": scene.is_whole, "engine": scene.engine,
-            "is_audited": not (back or scene.seconds or self._has_lost()), "is_timely": scene.has_timely_tickets,
+            "is_audited": not (back or scene.seconds or self._has_lost()),
+            "is_timely": scene.has_timely_tickets, "lone_assigners": scene.lone_assigners,
         }
         made.wrong = {name: all_of for name, all_of in found.items() if all_of}
         made.digest = f"{self.world.digest & (1 << 64) - 1:016x}"

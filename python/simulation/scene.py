@@ -75,7 +75,7 @@ USUAL = (
     "store_freezes", "store_locks", "store_slow", "term",
 )
 WORLDS: dict[str, tuple[str, ...]] = {
-    "quiet": ("lose_task",),
+    "quiet": (),
     "usual": USUAL,
     "failover": ("failover",),
     "isolation": ("lock_second_job", "lose_task"),
@@ -152,10 +152,13 @@ def _adapt(made: Scene, rng: Random) -> None:
     if made.world in ("isolation", "disks"):
         made.guard, made.late = 4000, 0.0
         made.jobs.append(JobScene("cart", _after(shop.tasks, TASKS_OF_SECOND_JOB)))
+    if made.world in ("strangers", "secrets"):  # the second job is not yet created when they come
+        made.jobs[1:] = [JobScene("cart", _after(shop.tasks, TASKS_OF_SECOND_JOB))]
+        made.late, made.every = 15.0, 1.5
     if made.world == "seconds":
         made.seconds = shop.tasks[:2]
     if made.world == "quiet":
-        made.planes, made.every, made.engine, made.lone_assigners = 2, 1000.0, "rows", 0
+        made.planes, made.engine, made.lone_assigners = 2, "rows", 0
     if made.world == "wild":
         made.drift, made.waits = 100_000, True  # else nobody hears of clocks that are broken
     if made.world in ("clocks", "strangers", "secrets"):

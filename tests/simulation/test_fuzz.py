@@ -1,6 +1,5 @@
-"""Any bytes as path, header or body of every route: each request gets an answer below 500, none does anything unless it is
-well formed, and afterwards the plane has the tasks, the files and the connections that it had. All runs in virtual
-time, through the server of aiohttp."""
+"""Any bytes as path, header or body of every route: each request gets an answer below 500, and afterwards the plane
+has the tasks, files and connections that it had. All runs in virtual time, through the server of aiohttp."""
 
 import asyncio
 import json

@@ -71,7 +71,7 @@ def plan_of(scene: Scene) -> list[Fault]:
             break
         made.append(Fault(len(made), int(at * SECOND), rng.choice(others)))
     at = scene.begin
-    while scene.world != "quiet":
+    while True:
         at += rng.expovariate(1 / LOAD_EVERY)  # else keys hardly move
         if at >= scene.end:
             break
