@@ -33,7 +33,7 @@ def health(cluster: Cluster) -> Health:
     """Lets the service go on without faults for three guard terms, and looks what is not well."""
     world, term = cluster.world, int(cluster.scene.term * SECOND)
     begun, end = world.now, world.now + 3 * term
-    before = {one.name: _renewed(one) for one in _tasks(cluster)}
+    before = {one.process: _renewed(one) for one in _tasks(cluster)}
     missing = set(unserved(cluster))
     late: set[str] | None = None
     made = Health()
@@ -48,7 +48,7 @@ def health(cluster: Cluster) -> Health:
     made.unserved = sorted(late or ())
     made.not_renewed = [
         one.name for one in _tasks(cluster)
-        if one.task is None or _renewed(one) - before[one.name] < RENEWALS
+        if one.task is None or _renewed(one) - before.get(one.process, 0) < RENEWALS
     ]
     made.behind = _behind(cluster)
     made.waiting = _waiting(cluster)

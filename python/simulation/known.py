@@ -12,6 +12,7 @@ RANGE = re.compile(r"(\d+)(?:\.\.(\d+))?")
 GATE = re.compile(r"^The gate runs the seeds 1\.\.(\d+)\.$", re.MULTILINE)
 HEAD = "## The lists\n\n"
 OF_EACH = 3  # seeds of each cause that it runs as well
+BLACK_HOLES = {"reset", "crash", "power"}  # kinds after which a connection may have no other end
 FOLLOWS = {"unserved", "not_renewed", "waiting"}  # what a task or a plane that has ended brings about
 
 
@@ -41,7 +42,7 @@ CAUSES = (
     _cause("never-retrieved", "died", r": (Control\._fetch|Direct\.fetch|Http\.fetch|[A-Za-z]*Store\.): "),
     _cause("clock-broken", "unserved not_renewed", r"", "wild"),
     _cause("full-disk", "answered_500", r"No space left|no space left"),
-    _cause("backup", "unsafe history exited died", r"", "backup"),
+    _cause("backup", "unsafe history exited died unserved not_renewed", r"", "backup"),
     _cause("second-process", "unsafe history", r"", "seconds"),
 )
 
@@ -55,7 +56,9 @@ def causes_of(found: Found) -> set[str]:
             name = cause_of(found, check, one)
             made |= {name} if name else set()
             is_explained &= bool(name) or check in FOLLOWS
-    if found.wrong and not made and found.figures.get("lone_assigners") and is_explained:
+    if set(found.wrong) == {"unserved"} and BLACK_HOLES & {it.kind for it in found.faults}:
+        made.add("black-hole")
+    elif found.wrong and not made and found.figures.get("lone_assigners") and is_explained:
         made.add("lone-assigner")
     if found.wrong and not (is_explained and made):
         made.add("new")

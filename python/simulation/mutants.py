@@ -30,7 +30,7 @@ MUTANTS = (
     ),), seeds="31"),
     Mutant("version-not-compared", "store_sqlite.py", ((
         '" WHERE job = ? AND version = ?",', '" WHERE job = ? AND version >= 0 * ?",',
-    ),), seeds="103,82,99"),
+    ),), seeds="113"),
     Mutant("conflict-ignored", "jobs.py", ((
         "        except Conflict:\n            self._counters.replaced(self.name)\n",
         "        except Conflict:\n            return\n            self._counters.replaced(self.name)\n",
@@ -139,7 +139,7 @@ MUTANTS = (
     ),), seeds="24"),
     Mutant("policy-from-anything", "task.py", (
         ("        if not _is_object(answer.body):", "        if False:"),
-    ), seeds="46,98,117,45,68"),
+    ), why_not="an odd answer also ends the tasks, which then create the job"),
 )
 
 
