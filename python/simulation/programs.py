@@ -182,7 +182,8 @@ async def run_task(job: JobScene, number: int, service: Service) -> None:
     """Runs a task, whose application has the sessions of its keys."""
     cluster, process = service.cluster, process_of(service)
     served = Served(service, job, number)
-    secret = OTHER_SECRET if service.name in cluster.wrong_secrets else SECRET
+    process.is_to_end = service.name in cluster.wrong_secrets
+    secret = OTHER_SECRET if process.is_to_end else SECRET
     task = Task(
         cluster.urls, job.name, number, logs=service.host.disk.folder, policy=cluster.policy(job),
         on_lose=served.on_lose, on_gain=served.on_gain, secret=secret, timeout=2.0, report=REPORT,

@@ -70,7 +70,8 @@ class Service:
         error = None if task.cancelled() else task.exception()
         self.cluster.world.tell(f"{self.name} exits: {error!r}")
         if process is self.process:
-            self.cluster.exits.append(Exit(self.cluster.world.now, self.name, repr(error)))
+            if not process.is_to_end:
+                self.cluster.exits.append(Exit(self.cluster.world.now, self.name, repr(error)))
             self.kill(AGAIN)
 
     def kill(self, again: float | None, silent: bool = False) -> None:

@@ -85,6 +85,7 @@ class Process:
         self.number, self.begun = world.next_number(), world.now
         self.rng = Random(f"{world.seed} {name} {self.number}")  # of its own code
         self.is_dead = self.is_stalled = False
+        self.is_to_end = False  # it is started wrongly, and ends rightly
         self.stops = 0  # how many reasons there are for which it stands still
         self.backlog: list[Any] = []
         self.main: "asyncio.Task[None] | None" = None
@@ -223,5 +224,6 @@ class World:
 
     def note_death(self, process: Process, name: str, error: BaseException) -> None:
         death = Death(self.now, process.name, name, f"{type(error).__name__}: {error}")
-        self.died.append(death)
+        if not process.is_to_end:
+            self.died.append(death)
         self.tell(f"{process.name}: {name} ended by {death.error}")
