@@ -44,6 +44,7 @@ CAUSES = (
     _cause("full-disk", "answered_500", r"No space left|no space left"),
     _cause("backup", "unsafe history exited died unserved not_renewed", r"", "backup"),
     _cause("second-process", "unsafe history", r"", "seconds"),
+    _cause("left-open", "grown", r"connections", "stores"),
 )
 
 
@@ -56,10 +57,13 @@ def causes_of(found: Found) -> set[str]:
             name = cause_of(found, check, one)
             made |= {name} if name else set()
             is_explained &= bool(name) or check in FOLLOWS
-    if set(found.wrong) == {"unserved"} and BLACK_HOLES & {it.kind for it in found.faults}:
+    kinds = {it.kind for it in found.faults}
+    if set(found.wrong) == {"unserved"} and BLACK_HOLES & kinds:
         made.add("black-hole")
     elif found.wrong and not made and found.figures.get("lone_assigners") and is_explained:
         made.add("lone-assigner")
+    elif found.wrong and not made and set(found.wrong) <= FOLLOWS and "store_freezes" in kinds:
+        made.add("frozen-store")
     if found.wrong and not (is_explained and made):
         made.add("new")
     return made
