@@ -6,7 +6,6 @@ import subprocess
 import sys
 import time
 from collections.abc import Awaitable, Callable, Iterator
-from concurrent.futures import ThreadPoolExecutor
 from contextlib import ExitStack, contextmanager
 from pathlib import Path
 from typing import Any, TypeVar
@@ -24,6 +23,7 @@ from conftest import folder_for_engines  # noqa: E402
 from hourstable.demo import engines  # noqa: E402
 from hourstable.store import Store, Stored, StoreFailed  # noqa: E402
 from hourstable.store_postgresql import CONNECTIONS  # noqa: E402
+from members import members_of_etcd  # noqa: E402
 from serving import Caller, running  # noqa: E402
 from stores import opened  # noqa: E402
 from test_page import begun  # noqa: E402
@@ -223,14 +223,8 @@ async def test_more_locked_rows_than_connections() -> None:
 async def test_a_stopped_member_of_etcd() -> None:
     """Reads go on, by another member; of writes the first one fails."""
     needed.engine("etcd")
-    with folder_for_engines() as top, ExitStack() as stack:
-        members = engines.etcd_members(top / "etcd", 3)
-        for member in members:
-            stack.callback(member.kill)
-        with ThreadPoolExecutor(len(members)) as pool:
-            list(pool.map(engines.Engine.start, members))
-        hosts = ",".join(member.url.removeprefix("etcd://") for member in members)
-        async with opened(f"etcd://{hosts}", DEADLINE) as store:
+    with members_of_etcd() as (members, url):
+        async with opened(url, DEADLINE) as store:
             await surely(lambda: store.create("shop", POLICY, b"one"))
             for at, member in enumerate(members):
                 member.stop()

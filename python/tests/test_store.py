@@ -8,8 +8,7 @@ import sys
 import time
 from collections import Counter
 from collections.abc import Awaitable, Callable
-from concurrent.futures import ThreadPoolExecutor
-from contextlib import AsyncExitStack, ExitStack, closing, suppress
+from contextlib import AsyncExitStack, closing, suppress
 from pathlib import Path
 
 import pytest
@@ -22,6 +21,7 @@ from hourstable.store import (
     store_of,
 )
 from hourstable.store_sqlite import SqliteStore
+from members import members_of_etcd
 from stores import opened
 
 POLICY = '{"guard":1000}'
@@ -207,14 +207,8 @@ async def test_an_engine_that_is_killed(kind: str) -> None:
 
 async def test_a_member_of_etcd_that_is_killed() -> None:
     needed.engine("etcd")
-    with folder_for_engines() as top, ExitStack() as stack:
-        members = engines.etcd_members(top / "etcd", 3)
-        for member in members:
-            stack.callback(member.kill)
-        with ThreadPoolExecutor(len(members)) as pool:
-            list(pool.map(engines.Engine.start, members))
-        hosts = ",".join(member.url.removeprefix("etcd://") for member in members)
-        async with opened(f"etcd://{hosts}") as store:
+    with members_of_etcd() as (members, url):
+        async with opened(url) as store:
             version = await store.create("shop", POLICY, b"kept")
             before = Stored(version, POLICY, b"kept", None)
             for at, member in enumerate(members):
