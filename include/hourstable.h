@@ -361,7 +361,8 @@ enum hs_call {
 };
 
 /* Numbers that a code comes with. A call sets just the fields that its code names, unless its comment
- * says otherwise: hs_slicelet_hear, _serve and _serve_at tell a lease where they are done. */
+ * says otherwise: hs_slicelet_hear, _serve, _serve_at, _hold and _hold_at tell a lease where they are
+ * done, and the last four tell `covering` of each key. */
 struct hs_told {
     uint64_t number;     /* of a grant, of a term, or the version of a message */
     uint64_t generation; /* of a lease or an assignment */
@@ -369,6 +370,8 @@ struct hs_told {
     uint64_t task;       /* 1 to 64 */
     uint64_t until;      /* a reading, in ticks; of a lease, the first of the task's clock at which it
                             has ended */
+    uint64_t covering;   /* the greatest generation of the held leases that cover the key, live or
+                            ended; 0 if none does */
 };
 
 /* A key handle: a key that the task held when it took the handle. */
@@ -377,6 +380,15 @@ struct hs_key_handle {
     uint64_t slice_key;
     uint64_t position;
     uint32_t life;
+};
+
+/* A block of work on a key: what its entry or its end passed and wrote. The caller sets `ticket` before
+ * each call, and keeps the other members from hs_slicelet_enter until hs_slicelet_leave. */
+struct hs_block {
+    uint64_t ticket;             /* the place of the call among all calls of the job (docs/AUDIT.md) */
+    uint64_t at;                 /* the task's reading at which the call was made */
+    struct hs_key_handle handle; /* what hs_slicelet_enter wrote, and hs_slicelet_leave checks */
+    struct hs_told told;         /* what hs_slicelet_enter told */
 };
 
 /* A lease that a task holds. */
@@ -591,7 +603,9 @@ int32_t hs_slicelet_release(struct hs_place *place, uint32_t kind, uint64_t at, 
 
 /* Whether the task may serve a key now: HS_DONE, with told.kind, told.number, told.generation and
  * told.until of the lease under which it may, or HS_DOWN, HS_CLOCK_BACK, HS_ENDED, HS_NOT_OWNED,
- * HS_NO_LEASE. Takes no memory. */
+ * HS_NO_LEASE. With each of these codes told.covering is the greatest generation of the held leases
+ * that cover the key, live or ended, and 0 if none does; it may be above told.generation. Takes no
+ * memory. */
 int32_t hs_slicelet_serve(const struct hs_place *place, const uint8_t *key, size_t key_len, uint64_t at,
                           struct hs_told *told);
 
@@ -599,8 +613,8 @@ int32_t hs_slicelet_serve(const struct hs_place *place, const uint8_t *key, size
  * is the hash of the key. HS_WRONG_FORM if no key has this slice key, which is 2^63 or more. */
 int32_t hs_slicelet_serve_at(const struct hs_place *place, uint64_t slice_key, uint64_t at, struct hs_told *told);
 
-/* Takes a handle on a key if the task may serve it, and leaves `told` unchanged; otherwise returns
- * the code of hs_slicelet_serve. Takes no memory. */
+/* Takes a handle on a key if the task may serve it. Returns the code of hs_slicelet_serve, and tells
+ * what it tells. Takes no memory. */
 int32_t hs_slicelet_hold(const struct hs_place *place, const uint8_t *key, size_t key_len, uint64_t at,
                          struct hs_key_handle *out, struct hs_told *told);
 
@@ -611,6 +625,30 @@ int32_t hs_slicelet_hold_at(const struct hs_place *place, uint64_t slice_key, ui
 /* Whether the task has held the key of a handle without a break since it took the handle, and may
  * serve it now. HS_WRONG_FORM, HS_STRANGER, HS_BROKEN. Takes no memory. */
 int32_t hs_slicelet_check(const struct hs_place *place, const struct hs_key_handle *handle, uint64_t at);
+
+/* Enters a block of work on a key: hs_task_clock_read at the local reading `now`, hs_slicelet_hold at
+ * the value, and the line of that call, as hs_log_line writes it for HS_CALL_HOLD with block->ticket,
+ * in one call. Returns the code of hs_slicelet_hold, also if it is not 0, and writes block->at, ->handle
+ * and ->told. If `out_len` is 0, no line is written, *needed is 0, and no memory is taken. Draw the
+ * ticket before the call, and write the line before the reply of the block leaves the process.
+ * HS_WRONG_FORM if `per` of the clock is 0, then the codes of hs_task_clock_read, with which no call
+ * was made and there is no line, then those of hs_slicelet_hold; but HS_NO_ROOM or HS_NO_MEMORY comes
+ * in place of the last ones, and the clock and the block are then unchanged. The clock is called
+ * alone, as in every call of a clock; the place is only read. */
+int32_t hs_slicelet_enter(const struct hs_place *place, struct hs_task_clock *clock, uint64_t now, const uint8_t *key,
+                          size_t key_len, struct hs_block *block, uint8_t *out, size_t out_len, size_t *needed);
+
+/* The same by slice key, as hs_slicelet_serve_at. HS_WRONG_FORM, also if no key has this slice key. */
+int32_t hs_slicelet_enter_at(const struct hs_place *place, struct hs_task_clock *clock, uint64_t now,
+                             uint64_t slice_key, struct hs_block *block, uint8_t *out, size_t out_len,
+                             size_t *needed);
+
+/* Leaves a block of work: hs_task_clock_read at the local reading `now`, hs_slicelet_check of
+ * block->handle at the value, and the line of that call for HS_CALL_CHECK with block->ticket, in one
+ * call. Returns the code of hs_slicelet_check, also if it is not 0, and writes block->at. Otherwise as
+ * hs_slicelet_enter. */
+int32_t hs_slicelet_leave(const struct hs_place *place, struct hs_task_clock *clock, uint64_t now,
+                          struct hs_block *block, uint8_t *out, size_t out_len, size_t *needed);
 
 /* Writes the lease of a kind that the task holds, which may have ended. HS_WRONG_FORM,
  * HS_NOTHING_HELD. Takes no memory. */
@@ -737,8 +775,8 @@ int32_t hs_table_committed(const struct hs_place *place, uint8_t *out, size_t ou
  * hs_table_propose. The first slice starts at 0, and each starts above the one before it; owners may
  * stand in any order. HS_WRONG_FORM if `job` is not the name of a job, HS_NO_SLICES,
  * HS_FIRST_NOT_ZERO, HS_NOT_RISING, HS_PAST_END, HS_NO_OWNER, HS_TOO_MANY_OWNERS, HS_OWNER_TWICE,
- * HS_BAD_TASK, HS_TOO_MANY_SLICES, then HS_NO_ROOM. Each code is looked for in all slices before the
- * next one. HS_NO_MEMORY may come in place of any code but the first. */
+ * HS_BAD_TASK, HS_TOO_MANY_SLICES, then HS_NO_ROOM or HS_NO_MEMORY. Each code is looked for in all
+ * slices before the next one. */
 int32_t hs_assignment_new(const uint8_t *job, size_t job_len, uint64_t generation, const struct hs_slice *slices,
                           size_t slices_len, uint8_t *out, size_t out_len, size_t *needed);
 
@@ -768,8 +806,7 @@ int32_t hs_load_book_open(struct hs_place *place, const uint8_t *job, size_t job
  * assignment, slice by slice. Gather each record once. The totals of a book never add up to more than
  * 2^40. Message codes, HS_WRONG_FORM if `task` is not 1 to 64 or no key has a slice key,
  * HS_WEIGHT_RANGE, HS_TOTAL_RANGE, HS_NO_ROOM. Each code is looked for in all records before the next
- * one. HS_NO_MEMORY may come in place of HS_TOTAL_RANGE and HS_NO_ROOM. Nothing is counted unless the
- * call is done. */
+ * one, and HS_NO_MEMORY comes last. Nothing is counted unless the call is done. */
 int32_t hs_load_book_gather(struct hs_place *place, const uint8_t *assignment, size_t assignment_len, uint64_t task,
                             const struct hs_load_record *records, size_t records_len, uint64_t *loads,
                             size_t loads_len, size_t *needed);

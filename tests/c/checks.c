@@ -30,8 +30,12 @@ void check_fact(int is_true, const char *fact, const char *file, int line) {
 }
 
 struct hs_told *fresh_told(void) {
-    told = (struct hs_told){UNTOLD, UNTOLD, UNTOLD, UNTOLD, UNTOLD};
+    told = (struct hs_told){UNTOLD, UNTOLD, UNTOLD, UNTOLD, UNTOLD, UNTOLD};
     return &told;
+}
+
+int tells_covering(uint64_t generation) {
+    return told.covering == generation;
 }
 
 int tells(uint64_t number, uint64_t generation, uint64_t kind, uint64_t task, uint64_t until) {

@@ -54,6 +54,7 @@ void check_fact(int is_true, const char *fact, const char *file, int line);
 extern struct hs_told told;
 struct hs_told *fresh_told(void);
 int tells(uint64_t number, uint64_t generation, uint64_t kind, uint64_t task, uint64_t until);
+int tells_covering(uint64_t generation);
 
 struct hs_place new_place(void);
 

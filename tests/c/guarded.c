@@ -161,6 +161,23 @@ int32_t guarded_slicelet_check(const struct hs_place *place, const struct hs_key
     return returned(hs_slicelet_check(READ_PLACE, READ(handle), at));
 }
 
+int32_t guarded_slicelet_enter(const struct hs_place *place, struct hs_task_clock *clock, uint64_t now,
+                               const uint8_t *key, size_t key_len, struct hs_block *block, uint8_t *out,
+                               size_t out_len, size_t *needed) {
+    return returned(hs_slicelet_enter(READ_PLACE, WRITTEN(clock), now, KEY, WRITTEN(block), OUT));
+}
+
+int32_t guarded_slicelet_enter_at(const struct hs_place *place, struct hs_task_clock *clock, uint64_t now,
+                                  uint64_t slice_key, struct hs_block *block, uint8_t *out, size_t out_len,
+                                  size_t *needed) {
+    return returned(hs_slicelet_enter_at(READ_PLACE, WRITTEN(clock), now, slice_key, WRITTEN(block), OUT));
+}
+
+int32_t guarded_slicelet_leave(const struct hs_place *place, struct hs_task_clock *clock, uint64_t now,
+                               struct hs_block *block, uint8_t *out, size_t out_len, size_t *needed) {
+    return returned(hs_slicelet_leave(READ_PLACE, WRITTEN(clock), now, WRITTEN(block), OUT));
+}
+
 int32_t guarded_clerk_open(struct hs_place *place, const uint8_t *job, size_t job_len) {
     return returned(hs_clerk_open(PLACE, NAME));
 }

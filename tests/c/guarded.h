@@ -39,6 +39,14 @@ int32_t guarded_slicelet_serve_at(const struct hs_place *place, uint64_t slice_k
 int32_t guarded_slicelet_hold_at(const struct hs_place *place, uint64_t slice_key, uint64_t at,
                                  struct hs_key_handle *out, struct hs_told *told);
 int32_t guarded_slicelet_check(const struct hs_place *place, const struct hs_key_handle *handle, uint64_t at);
+int32_t guarded_slicelet_enter(const struct hs_place *place, struct hs_task_clock *clock, uint64_t now,
+                               const uint8_t *key, size_t key_len, struct hs_block *block, uint8_t *out,
+                               size_t out_len, size_t *needed);
+int32_t guarded_slicelet_enter_at(const struct hs_place *place, struct hs_task_clock *clock, uint64_t now,
+                                  uint64_t slice_key, struct hs_block *block, uint8_t *out, size_t out_len,
+                                  size_t *needed);
+int32_t guarded_slicelet_leave(const struct hs_place *place, struct hs_task_clock *clock, uint64_t now,
+                               struct hs_block *block, uint8_t *out, size_t out_len, size_t *needed);
 int32_t guarded_clerk_open(struct hs_place *place, const uint8_t *job, size_t job_len);
 int32_t guarded_clerk_learn(struct hs_place *place, const uint8_t *assignment, size_t assignment_len,
                             struct hs_told *told);
@@ -124,6 +132,9 @@ int32_t guarded_clock_evidence(const uint8_t *job, size_t job_len, const uint8_t
 #define hs_slicelet_serve_at guarded_slicelet_serve_at
 #define hs_slicelet_hold_at guarded_slicelet_hold_at
 #define hs_slicelet_check guarded_slicelet_check
+#define hs_slicelet_enter guarded_slicelet_enter
+#define hs_slicelet_enter_at guarded_slicelet_enter_at
+#define hs_slicelet_leave guarded_slicelet_leave
 #define hs_clerk_open guarded_clerk_open
 #define hs_clerk_learn guarded_clerk_learn
 #define hs_clerk_look guarded_clerk_look

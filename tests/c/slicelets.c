@@ -104,7 +104,7 @@ static void holds(struct hs_place *place, struct hs_key_handle *handle) {
     IS(hs_slicelet_hold(place, HELLO, 6, handle, fresh_told()), HS_DONE);
     HOLDS(handle->task == 2 && handle->life == 1 && handle->position == 3);
     HOLDS(handle->slice_key == hs_slice_key(HELLO));
-    HOLDS(tells(UNTOLD, UNTOLD, UNTOLD, UNTOLD, UNTOLD));
+    HOLDS(tells(7, 3, HS_GUARD, UNTOLD, 95) && tells_covering(3));
     IS(hs_slicelet_check(place, handle, 94), HS_DONE);
     IS(hs_slicelet_check(place, handle, 95), HS_BROKEN);
     IS(hs_slicelet_check(place, handle, 4), HS_BROKEN);
@@ -212,14 +212,16 @@ static void two_leases(void) {
     IS(hear(&place, bridge, 6), HS_DONE);
     HOLDS(tells(9, 4, HS_BRIDGE, UNTOLD, 99));
     IS(serve(&place, 94), HS_DONE);
-    HOLDS(tells(7, 3, HS_GUARD, UNTOLD, 95));
+    HOLDS(tells(7, 3, HS_GUARD, UNTOLD, 95) && tells_covering(4));
     IS(serve(&place, 95), HS_DONE);
-    HOLDS(tells(9, 4, HS_BRIDGE, UNTOLD, 99));
+    HOLDS(tells(9, 4, HS_BRIDGE, UNTOLD, 99) && tells_covering(4));
     IS(hs_slicelet_serve(&place, ABC, 98, fresh_told()), HS_ENDED);
+    HOLDS(tells_covering(3));
     IS(hear(&place, GRANT("guard", "1", "10", "[[0,5]]", "2"), 7), HS_DONE);
     IS(hs_slicelet_serve(&place, ABC, 94, fresh_told()), HS_NOT_OWNED);
-    HOLDS(tells(UNTOLD, 4, UNTOLD, UNTOLD, UNTOLD));
+    HOLDS(tells(UNTOLD, 4, UNTOLD, UNTOLD, UNTOLD) && tells_covering(0));
     IS(serve(&place, 99), HS_ENDED);
+    HOLDS(tells_covering(4));
     hs_place_free(&place);
 }
 
@@ -236,10 +238,62 @@ static void by_slice_key(void) {
     IS(hs_slicelet_serve_at(&task, UINT64_MAX, 6, fresh_told()), HS_WRONG_FORM);
     IS(hs_slicelet_hold_at(&task, hello, 95, &handle, fresh_told()), HS_ENDED);
     IS(hs_slicelet_hold_at(&task, keys, 6, &handle, fresh_told()), HS_WRONG_FORM);
+    HOLDS(tells_covering(UNTOLD));
     HOLDS(handle.task == 5 && handle.slice_key == 5 && handle.position == 5 && handle.life == 5);
     IS(hs_slicelet_hold_at(&task, hello, 6, &handle, fresh_told()), HS_DONE);
     HOLDS(handle.task == 2 && handle.slice_key == hello && handle.position == 2 && handle.life == 1);
-    HOLDS(tells(UNTOLD, UNTOLD, UNTOLD, UNTOLD, UNTOLD));
+    HOLDS(tells(7, 3, HS_GUARD, UNTOLD, 95) && tells_covering(3));
+    hs_place_free(&task);
+}
+
+/* Checks that a line is the one that hs_log_line writes of the same call. */
+static void logged_as(uint32_t call, int32_t code, const struct hs_block *block, const uint8_t *line, size_t length) {
+    struct hs_logged_call same = {.ticket = block->ticket,
+                                  .call = call,
+                                  .code = code,
+                                  .task = 2,
+                                  .at = block->at,
+                                  .slice_key = hs_slice_key(HELLO),
+                                  .told = block->told,
+                                  .handle = block->handle};
+    uint8_t out[512];
+    size_t needed = 0;
+    IS(hs_log_line(JOB, &same, (const uint8_t *)"", 0, out, sizeof out, &needed), HS_DONE);
+    HOLDS(length == needed && memcmp(line, out, needed) == 0);
+}
+
+/* A block is entered and left at the values of a clock that is 6 ahead of the local one. */
+static void blocks(void) {
+    struct hs_place task = serving_task();
+    struct hs_task_clock clock, before;
+    struct hs_block block = {.ticket = 21};
+    uint8_t line[512];
+    size_t needed = UNTOLD;
+    IS(hs_task_clock_new(&clock, 0, 1, 0, UINT64_MAX), HS_DONE);
+    IS(hs_slicelet_enter(&task, &clock, 0, HELLO, &block, line, sizeof line, &needed), HS_NO_SAMPLE);
+    HOLDS(needed == UNTOLD && block.at == 0);
+    IS(hs_task_clock_sample(&clock, 0, 6, 0), HS_DONE);
+    before = clock;
+    IS(hs_slicelet_enter(&task, &clock, 1, HELLO, &block, line, 1, &needed), HS_NO_ROOM);
+    HOLDS(needed > 1 && block.at == 0 && memcmp(&clock, &before, sizeof clock) == 0);
+    IS(hs_slicelet_enter_at(&task, &clock, 1, UINT64_MAX, &block, line, sizeof line, &needed), HS_WRONG_FORM);
+    HOLDS(block.at == 0 && memcmp(&clock, &before, sizeof clock) == 0);
+    IS(hs_slicelet_enter(&task, &clock, 1, HELLO, &block, line, sizeof line, &needed), HS_DONE);
+    HOLDS(block.at == 7 && clock.given == 7 && block.handle.position == 2 && block.handle.life == 1);
+    HOLDS(block.told.number == 7 && block.told.generation == 3 && block.told.until == 95 && block.told.covering == 3);
+    logged_as(HS_CALL_HOLD, HS_DONE, &block, line, needed);
+    block.ticket = 22;
+    IS(hs_slicelet_leave(&task, &clock, 87, &block, line, 0, &needed), HS_DONE);
+    HOLDS(needed == 0 && block.at == 93);
+    IS(hs_slicelet_leave(&task, &clock, 89, &block, line, sizeof line, &needed), HS_BROKEN);
+    HOLDS(block.at == 95 && clock.given == 95);
+    logged_as(HS_CALL_CHECK, HS_BROKEN, &block, line, needed);
+    block.told.covering = 0;
+    IS(hs_slicelet_enter_at(&task, &clock, 89, hs_slice_key(HELLO), &block, line, sizeof line, &needed), HS_ENDED);
+    HOLDS(block.told.covering == 3);
+    logged_as(HS_CALL_HOLD, HS_ENDED, &block, line, needed);
+    IS(hs_slicelet_leave(&task, &clock, 88, &block, line, sizeof line, &needed), HS_CLOCK_BACK);
+    HOLDS(block.at == 95);
     hs_place_free(&task);
 }
 
@@ -415,6 +469,7 @@ void check_slicelets(void) {
     fills_up();
     two_leases();
     by_slice_key();
+    blocks();
     resumes();
     goes_on();
     permits_ranges();

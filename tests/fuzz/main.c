@@ -98,7 +98,7 @@ static int carries_no_more(const struct target *target, int32_t code, struct hs_
 }
 
 static void play(const struct target *target, struct field *field) {
-    struct hs_told told = {5, 5, 5, 5, 5};
+    struct hs_told told = {5, 5, 5, 5, 5, 5};
     now = next_input(target->texts, target->texts_count);
     count_allocations();
     int32_t code = target->call(&field->place, now, &told);

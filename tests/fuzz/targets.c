@@ -56,7 +56,7 @@ static uint64_t slicelet_state(struct hs_place *place) {
     uint64_t sum = 0;
     uint8_t *none = room_of(0);
     for (size_t at = 0; at < COUNT(readings); at++) {
-        struct hs_told told = {0, 0, 0, 0, 0};
+        struct hs_told told = {0, 0, 0, 0, 0, 0};
         struct hs_key_handle handle = {0, 0, 0, 0};
         sum = sum_number(sum, (uint64_t)hs_slicelet_serve(place, (const uint8_t *)"hello", 5, readings[at], &told));
         sum =

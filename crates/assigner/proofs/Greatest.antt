@@ -3,8 +3,8 @@ use Rattle.std.proofs.Common.{◌≡◌, ℕ, Bool, true, false, ◌&&◌, ◌||
 use Rattle.std.specs.Prelude.{Option, Some, None, ◌==◌, nat_lt, if◌then◌else◌}
 use Rattle.std.proofs.lemmas.Bool.Decides.{nat_tests}
 use Rattle.machines.proofs.Every.{all_weaker}
-use Rattle.lease_table.specs.declared.values.JobTerm.{JobTerm}
-use Rattle.lease_table.proofs.Members.{here, there}
+use Rattle.grants.specs.declared.values.JobTerm.{JobTerm}
+use Rattle.grants.proofs.Members.{here, there}
 use Rattle.assigner.specs.Terms.{is_above, is_above_kept, Call, kept_after, offered_since_drop, IsGreatest}
 
 -- no term is above itself

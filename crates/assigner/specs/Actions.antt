@@ -1,9 +1,9 @@
 -- What an assigner does next.
 use Rattle.std.specs.Prelude.{ℕ, ◌-◌, ◌/◌, nat_le, Bool, true, false, List, [], ◌∷◌, Option, Some, None, unwrap_or}
 use Rattle.machines.specs.Refusals.{when, first_of}
-use Rattle.lease_table.specs.declared.values.JobTerm.{JobTerm}
-use Rattle.lease_table.specs.declared.values.Phase.{Phase}
-use Rattle.lease_table.specs.declared.values.Phase.TheVariants.{Steady, Bridging}
+use Rattle.grants.specs.declared.values.JobTerm.{JobTerm}
+use Rattle.grants.specs.declared.values.Phase.{Phase}
+use Rattle.grants.specs.declared.values.Phase.TheVariants.{Steady, Bridging}
 use Rattle.assigner.specs.declared.action.View.{View}
 use Rattle.assigner.specs.declared.action.Action.{Action}
 use Rattle.assigner.specs.declared.action.Action.TheVariants.{Take, Renew, Commit, Propose, Rest}

@@ -1,7 +1,7 @@
 -- The term of the job lease that an assigner keeps.
 use Rattle.std.specs.Prelude.{◌≡◌, ℕ, ◌==◌, ◌&&◌, ◌||◌, Bool, true, false, nat_lt, List, [], ◌∷◌, Contains, Option, Some, None, if◌then◌else◌}
 use Rattle.std.specs.List.{AllByRecursion}
-use Rattle.lease_table.specs.declared.values.JobTerm.{JobTerm}
+use Rattle.grants.specs.declared.values.JobTerm.{JobTerm}
 
 -- an assigner: its number, how many ticks a job lease lasts, and the term that it keeps
 pub record Keeping : Type 0 where

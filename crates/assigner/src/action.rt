@@ -1,6 +1,6 @@
 //! What an assigner does next.
 
-use lease_table::Phase;
+use grants::Phase;
 
 /// What an assigner sees when it decides what to do next.
 #[derive(Clone, Copy, Debug, PartialEq, Eq)]

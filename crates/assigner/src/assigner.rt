@@ -1,12 +1,12 @@
 //! Assigners.
 
 ghost use Rattle.std.specs.Prelude.{◌≡◌, None};
-ghost use Rattle.lease_table.specs.Tables.{last_number};
+ghost use Rattle.grants.specs.JobTerms.{last_number};
 ghost use Rattle.assigner.specs.Actions.{next_action};
 ghost use Rattle.assigner.specs.Terms.{opening, is_above_kept, is_adopted, adopted_term};
 
 use crate::action::{Action, View};
-use lease_table::{JobTerm, Phase};
+use grants::{JobTerm, Phase};
 use std::marker::Model;
 
 /// An assigner: it keeps its term of the job lease, and decides what to do next.

@@ -6,15 +6,15 @@ use Rattle.lease_rule.specs.declared.answer.Ground.{Ground}
 use Rattle.lease_rule.specs.declared.answer.Verdict.{Verdict}
 use Rattle.lease_rule.specs.declared.answer.Verdict.TheVariants.{Allow, Deny}
 use Rattle.lease_rule.specs.declared.lease.Kind.{Kind}
-use Rattle.slicelet.specs.declared.handle.KeyHandle.{KeyHandle}
+use Rattle.key_handle.specs.declared.handle.KeyHandle.{KeyHandle}
 use Rattle.slicelet.specs.Rules.{is_allowed}
 use Rattle.slicelet.specs.Continuity.{IsContinuous, handle_on, held_by, is_strange}
-use Rattle.cluster.specs.Jobs.{Job}
-use Rattle.cluster.specs.declared.error.ClusterError.TheVariants as error
-use Rattle.cluster.specs.declared.call.ClusterCall.{ClusterCall}
-use Rattle.cluster.specs.declared.call.ClusterCall.TheVariants as call
-use Rattle.cluster.specs.declared.reply.ClusterReply.{ClusterReply}
-use Rattle.cluster.specs.declared.reply.ClusterReply.TheVariants as reply
+use Rattle.job_calls.specs.Jobs.{Job}
+use Rattle.job_calls.specs.declared.error.ClusterError.TheVariants as error
+use Rattle.job_calls.specs.declared.call.ClusterCall.{ClusterCall}
+use Rattle.job_calls.specs.declared.call.ClusterCall.TheVariants as call
+use Rattle.job_calls.specs.declared.reply.ClusterReply.{ClusterReply}
+use Rattle.job_calls.specs.declared.reply.ClusterReply.TheVariants as reply
 use Rattle.cluster.specs.Pasts.{event, Past, readings, task_calls, history}
 use Rattle.cluster.specs.Timing.{IsTimely}
 use Rattle.cluster.specs.Deliveries.{is_given}

@@ -4,10 +4,10 @@ use Rattle.std.specs.Prelude.{◌&&◌, nat_eq}
 use Rattle.std.specs.Cmp.{nat_eq_equiv}
 use Rattle.std.specs.Cmp.Lexicographic.{pointwise, bytes_decides, nat_list_eq_equiv}
 use Rattle.std.proofs.lemmas.Bool.{eqb-true, and_parts}
-use Rattle.lease_table.specs.declared.values.Row.{Row}
+use Rattle.grants.specs.declared.values.Row.{Row}
 use Rattle.clerk.specs.declared.clerk.Found.{Found}
-use Rattle.cluster.specs.declared.reply.ClusterReply.{ClusterReply}
-use Rattle.cluster.specs.declared.reply.ClusterReply.TheVariants as answer
+use Rattle.job_calls.specs.declared.reply.ClusterReply.{ClusterReply}
+use Rattle.job_calls.specs.declared.reply.ClusterReply.TheVariants as answer
 
 pub same_rows : (r : Bool) (told : ClusterReply) (rows other : List Row) → told ≡ answer.Rows other → Decides r (rows ≡ other) → MatchBool r (told ≡ answer.Rows rows) (told ≢ answer.Rows rows)
 same_rows true told rows other is d = let e = d.0 refl in cc

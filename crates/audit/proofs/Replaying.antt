@@ -3,10 +3,10 @@ use Rattle.std.proofs.Common.{◌≡◌, ℕ, ◌+◌, ◌<◌, Bool, true, fals
 use Rattle.std.specs.Prelude.{◌↔◌}
 use Rattle.std.specs.List.{AllZip}
 use Rattle.std.proofs.lemmas.List.{map_more, map-append, take-append-drop, reverse-append, append_assoc}
-use Rattle.cluster.specs.Jobs.{Job}
+use Rattle.job_calls.specs.Jobs.{Job}
 use Rattle.cluster.specs.declared.cluster.Cluster.{Cluster}
 use Rattle.cluster.specs.declared.timeliness.Timeliness.{Timeliness}
-use Rattle.cluster.specs.declared.reply.ClusterReply.{ClusterReply}
+use Rattle.job_calls.specs.declared.reply.ClusterReply.{ClusterReply}
 use Rattle.cluster.specs.Pasts.{event, Past, readings}
 use Rattle.cluster.specs.Timing.{IsTimely}
 use Rattle.cluster.specs.Timeliness.{IsTimelinessOf}

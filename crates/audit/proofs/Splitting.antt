@@ -5,12 +5,12 @@ use Rattle.std.specs.List.{AllZip}
 use Rattle.std.proofs.lemmas.List.{reverse-append, append_assoc}
 use Rattle.machines.specs.Numbers.{is_within}
 use Rattle.slicelet.specs.Continuity.{is_strange}
-use Rattle.cluster.specs.Jobs.{Job}
-use Rattle.cluster.specs.declared.error.ClusterError.TheVariants as error
-use Rattle.cluster.specs.declared.call.ClusterCall.{ClusterCall}
-use Rattle.cluster.specs.declared.call.ClusterCall.TheVariants as call
-use Rattle.cluster.specs.declared.reply.ClusterReply.{ClusterReply}
-use Rattle.cluster.specs.declared.reply.ClusterReply.TheVariants as reply
+use Rattle.job_calls.specs.Jobs.{Job}
+use Rattle.job_calls.specs.declared.error.ClusterError.TheVariants as error
+use Rattle.job_calls.specs.declared.call.ClusterCall.{ClusterCall}
+use Rattle.job_calls.specs.declared.call.ClusterCall.TheVariants as call
+use Rattle.job_calls.specs.declared.reply.ClusterReply.{ClusterReply}
+use Rattle.job_calls.specs.declared.reply.ClusterReply.TheVariants as reply
 use Rattle.cluster.specs.Pasts.{Event, event, Past, readings, history}
 use Rattle.cluster.specs.Timing.{IsTimely}
 use Rattle.cluster.specs.Deliveries.{is_given}

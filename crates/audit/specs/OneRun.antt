@@ -4,14 +4,14 @@ use Rattle.std.specs.List.{count_by, AllAdjacentBelow, AllZip}
 use Rattle.std.specs.List.Sorted.{IsPermutation}
 use Rattle.machines.specs.declared.event.Event.{Event as LockEvent}
 use Rattle.history_lock.specs.declared.entry.Entry.{Entry}
-use Rattle.lease_table.specs.declared.call.TableCall.{TableCall}
-use Rattle.slicelet.specs.declared.call.SliceletCall.{SliceletCall}
+use Rattle.grants.specs.declared.table_call.TableCall.{TableCall}
+use Rattle.grants.specs.declared.slicelet_call.SliceletCall.{SliceletCall}
 use Rattle.clerk.specs.declared.call.ClerkCall.{ClerkCall}
-use Rattle.cluster.specs.Jobs.{Job}
-use Rattle.cluster.specs.declared.call.ClusterCall.{ClusterCall}
-use Rattle.cluster.specs.declared.call.ClusterCall.TheVariants as call
-use Rattle.cluster.specs.declared.reply.ClusterReply.{ClusterReply}
-use Rattle.cluster.specs.declared.record.CallRecord.{CallRecord}
+use Rattle.job_calls.specs.Jobs.{Job}
+use Rattle.job_calls.specs.declared.call.ClusterCall.{ClusterCall}
+use Rattle.job_calls.specs.declared.call.ClusterCall.TheVariants as call
+use Rattle.job_calls.specs.declared.reply.ClusterReply.{ClusterReply}
+use Rattle.job_calls.specs.declared.record.CallRecord.{CallRecord}
 use Rattle.cluster.specs.Pasts.{Event, event, Past, is_accepted, readings}
 use Rattle.cluster.specs.Timing.{IsTimely}
 use Rattle.cluster.specs.Runs.{IsRun}

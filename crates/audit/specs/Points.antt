@@ -1,7 +1,7 @@
 -- What an audit's run says of one call in it.
 use Rattle.std.specs.Prelude.{◌≡◌, ◌∷◌, ◌++◌, List}
-use Rattle.cluster.specs.Jobs.{Job}
-use Rattle.cluster.specs.declared.reply.ClusterReply.{ClusterReply}
+use Rattle.job_calls.specs.Jobs.{Job}
+use Rattle.job_calls.specs.declared.reply.ClusterReply.{ClusterReply}
 use Rattle.cluster.specs.Pasts.{event, Past, readings}
 use Rattle.cluster.specs.Timing.{IsTimely}
 use Rattle.cluster.specs.Runs.{IsRun}

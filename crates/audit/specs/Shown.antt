@@ -1,12 +1,12 @@
 -- The turn that a point shows.
 use Rattle.std.specs.Prelude.{List, Option, Some, None}
 use denote.Ref.{Bor}
-use Rattle.lease_table.specs.declared.call.TableCall.{TableCall}
-use Rattle.slicelet.specs.declared.call.SliceletCall.{SliceletCall}
+use Rattle.grants.specs.declared.table_call.TableCall.{TableCall}
+use Rattle.grants.specs.declared.slicelet_call.SliceletCall.{SliceletCall}
 use Rattle.clerk.specs.declared.call.ClerkCall.{ClerkCall}
-use Rattle.cluster.specs.declared.call.ClusterCall.TheVariants as call
-use Rattle.cluster.specs.declared.record.CallRecord.{CallRecord}
-use Rattle.cluster.specs.declared.reply.ClusterReply.{ClusterReply}
+use Rattle.job_calls.specs.declared.call.ClusterCall.TheVariants as call
+use Rattle.job_calls.specs.declared.record.CallRecord.{CallRecord}
+use Rattle.job_calls.specs.declared.reply.ClusterReply.{ClusterReply}
 use Rattle.audit.specs.declared.points.Point.{Point}
 use Rattle.audit.specs.declared.points.Point.TheVariants as point
 use Rattle.audit.specs.OneRun.{Entries, Evidence, Turn}

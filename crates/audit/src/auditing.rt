@@ -1,10 +1,11 @@
 //! The audit of histories and records.
 
 ghost use Rattle.std.specs.Prelude.{◌≡◌, List, map, IfOk, MatchOption};
-ghost use Rattle.cluster.specs.Jobs.{Job};
-ghost use Rattle.cluster.specs.Pasts.{Past, is_accepted, reading};
+ghost use Rattle.job_calls.specs.Jobs.{Job};
+ghost use Rattle.cluster.specs.Pasts.{Past, is_accepted};
+ghost use Rattle.job_calls.specs.Readings.{reading};
 ghost use Rattle.cluster.specs.Clusters.{LeadsTo, IsPlayed};
-ghost use Rattle.cluster.specs.declared.record.CallRecord.{CallRecord};
+ghost use Rattle.job_calls.specs.declared.record.CallRecord.{CallRecord};
 ghost use Rattle.audit.specs.Shown.{evidence, turn_of, shown_told};
 ghost use Rattle.audit.specs.OneRun.{Fits, HistoriesRise, HistoryFalls, IsAudit, IsReplayed, IsWrong};
 
@@ -12,8 +13,9 @@ use crate::finding::{Audit, Why};
 use crate::points::{Point, fall, falls, sorted_points, twice};
 use crate::sameness::is_same;
 use clerk::ClerkEvent;
-use cluster::{CallRecord, Cluster, ClusterReply, Job, Reading, Timeliness};
+use cluster::{Cluster, Timeliness};
 use history_lock::History;
+use job_calls::{CallRecord, ClusterReply, Job, Reading};
 use lease_table::TableEvent;
 use slicelet::SliceletEvent;
 use std::alloc::{AllocError, Global};

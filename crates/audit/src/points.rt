@@ -2,16 +2,17 @@
 
 ghost use Rattle.std.specs.Prelude.{◌≡◌, ℕ, ◌+◌, ◌<◌, ◌++◌, All, length, map, IfOk, MatchOption, slice_index_or};
 ghost use Rattle.std.specs.List.Sorted.{IsPermutation, IsNonDecreasingBy};
-ghost use Rattle.cluster.specs.declared.call.ClusterCall.TheVariants as call;
+ghost use Rattle.job_calls.specs.declared.call.ClusterCall.TheVariants as call;
 ghost use Rattle.audit.specs.OneRun.{all_turns, entry_turn, record_turn, ticket_of, turns_from, Falls, OneFalls, Rises};
 ghost use Rattle.audit.specs.Shown.{evidence, turn_of};
 
 use clerk::{ClerkCall, ClerkEvent};
-use cluster::CallRecord;
+use grants::{SliceletCall, TableCall};
 use history_lock::{Entry, History};
-use lease_table::{TableCall, TableEvent};
+use job_calls::CallRecord;
+use lease_table::TableEvent;
 use machines::Event;
-use slicelet::{SliceletCall, SliceletEvent};
+use slicelet::SliceletEvent;
 use std::alloc::{AllocError, Global};
 
 // An entry of a history or a record of a caller.

@@ -1,14 +1,14 @@
 //! Whether two callers were told the same.
 
 ghost use Rattle.std.specs.Prelude.{◌≡◌, ◌≢◌, MatchBool};
-ghost use Rattle.cluster.specs.declared.reply.ClusterReply.TheVariants as answer;
+ghost use Rattle.job_calls.specs.declared.reply.ClusterReply.TheVariants as answer;
 
 use clerk::{ClerkReply, Found};
-use cluster::{ClusterError, ClusterReply};
+use grants::{Phase, Row, SliceletReply, TableReply};
+use job_calls::{ClusterError, ClusterReply};
+use key_handle::KeyHandle;
 use lease_rule::Verdict;
-use lease_table::{Phase, Row, TableReply};
 use machines::Listed;
-use slicelet::{KeyHandle, SliceletReply};
 
 fn is_reply_of_table(reply: &TableReply, other: &TableReply) -> bool
     ensures { MatchBool result (other.now ≡ reply.now) (other.now ≢ reply.now) }

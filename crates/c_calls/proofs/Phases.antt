@@ -2,11 +2,11 @@
 use Rattle.std.proofs.Common.{◌≡◌, ℕ, ◌+◌, List, Option, Some, None, refl, subst, arith}
 use Rattle.std.proofs.lemmas.Bool.Decides.{nat_tests}
 use Rattle.assignment.specs.Slices.{Slicing}
-use Rattle.lease_table.specs.Calls.{AnsweredTableCall, LeadsTo}
-use Rattle.lease_table.specs.Policies.{Terms}
+use Rattle.lease_table.specs.Calls.{AnsweredTableCall, LeadsTo, committed_in, pending_in}
+use Rattle.grants.specs.Policies.{Terms}
 use Rattle.lease_table.specs.Runs.{commits_in}
-use Rattle.lease_table.specs.Calls.{committed_in, pending_in}
-use Rattle.lease_table.specs.Tables.{Standing, generation_of, phase_of, phase_with}
+use Rattle.lease_table.specs.Tables.{Standing, phase_of, phase_with}
+use Rattle.grants.specs.Assignments.{generation_of}
 use Rattle.c_calls.specs.tables.Terms.{phase_numbers}
 use Rattle.c_calls.specs.tables.Terms as numbers
 

@@ -6,12 +6,12 @@ use Rattle.slice_ranges.specs.declared.error.RangesError.{RangesError}
 use Rattle.slice_ranges.specs.declared.error.RangesError.TheVariants as pairs
 use Rattle.assignment.specs.declared.error.AssignmentError.{AssignmentError}
 use Rattle.assignment.specs.declared.error.AssignmentError.TheVariants as slices
-use Rattle.slicelet.specs.declared.error.SliceletError.{SliceletError}
-use Rattle.slicelet.specs.declared.error.SliceletError.TheVariants as task
-use Rattle.lease_table.specs.declared.error.TableError.{TableError}
-use Rattle.lease_table.specs.declared.error.TableError.TheVariants as table
-use Rattle.lease_table.specs.declared.kept.KeptFault.{KeptFault}
-use Rattle.lease_table.specs.declared.kept.KeptFault.TheVariants as kept
+use Rattle.grants.specs.declared.slicelet_error.SliceletError.{SliceletError}
+use Rattle.grants.specs.declared.slicelet_error.SliceletError.TheVariants as task
+use Rattle.grants.specs.declared.table_error.TableError.{TableError}
+use Rattle.grants.specs.declared.table_error.TableError.TheVariants as table
+use Rattle.grants.specs.declared.kept.KeptFault.{KeptFault}
+use Rattle.grants.specs.declared.kept.KeptFault.TheVariants as kept
 use Rattle.weighted_move.specs.declared.error.PlanError.{PlanError}
 use Rattle.weighted_move.specs.declared.error.PlanError.TheVariants as planning
 use Rattle.load_ledger.specs.declared.error.LoadError.{LoadError}

@@ -1,8 +1,8 @@
 -- The calls of an assigner, by numbers.
 use Rattle.std.specs.Prelude.{◌≡◌, ℕ, ◌==◌, not, Option, Some, None, if◌then◌else◌}
-use Rattle.lease_table.specs.declared.values.JobTerm.{JobTerm}
-use Rattle.lease_table.specs.declared.values.Phase.{Phase}
-use Rattle.lease_table.specs.Tables.{last_number}
+use Rattle.grants.specs.declared.values.JobTerm.{JobTerm}
+use Rattle.grants.specs.declared.values.Phase.{Phase}
+use Rattle.grants.specs.JobTerms.{last_number}
 use Rattle.assigner.specs.declared.action.Action.{Action}
 use Rattle.assigner.specs.declared.action.Action.TheVariants.{Take, Renew, Commit, Propose, Rest}
 use Rattle.assigner.specs.declared.action.View.{View}

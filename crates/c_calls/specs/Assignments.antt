@@ -1,7 +1,5 @@
 -- Assignments by numbers.
-use Rattle.std.specs.Prelude.{◌≡◌, ◌⊎◌, ℕ, ◌++◌, ◌-◌, nat_le, List, [], ◌∷◌, codes, length, map, replicate, take, Option, Some, None, Result, if◌then◌else◌, ⊤}
-use Rattle.machines.specs.declared.machine.Trouble.{Trouble}
-use Rattle.machines.specs.declared.machine.Trouble.TheVariants as trouble
+use Rattle.std.specs.Prelude.{◌≡◌, ◌⊎◌, ℕ, ◌++◌, ◌-◌, nat_le, List, [], ◌∷◌, codes, length, map, replicate, take, Option, Some, None, Result, if◌then◌else◌}
 use Rattle.assignment.specs.declared.error.AssignmentError.{AssignmentError}
 use Rattle.assignment.specs.declared.slice.Slice.{Slice}
 use Rattle.assignment.specs.declared.slice.TheConstants.{MOST_OWNERS}
@@ -15,7 +13,7 @@ use Rattle.c_calls.specs.declared.answer.Answer.TheVariants.{Done, NoMemory, Unr
 use Rattle.c_calls.specs.declared.assignments.SliceNumbers.{SliceNumbers}
 use Rattle.c_calls.specs.Arguments.{InForm}
 use Rattle.c_calls.specs.Messages.{IsAssignmentText}
-use Rattle.c_calls.specs.Outputs.{IsGivenWhole, IsOneGiven, IsOutOfMemory, Output}
+use Rattle.c_calls.specs.Outputs.{IsGivenWhole, IsOneGivenUnlessMemory, Output}
 use Rattle.c_calls.specs.Reading.{IsReadFrom, OnRead}
 
 -- owners come first, and the others are 0
@@ -33,20 +31,16 @@ slices_of numbers = map slice_of numbers
 abbrev pub slice_numbers : Slice → SliceNumbers
 slice_numbers slice = record { start = slice.start; count = length slice.owners; tasks = owner_numbers slice.owners }
 
--- why no message was made: the slices are refused, or memory ran out
-abbrev pub IsUnbuilt : Option AssignmentError → Trouble AssignmentError → Type 0
-IsUnbuilt refusal (trouble.Refused why) = refusal ≡ Some why
-IsUnbuilt refusal trouble.NoMemory = ⊤
-
--- the message of the assignment that is built of the slices is given, or they are refused
+-- the message of the assignment that is built of the slices is given, or memory ran out; or they are refused
 abbrev pub IsBuiltUnless : Option AssignmentError → List ℕ → ℕ → List Slice → Output ℕ → Output ℕ → Answer → Type 0
-IsBuiltUnless None job generation slices was now answer = IsOneGiven (IsAssignmentText job (built generation slices)) was now answer
+IsBuiltUnless None job generation slices was now answer =
+    IsOneGivenUnlessMemory (IsAssignmentText job (built generation slices)) was now answer
 IsBuiltUnless (Some why) job generation slices was now answer = (answer ≡ Unread (Slices why)) × (now ≡ was)
 
--- the same for the name of a job; or memory ran out
+-- the same for the name of a job
 abbrev pub IsBuiltFor : Option (List ℕ) → ℕ → List Slice → Output ℕ → Output ℕ → Answer → Type 0
 IsBuiltFor job generation slices was now answer =
-    InForm job (now ≡ was) answer (λ job. IsBuiltUnless (refusal_of slices) job generation slices was now answer ⊎ IsOutOfMemory was now answer)
+    InForm job (now ≡ was) answer (λ job. IsBuiltUnless (refusal_of slices) job generation slices was now answer)
 
 -- its generation is told, and the numbers of its slices are given, where there is room for them; or memory ran out
 abbrev pub IsAssignmentTold : ℕ → ℕ → Output SliceNumbers → Output SliceNumbers → Answer → Result Slicing DecodeError → Type 0

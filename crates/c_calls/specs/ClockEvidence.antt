@@ -1,7 +1,7 @@
 -- What is returned of a grant that may show that clocks are not timely.
 use Rattle.std.specs.Prelude.{◌≡◌, ℕ, List, codes, Bool, true, false, Option, Result, ◌↔◌}
-use Rattle.lease_table.specs.declared.values.Grant.{Grant}
-use Rattle.lease_table.specs.Policies.{Terms, is_policy}
+use Rattle.grants.specs.declared.values.Grant.{Grant}
+use Rattle.grants.specs.Policies.{Terms, is_policy}
 use Rattle.wire.specs.Grants.{grant_of}
 use Rattle.wire.specs.declared.fault.DecodeError.{DecodeError}
 use Rattle.c_calls.specs.declared.answer.Answer.{Answer}
@@ -10,7 +10,7 @@ use Rattle.c_calls.specs.Arguments.{InForm}
 use Rattle.c_calls.specs.Reading.{IsReadFrom, OnRead}
 use Rattle.c_calls.specs.declared.policy_numbers.PolicyNumbers.{PolicyNumbers}
 use Rattle.c_calls.specs.PolicyNumbers.{terms_of}
-use Rattle.job_clocks.specs.Evidence.{IsAhead}
+use Rattle.grant_evidence.specs.Evidence.{IsAhead}
 
 -- 1 is written if the grant was sent ahead of the reading, else 0
 pub record IsWeight (policy : Terms) (grant : Grant) (at out : ℕ) : Type 0 where

@@ -1,13 +1,13 @@
 -- The numbers that an answer carries. What it does not carry stays what it was.
-use Rattle.std.specs.Prelude.{ℕ}
+use Rattle.std.specs.Prelude.{ℕ, Option, Some, None}
 use Rattle.lease_rule.specs.declared.lease.Kind.{Kind}
 use Rattle.lease_rule.specs.declared.lease.Kind.TheVariants.{Guard, Bridge}
 use Rattle.lease_rule.specs.declared.answer.Ground.{Ground}
 use Rattle.lease_rule.specs.declared.answer.Ground.TheVariants.{NotOwned}
-use Rattle.slicelet.specs.declared.error.SliceletError.{SliceletError}
-use Rattle.slicelet.specs.declared.error.SliceletError.TheVariants.{Old}
-use Rattle.lease_table.specs.declared.error.TableError.{TableError}
-use Rattle.lease_table.specs.declared.error.TableError.TheVariants.{JobHeld, NotHolder, StaleBase, Grace, Held}
+use Rattle.grants.specs.declared.slicelet_error.SliceletError.{SliceletError}
+use Rattle.grants.specs.declared.slicelet_error.SliceletError.TheVariants.{Old}
+use Rattle.grants.specs.declared.table_error.TableError.{TableError}
+use Rattle.grants.specs.declared.table_error.TableError.TheVariants.{JobHeld, NotHolder, StaleBase, Grace, Held}
 use Rattle.wire.specs.declared.fault.DecodeRefusal.TheVariants.{Version}
 use Rattle.c_calls.specs.declared.answer.Answer.{Answer}
 use Rattle.c_calls.specs.declared.answer.Answer.TheVariants.{Leased, Denied, Slicelet, Committed, Table, OldGeneration, Unread}
@@ -53,3 +53,12 @@ answer_details (Table why) was = table_details why was
 answer_details (OldGeneration generation) was = record was { generation = generation }
 answer_details (Unread (Version version)) was = record was { number = version }
 answer_details _ was = was
+
+-- the number of the greatest generation that covers a key: 0 where no held lease covers it
+abbrev pub covering_number : Option ℕ → ℕ
+covering_number None = 0
+covering_number (Some generation) = generation
+
+-- the greatest generation that covers the key is told, whether or not the key may be served
+abbrev pub covering_details : Option ℕ → AnswerDetails → AnswerDetails
+covering_details newest was = record was { covering = covering_number newest }

@@ -1,7 +1,8 @@
 -- What the calls of a load book leave and answer.
-use Rattle.std.specs.Prelude.{◌≡◌, ◌⊎◌, ℕ, List, [], ◌∷◌, codes, Option, Some, None, Result}
+use Rattle.std.specs.Prelude.{◌≡◌, ◌⊎◌, ◌≤◌, ℕ, List, [], ◌∷◌, length, codes, Option, Some, None, Result, Ok, Err}
 use Rattle.assignment.specs.declared.slice.Slice.{Slice}
 use Rattle.assignment.specs.Slices.{Slicing}
+use Rattle.load_ledger.specs.declared.error.LoadError.{LoadError}
 use Rattle.load_ledger.specs.Books.{gather_step, task_total}
 use Rattle.load_ledger.specs.Shares.{Share}
 use Rattle.wire.specs.Assignments.{assignment_of}
@@ -11,15 +12,20 @@ use Rattle.c_calls.specs.declared.answer.Answer.TheVariants.{Done, Load, NoMemor
 use Rattle.c_calls.specs.Arguments.{InForm}
 use Rattle.c_calls.specs.Outputs.{Output}
 use Rattle.c_calls.specs.Reading.{IsReadFrom, OnRead}
-use Rattle.c_calls.specs.Taken.{IsStepGiven}
+use Rattle.c_calls.specs.Taken.{IsMadeAndGiven}
 use Rattle.c_calls.specs.declared.loads.record_numbers.RecordNumbers.{RecordNumbers}
 use Rattle.c_calls.specs.LoadRecords.{no_share, share_of}
 
--- a share is gathered over slices, and the loads that are answered are given; memory may run out before the refusals are looked for
+-- the loads that a gather answers are given, or there is no room for them; or there is room, and memory ran out; or the gather is refused
+abbrev pub AreLoadsGiven : Result (List ℕ × List ℕ) LoadError → List ℕ → List ℕ → Output ℕ → Output ℕ → Answer → Type 0
+AreLoadsGiven (Ok p) old new was now answer =
+    IsMadeAndGiven (λ loads given. given ≡ loads) p old new was now answer
+    ⊎ ((length p.1 ≤ length was.buffer) × (answer ≡ NoMemory) × (new ≡ old) × (now ≡ was))
+AreLoadsGiven (Err why) old new was now answer = (answer ≡ Load why) × (new ≡ old) × (now ≡ was)
+
+-- a share is gathered over slices
 abbrev pub IsShareGathered : Share → List Slice → List ℕ → List ℕ → Output ℕ → Output ℕ → Answer → Type 0
-IsShareGathered share slices old new was now answer =
-    IsStepGiven (λ why. Load why) (λ loads given. given ≡ loads) (gather_step (share ∷ []) slices old) old new was now answer
-    ⊎ ((answer ≡ NoMemory) × (new ≡ old) × (now ≡ was))
+IsShareGathered share slices old new was now answer = AreLoadsGiven (gather_step (share ∷ []) slices old) old new was now answer
 
 -- the same where there is a share; else the reason is answered, and nothing is changed
 abbrev pub IsGatheredUnless : Option Answer → Share → List Slice → List ℕ → List ℕ → Output ℕ → Output ℕ → Answer → Type 0

@@ -1,10 +1,10 @@
 -- A grant by numbers.
 use Rattle.std.specs.Prelude.{◌≡◌, ℕ, List, codes, Option, Result}
-use Rattle.lease_table.specs.declared.values.Grant.{Grant}
+use Rattle.grants.specs.declared.values.Grant.{Grant}
 use Rattle.wire.specs.Grants.{grant_of}
 use Rattle.wire.specs.declared.fault.DecodeError.{DecodeError}
 use Rattle.c_calls.specs.declared.answer.Answer.{Answer}
-use Rattle.c_calls.specs.declared.grants.GrantNumbers.{GrantNumbers}
+use Rattle.c_calls.specs.declared.grant_numbers.GrantNumbers.{GrantNumbers}
 use Rattle.c_calls.specs.Arguments.{InForm}
 use Rattle.c_calls.specs.Details.{kind_number}
 use Rattle.c_calls.specs.Outputs.{IsGivenWhole, Output}

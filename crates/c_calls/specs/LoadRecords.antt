@@ -1,5 +1,5 @@
 -- Records of work, by numbers.
-use Rattle.std.specs.Prelude.{◌≡◌, ◌⊎◌, ◌<◌, ℕ, nat_lt, Bool, not, List, [], ◌∷◌, map, Option, Some, None, ⊤}
+use Rattle.std.specs.Prelude.{◌≡◌, ◌⊎◌, ◌<◌, ◌≤◌, ℕ, nat_lt, Bool, not, List, [], ◌∷◌, map, Option, Some, None}
 use Rattle.std.specs.List.{list_all}
 use Rattle.machines.specs.Refusals.{first_of, when}
 use Rattle.machines.specs.declared.machine.Trouble.{Trouble}
@@ -36,12 +36,12 @@ no_share task records = first_of (
     when (not (list_all has_slice_key records)) WrongForm ∷
     when (not (list_all has_weight records)) (Load WeightRange) ∷ [])
 
--- why records are not added up: their total is too large, or memory ran out
+-- why records are not added up: their total is too large; or it is not, and memory ran out
 abbrev pub IsUnadded : ℕ → Trouble LoadError → Type 0
 IsUnadded total (trouble.Refused why) = (why ≡ TotalRange) × (MOST_TOTAL < total)
-IsUnadded total trouble.NoMemory = ⊤
+IsUnadded total trouble.NoMemory = total ≤ MOST_TOTAL
 
--- why there is no share: the numbers say none, or their total is too large, or memory ran out
+-- why there is no share: the numbers say none, or their total is too large; or else memory ran out
 abbrev pub IsUnshared : Option Answer → ℕ → Answer → Type 0
 IsUnshared (Some why) total answer = answer ≡ why
-IsUnshared None total answer = ((answer ≡ Load TotalRange) × (MOST_TOTAL < total)) ⊎ (answer ≡ NoMemory)
+IsUnshared None total answer = ((answer ≡ Load TotalRange) × (MOST_TOTAL < total)) ⊎ ((answer ≡ NoMemory) × (total ≤ MOST_TOTAL))

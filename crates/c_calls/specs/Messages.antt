@@ -1,9 +1,9 @@
 -- Values by their messages.
 use Rattle.std.specs.Prelude.{◌≡◌, ℕ, List, codes, Result}
 use Rattle.assignment.specs.Slices.{Slicing}
-use Rattle.lease_table.specs.declared.kept.Kept.{Kept}
-use Rattle.lease_table.specs.declared.values.Grant.{Grant}
-use Rattle.lease_table.specs.declared.values.ReleaseNote.{ReleaseNote}
+use Rattle.grants.specs.declared.kept.Kept.{Kept}
+use Rattle.grants.specs.declared.values.Grant.{Grant}
+use Rattle.grants.specs.declared.values.ReleaseNote.{ReleaseNote}
 use Rattle.serde_json.specs.Data.{Data}
 use Rattle.wire.specs.declared.fault.DecodeRefusal.{DecodeRefusal}
 use Rattle.wire.specs.declared.numerals.Numerals.{Numerals}

@@ -1,6 +1,6 @@
 -- What tables and plans are held to, as numbers.
 use Rattle.std.specs.Prelude.{Option, Some, None, if◌then◌else◌}
-use Rattle.lease_table.specs.Policies.{Terms, is_policy, terms}
+use Rattle.grants.specs.Policies.{Terms, is_policy, terms}
 use Rattle.lease_table.specs.Tables.{Standing, opening}
 use Rattle.weighted_move.specs.Policies.{PlanTerms, plan_terms}
 use Rattle.c_calls.specs.declared.policy_numbers.PolicyNumbers.{PolicyNumbers}

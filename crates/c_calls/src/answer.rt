@@ -11,10 +11,9 @@ use crate::refusals::{
 };
 use crate::unread::unread_number;
 use clocks::ClockRefusal;
+use grants::{KeptFault, SliceletError, TableError};
 use lease_rule::Ground;
-use lease_table::{KeptFault, TableError};
 use load_ledger::LoadError;
-use slicelet::SliceletError;
 use weighted_move::PlanError;
 use wire::DecodeRefusal;
 

@@ -1,6 +1,7 @@
 //! Assignments as numbers.
 
 ghost use Rattle.std.specs.Prelude.{◌≡◌, ◌≤◌, IfErr, IfOk, None, OnOk, Some, codes, length, map, slice_index};
+ghost use Rattle.machines.specs.Answers.{trouble_of};
 ghost use Rattle.assignment.specs.declared.slice.TheConstants.{MOST_OWNERS};
 ghost use Rattle.assignment.specs.Owners.{built, slice_at};
 ghost use Rattle.assignment.specs.Slices.{refusal_of};
@@ -10,8 +11,11 @@ ghost use Rattle.c_calls.specs.Jobs.{job_of};
 ghost use Rattle.c_calls.specs.Messages.{IsAssignmentText};
 ghost use Rattle.c_calls.specs.Outputs.{output};
 ghost use Rattle.c_calls.specs.Reading.{IsReadFrom};
-ghost use Rattle.c_calls.specs.Assignments.{IsAssignmentRead, IsAssignmentTold, IsBuiltFor, IsSliceRead, IsSliceTold, IsUnbuilt, owner_numbers, slice_numbers, slice_of, slices_of};
+ghost use Rattle.c_calls.specs.Assignments.{IsAssignmentRead, IsAssignmentTold, IsBuiltFor, IsSliceRead, IsSliceTold, owner_numbers, slice_numbers, slice_of, slices_of};
 
+mod slice_checks;
+
+use self::slice_checks::slices_refusal;
 use crate::answer::Answer;
 use crate::arguments::slice_key_of;
 use crate::job::job_of;
@@ -112,7 +116,8 @@ fn numbers_of(alloc: Global, slices: &[OwnedSlice]) -> Result<Vec<SliceNumbers>,
     Ok(numbers)
 }
 
-// Returns the message of the assignment that is built of the slices.
+// Returns the message of the assignment that is built of the slices. Slices that are refused take no
+// memory.
 fn text_of(
     alloc: Global,
     job: &JobName,
@@ -121,8 +126,11 @@ fn text_of(
 ) -> Result<Vec<u8>, Trouble<AssignmentError>>
     ensures text { IfOk result (λ text. IsAssignmentText job.now (built generation (slices_of slices.now)) text.items) }
     ensures built { OnOk result (refusal_of (slices_of slices.now) ≡ None) }
-    ensures refused { IfErr result (IsUnbuilt (refusal_of (slices_of slices.now))) }
+    ensures refused { IfErr result (λ trouble. trouble ≡ trouble_of (refusal_of (slices_of slices.now))) }
 {
+    if let Some(why) = slices_refusal(slices) {
+        return Err(Trouble::Refused(why));
+    }
     let slices = slices_of(alloc, slices)?;
     let assignment = Assignment::build(alloc, generation, &slices)?;
     Ok(encode(alloc, job, &assignment)?)
@@ -134,7 +142,7 @@ fn text_of(
 /// # Errors
 ///
 /// In this order: `WrongForm` if the bytes of `job` are not the name of a job, the first
-/// [`AssignmentError`] of the slices, `NoRoom`. `NoMemory` may come in place of any but the first.
+/// [`AssignmentError`] of the slices, `NoRoom` or `NoMemory`.
 pub fn new_assignment(
     alloc: Global,
     job: &[u8],

@@ -7,8 +7,8 @@ use crate::answer::Answer;
 use crate::job::job_of;
 use crate::policy_numbers::PolicyNumbers;
 use crate::unread::unread_answer;
-use job_clocks::clock_evidence;
-use lease_table::{Grant, Policy};
+use grant_evidence::clock_evidence;
+use grants::{Grant, Policy};
 use std::alloc::Global;
 use wire::{JobName, decode};
 

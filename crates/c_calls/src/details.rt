@@ -34,6 +34,8 @@ pub struct AnswerDetails {
     pub task: u64,
     /// A reading, in ticks: until when a lease, a term or a grace lasts.
     pub until: u64,
+    /// The greatest generation of the held leases that cover the key, live or ended; 0 if none does.
+    pub covering: u64,
 }
 
 /// Returns the number that C uses for a kind of lease: 1 for guard, 2 for bridge.

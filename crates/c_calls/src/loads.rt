@@ -1,6 +1,9 @@
 //! The calls of a load book.
 
-ghost use Rattle.std.specs.Prelude.{◌≡◌, ◌∷◌, [], IfOk};
+ghost use Rattle.std.specs.Prelude.{◌≡◌, ◌≤◌, ◌-◌, ◌∷◌, [], IfOk, None, length, sum};
+ghost use Rattle.machines.specs.Refusals.{first_of};
+ghost use Rattle.load_ledger.specs.Books.{gather_checks};
+ghost use Rattle.load_ledger.specs.declared.share.TheConstants.{MOST_TOTAL};
 ghost use Rattle.c_calls.specs.Arguments.{task_of};
 ghost use Rattle.c_calls.specs.Outputs.{output};
 ghost use Rattle.c_calls.specs.Gathers.{AreRecordsGathered, IsGatheredUnless, IsShareGathered, IsTotalTold};
@@ -8,13 +11,13 @@ ghost use Rattle.c_calls.specs.LoadRecords.{no_share, share_of};
 
 mod record_numbers;
 
-use self::record_numbers::{share_of, trouble_answer};
+use self::record_numbers::{are_above, no_share, share_of, trouble_answer};
 use crate::answer::Answer;
 use crate::arguments::task_of;
 use crate::output::give;
 use crate::unread::unread_answer;
-use assignment::Assignment;
-use load_ledger::{LoadBook, LoadShare};
+use assignment::{Assignment, TASKS, TaskId};
+use load_ledger::{LoadBook, LoadError, LoadShare, MOST_TOTAL};
 use machines::Listed;
 pub use record_numbers::RecordNumbers;
 use std::alloc::{AllocError, Global};
@@ -28,7 +31,18 @@ fn one_share(alloc: Global, share: LoadShare) -> Result<Vec<LoadShare>, AllocErr
     Ok(shares)
 }
 
-// Gathers a share over an assignment, and writes the load of each slice, if there is room for it.
+// Returns how much the totals of a book may still grow.
+fn left_in(book: &LoadBook) -> u64
+    ensures { result ≡ MOST_TOTAL - sum book.now }
+{
+    let mut left = MOST_TOTAL;
+    for number in 1..=TASKS {
+        left = left.saturating_sub(book.total(TaskId::new(number).unwrap()));
+    }
+    left
+}
+
+// Gathers a share that is not refused over an assignment, and writes the load of each slice.
 fn gather_share(
     alloc: Global,
     book: &mut LoadBook,
@@ -37,27 +51,21 @@ fn gather_share(
     loads: &mut [u64],
     needed: &mut usize,
 ) -> Answer
+    requires room { length assignment.now.slices ≤ length loads.old }
+    requires accepted { first_of (gather_checks (share ∷ []) book.old) ≡ None }
     ensures { IsShareGathered share assignment.now.slices book.old book.new
         (output loads.old needed.old) (output loads.new needed.new) result }
 {
     let Ok(shares) = one_share(alloc, share) else {
         return Answer::NoMemory;
     };
-    if let Some(why) = book.gather_refusal(&shares) {
-        return Answer::Load(why);
-    }
-    let slices = assignment.slices().len();
-    if loads.len() < slices {
-        *needed = slices;
-        return Answer::NoRoom;
-    }
     match book.gather(alloc, Listed::from_vec(shares), assignment) {
         Ok(given) => give(given.as_slice(), loads, needed),
         Err(refused) => trouble_answer(refused.why),
     }
 }
 
-// Gathers the records of a task over an assignment.
+// Gathers the records of a task over an assignment. Refusals and the room come before memory.
 fn gather_over(
     alloc: Global,
     book: &mut LoadBook,
@@ -70,6 +78,17 @@ fn gather_over(
     ensures { IsGatheredUnless (no_share task records.now) (share_of task records.now) assignment.now.slices book.old book.new
         (output loads.old needed.old) (output loads.new needed.new) result }
 {
+    if let Some(answer) = no_share(task, records) {
+        return answer;
+    }
+    if are_above(left_in(book), records) {
+        return Answer::Load(LoadError::TotalRange);
+    }
+    let slices = assignment.slices().len();
+    if loads.len() < slices {
+        *needed = slices;
+        return Answer::NoRoom;
+    }
     match share_of(alloc, task, records) {
         Ok(share) => gather_share(alloc, book, assignment, share, loads, needed),
         Err(answer) => answer,
@@ -84,9 +103,8 @@ fn gather_over(
 /// # Errors
 ///
 /// In this order: why the bytes are not decoded; `WrongForm` if the number is no task's or a record
-/// has no slice key; the refusal of a weight; that of the total; `NoRoom`. Each is looked for in all
-/// records before the next one. `NoMemory` may come in place of the last two. An error leaves the
-/// book unchanged.
+/// has no slice key; the refusal of a weight; that of the total; `NoRoom`; `NoMemory`. Each is looked
+/// for in all records before the next one. An error leaves the book unchanged.
 pub fn gather(
     alloc: Global,
     job: &JobName,

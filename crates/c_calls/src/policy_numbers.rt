@@ -1,11 +1,11 @@
 //! The policies of tables and plans, as numbers.
 
 ghost use Rattle.std.specs.Prelude.{◌≡◌, IfSome, is_some};
-ghost use Rattle.lease_table.specs.Policies.{is_policy};
+ghost use Rattle.grants.specs.Policies.{is_policy};
 ghost use Rattle.weighted_move.specs.Policies as planning;
 ghost use Rattle.c_calls.specs.PolicyNumbers.{terms_of, plan_terms_of};
 
-use lease_table::Policy;
+use grants::Policy;
 use weighted_move::PlanPolicy;
 
 /// The policy of a table.

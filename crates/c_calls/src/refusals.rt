@@ -4,10 +4,9 @@ ghost use Rattle.std.specs.Prelude.{◌≡◌};
 ghost use Rattle.c_calls.specs.AnswerNumbers.{clock_number, ground_number, kept_number, load_number, plan_number, slicelet_number, table_number};
 
 use clocks::ClockRefusal;
+use grants::{KeptFault, SliceletError, TableError};
 use lease_rule::Ground;
-use lease_table::{KeptFault, TableError};
 use load_ledger::LoadError;
-use slicelet::SliceletError;
 use weighted_move::PlanError;
 
 /// Returns the code for the ground on which a key is denied.

@@ -1,15 +1,15 @@
 //! The calls of a slicelet.
 
 mod calls;
+mod handle_numbers;
 mod heard;
-mod key_handle;
 mod permitted_keys;
 mod process;
 mod releasing;
 mod serving;
 
 pub use calls::{check, hear, hold, hold_at, open_slicelet, serve, serve_at, start};
-pub use key_handle::HandleNumbers;
+pub use handle_numbers::HandleNumbers;
 pub use permitted_keys::permitted;
 pub use process::{HeldNumbers, calls_left, ended_note, held, next, resume_slicelet};
 pub use releasing::release;

@@ -2,11 +2,11 @@
 use Rattle.std.proofs.Common.{◌≡◌, ℕ}
 use Rattle.machines.proofs.Every.{all_weaker}
 use Rattle.slice_ranges.specs.Sets.{has}
-use Rattle.lease_table.specs.declared.values.Grant.{Grant}
+use Rattle.grants.specs.declared.values.Grant.{Grant}
 use Rattle.lease_table.specs.OpenRows.{IsSent}
 use Rattle.lease_table.specs.Generations.{covers_by_owners}
-use Rattle.slicelet.specs.declared.call.SliceletCall.{SliceletCall}
-use Rattle.slicelet.specs.declared.call.SliceletCall.TheVariants.{Start, Hear, Release, Resume}
+use Rattle.grants.specs.declared.slicelet_call.SliceletCall.{SliceletCall}
+use Rattle.grants.specs.declared.slicelet_call.SliceletCall.TheVariants.{Start, Hear, Release, Resume}
 use Rattle.slicelet.specs.Rules.{covers_key}
 use Rattle.slicelet.specs.Laws.{AgreeOnCall, AgreeOnHeard}
 use Rattle.cluster.specs.continued.Jobs.{Continued}

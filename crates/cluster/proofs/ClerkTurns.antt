@@ -22,11 +22,11 @@ use Rattle.clerk.specs.Memory.{takes_memory}
 use Rattle.clerk.specs.Knowledge.{accepted_with, greater, greatest_of}
 use Rattle.std.specs.declared.alloc.AllocError.{AllocError}
 use Rattle.cluster.specs.continued.Jobs.{Continued, Counts}
-use Rattle.cluster.specs.declared.error.ClusterError.{ClusterError}
-use Rattle.cluster.specs.declared.error.ClusterError.TheVariants as error
-use Rattle.cluster.specs.declared.call.ClusterCall.TheVariants as call
-use Rattle.cluster.specs.declared.reply.ClusterReply.{ClusterReply}
-use Rattle.cluster.specs.declared.reply.ClusterReply.TheVariants as reply
+use Rattle.job_calls.specs.declared.error.ClusterError.{ClusterError}
+use Rattle.job_calls.specs.declared.error.ClusterError.TheVariants as error
+use Rattle.job_calls.specs.declared.call.ClusterCall.TheVariants as call
+use Rattle.job_calls.specs.declared.reply.ClusterReply.{ClusterReply}
+use Rattle.job_calls.specs.declared.reply.ClusterReply.TheVariants as reply
 use Rattle.cluster.specs.declared.cluster.Cluster.{Cluster}
 use Rattle.cluster.specs.Pasts.{event, Past, history, learnt_by, newest_learnt}
 use Rattle.cluster.specs.continued.Deliveries.{clerk_refusal}

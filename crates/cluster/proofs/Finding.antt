@@ -7,8 +7,8 @@ use Rattle.std.proofs.lemmas.List.Folds.{list_any_at}
 use Rattle.std.proofs.lemmas.List.Sorted.{list_any-IsPermutation, IsPermutation-reverse}
 use Rattle.std.proofs.lemmas.Map.Views.{list_any-from_Contains}
 use Rattle.std.proofs.lemmas.Option.{slice_get-get_or, slice_get_within, get_or_from_slice_get}
-use Rattle.lease_table.specs.declared.values.Grant.{Grant}
-use Rattle.lease_table.specs.Equality.{grant_eq, grant_equivalence}
+use Rattle.grants.specs.declared.values.Grant.{Grant}
+use Rattle.grants.specs.Equality.{grant_eq, grant_equivalence}
 use Rattle.lease_table.specs.OpenRows.{grant_numbered}
 use Rattle.cluster.specs.Numbers.{with_number}
 use Rattle.cluster.proofs.Sameness.{equal_grants, is_member}

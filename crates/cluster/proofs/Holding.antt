@@ -4,10 +4,10 @@ use Rattle.std.specs.Prelude.{IsTrue, ◌==◌, nat_lt, nat_le, if◌then◌else
 use Rattle.std.specs.List.{AllByRecursion}
 use Rattle.lease_rule.specs.declared.answer.Verdict.{Verdict}
 use Rattle.lease_rule.specs.declared.answer.Verdict.TheVariants.{Allow, Deny}
-use Rattle.slicelet.specs.declared.handle.KeyHandle.{KeyHandle}
-use Rattle.lease_table.specs.declared.values.Grant.{Grant}
+use Rattle.key_handle.specs.declared.handle.KeyHandle.{KeyHandle}
+use Rattle.grants.specs.declared.values.Grant.{Grant}
 use Rattle.machines.specs.Numbers.{is_within}
-use Rattle.slicelet.specs.declared.call.SliceletCall.{SliceletCall}
+use Rattle.grants.specs.declared.slicelet_call.SliceletCall.{SliceletCall}
 use Rattle.slicelet.specs.Calls.{life_of, count_of}
 use Rattle.slicelet.specs.Accepted.{AreAccepted}
 use Rattle.slicelet.specs.States.{SliceletState}
@@ -15,9 +15,9 @@ use Rattle.slicelet.specs.Rules.{is_permitted}
 use Rattle.slicelet.specs.Continuity.{handle_on, held_by, IsContinuous, is_strange, next_reading}
 use Rattle.slicelet.specs.Laws.{AgreeOnHeard}
 use Rattle.cluster.specs.continued.Jobs.{Continued, job_in}
-use Rattle.cluster.specs.declared.error.ClusterError.TheVariants as error
-use Rattle.cluster.specs.declared.call.ClusterCall.TheVariants as call
-use Rattle.cluster.specs.declared.reply.ClusterReply.TheVariants as reply
+use Rattle.job_calls.specs.declared.error.ClusterError.TheVariants as error
+use Rattle.job_calls.specs.declared.call.ClusterCall.TheVariants as call
+use Rattle.job_calls.specs.declared.reply.ClusterReply.TheVariants as reply
 use Rattle.cluster.specs.Timing.{IsTimely}
 use Rattle.cluster.specs.Pasts.{Event, event, Past, readings, task_calls, history}
 use Rattle.cluster.specs.continued.Deliveries.{knows_handle}

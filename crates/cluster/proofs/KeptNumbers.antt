@@ -4,11 +4,12 @@ use Rattle.std.specs.Prelude.{None, reverse, if◌then◌else◌}
 use Rattle.std.proofs.lemmas.List.{append-nil, length-append, length-reverse, reverse-reverse}
 use Rattle.machines.specs.Numbers.{is_within}
 use Rattle.assignment.specs.Slices.{Slicing}
-use Rattle.lease_table.specs.declared.values.Grant.{Grant}
-use Rattle.lease_table.specs.Tables.{Standing, generation_of}
+use Rattle.grants.specs.declared.values.Grant.{Grant}
+use Rattle.lease_table.specs.Tables.{Standing}
+use Rattle.grants.specs.Assignments.{generation_of}
 use Rattle.lease_table.specs.Calls.{AnsweredTableCall, committed_in}
 use Rattle.lease_table.specs.Runs.{IsRun as IsTableRun, commits_in}
-use Rattle.lease_table.specs.Policies.{Terms}
+use Rattle.grants.specs.Policies.{Terms}
 use Rattle.cluster.specs.declared.cluster.Cluster.{Cluster}
 use Rattle.cluster.specs.Numbers.{with_number, kept_with_number}
 use Rattle.cluster.specs.Pasts.{Past, table_calls, grants, published}

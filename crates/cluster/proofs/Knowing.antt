@@ -6,8 +6,8 @@ use Rattle.std.specs.Cmp.{nat_eq_equiv}
 use Rattle.lease_rule.specs.declared.lease.Kind.{Kind}
 use Rattle.lease_rule.specs.declared.lease.Kind.TheVariants.{Guard, Bridge}
 use Rattle.lease_rule.specs.Leases.{same_kind}
-use Rattle.lease_table.specs.declared.values.ReleaseNote.{ReleaseNote}
-use Rattle.slicelet.specs.declared.handle.KeyHandle.{KeyHandle}
+use Rattle.grants.specs.declared.values.ReleaseNote.{ReleaseNote}
+use Rattle.key_handle.specs.declared.handle.KeyHandle.{KeyHandle}
 use Rattle.cluster.specs.Made.{same_note, same_handle}
 
 four : (a b c d p q r s : Bool) → a ≡ p → b ≡ q → c ≡ r → d ≡ s → (a && (b && (c && d))) ≡ (p && (q && (r && s)))

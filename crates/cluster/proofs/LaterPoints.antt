@@ -8,21 +8,23 @@ use Rattle.lease_rule.specs.declared.lease.Kind.{Kind}
 use Rattle.lease_rule.specs.declared.lease.Kind.TheVariants.{Guard, Bridge}
 use Rattle.assignment.specs.Slices.{Slicing}
 use Rattle.assignment.specs.Owners.{owns}
-use Rattle.lease_table.specs.declared.values.Grant.{Grant}
-use Rattle.lease_table.specs.Tables.{slices_of}
+use Rattle.grants.specs.declared.values.Grant.{Grant}
+use Rattle.grants.specs.Assignments.{slices_of}
 use Rattle.lease_table.specs.Calls.{AnsweredTableCall}
 use Rattle.lease_table.specs.Generations.{assignment_in, newest_generation, owns_in, covers_as}
 use Rattle.lease_table.specs.OpenRows.{IsSent}
-use Rattle.slicelet.specs.declared.call.SliceletCall.{SliceletCall}
-use Rattle.slicelet.specs.declared.call.SliceletCall.TheVariants.{Start, Hear, Release, Resume}
-use Rattle.slicelet.specs.Calls.{ends_life, clock_reading, reading_of}
+use Rattle.grants.specs.declared.slicelet_call.SliceletCall.{SliceletCall}
+use Rattle.grants.specs.declared.slicelet_call.SliceletCall.TheVariants.{Start, Hear, Release, Resume}
+use Rattle.slicelet.specs.Calls.{ends_life, reading_of}
+use Rattle.grants.specs.SliceletCalls.{clock_reading}
 use Rattle.slicelet.specs.Continuity.{next_reading}
 use Rattle.slicelet.specs.Laws.{AgreeOnCall, AgreeOnHeard}
 use Rattle.cluster.specs.continued.Jobs.{Continued}
-use Rattle.cluster.specs.declared.timing.Reading.{Reading}
-use Rattle.cluster.specs.declared.timing.Reading.TheVariants.{TaskClock}
+use Rattle.job_calls.specs.declared.timing.Reading.{Reading}
+use Rattle.job_calls.specs.declared.timing.Reading.TheVariants.{TaskClock}
 use Rattle.cluster.specs.Timing.{IsNear, IsTimely}
-use Rattle.cluster.specs.Pasts.{Event, Past, at_task, reading, readings, table_calls, task_calls}
+use Rattle.cluster.specs.Pasts.{Event, Past, readings, table_calls, task_calls}
+use Rattle.job_calls.specs.Readings.{at_task, reading}
 use Rattle.cluster.specs.Answers.{covers}
 use Rattle.cluster.specs.continued.Runs.{IsRun}
 use Rattle.slicelet.proofs.Processes.{IsWithinLife}

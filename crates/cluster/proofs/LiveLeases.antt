@@ -12,20 +12,19 @@ use Rattle.lease_rule.specs.declared.answer.Verdict.TheVariants.{Allow, Deny}
 use Rattle.lease_rule.specs.Leases.{same_kind}
 use Rattle.assignment.specs.Slices.{Slicing}
 use Rattle.assignment.specs.Owners.{owns}
-use Rattle.lease_table.specs.declared.call.TableCall.TheVariants as call
-use Rattle.lease_table.specs.declared.call.TableReply.{TableReply}
-use Rattle.lease_table.specs.declared.error.TableError.{TableError}
-use Rattle.lease_table.specs.declared.values.Grant.{Grant}
-use Rattle.lease_table.specs.declared.values.ReleaseNote.{ReleaseNote}
-use Rattle.lease_table.specs.Rows.{closes}
-use Rattle.lease_table.specs.Steps.{row_of}
-use Rattle.lease_table.specs.Tables.{slices_of}
+use Rattle.grants.specs.declared.table_call.TableCall.TheVariants as call
+use Rattle.grants.specs.declared.table_call.TableReply.{TableReply}
+use Rattle.grants.specs.declared.table_error.TableError.{TableError}
+use Rattle.grants.specs.declared.values.Grant.{Grant}
+use Rattle.grants.specs.declared.values.ReleaseNote.{ReleaseNote}
+use Rattle.grants.specs.Rows.{closes, row_of}
+use Rattle.grants.specs.Assignments.{slices_of}
 use Rattle.lease_table.specs.Calls.{AnsweredTableCall, last_reading, committed_in, pending_in}
 use Rattle.lease_table.specs.Runs.{commits_in}
 use Rattle.lease_table.specs.Generations.{assignment_in, newest_with, newest_generation, owns_in, covers_as, covers_by_owners}
 use Rattle.lease_table.specs.OpenRows.{IsSent, IsFreed, IsOut}
-use Rattle.lease_table.proofs.Members.{here}
-use Rattle.slicelet.specs.declared.call.SliceletCall.{SliceletCall}
+use Rattle.grants.proofs.Members.{here}
+use Rattle.grants.specs.declared.slicelet_call.SliceletCall.{SliceletCall}
 use Rattle.slicelet.proofs.OwnLeases.{equal_kinds}
 use Rattle.slicelet.specs.Calls.{held_grant}
 use Rattle.slicelet.specs.Rules.{rule_after, is_allowed}

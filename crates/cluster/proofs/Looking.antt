@@ -7,18 +7,18 @@ use Rattle.machines.specs.Numbers.{is_within}
 use Rattle.lease_rule.specs.declared.answer.Ground.{Ground}
 use Rattle.lease_rule.specs.declared.answer.Verdict.{Verdict}
 use Rattle.assignment.specs.Slices.{Slicing}
-use Rattle.slicelet.specs.declared.handle.KeyHandle.{KeyHandle}
-use Rattle.slicelet.specs.declared.error.Stranger.{Stranger}
+use Rattle.key_handle.specs.declared.handle.KeyHandle.{KeyHandle}
+use Rattle.grants.specs.declared.slicelet_error.Stranger.{Stranger}
 use Rattle.slicelet.specs.States.{SliceletState, rule_in_state}
 use Rattle.slicelet.specs.Accepted.{StandsAfter}
 use Rattle.slicelet.specs.Rules.{covers_key, rule_after}
 use Rattle.slicelet.specs.Laws.{AgreeOnHeard}
 use Rattle.slicelet.specs.Continuity.{handle_on, held_by, is_strange, IsChecked, IsContinuous}
 use Rattle.cluster.specs.continued.Jobs.{Continued, Counts}
-use Rattle.cluster.specs.declared.error.ClusterError.TheVariants as error
-use Rattle.cluster.specs.declared.call.ClusterCall.TheVariants as call
-use Rattle.cluster.specs.declared.reply.ClusterReply.{ClusterReply}
-use Rattle.cluster.specs.declared.reply.ClusterReply.TheVariants as reply
+use Rattle.job_calls.specs.declared.error.ClusterError.TheVariants as error
+use Rattle.job_calls.specs.declared.call.ClusterCall.TheVariants as call
+use Rattle.job_calls.specs.declared.reply.ClusterReply.{ClusterReply}
+use Rattle.job_calls.specs.declared.reply.ClusterReply.TheVariants as reply
 use Rattle.cluster.specs.declared.cluster.Cluster.{Cluster}
 use Rattle.cluster.specs.Pasts.{event, Past, task_calls, history, newest_learnt}
 use Rattle.cluster.specs.Made.{same_handle}

@@ -7,7 +7,7 @@ use Rattle.machines.specs.declared.machine.Trouble.{Trouble}
 use Rattle.machines.specs.declared.machine.Trouble.TheVariants.{NoMemory}
 use Rattle.assignment.specs.Slices.{Slicing}
 use Rattle.assignment.specs.Equality.{slicing_equivalence}
-use Rattle.lease_table.specs.Policies.{Terms}
+use Rattle.grants.specs.Policies.{Terms}
 use Rattle.lease_table.specs.Calls.{AnsweredTableCall}
 use Rattle.lease_table.specs.Runs.{commits_in, IsRun as IsTableRun}
 use Rattle.lease_table.specs.Generations.{assignment_in, published_in}
@@ -16,15 +16,15 @@ use Rattle.clerk.specs.declared.call.ClerkReply.{ClerkReply}
 use Rattle.clerk.specs.declared.error.ClerkError.{ClerkError}
 use Rattle.clerk.specs.Memory.{takes_memory as clerk_takes_memory}
 use Rattle.machines.specs.Refusals.{when}
-use Rattle.lease_table.specs.declared.values.Grant.{Grant}
-use Rattle.slicelet.specs.declared.call.SliceletCall.TheVariants.{Hear}
-use Rattle.slicelet.specs.declared.call.SliceletReply.{SliceletReply}
-use Rattle.slicelet.specs.declared.error.SliceletError.{SliceletError}
+use Rattle.grants.specs.declared.values.Grant.{Grant}
+use Rattle.grants.specs.declared.slicelet_call.SliceletCall.TheVariants.{Hear}
+use Rattle.grants.specs.declared.slicelet_call.SliceletReply.{SliceletReply}
+use Rattle.grants.specs.declared.slicelet_error.SliceletError.{SliceletError}
 use Rattle.cluster.specs.continued.Jobs.{Continued, Forgotten}
-use Rattle.cluster.specs.declared.call.ClusterCall.TheVariants as asked
-use Rattle.cluster.specs.declared.error.ClusterError.TheVariants as error
-use Rattle.cluster.specs.declared.reply.ClusterReply.{ClusterReply}
-use Rattle.cluster.specs.declared.reply.ClusterReply.TheVariants as reply
+use Rattle.job_calls.specs.declared.call.ClusterCall.TheVariants as asked
+use Rattle.job_calls.specs.declared.error.ClusterError.TheVariants as error
+use Rattle.job_calls.specs.declared.reply.ClusterReply.{ClusterReply}
+use Rattle.job_calls.specs.declared.reply.ClusterReply.TheVariants as reply
 use Rattle.cluster.specs.declared.cluster.Cluster.{Cluster}
 use Rattle.cluster.specs.Pasts.{Past, table_calls, grants, published}
 use Rattle.cluster.specs.Made.{is_sent, is_published, is_published_as}

@@ -6,7 +6,7 @@ use Rattle.lease_table.specs.Calls.{last_reading}
 use Rattle.slicelet.specs.Accepted.{notes_sent}
 use Rattle.slicelet.specs.Laws.{HoldsOwnLeases}
 use Rattle.cluster.specs.continued.Jobs.{Continued, job_in}
-use Rattle.cluster.specs.declared.timing.Reading.TheVariants.{TableClock, TaskClock}
+use Rattle.job_calls.specs.declared.timing.Reading.TheVariants.{TableClock, TaskClock}
 use Rattle.cluster.specs.Timing.{IsNear}
 use Rattle.cluster.specs.Pasts.{Past, readings, table_calls, task_calls}
 use Rattle.cluster.specs.Answers.{covers, rule_in}

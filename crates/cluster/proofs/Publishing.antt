@@ -6,12 +6,12 @@ use Rattle.std.proofs.lemmas.Bool.Decides.{nat_tests}
 use Rattle.std.proofs.lemmas.Option.{slice_get_past}
 use Rattle.machines.specs.Calls.{answered_call}
 use Rattle.assignment.specs.Slices.{Slicing}
-use Rattle.lease_table.specs.declared.call.TableCall.{TableCall}
-use Rattle.lease_table.specs.declared.call.TableCall.TheVariants as call
-use Rattle.lease_table.specs.declared.call.TableReply.{TableReply}
-use Rattle.lease_table.specs.declared.error.TableError.{TableError}
-use Rattle.lease_table.specs.Policies.{Terms}
-use Rattle.lease_table.specs.Tables.{generation_of}
+use Rattle.grants.specs.declared.table_call.TableCall.{TableCall}
+use Rattle.grants.specs.declared.table_call.TableCall.TheVariants as call
+use Rattle.grants.specs.declared.table_call.TableReply.{TableReply}
+use Rattle.grants.specs.declared.table_error.TableError.{TableError}
+use Rattle.grants.specs.Policies.{Terms}
+use Rattle.grants.specs.Assignments.{generation_of}
 use Rattle.lease_table.specs.Calls.{AnsweredTableCall, standing_after, committed_in, pending_in}
 use Rattle.lease_table.specs.Runs.{IsRun, commits_in}
 use Rattle.lease_table.specs.Generations.{published_in}

@@ -4,8 +4,8 @@ use Rattle.std.specs.Prelude.{nat_lt, Option, Some, None, MatchOption, if◌then
 use Rattle.std.specs.List.{AllByRecursion}
 use Rattle.std.proofs.lemmas.Bool.Decides.{nat_tests}
 use Rattle.machines.proofs.Every.{all_weaker}
-use Rattle.cluster.specs.declared.timing.Reading.{Reading}
-use Rattle.cluster.specs.declared.timing.Reading.TheVariants.{TableClock, TaskClock, NoClock}
+use Rattle.job_calls.specs.declared.timing.Reading.{Reading}
+use Rattle.job_calls.specs.declared.timing.Reading.TheVariants.{TableClock, TaskClock, NoClock}
 use Rattle.cluster.specs.Timing.{IsNear, IsTimely}
 use Rattle.cluster.specs.Timeliness.{least_after, IsLeast}
 

@@ -10,24 +10,24 @@ use Rattle.machines.specs.Answers.{Takes, with_named_reply}
 use Rattle.machines.specs.declared.machine.Trouble.{Trouble}
 use Rattle.machines.specs.declared.machine.Trouble.TheVariants.{Refused, NoMemory}
 use Rattle.machines.specs.Refusals.{first_of, unless_refused}
-use Rattle.slicelet.specs.declared.call.SliceletCall.{SliceletCall}
-use Rattle.slicelet.specs.declared.call.SliceletCall.TheVariants.{Start, Hear, Release, Resume}
-use Rattle.slicelet.specs.declared.call.SliceletReply.{SliceletReply}
-use Rattle.slicelet.specs.declared.call.SliceletReply.TheVariants.{Started, Heard, Released, Resumed}
-use Rattle.slicelet.specs.declared.error.SliceletError.{SliceletError}
+use Rattle.grants.specs.declared.slicelet_call.SliceletCall.{SliceletCall}
+use Rattle.grants.specs.declared.slicelet_call.SliceletCall.TheVariants.{Start, Hear, Release, Resume}
+use Rattle.grants.specs.declared.slicelet_call.SliceletReply.{SliceletReply}
+use Rattle.grants.specs.declared.slicelet_call.SliceletReply.TheVariants.{Started, Heard, Released, Resumed}
+use Rattle.grants.specs.declared.slicelet_error.SliceletError.{SliceletError}
 use Rattle.slicelet.specs.States.{SliceletState, state_after}
 use Rattle.slicelet.specs.Steps.{start_checks, hear_checks, release_checks, resume_checks, slicelet_step}
 use Rattle.slicelet.specs.Accepted.{checks_of, AreAccepted}
 use Rattle.slicelet.proofs.Processes.{accepted_before}
 use Rattle.assignment.specs.Slices.{Slicing}
-use Rattle.lease_table.specs.Policies.{is_policy}
+use Rattle.grants.specs.Policies.{is_policy}
 use Rattle.lease_table.proofs.Snapshots.{resumed_is}
-use Rattle.cluster.specs.Jobs.{Job}
+use Rattle.job_calls.specs.Jobs.{Job}
 use Rattle.cluster.specs.Pasts.{Past, standing, history, newest_learnt}
 use Rattle.cluster.specs.ActorLists.{AreActors}
 use Rattle.cluster.specs.declared.cluster.Cluster.{Cluster}
-use Rattle.cluster.specs.declared.snapshot.ClusterSnapshot.{ClusterSnapshot}
-use Rattle.cluster.specs.declared.snapshot.TaskSnapshot.{TaskSnapshot}
+use Rattle.job_calls.specs.declared.snapshot.ClusterSnapshot.{ClusterSnapshot}
+use Rattle.job_calls.specs.declared.snapshot.TaskSnapshot.{TaskSnapshot}
 use Rattle.cluster.specs.continued.Jobs.{Counts}
 use Rattle.cluster.specs.continued.Clusters.{AreSince, LeadsTo}
 use Rattle.cluster.specs.continued.Snapshots.{Remembered, calls_in, remembered_in, continued_from, IsSnapshotOf}

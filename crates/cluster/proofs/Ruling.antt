@@ -1,14 +1,14 @@
 -- What a `serve`, a `hold` and a `check` are answered, and that the ends of a run are runs.
 use Rattle.std.proofs.Common.{◌≡◌, ℕ, Bool, true, false, [], ◌∷◌, ◌++◌, refl, ◌∙◌, ap}
 use Rattle.std.specs.Prelude.{IsTrue, ◌↔◌, if◌then◌else◌}
-use Rattle.slicelet.specs.declared.handle.KeyHandle.{KeyHandle}
+use Rattle.key_handle.specs.declared.handle.KeyHandle.{KeyHandle}
 use Rattle.machines.specs.Numbers.{is_within}
 use Rattle.slicelet.specs.Continuity.{handle_on, held_by, IsContinuous, is_strange}
 use Rattle.cluster.specs.continued.Jobs.{Continued, job_in}
-use Rattle.cluster.specs.declared.error.ClusterError.TheVariants as error
-use Rattle.cluster.specs.declared.call.ClusterCall.TheVariants as call
-use Rattle.cluster.specs.declared.reply.ClusterReply.{ClusterReply}
-use Rattle.cluster.specs.declared.reply.ClusterReply.TheVariants as reply
+use Rattle.job_calls.specs.declared.error.ClusterError.TheVariants as error
+use Rattle.job_calls.specs.declared.call.ClusterCall.TheVariants as call
+use Rattle.job_calls.specs.declared.reply.ClusterReply.{ClusterReply}
+use Rattle.job_calls.specs.declared.reply.ClusterReply.TheVariants as reply
 use Rattle.cluster.specs.Pasts.{event, Past, task_calls, history}
 use Rattle.cluster.specs.continued.Deliveries.{knows_handle}
 use Rattle.cluster.specs.Answers.{covers, rule_in, hold_reply, check_reply}

@@ -6,10 +6,10 @@ use Rattle.std.specs.Cmp.Lexicographic.{bytes_decides}
 use Rattle.std.proofs.lemmas.Bool.{and_parts}
 use Rattle.lease_rule.specs.declared.lease.Lease.{Lease}
 use Rattle.lease_rule.specs.Equality.{lease_eq}
-use Rattle.lease_table.specs.declared.values.Grant.{Grant}
-use Rattle.lease_table.specs.declared.values.ReleaseNote.{ReleaseNote}
-use Rattle.lease_table.specs.Equality.{grant_eq}
-use Rattle.lease_table.proofs.Members.{here, there}
+use Rattle.grants.specs.declared.values.Grant.{Grant}
+use Rattle.grants.specs.declared.values.ReleaseNote.{ReleaseNote}
+use Rattle.grants.specs.Equality.{grant_eq}
+use Rattle.grants.proofs.Members.{here, there}
 use Rattle.slicelet.proofs.OwnLeases.{equal_kinds}
 use Rattle.cluster.specs.Made.{same_note}
 

@@ -5,19 +5,19 @@ use Rattle.std.specs.List.{AllByRecursion}
 use Rattle.std.proofs.lemmas.List.Elements.{Contains-append_left}
 use Rattle.machines.proofs.Every.{all_weaker}
 use Rattle.lease_rule.specs.declared.lease.Kind.{Kind}
-use Rattle.lease_table.specs.declared.call.TableReply.{TableReply}
-use Rattle.lease_table.specs.declared.call.TableReply.TheVariants as told
-use Rattle.lease_table.specs.declared.error.TableError.{TableError}
-use Rattle.lease_table.specs.declared.values.Grant.{Grant}
-use Rattle.lease_table.specs.Equality.{grant_eq}
+use Rattle.grants.specs.declared.table_call.TableReply.{TableReply}
+use Rattle.grants.specs.declared.table_call.TableReply.TheVariants as told
+use Rattle.grants.specs.declared.table_error.TableError.{TableError}
+use Rattle.grants.specs.declared.values.Grant.{Grant}
+use Rattle.grants.specs.Equality.{grant_eq}
 use Rattle.lease_table.specs.Calls.{AnsweredTableCall, grants_after}
 use Rattle.lease_table.specs.OpenRows.{IsSent}
-use Rattle.slicelet.specs.declared.call.SliceletCall.{SliceletCall}
-use Rattle.slicelet.specs.declared.call.SliceletCall.TheVariants.{Start, Hear, Release, Resume}
+use Rattle.grants.specs.declared.slicelet_call.SliceletCall.{SliceletCall}
+use Rattle.grants.specs.declared.slicelet_call.SliceletCall.TheVariants.{Start, Hear, Release, Resume}
 use Rattle.slicelet.specs.Calls.{held_grant}
 use Rattle.slicelet.proofs.Hearing.{held_heard, all_at_heard}
 use Rattle.cluster.specs.continued.Jobs.{Continued, Forgotten}
-use Rattle.cluster.specs.declared.error.ClusterError.TheVariants as error
+use Rattle.job_calls.specs.declared.error.ClusterError.TheVariants as error
 use Rattle.cluster.specs.Pasts.{Event, Past, table_calls, grants, task_calls}
 use Rattle.cluster.specs.Made.{is_sent}
 use Rattle.cluster.specs.continued.Deliveries.{knows_grant, task_refusal}

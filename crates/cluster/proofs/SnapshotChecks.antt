@@ -8,19 +8,20 @@ use Rattle.machines.specs.Refusals.{when, first_of}
 use Rattle.machines.specs.declared.machine.Trouble.{Trouble}
 use Rattle.machines.specs.declared.machine.Trouble.TheVariants.{Refused, NoMemory}
 use Rattle.machines.proofs.Refused.{all_none, not_when}
-use Rattle.lease_table.specs.declared.kept.Kept.{Kept}
-use Rattle.lease_table.specs.declared.snapshot.SnapshotFault.{SnapshotFault}
-use Rattle.lease_table.specs.Policies.{is_policy}
-use Rattle.lease_table.specs.Snapshots.{snapshot_checks, newest_in}
+use Rattle.grants.specs.declared.kept.Kept.{Kept}
+use Rattle.grants.specs.declared.snapshot.SnapshotFault.{SnapshotFault}
+use Rattle.grants.specs.Policies.{is_policy}
+use Rattle.grants.specs.Snapshots.{snapshot_checks, newest_in}
 use Rattle.lease_table.proofs.Snapshots.{snapshot_taken}
-use Rattle.cluster.specs.Jobs.{Job}
+use Rattle.job_calls.specs.Jobs.{Job}
 use Rattle.cluster.specs.Pasts.{Past, table_calls, grants}
-use Rattle.cluster.specs.declared.snapshot.ClusterSnapshot.{ClusterSnapshot}
-use Rattle.cluster.specs.declared.snapshot.ResumeFault.{ResumeFault}
-use Rattle.cluster.specs.declared.snapshot.ResumeFault.TheVariants as fault
+use Rattle.job_calls.specs.declared.snapshot.ClusterSnapshot.{ClusterSnapshot}
+use Rattle.job_calls.specs.declared.snapshot.ResumeFault.{ResumeFault}
+use Rattle.job_calls.specs.declared.snapshot.ResumeFault.TheVariants as fault
 use Rattle.cluster.specs.continued.Jobs.{from_start}
 use Rattle.cluster.specs.continued.Clusters.{AreAfter}
-use Rattle.cluster.specs.continued.Snapshots.{resume_checks, IsSnapshotOf, IsResumeTrouble}
+use Rattle.job_calls.specs.Snapshots.{resume_checks}
+use Rattle.cluster.specs.continued.Snapshots.{IsSnapshotOf, IsResumeTrouble}
 use Rattle.cluster.specs.internals.Proposals.{proposals_in}
 use Rattle.cluster.specs.internals.Resuming.{AreRefused}
 use Rattle.cluster.proofs.Publishing.{proposals_counted}

@@ -1,11 +1,13 @@
 -- The table's last reading is that of an earlier call.
 use Rattle.std.proofs.Common.{◌≡◌, ℕ, List, [], ◌∷◌, refl, sym, ◌∙◌, ap, subst, inl, inr, ◌⊎◌}
 use Rattle.std.specs.Prelude.{Option, Some, None, Contains}
-use Rattle.lease_table.specs.Calls.{AnsweredTableCall, reading_of, last_reading, or_before}
-use Rattle.lease_table.proofs.Members.{here, there}
-use Rattle.cluster.specs.declared.timing.Reading.{Reading}
-use Rattle.cluster.specs.declared.timing.Reading.TheVariants.{TableClock}
-use Rattle.cluster.specs.Pasts.{Event, Past, at_table, reading, readings, table_calls}
+use Rattle.lease_table.specs.Calls.{AnsweredTableCall, last_reading, or_before}
+use Rattle.grants.specs.TableCalls.{reading_of}
+use Rattle.grants.proofs.Members.{here, there}
+use Rattle.job_calls.specs.declared.timing.Reading.{Reading}
+use Rattle.job_calls.specs.declared.timing.Reading.TheVariants.{TableClock}
+use Rattle.cluster.specs.Pasts.{Event, Past, readings, table_calls}
+use Rattle.job_calls.specs.Readings.{at_table, reading}
 use Rattle.cluster.specs.Promises.{WasRead}
 use Rattle.cluster.proofs.Adding.{AddsTableCall, adds_to_table}
 

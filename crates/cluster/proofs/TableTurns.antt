@@ -1,27 +1,27 @@
 -- A call of the table.
 use Rattle.std.proofs.Common.{◌≡◌, ◌∷◌, true, List, refl, sym, ◌∙◌, ap, subst}
 use Rattle.std.specs.Prelude.{Bool, Option, None, Result, Ok, Err, reverse}
-use Rattle.lease_table.specs.declared.values.ReleaseNote.{ReleaseNote}
-use Rattle.slicelet.specs.declared.handle.KeyHandle.{KeyHandle}
+use Rattle.grants.specs.declared.values.ReleaseNote.{ReleaseNote}
+use Rattle.key_handle.specs.declared.handle.KeyHandle.{KeyHandle}
 use Rattle.machines.specs.declared.machine.Trouble.{Trouble}
 use Rattle.indexmap.specs.IndexSet.{contains}
 use Rattle.machines.specs.Answers.{Takes}
 use Rattle.machines.specs.Calls.{LeadsOn}
 use Rattle.assignment.specs.Slices.{Slicing}
-use Rattle.lease_table.specs.declared.call.TableCall.{TableCall}
-use Rattle.lease_table.specs.declared.call.TableReply.{TableReply}
-use Rattle.lease_table.specs.declared.error.TableError.{TableError}
+use Rattle.grants.specs.declared.table_call.TableCall.{TableCall}
+use Rattle.grants.specs.declared.table_call.TableReply.{TableReply}
+use Rattle.grants.specs.declared.table_error.TableError.{TableError}
 use Rattle.lease_table.specs.Tables.{Standing}
 use Rattle.lease_table.specs.Calls.{AnsweredTableCall, table_step, standing_after, LeadsTo as LeadsTable}
 use Rattle.slicelet.specs.States.{SliceletState}
 use Rattle.std.specs.declared.alloc.AllocError.{AllocError}
-use Rattle.lease_table.specs.Policies.{Terms, is_policy}
+use Rattle.grants.specs.Policies.{Terms, is_policy}
 use Rattle.cluster.specs.continued.Jobs.{Continued, Counts}
-use Rattle.cluster.specs.declared.error.ClusterError.{ClusterError}
-use Rattle.cluster.specs.declared.error.ClusterError.TheVariants as error
-use Rattle.cluster.specs.declared.call.ClusterCall.TheVariants as call
-use Rattle.cluster.specs.declared.reply.ClusterReply.{ClusterReply}
-use Rattle.cluster.specs.declared.reply.ClusterReply.TheVariants as reply
+use Rattle.job_calls.specs.declared.error.ClusterError.{ClusterError}
+use Rattle.job_calls.specs.declared.error.ClusterError.TheVariants as error
+use Rattle.job_calls.specs.declared.call.ClusterCall.TheVariants as call
+use Rattle.job_calls.specs.declared.reply.ClusterReply.{ClusterReply}
+use Rattle.job_calls.specs.declared.reply.ClusterReply.TheVariants as reply
 use Rattle.cluster.specs.declared.cluster.Cluster.{Cluster}
 use Rattle.cluster.specs.Pasts.{event, Past, table_calls, standing, history, newest_learnt}
 use Rattle.cluster.specs.continued.Deliveries.{table_refusal}

@@ -1,6 +1,6 @@
 -- Each task accepts the calls that it was told of.
 use Rattle.std.proofs.Common.{ℕ, List, [], ◌∷◌, sym, subst, inl, inr}
-use Rattle.slicelet.specs.declared.call.SliceletCall.{SliceletCall}
+use Rattle.grants.specs.declared.slicelet_call.SliceletCall.{SliceletCall}
 use Rattle.slicelet.specs.Accepted.{AreAccepted}
 use Rattle.cluster.specs.continued.Jobs.{Continued}
 use Rattle.cluster.specs.Pasts.{Event, Past, task_calls, history}

@@ -1,8 +1,8 @@
 -- What an accepted call of a task leaves.
 use Rattle.std.proofs.Common.{◌≡◌, ℕ, List, ◌∷◌, sym, ◌∙◌}
 use Rattle.std.specs.Prelude.{Ok}
-use Rattle.slicelet.specs.declared.call.SliceletCall.{SliceletCall}
-use Rattle.slicelet.specs.declared.call.SliceletReply.{SliceletReply}
+use Rattle.grants.specs.declared.slicelet_call.SliceletCall.{SliceletCall}
+use Rattle.grants.specs.declared.slicelet_call.SliceletReply.{SliceletReply}
 use Rattle.slicelet.specs.States.{SliceletState, state_after}
 use Rattle.slicelet.specs.Steps.{slicelet_step}
 use Rattle.slicelet.proofs.Standing.{accepted_step, next_after}

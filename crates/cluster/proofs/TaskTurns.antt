@@ -10,20 +10,20 @@ use Rattle.indexmap.specs.IndexSet.{contains}
 use Rattle.machines.specs.Answers.{Takes}
 use Rattle.machines.specs.Numbers.{is_within}
 use Rattle.assignment.specs.Slices.{Slicing}
-use Rattle.lease_table.specs.declared.values.ReleaseNote.{ReleaseNote}
-use Rattle.slicelet.specs.declared.call.SliceletCall.{SliceletCall}
-use Rattle.slicelet.specs.declared.call.SliceletReply.{SliceletReply}
-use Rattle.slicelet.specs.declared.call.SliceletReply.TheVariants.{Started, Heard, Released, Resumed}
-use Rattle.slicelet.specs.declared.error.SliceletError.{SliceletError}
+use Rattle.grants.specs.declared.values.ReleaseNote.{ReleaseNote}
+use Rattle.grants.specs.declared.slicelet_call.SliceletCall.{SliceletCall}
+use Rattle.grants.specs.declared.slicelet_call.SliceletReply.{SliceletReply}
+use Rattle.grants.specs.declared.slicelet_call.SliceletReply.TheVariants.{Started, Heard, Released, Resumed}
+use Rattle.grants.specs.declared.slicelet_error.SliceletError.{SliceletError}
 use Rattle.slicelet.specs.States.{SliceletState, state_after}
 use Rattle.slicelet.specs.Steps.{slicelet_step}
 use Rattle.std.specs.declared.alloc.AllocError.{AllocError}
 use Rattle.cluster.specs.continued.Jobs.{Continued, Counts}
-use Rattle.cluster.specs.declared.error.ClusterError.{ClusterError}
-use Rattle.cluster.specs.declared.error.ClusterError.TheVariants as error
-use Rattle.cluster.specs.declared.call.ClusterCall.TheVariants as call
-use Rattle.cluster.specs.declared.reply.ClusterReply.{ClusterReply}
-use Rattle.cluster.specs.declared.reply.ClusterReply.TheVariants as reply
+use Rattle.job_calls.specs.declared.error.ClusterError.{ClusterError}
+use Rattle.job_calls.specs.declared.error.ClusterError.TheVariants as error
+use Rattle.job_calls.specs.declared.call.ClusterCall.TheVariants as call
+use Rattle.job_calls.specs.declared.reply.ClusterReply.{ClusterReply}
+use Rattle.job_calls.specs.declared.reply.ClusterReply.TheVariants as reply
 use Rattle.cluster.specs.declared.cluster.Cluster.{Cluster}
 use Rattle.cluster.specs.Pasts.{event, Past, task_calls, history, newest_learnt}
 use Rattle.cluster.specs.Made.{note_told, same_note}
@@ -33,8 +33,7 @@ use Rattle.cluster.specs.continued.Replies.{reply_to}
 use Rattle.cluster.specs.TakingMemory.{task_takes_memory}
 use Rattle.cluster.specs.ActorLists.{AreActors}
 use Rattle.cluster.specs.continued.Clusters.{LeadsTo, IsPlayed}
-use Rattle.cluster.specs.internals.Turns.{known_after}
-use Rattle.cluster.specs.internals.Turns.{told_as, notes_kept}
+use Rattle.cluster.specs.internals.Turns.{known_after, told_as, notes_kept}
 use Rattle.cluster.proofs.ActorLists.{of_job, actor_at, actors_set}
 use Rattle.cluster.proofs.Knowing.{same_note_turned}
 use Rattle.cluster.proofs.Keeping.{after_same, since_same, since_front, steady_same, steady_next, handle_known}

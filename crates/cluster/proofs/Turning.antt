@@ -5,15 +5,15 @@ use Rattle.std.proofs.lemmas.List.{reverse-append}
 use Rattle.machines.specs.declared.machine.Trouble.{Trouble}
 use Rattle.machines.specs.declared.machine.Trouble.TheVariants.{Refused, NoMemory}
 use Rattle.machines.specs.Answers.{Takes, with_named_reply}
-use Rattle.lease_table.specs.declared.values.Grant.{Grant}
-use Rattle.lease_table.specs.declared.values.ReleaseNote.{ReleaseNote}
-use Rattle.slicelet.specs.declared.call.SliceletCall.TheVariants.{Hear}
-use Rattle.slicelet.specs.declared.call.SliceletReply.{SliceletReply}
-use Rattle.slicelet.specs.declared.call.SliceletReply.TheVariants.{Heard}
-use Rattle.slicelet.specs.declared.error.SliceletError.{SliceletError}
+use Rattle.grants.specs.declared.values.Grant.{Grant}
+use Rattle.grants.specs.declared.values.ReleaseNote.{ReleaseNote}
+use Rattle.grants.specs.declared.slicelet_call.SliceletCall.TheVariants.{Hear}
+use Rattle.grants.specs.declared.slicelet_call.SliceletReply.{SliceletReply}
+use Rattle.grants.specs.declared.slicelet_call.SliceletReply.TheVariants.{Heard}
+use Rattle.grants.specs.declared.slicelet_error.SliceletError.{SliceletError}
 use Rattle.slicelet.specs.States.{SliceletState}
 use Rattle.slicelet.specs.Steps.{hear_step, slicelet_step}
-use Rattle.cluster.specs.declared.reply.ClusterReply.TheVariants as reply
+use Rattle.job_calls.specs.declared.reply.ClusterReply.TheVariants as reply
 use Rattle.cluster.specs.Made.{note_told}
 use Rattle.cluster.specs.internals.Turns.{notes_kept, known_after}
 

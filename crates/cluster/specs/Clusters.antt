@@ -3,9 +3,9 @@ use Rattle.std.specs.Prelude.{ℕ, Option, Some, None, Result, if◌then◌else�
 use Rattle.std.specs.declared.alloc.AllocError.{AllocError}
 use Rattle.machines.specs.Numbers.{is_within}
 use Rattle.slicelet.specs.States.{SliceletState}
-use Rattle.cluster.specs.Jobs.{Job}
-use Rattle.cluster.specs.declared.call.ClusterCall.{ClusterCall}
-use Rattle.cluster.specs.declared.reply.ClusterReply.{ClusterReply}
+use Rattle.job_calls.specs.Jobs.{Job}
+use Rattle.job_calls.specs.declared.call.ClusterCall.{ClusterCall}
+use Rattle.job_calls.specs.declared.reply.ClusterReply.{ClusterReply}
 use Rattle.cluster.specs.declared.cluster.Cluster.{Cluster}
 use Rattle.cluster.specs.Pasts.{Past, history}
 use Rattle.cluster.specs.continued.Jobs.{from_start}

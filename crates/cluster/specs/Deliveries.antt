@@ -1,10 +1,10 @@
 -- Which calls deliver what was not made.
 use Rattle.std.specs.Prelude.{Option}
-use Rattle.lease_table.specs.declared.call.TableCall.{TableCall}
-use Rattle.slicelet.specs.declared.call.SliceletCall.{SliceletCall}
+use Rattle.grants.specs.declared.table_call.TableCall.{TableCall}
+use Rattle.grants.specs.declared.slicelet_call.SliceletCall.{SliceletCall}
 use Rattle.clerk.specs.declared.call.ClerkCall.{ClerkCall}
-use Rattle.cluster.specs.Jobs.{Job}
-use Rattle.cluster.specs.declared.error.ClusterError.{ClusterError}
+use Rattle.job_calls.specs.Jobs.{Job}
+use Rattle.job_calls.specs.declared.error.ClusterError.{ClusterError}
 use Rattle.cluster.specs.Pasts.{Past}
 use Rattle.cluster.specs.continued.Jobs.{from_start, nothing}
 use Rattle.cluster.specs.continued.Deliveries as continued

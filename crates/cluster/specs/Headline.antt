@@ -1,14 +1,14 @@
 -- Who may serve a key, who owns it, and from when to when a handle is held. Keys are slice keys.
 use Rattle.std.specs.Prelude.{◌≡◌, ℕ, IsTrue, ◌∷◌, ◌++◌}
 use Rattle.assignment.specs.Owners.{owns}
-use Rattle.lease_table.specs.Tables.{slices_of}
+use Rattle.grants.specs.Assignments.{slices_of}
 use Rattle.lease_table.specs.Calls.{committed_in}
-use Rattle.slicelet.specs.declared.handle.KeyHandle.{KeyHandle}
+use Rattle.key_handle.specs.declared.handle.KeyHandle.{KeyHandle}
 use Rattle.slicelet.specs.Rules.{is_allowed}
-use Rattle.cluster.specs.Jobs.{Job}
-use Rattle.cluster.specs.declared.call.ClusterCall.TheVariants as call
-use Rattle.cluster.specs.declared.reply.ClusterReply.TheVariants as reply
-use Rattle.cluster.specs.declared.timing.Reading.TheVariants.{TaskClock}
+use Rattle.job_calls.specs.Jobs.{Job}
+use Rattle.job_calls.specs.declared.call.ClusterCall.TheVariants as call
+use Rattle.job_calls.specs.declared.reply.ClusterReply.TheVariants as reply
+use Rattle.job_calls.specs.declared.timing.Reading.TheVariants.{TaskClock}
 use Rattle.cluster.specs.Timing.{IsTimely}
 use Rattle.cluster.specs.Pasts.{Event, event, Past, readings, table_calls}
 use Rattle.cluster.specs.Replies.{rule_in}

@@ -1,4 +1,3 @@
-pub mod Jobs
 pub mod Timing
 pub mod Pasts
 pub mod Made

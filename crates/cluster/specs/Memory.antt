@@ -1,6 +1,6 @@
 -- When a call may be out of memory.
-use Rattle.cluster.specs.Jobs.{Job}
-use Rattle.cluster.specs.declared.call.ClusterCall.{ClusterCall}
+use Rattle.job_calls.specs.Jobs.{Job}
+use Rattle.job_calls.specs.declared.call.ClusterCall.{ClusterCall}
 use Rattle.cluster.specs.Pasts.{Past}
 use Rattle.cluster.specs.continued.Jobs.{from_start}
 use Rattle.cluster.specs.continued.Memory as continued

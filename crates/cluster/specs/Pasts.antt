@@ -2,22 +2,21 @@
 use Rattle.std.specs.Prelude.{ℕ, ◌==◌, Bool, true, false, List, [], ◌∷◌, map, Option, Some, None, Ok, if◌then◌else◌}
 use Rattle.machines.specs.Calls.{answered_call}
 use Rattle.assignment.specs.Slices.{Slicing}
-use Rattle.lease_table.specs.declared.call.TableCall.{TableCall}
-use Rattle.lease_table.specs.declared.values.Grant.{Grant}
-use Rattle.lease_table.specs.Policies.{Terms}
+use Rattle.grants.specs.declared.table_call.TableCall.{TableCall}
+use Rattle.grants.specs.declared.values.Grant.{Grant}
+use Rattle.grants.specs.Policies.{Terms}
 use Rattle.lease_table.specs.Tables.{Standing}
-use Rattle.lease_table.specs.Calls.{AnsweredTableCall, reading_of as table_reading, standing_after, grants_sent}
+use Rattle.lease_table.specs.Calls.{AnsweredTableCall, standing_after, grants_sent}
 use Rattle.lease_table.specs.Generations.{published_in}
-use Rattle.slicelet.specs.declared.call.SliceletCall.{SliceletCall}
-use Rattle.slicelet.specs.Calls.{clock_reading as task_reading}
+use Rattle.grants.specs.declared.slicelet_call.SliceletCall.{SliceletCall}
 use Rattle.slicelet.specs.States.{SliceletState, state_after}
 use Rattle.clerk.specs.Knowledge.{accepted_with, greatest_of}
-use Rattle.cluster.specs.declared.call.ClusterCall.{ClusterCall}
-use Rattle.cluster.specs.declared.call.ClusterCall.TheVariants as call
-use Rattle.cluster.specs.declared.reply.ClusterReply.{ClusterReply}
-use Rattle.cluster.specs.declared.reply.ClusterReply.TheVariants as reply
-use Rattle.cluster.specs.declared.timing.Reading.{Reading}
-use Rattle.cluster.specs.declared.timing.Reading.TheVariants.{TableClock, TaskClock, NoClock}
+use Rattle.job_calls.specs.declared.call.ClusterCall.{ClusterCall}
+use Rattle.job_calls.specs.Readings.{reading}
+use Rattle.job_calls.specs.declared.call.ClusterCall.TheVariants as call
+use Rattle.job_calls.specs.declared.reply.ClusterReply.{ClusterReply}
+use Rattle.job_calls.specs.declared.reply.ClusterReply.TheVariants as reply
+use Rattle.job_calls.specs.declared.timing.Reading.{Reading}
 
 -- a call with its reply
 pub record Event : Type 0 where
@@ -38,23 +37,7 @@ is_accepted _ = true
 
 -- READINGS
 
--- whose clock a call reads, accepted or not, and when; a restart of the table and a new process of a task read none
-abbrev pub at_table : Option ℕ → Reading
-at_table (Some at) = TableClock at
-at_table None = NoClock
-
-abbrev pub at_task : Option ℕ → Reading
-at_task (Some at) = TaskClock at
-at_task None = NoClock
-
-abbrev pub reading : ClusterCall → Reading
-reading (call.Table c) = at_table (table_reading c)
-reading (call.Task task c) = at_task (task_reading c)
-reading (call.Serve task key at) = TaskClock at
-reading (call.Hold task key at) = TaskClock at
-reading (call.Check task handle at) = TaskClock at
-reading _ = NoClock
-
+-- whose clocks the calls read, accepted or not, and when
 abbrev pub readings : Past → List Reading
 readings past = map (λ e. reading e.call) past
 

@@ -1,14 +1,14 @@
 -- What the callers of tasks are told, and what of notes and readings holds in every run.
 use Rattle.std.specs.Prelude.{◌≡◌, ℕ, IsTrue, Contains, ◌↔◌}
 use Rattle.machines.specs.Numbers.{is_within}
-use Rattle.lease_table.specs.declared.values.ReleaseNote.{ReleaseNote}
-use Rattle.slicelet.specs.declared.handle.KeyHandle.{KeyHandle}
+use Rattle.grants.specs.declared.values.ReleaseNote.{ReleaseNote}
+use Rattle.key_handle.specs.declared.handle.KeyHandle.{KeyHandle}
 use Rattle.slicelet.specs.Accepted.{notes_sent}
 use Rattle.slicelet.specs.Continuity.{IsContinuous, handle_on, held_by}
-use Rattle.cluster.specs.Jobs.{Job}
-use Rattle.cluster.specs.declared.reply.ClusterReply.{ClusterReply}
-use Rattle.cluster.specs.declared.reply.ClusterReply.TheVariants as reply
-use Rattle.cluster.specs.declared.timing.Reading.TheVariants.{TableClock}
+use Rattle.job_calls.specs.Jobs.{Job}
+use Rattle.job_calls.specs.declared.reply.ClusterReply.{ClusterReply}
+use Rattle.job_calls.specs.declared.reply.ClusterReply.TheVariants as reply
+use Rattle.job_calls.specs.declared.timing.Reading.TheVariants.{TableClock}
 use Rattle.cluster.specs.Pasts.{Past, readings, task_calls, history}
 use Rattle.cluster.specs.Replies.{covers, rule_in, hold_reply}
 

@@ -1,8 +1,8 @@
 -- What each call is answered, by the calls before it.
 use Rattle.std.specs.Prelude.{Bool}
-use Rattle.cluster.specs.Jobs.{Job}
-use Rattle.cluster.specs.declared.call.ClusterCall.{ClusterCall}
-use Rattle.cluster.specs.declared.reply.ClusterReply.{ClusterReply}
+use Rattle.job_calls.specs.Jobs.{Job}
+use Rattle.job_calls.specs.declared.call.ClusterCall.{ClusterCall}
+use Rattle.job_calls.specs.declared.reply.ClusterReply.{ClusterReply}
 use Rattle.cluster.specs.Pasts.{Past}
 use Rattle.cluster.specs.continued.Jobs.{from_start}
 use Rattle.cluster.specs.continued.Replies as continued

@@ -1,7 +1,7 @@
 -- Runs: each call is answered by the calls before it.
 use Rattle.std.specs.Prelude.{Bool}
-use Rattle.cluster.specs.Jobs.{Job}
-use Rattle.cluster.specs.declared.call.ClusterCall.{ClusterCall}
+use Rattle.job_calls.specs.Jobs.{Job}
+use Rattle.job_calls.specs.declared.call.ClusterCall.{ClusterCall}
 use Rattle.cluster.specs.Pasts.{Event, Past}
 use Rattle.cluster.specs.continued.Jobs.{from_start}
 use Rattle.cluster.specs.continued.Runs as continued

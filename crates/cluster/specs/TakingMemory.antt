@@ -1,14 +1,14 @@
 -- Which calls take memory, and which replies need some.
 use Rattle.std.specs.Prelude.{Bool, true, false}
 use Rattle.lease_table.specs.Memory.{takes_memory as table_takes_memory}
-use Rattle.slicelet.specs.declared.call.SliceletCall.{SliceletCall}
-use Rattle.slicelet.specs.declared.call.SliceletCall.TheVariants.{Resume}
+use Rattle.grants.specs.declared.slicelet_call.SliceletCall.{SliceletCall}
+use Rattle.grants.specs.declared.slicelet_call.SliceletCall.TheVariants.{Resume}
 use Rattle.slicelet.specs.Memory.{takes_memory as slicelet_takes_memory}
 use Rattle.clerk.specs.Memory.{takes_memory as clerk_takes_memory}
-use Rattle.cluster.specs.declared.call.ClusterCall.{ClusterCall}
-use Rattle.cluster.specs.declared.call.ClusterCall.TheVariants as call
-use Rattle.cluster.specs.declared.reply.ClusterReply.{ClusterReply}
-use Rattle.cluster.specs.declared.reply.ClusterReply.TheVariants as reply
+use Rattle.job_calls.specs.declared.call.ClusterCall.{ClusterCall}
+use Rattle.job_calls.specs.declared.call.ClusterCall.TheVariants as call
+use Rattle.job_calls.specs.declared.reply.ClusterReply.{ClusterReply}
+use Rattle.job_calls.specs.declared.reply.ClusterReply.TheVariants as reply
 use Rattle.cluster.specs.Pasts.{is_accepted}
 
 -- a call of a task takes the memory of its slicelet, or that for the notes of a life that ended

@@ -1,8 +1,8 @@
 -- Whether readings so far are timely, and from which reading of a task's clock on they stay so.
 use Rattle.std.specs.Prelude.{◌≡◌, ℕ, ◌-◌, ◌≤◌, max, nat_lt, List, Option, Some, None, MatchOption, if◌then◌else◌}
 use Rattle.std.specs.List.{AllByRecursion}
-use Rattle.cluster.specs.declared.timing.Reading.{Reading}
-use Rattle.cluster.specs.declared.timing.Reading.TheVariants.{TableClock, TaskClock, NoClock}
+use Rattle.job_calls.specs.declared.timing.Reading.{Reading}
+use Rattle.job_calls.specs.declared.timing.Reading.TheVariants.{TableClock, TaskClock, NoClock}
 use Rattle.cluster.specs.declared.timeliness.Timeliness.{Timeliness}
 use Rattle.cluster.specs.Timing.{IsNear, IsTimely}
 

@@ -1,8 +1,8 @@
 -- Whether clocks were timely.
 use Rattle.std.specs.Prelude.{ℕ, ◌+◌, ◌≤◌, max, List, [], ◌∷◌, ⊤}
 use Rattle.std.specs.List.{AllByRecursion}
-use Rattle.cluster.specs.declared.timing.Reading.{Reading}
-use Rattle.cluster.specs.declared.timing.Reading.TheVariants.{TableClock, TaskClock}
+use Rattle.job_calls.specs.declared.timing.Reading.{Reading}
+use Rattle.job_calls.specs.declared.timing.Reading.TheVariants.{TableClock, TaskClock}
 
 -- the table's clock at an earlier reading is by at most the skew above a task's at a later one
 abbrev pub IsNear : ℕ → Reading → Reading → Type 0

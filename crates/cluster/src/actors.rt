@@ -5,7 +5,7 @@ ghost use Rattle.machines.specs.Numbers.{is_within};
 ghost use Rattle.machines.specs.Refusals.{when};
 ghost use Rattle.cluster.specs.Numbers.{kept_with_number, with_number};
 
-use crate::error::ClusterError;
+use job_calls::ClusterError;
 
 /// Returns the place of the actor with this number, or `None` if there is no such actor.
 ///

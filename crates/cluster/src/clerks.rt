@@ -3,18 +3,17 @@
 ghost use Rattle.std.specs.Prelude.{◌≡◌, ◌∷◌, Ok};
 ghost use Rattle.cluster.specs.continued.Jobs.{Continued};
 ghost use Rattle.cluster.specs.continued.Clusters as continued;
-ghost use Rattle.cluster.specs.declared.call.ClusterCall.TheVariants as asked;
-ghost use Rattle.cluster.specs.declared.error.ClusterError.TheVariants as error;
-ghost use Rattle.cluster.specs.declared.reply.ClusterReply.TheVariants as reply;
+ghost use Rattle.job_calls.specs.declared.call.ClusterCall.TheVariants as asked;
+ghost use Rattle.job_calls.specs.declared.error.ClusterError.TheVariants as error;
+ghost use Rattle.job_calls.specs.declared.reply.ClusterReply.TheVariants as reply;
 ghost use Rattle.cluster.specs.Pasts.{Past, event};
 ghost use Rattle.cluster.specs.continued.Deliveries.{clerk_refusal};
 ghost use Rattle.cluster.specs.internals.Turns.{told_as};
 
 use crate::actors::{place_of, unless};
 use crate::cluster::Cluster;
-use crate::error::ClusterError;
-use crate::reply::ClusterReply;
 use clerk::{ClerkCall, ClerkError, ClerkReply};
+use job_calls::{ClusterError, ClusterReply};
 use machines::Trouble;
 use slice_ranges::SliceKey;
 use std::alloc::AllocError;

@@ -2,19 +2,19 @@
 
 ghost use Rattle.std.specs.Prelude.{◌≡◌, ℕ, [], ◌∷◌, ◌++◌, true, false, IsTrue, None, IfOk};
 ghost use Rattle.machines.specs.Numbers.{is_within};
-ghost use Rattle.slicelet.specs.declared.handle.KeyHandle.{KeyHandle};
-ghost use Rattle.lease_table.specs.Policies.{is_policy};
+ghost use Rattle.key_handle.specs.declared.handle.KeyHandle.{KeyHandle};
+ghost use Rattle.grants.specs.Policies.{is_policy};
 ghost use Rattle.slicelet.specs.Continuity.{is_strange};
 ghost use Rattle.slicelet.specs.States.{opening};
-ghost use Rattle.cluster.specs.Jobs.{Job};
+ghost use Rattle.job_calls.specs.Jobs.{Job};
 ghost use Rattle.cluster.specs.continued.Jobs.{Continued};
 ghost use Rattle.cluster.specs.continued.Runs as continued_run;
 ghost use Rattle.cluster.specs.continued.Clusters as continued;
-ghost use Rattle.cluster.specs.declared.call.ClusterCall.{ClusterCall};
-ghost use Rattle.cluster.specs.declared.call.ClusterCall.TheVariants as asked;
-ghost use Rattle.cluster.specs.declared.error.ClusterError.{ClusterError};
-ghost use Rattle.cluster.specs.declared.reply.ClusterReply.{ClusterReply};
-ghost use Rattle.cluster.specs.declared.reply.ClusterReply.TheVariants as reply;
+ghost use Rattle.job_calls.specs.declared.call.ClusterCall.{ClusterCall};
+ghost use Rattle.job_calls.specs.declared.call.ClusterCall.TheVariants as asked;
+ghost use Rattle.job_calls.specs.declared.error.ClusterError.{ClusterError};
+ghost use Rattle.job_calls.specs.declared.reply.ClusterReply.{ClusterReply};
+ghost use Rattle.job_calls.specs.declared.reply.ClusterReply.TheVariants as reply;
 ghost use Rattle.cluster.specs.Timing.{IsTimely};
 ghost use Rattle.cluster.specs.Pasts.{Past, event, readings, history};
 ghost use Rattle.cluster.specs.Made.{is_given};
@@ -22,17 +22,17 @@ ghost use Rattle.cluster.specs.Headline.{MayServe, IsOwner, IsWhileHeld};
 ghost use Rattle.cluster.specs.Promises.{IsServedByRule, IsCheckedByHistory};
 ghost use Rattle.cluster.specs.Clusters.{AreActors, LeadsTo};
 
-use crate::call::ClusterCall;
 use crate::counts::Counts;
-use crate::job::Job;
 use crate::known::{KnownHandle, KnownNote};
 use crate::laws::{handle_law, interval_law, owner_law, rule_law};
-use crate::reply::ClusterReply;
 use assignment::{Assignment, TaskId};
 use clerk::Clerk;
+use grants::{Grant, ReleaseNote, policy_law};
 use indexmap::IndexSet;
-use lease_table::{Grant, LeaseTable, ReleaseNote, policy_law};
-use slicelet::{KeyHandle, Slicelet};
+use job_calls::{ClusterCall, ClusterReply, Job};
+use key_handle::KeyHandle;
+use lease_table::LeaseTable;
+use slicelet::Slicelet;
 use std::alloc::{AllocError, Global};
 
 /// The machines of one job, its lease table, slicelets and clerks, with everything that they made.

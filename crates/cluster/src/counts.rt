@@ -5,9 +5,6 @@ ghost use Rattle.cluster.specs.continued.Jobs.{Counts as CountsOf, no_counts};
 
 use std::marker::Model;
 
-/// The bound of how many notes were made earlier, and of how many handles.
-pub(crate) const MOST: u64 = 1 << 62;
-
 /// How many grants, notes, handles and proposals were made before those that a cluster keeps.
 #[derive(Clone, Copy, Debug)]
 pub(crate) struct Counts {

@@ -11,8 +11,9 @@ use crate::actors::kept_with_number;
 use crate::cluster::Cluster;
 use crate::known::{KnownHandle, KnownNote};
 use assignment::Assignment;
-use lease_table::{Grant, LeaseTable, Phase, ReleaseNote};
-use slicelet::KeyHandle;
+use grants::{Grant, Phase, ReleaseNote};
+use key_handle::KeyHandle;
+use lease_table::LeaseTable;
 
 // Returns the committed assignment of a generation, which is the proposal of that number, if it is
 // kept. The proposals before those that are kept are so many.

@@ -7,9 +7,9 @@ ghost use Rattle.std.specs.Hash as fed;
 ghost use Rattle.indexmap.specs.IndexSet.{contains, spare};
 ghost use Rattle.cluster.specs.Made.{same_note, same_handle};
 
+use grants::ReleaseNote;
 use indexmap::IndexSet;
-use lease_table::ReleaseNote;
-use slicelet::KeyHandle;
+use key_handle::KeyHandle;
 use std::alloc::AllocError;
 use std::hash::{Hash, Hasher};
 use std::marker::Model;
@@ -20,7 +20,7 @@ pub(crate) struct KnownNote {
 }
 
 impl Model for KnownNote {
-    ghost use Rattle.lease_table.specs.declared.values.ReleaseNote.{ReleaseNote};
+    ghost use Rattle.grants.specs.declared.values.ReleaseNote.{ReleaseNote};
 
     ghost Value = { ReleaseNote };
 
@@ -82,7 +82,7 @@ pub struct KnownHandle {
 }
 
 impl Model for KnownHandle {
-    ghost use Rattle.slicelet.specs.declared.handle.KeyHandle.{KeyHandle};
+    ghost use Rattle.key_handle.specs.declared.handle.KeyHandle.{KeyHandle};
 
     ghost Value = { KeyHandle };
 

@@ -1,7 +1,7 @@
 //! What was made, found by its number, and what a front asks before it makes a call.
 
 ghost use Rattle.std.specs.Prelude.{◌≡◌, ◌+◌, length, option_map, reverse};
-ghost use Rattle.cluster.specs.Jobs.{Job};
+ghost use Rattle.job_calls.specs.Jobs.{Job};
 ghost use Rattle.cluster.specs.continued.Jobs.{Continued, job_in};
 ghost use Rattle.cluster.specs.continued.Deliveries.{known_grant, known_slicing};
 ghost use Rattle.cluster.specs.continued.Clusters as continued;
@@ -14,11 +14,11 @@ ghost use Rattle.lease_table.specs.Tables.{phase_of};
 ghost use Rattle.lease_table.specs.Steps.{propose_checks};
 ghost use Rattle.clerk.specs.declared.call.ClerkCall.TheVariants.{Learn};
 ghost use Rattle.clerk.specs.Calls.{clerk_step};
-ghost use Rattle.slicelet.specs.declared.call.SliceletCall.TheVariants.{Hear};
+ghost use Rattle.grants.specs.declared.slicelet_call.SliceletCall.TheVariants.{Hear};
 ghost use Rattle.slicelet.specs.Steps.{slicelet_step};
-ghost use Rattle.cluster.specs.declared.call.ClusterCall.TheVariants as asked;
-ghost use Rattle.cluster.specs.declared.error.ClusterError.TheVariants as error;
-ghost use Rattle.cluster.specs.declared.reply.ClusterReply.TheVariants as reply;
+ghost use Rattle.job_calls.specs.declared.call.ClusterCall.TheVariants as asked;
+ghost use Rattle.job_calls.specs.declared.error.ClusterError.TheVariants as error;
+ghost use Rattle.job_calls.specs.declared.reply.ClusterReply.TheVariants as reply;
 ghost use Rattle.cluster.specs.Replies.{by_actor};
 ghost use Rattle.cluster.specs.Clusters.{LeadsTo, slicelet_of};
 
@@ -26,14 +26,15 @@ use crate::actors::{kept_with_number, place_of};
 use crate::clerks::told_by_clerk;
 use crate::cluster::Cluster;
 use crate::deliveries::published;
-use crate::error::ClusterError;
-use crate::reply::ClusterReply;
 use crate::tasks::told_by_task;
 use assignment::{Assignment, Slice};
 use clerk::{Clerk, ClerkError, ClerkReply};
-use lease_table::{Grant, LeaseTable, Phase, ReleaseNote, TableError};
+use grants::{Grant, Phase, ReleaseNote, SliceletError, SliceletReply, TableError};
+use job_calls::{ClusterError, ClusterReply};
+use key_handle::KeyHandle;
+use lease_table::LeaseTable;
 use machines::Trouble;
-use slicelet::{KeyHandle, Slicelet, SliceletError, SliceletReply};
+use slicelet::Slicelet;
 use std::alloc::AllocError;
 
 impl Cluster {

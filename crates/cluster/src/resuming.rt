@@ -5,26 +5,30 @@ ghost use Rattle.std.specs.List.{list_any};
 ghost use Rattle.machines.specs.Refusals.{first_of};
 ghost use Rattle.machines.specs.declared.machine.Trouble.TheVariants.{NoMemory};
 ghost use Rattle.indexmap.specs.IndexSet.{contains};
-ghost use Rattle.lease_table.specs.Snapshots.{snapshot_checks, resumed_from};
-ghost use Rattle.lease_table.specs.declared.values.ReleaseNote.{ReleaseNote as Note};
-ghost use Rattle.slicelet.specs.declared.handle.KeyHandle.{KeyHandle as Handle};
+ghost use Rattle.grants.specs.Snapshots.{snapshot_checks};
+ghost use Rattle.lease_table.specs.Snapshots.{resumed_from};
+ghost use Rattle.grants.specs.declared.values.ReleaseNote.{ReleaseNote as Note};
+ghost use Rattle.key_handle.specs.declared.handle.KeyHandle.{KeyHandle as Handle};
+ghost use Rattle.job_calls.specs.Snapshots.{resume_checks};
 ghost use Rattle.cluster.specs.Pasts.{Past};
 ghost use Rattle.cluster.specs.Made.{same_note, same_handle};
 ghost use Rattle.cluster.specs.continued.Clusters as continued;
-ghost use Rattle.cluster.specs.continued.Snapshots.{calls_in, continued_from, remembered_in, resume_checks, IsSnapshotOf, IsResumeTrouble};
+ghost use Rattle.cluster.specs.continued.Snapshots.{calls_in, continued_from, remembered_in, IsSnapshotOf, IsResumeTrouble};
 ghost use Rattle.cluster.specs.internals.Resuming.{IsPlayedTo, IsRefused, AreResumed, AreRefused, StandsAt, counts_in};
 
 use crate::cluster::Cluster;
-use crate::counts::{Counts, MOST};
-use crate::job::Job;
+use crate::counts::Counts;
 use crate::known::{KnownHandle, KnownNote, insert_reserved};
-use crate::snapshot::{ClusterSnapshot, ResumeFault, TaskSnapshot};
-use assignment::{Assignment, TaskId};
-use clerk::Clerk;
+use assignment::TaskId;
+use grants::{Policy, ReleaseNote, SliceletError, TableSnapshot};
 use indexmap::IndexSet;
-use lease_table::{Grant, LeaseTable, Policy, ReleaseNote, TableSnapshot};
+use job_calls::{
+    ClusterSnapshot, Job, ResumeFault, TaskSnapshot, assignment_copies, clerk_copies, grant_copies,
+};
+use key_handle::KeyHandle;
+use lease_table::LeaseTable;
 use machines::Trouble;
-use slicelet::{KeyHandle, Slicelet, SliceletError};
+use slicelet::Slicelet;
 use std::alloc::{AllocError, Global};
 
 // Plays the calls of a task's process on a new slicelet.
@@ -78,39 +82,6 @@ fn resumed_table(
         Ok(table) => Ok(table),
         Err(_) => Err(AllocError),
     }
-}
-
-fn clerk_copies(alloc: Global, clerks: &[Clerk]) -> Result<Vec<Clerk>, AllocError>
-    ensures { IfOk result (λ copies. copies.items ≡ clerks.now) }
-{
-    let mut copies = Vec::new(alloc);
-    for clerk in clerks {
-        copies.push(clerk.copy()?)?;
-    }
-    Ok(copies)
-}
-
-fn grant_copies(alloc: Global, grants: &[Grant]) -> Result<Vec<Grant>, AllocError>
-    ensures { IfOk result (λ copies. copies.items ≡ grants.now) }
-{
-    let mut copies = Vec::new(alloc);
-    for grant in grants {
-        copies.push(grant.copy()?)?;
-    }
-    Ok(copies)
-}
-
-fn assignment_copies(
-    alloc: Global,
-    assignments: &[Assignment],
-) -> Result<Vec<Assignment>, AllocError>
-    ensures { IfOk result (λ copies. copies.items ≡ assignments.now) }
-{
-    let mut copies = Vec::new(alloc);
-    for assignment in assignments {
-        copies.push(assignment.copy()?)?;
-    }
-    Ok(copies)
 }
 
 // Returns the notes as a set.
@@ -178,34 +149,6 @@ fn resumed_with(
     })
 }
 
-impl ClusterSnapshot {
-    /// Returns why no machines of this job stand at the snapshot: the first [`ResumeFault`] that
-    /// holds, but for `TaskCalls`, or `None`.
-    pub fn fault(&self, job: Job) -> Option<ResumeFault>
-        ensures { result ≡ first_of (resume_checks job self.now) }
-    {
-        if let Some(fault) = self.table.fault(job.policy()) {
-            return Some(ResumeFault::Table(fault));
-        }
-        if self.tasks.len() as u64 != job.tasks() {
-            return Some(ResumeFault::Tasks);
-        }
-        if self.clerks.len() as u64 != job.clerks() {
-            return Some(ResumeFault::Clerks);
-        }
-        if self.table.kept.granted < self.grants.len() as u64 {
-            return Some(ResumeFault::Grants);
-        }
-        if self.table.newest_generation() < self.assignments.len() as u64 {
-            return Some(ResumeFault::Assignments);
-        }
-        if self.notes_made > MOST || self.handles_made > MOST {
-            return Some(ResumeFault::Counts);
-        }
-        None
-    }
-}
-
 impl Cluster {
     /// Builds the machines of a job that stand at a snapshot.
     ///
@@ -229,7 +172,7 @@ impl Cluster {
         ensures again { (past : Past) → IsSnapshotOf job past snapshot.now → snapshot.now.notes_made ≤ 2 ^ 62 → snapshot.now.handles_made ≤ 2 ^ 62
             → IfErr result (λ trouble. trouble ≡ NoMemory) }
     {
-        lease_table::policy_law(job.policy());
+        grants::policy_law(job.policy());
         if let Some(fault) = snapshot.fault(job) {
             return Err(Trouble::Refused(fault));
         }

@@ -6,19 +6,18 @@ ghost use Rattle.lease_table.specs.Steps.{propose_step, grant_step};
 ghost use Rattle.lease_table.specs.Calls.{table_step};
 ghost use Rattle.cluster.specs.continued.Jobs.{Continued};
 ghost use Rattle.cluster.specs.continued.Clusters as continued;
-ghost use Rattle.cluster.specs.declared.call.ClusterCall.TheVariants as asked;
-ghost use Rattle.cluster.specs.declared.error.ClusterError.TheVariants as error;
-ghost use Rattle.cluster.specs.declared.reply.ClusterReply.TheVariants as reply;
+ghost use Rattle.job_calls.specs.declared.call.ClusterCall.TheVariants as asked;
+ghost use Rattle.job_calls.specs.declared.error.ClusterError.TheVariants as error;
+ghost use Rattle.job_calls.specs.declared.reply.ClusterReply.TheVariants as reply;
 ghost use Rattle.cluster.specs.Pasts.{Past, event};
 ghost use Rattle.cluster.specs.continued.Deliveries.{table_refusal};
 ghost use Rattle.cluster.specs.internals.Turns.{told_as, makes_nothing, grants_kept, proposals_kept, OnlyTakes, IsSameBesideTable};
 
 use crate::actors::{is_within, unless};
 use crate::cluster::Cluster;
-use crate::error::ClusterError;
-use crate::reply::ClusterReply;
 use assignment::{Assignment, TaskId};
-use lease_table::{Grant, TableCall, TableError, TableReply};
+use grants::{Grant, TableCall, TableError, TableReply};
+use job_calls::{ClusterError, ClusterReply};
 use machines::{Listed, Trouble};
 use std::alloc::AllocError;
 

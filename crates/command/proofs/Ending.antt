@@ -13,7 +13,7 @@ use Rattle.command.specs.declared.arguments.Request.{Request}
 use Rattle.command.specs.declared.arguments.ScriptText.{ScriptText}
 use Rattle.command.specs.declared.arguments.Source.TheVariants as source
 use Rattle.program_io.specs.Status.{status_after}
-use Rattle.diagnosis.specs.Faults.{AnswerError}
+use Rattle.faults.specs.Faults.{AnswerError}
 use Rattle.command.specs.Runs.{IsAnswered, IsFailed}
 use Rattle.command.specs.Endings.{IsPlayed, IsTold, EndsBy, Ends}
 use Rattle.command.specs.Words.{word_faults}

@@ -7,20 +7,19 @@ use Rattle.program_io.proofs.Bytes.{consumes_more, consumes_none}
 use Rattle.program_io.specs.declared.line.TheConstants.{MOST_LINE_BYTES}
 use Rattle.program_io.specs.Endings.{IsCut}
 use Rattle.program_io.specs.Streams.{ReadsAll}
-use Rattle.cluster.specs.declared.snapshot.ClusterSnapshot.{ClusterSnapshot}
-use Rattle.call_log.specs.declared.auditing.LogReport.{LogReport}
-use Rattle.call_log.specs.declared.log_reader.LogReader.{LogReader}
-use Rattle.call_log.specs.declared.log_reader.ReadLog.{ReadLog}
+use Rattle.job_calls.specs.declared.snapshot.ClusterSnapshot.{ClusterSnapshot}
+use Rattle.log_words.specs.declared.auditing.LogReport.{LogReport}
+use Rattle.log_line.specs.declared.log_reader.LogReader.{LogReader}
+use Rattle.log_line.specs.declared.log_reader.ReadLog.{ReadLog}
 use Rattle.log_view.specs.declared.window.View.{View}
-use Rattle.call_log.specs.Readers.{IsReading}
-use Rattle.call_log.specs.Files.{PlacedLine, AreShort, numbered, lines_in, lines_from}
+use Rattle.log_line.specs.Readers.{IsReading}
+use Rattle.log_line.specs.Files.{PlacedLine, AreShort, numbered, lines_in, lines_from}
 use Rattle.command.specs.declared.arguments.AuditFlags.{AuditFlags}
 use Rattle.command.specs.declared.arguments.LogText.{LogText}
 use Rattle.command.specs.declared.arguments.ViewWords.{ViewWords}
 use Rattle.command.specs.declared.log_audit.AuditError.{AuditError}
 use Rattle.command.specs.declared.log_audit.AuditError.TheVariants as audit
-use Rattle.command.specs.Audits.{AreJudged, AreLogsKept, AreLogsRead, AreLogsTaken, AreNotJudged, AreOpened, AreRead, EndsInLine, IsJudged, IsLogBytes, IsLogRead}
-use Rattle.command.specs.Audits.{IsLogTaken, IsNotAudited, IsOneMore, IsReport, IsSomeReport, IsStateRead, passes}
+use Rattle.command.specs.Audits.{AreJudged, AreLogsKept, AreLogsRead, AreLogsTaken, AreNotJudged, AreOpened, AreRead, EndsInLine, IsJudged, IsLogBytes, IsLogRead, IsLogTaken, IsNotAudited, IsOneMore, IsReport, IsSomeReport, IsStateRead, passes}
 use Rattle.command.specs.internals.{AreLogsAfter, AreNotAfter}
 use Rattle.command.specs.Shows.{AreShown, HaveNoCalls, IsNoneShown, IsShownOf}
 use Rattle.command.specs.Views.{IsViewOf}

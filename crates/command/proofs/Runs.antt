@@ -10,7 +10,7 @@ use Rattle.memchr.specs.Find.{NoneAfter, Nowhere, Passes, is_byte}
 use Rattle.program_io.specs.declared.line.TheConstants.{MOST_LINE_BYTES}
 use Rattle.program_io.specs.Lines.{is_long}
 use Rattle.program_io.proofs.PartReading.{long_by_many}
-use Rattle.call_log.specs.Files.{FileLine, line_with, in_front, lines_in, numbered, AreShort}
+use Rattle.log_line.specs.Files.{FileLine, line_with, in_front, lines_in, numbered, AreShort}
 use Rattle.command.specs.Audits.{EndsInLine}
 
 -- ---- piece by piece

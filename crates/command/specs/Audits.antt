@@ -1,6 +1,5 @@
 -- What `hourstable audit` writes, and the status that it exits with.
-use Rattle.std.specs.Prelude.{◌≡◌, ◌≢◌, ◌⊎◌, ◌+◌, ◌<◌, ◌^◌, ◌++◌, ◌&&◌, ℕ, Bool, true, false, List, [], ◌∷◌, All, length, codes, decimal}
-use Rattle.std.specs.Prelude.{string_bytes, Option, Some, None, Result, Ok, Err, ⊤, if◌then◌else◌}
+use Rattle.std.specs.Prelude.{◌≡◌, ◌≢◌, ◌⊎◌, ◌+◌, ◌<◌, ◌^◌, ◌++◌, ◌&&◌, ℕ, Bool, true, false, List, [], ◌∷◌, All, length, codes, decimal, string_bytes, Option, Some, None, Result, Ok, Err, ⊤, if◌then◌else◌}
 use Rattle.std.specs.Borrow.{Bor}
 use Rattle.std.specs.Io.{IsEmptyOrEndsWith}
 use Rattle.std.specs.Io.KnownBytes.{Consumes, Keeps}
@@ -9,19 +8,19 @@ use Rattle.program_io.specs.declared.line.TheConstants.{MOST_LINE_BYTES}
 use Rattle.program_io.specs.Endings.{IsCut, IsWritten}
 use Rattle.clocks.specs.declared.drift.Drift.{Drift}
 use Rattle.cluster.specs.continued.Jobs.{Continued}
-use Rattle.cluster.specs.declared.snapshot.ClusterSnapshot.{ClusterSnapshot}
+use Rattle.job_calls.specs.declared.snapshot.ClusterSnapshot.{ClusterSnapshot}
 use Rattle.snapshot_text.specs.Lines.{first_line}
 use Rattle.snapshot_text.specs.Texts.{IsText}
-use Rattle.call_log.specs.Audits.{IsAudited}
-use Rattle.call_log.specs.Readers.{IsReading, IsReadLog}
-use Rattle.call_log.specs.declared.log_reader.LogReader.{LogReader}
-use Rattle.call_log.specs.declared.log_reader.ReadLog.{ReadLog}
-use Rattle.call_log.specs.declared.auditing.AuditOptions.{AuditOptions}
-use Rattle.call_log.specs.declared.auditing.LogReport.{LogReport}
-use Rattle.call_log.specs.Files.{IsLog, IsUnread, lines_from}
-use Rattle.call_log.specs.Starts.{BeginsAt}
-use Rattle.call_log.specs.declared.log.Log.{Log}
-use Rattle.call_log.specs.declared.log.LogError.{LogError}
+use Rattle.log_words.specs.Audits.{IsAudited}
+use Rattle.log_line.specs.Readers.{IsReading, IsReadLog}
+use Rattle.log_line.specs.declared.log_reader.LogReader.{LogReader}
+use Rattle.log_line.specs.declared.log_reader.ReadLog.{ReadLog}
+use Rattle.log_words.specs.declared.auditing.AuditOptions.{AuditOptions}
+use Rattle.log_words.specs.declared.auditing.LogReport.{LogReport}
+use Rattle.log_line.specs.Files.{IsLog, IsUnread, lines_from}
+use Rattle.log_run.specs.Starts.{BeginsAt}
+use Rattle.log_line.specs.declared.log.Log.{Log}
+use Rattle.log_line.specs.declared.log.LogError.{LogError}
 use Rattle.command.specs.declared.arguments.AuditFlags.{AuditFlags}
 use Rattle.command.specs.declared.log_audit.AuditError.{AuditError}
 use Rattle.command.specs.declared.log_audit.AuditError.TheVariants as audit

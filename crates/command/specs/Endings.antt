@@ -10,7 +10,7 @@ use Rattle.command.specs.declared.arguments.Asked.TheVariants as asked
 use Rattle.command.specs.declared.arguments.Request.{Request}
 use Rattle.command.specs.declared.arguments.ScriptText.{ScriptText}
 use Rattle.program_io.specs.Status.{status_after}
-use Rattle.diagnosis.specs.Faults.{AnswerError}
+use Rattle.faults.specs.Faults.{AnswerError}
 use Rattle.command.specs.Runs.{IsAnswered, IsFailed}
 use Rattle.command.specs.Audits.{IsAuditEnd}
 use Rattle.command.specs.Shows.{IsShowEnd}

@@ -3,17 +3,18 @@ use Rattle.std.specs.Prelude.{◌≡◌, ◌⊎◌, ℕ, suc, List, [], ◌∷�
 use Rattle.std.specs.Global.{Vec}
 use Rattle.serde_json.specs.Data.{Data}
 use Rattle.world.specs.declared.step.Step.{Step}
-use Rattle.world.specs.declared.reply.Reply.{Reply}
+use Rattle.replies.specs.declared.reply.Reply.{Reply}
 use Rattle.program_io.specs.Json.{IsJson, IsNoJson}
 use Rattle.program_io.specs.Endings.{IsAnswered as IsAnsweredBy, IsUnanswered}
-use Rattle.service.specs.declared.fault.ScriptError.{ScriptError}
-use Rattle.service.specs.declared.fault.ScriptError.TheVariants.{NotJson}
+use Rattle.faults.specs.declared.script_error.ScriptError.{ScriptError}
+use Rattle.faults.specs.declared.script_error.ScriptError.TheVariants.{NotJson}
 use Rattle.service.specs.declared.script.Script.{Script}
-use Rattle.service.specs.Lines.{line_of, timely_line}
-use Rattle.service.specs.Output.{IsOutput}
+use Rattle.replies.specs.Lines.{line_of}
+use Rattle.service.specs.Output.{timely_line, IsOutput}
 use Rattle.service.specs.Service.{SaysShown, IsRefusedFor}
-use Rattle.diagnosis.specs.declared.faults.ScriptFault.{ScriptFault}
-use Rattle.diagnosis.specs.Faults.{AnswerError, refusals, refusals_of}
+use Rattle.faults.specs.declared.script_fault.ScriptFault.{ScriptFault}
+use Rattle.faults.specs.Faults.{AnswerError, refusals}
+use Rattle.diagnosis.specs.Faults.{refusals_of}
 use Rattle.explain.specs.StepWords.{step_word}
 use Rattle.explain.specs.Texts.{IsExplainedText}
 use Rattle.command.specs.declared.arguments.ScriptText.{ScriptText}

@@ -3,8 +3,8 @@ use Rattle.std.specs.Prelude.{◌≡◌, ℕ, Bool, false, List, Option, Some, N
 use Rattle.std.specs.Io.KnownBytes.{Keeps}
 use Rattle.program_io.specs.Streams.{ReadsAll}
 use Rattle.program_io.specs.Endings.{IsCut, IsWritten}
-use Rattle.call_log.specs.Files.{IsLog, lines_from}
-use Rattle.call_log.specs.declared.log.Log.{Log}
+use Rattle.log_line.specs.Files.{IsLog, lines_from}
+use Rattle.log_line.specs.declared.log.Log.{Log}
 use Rattle.log_view.specs.declared.explaining.ExplainedLog.{ExplainedLog}
 use Rattle.log_view.specs.declared.window.View.{View}
 use Rattle.log_view.specs.Explained.{IsExplainedLog}

@@ -3,7 +3,7 @@ use Rattle.std.specs.Prelude.{◌≡◌, ◌≢◌, ℕ, ◌<◌, ◌^◌, List,
 use Rattle.std.specs.Borrow.{Bor}
 use Rattle.slice_ranges.specs.Hash.{slice_key}
 use Rattle.slice_ranges.specs.declared.key.TheConstants.{KEYS}
-use Rattle.call_log.specs.declared.entry.LinePosition.{LinePosition}
+use Rattle.log_line.specs.declared.entry.LinePosition.{LinePosition}
 use Rattle.log_view.specs.declared.window.Calls.{Calls}
 use Rattle.log_view.specs.declared.window.Calls.TheVariants.{All, Around, Readings}
 use Rattle.log_view.specs.declared.window.View.{View}

@@ -1,11 +1,11 @@
 -- How logs that go on from a state are read.
 use Rattle.std.specs.Prelude.{ℕ, ⊤, List, ◌∷◌, Option}
-use Rattle.cluster.specs.declared.snapshot.ClusterSnapshot.{ClusterSnapshot}
+use Rattle.job_calls.specs.declared.snapshot.ClusterSnapshot.{ClusterSnapshot}
 use Rattle.program_io.specs.Streams.{ReadsAll}
-use Rattle.call_log.specs.Files.{IsUnread, lines_from}
-use Rattle.call_log.specs.Readers.{IsReadLog}
-use Rattle.call_log.specs.declared.log.LogError.{LogError}
-use Rattle.call_log.specs.declared.log_reader.ReadLog.{ReadLog}
+use Rattle.log_line.specs.Files.{IsUnread, lines_from}
+use Rattle.log_line.specs.Readers.{IsReadLog}
+use Rattle.log_line.specs.declared.log.LogError.{LogError}
+use Rattle.log_line.specs.declared.log_reader.ReadLog.{ReadLog}
 use Rattle.command.specs.declared.log_audit.AuditError.{AuditError}
 use Rattle.command.specs.declared.log_audit.AuditError.TheVariants as audit
 use Rattle.command.specs.Audits.{AreLogsRead, IsLogBytes, IsState}

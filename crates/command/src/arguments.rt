@@ -5,20 +5,12 @@ ghost use Rattle.clap.specs.Kinds.{FailsBy};
 ghost use Rattle.clap.specs.Matches.{found_of};
 ghost use Rattle.clap.specs.Simple.{App};
 ghost use Rattle.clap.specs.Walk.{first_of, rows_of};
-ghost use Rattle.command.specs.Words.{Asks, AsksAudit, AsksExplain, AsksRun, AsksTimeline, AreViewWords};
-ghost use Rattle.command.specs.Words.{IsOfLogs, IsOfScript, IsRequest, IsSource, log_option_given, option_given, with_first};
-ghost use Rattle.command.specs.Words.{audit_drift, audit_flags, audit_from, audit_until, audit_words, explain_flags, explain_words, run_words};
-ghost use Rattle.command.specs.Words.{shown_logs, timeline_flags, timeline_words, view_rules, with_rules};
-ghost use Rattle.command.specs.Words.{IsArgument, IsReadAs, WordsAsk, bare_hourstable, file, flag, hourstable, leaf, logs, option};
-ghost use Rattle.command.specs.Words.{word_faults};
+ghost use Rattle.command.specs.Words.{Asks, AsksAudit, AsksExplain, AsksRun, AsksTimeline, AreViewWords, IsOfLogs, IsOfScript, IsRequest, IsSource, log_option_given, option_given, with_first, audit_drift, audit_flags, audit_from, audit_until, audit_words, explain_flags, explain_words, run_words, shown_logs, timeline_flags, timeline_words, view_rules, with_rules, IsArgument, IsReadAs, WordsAsk, bare_hourstable, file, flag, hourstable, leaf, logs, option, word_faults};
 ghost use Rattle.command.specs.declared.arguments.ScriptText.TheVariants as show;
 
 use clap::{Arg, ArgAction, ArgMatches, Command, Error};
 use program_io::LIBRARY_VERSION;
 use std::alloc::{AllocError, Global};
-
-/// The toolchain with which the version was proved.
-const TOOLCHAIN: &str = "rattle-kit-13b logic dac8208d650f15bf";
 
 const STATUSES: &str = "Exit statuses:
   0  done
@@ -317,9 +309,9 @@ fn audit_command<'a>(alloc: Global) -> Result<Command<'a>, AllocError>
     audit_until(alloc)?.arg(logs_argument(alloc))
 }
 
-/// Returns the version with the toolchain that proved it, as `--version` writes it.
+/// Returns the version as `--version` writes it. The only error is out of memory.
 pub fn version_text(alloc: Global) -> Result<String, AllocError> {
-    format!(in alloc; "{LIBRARY_VERSION} (proved with {TOOLCHAIN})")
+    format!(in alloc; "{LIBRARY_VERSION}")
 }
 
 // Returns the command without its subcommands.

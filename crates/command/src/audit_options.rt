@@ -5,8 +5,8 @@ ghost use Rattle.command.specs.Audits.{AreOptionsOf, IsDriftGiven, IsDriftOrNone
 
 use crate::arguments::AuditFlags;
 use crate::log_audit::AuditError;
-use call_log::AuditOptions;
 use clocks::Drift;
+use log_words::AuditOptions;
 use std::alloc::{AllocError, Global};
 
 // Returns the drift that is written `EXTRA/PER/GRAIN`.

@@ -1,11 +1,10 @@
 //! `hourstable audit`: reads logs, and writes a report.
 
 ghost use Rattle.std.specs.Prelude.{◌≡◌, ◌+◌, ◌++◌, ◌∷◌, ◌<◌, ◌^◌, [], ℕ, true, false, List, length, IfErr, IfOk, map};
-ghost use Rattle.call_log.specs.Files.{lines_from};
-ghost use Rattle.call_log.specs.Readers.{IsReading, IsReadLog};
+ghost use Rattle.log_line.specs.Files.{lines_from};
+ghost use Rattle.log_line.specs.Readers.{IsReading, IsReadLog};
 ghost use Rattle.command.specs.declared.log_audit.AuditError.TheVariants as fault;
-ghost use Rattle.command.specs.Audits.{AreJudged, AreLogsKept, AreLogsTaken, AreNotJudged, AreOpened, EndsInLine, IsJudged, IsLogBytes};
-ghost use Rattle.command.specs.Audits.{IsLogRead, IsLogTaken, IsNotAudited, IsNotRead, IsNotSaved, IsOneMore, IsUnjudged, passes, status_of};
+ghost use Rattle.command.specs.Audits.{AreJudged, AreLogsKept, AreLogsTaken, AreNotJudged, AreOpened, EndsInLine, IsJudged, IsLogBytes, IsLogRead, IsLogTaken, IsNotAudited, IsNotRead, IsNotSaved, IsOneMore, IsUnjudged, passes, status_of};
 ghost use Rattle.command.specs.internals.{AreLogsAfter, AreNotAfter};
 
 use crate::arguments::AuditFlags;
@@ -13,9 +12,11 @@ use crate::audit_options::options_of;
 use crate::saved_state::{
     SavedState, check_state, read_state, say_bad_state, say_other_state, state_text,
 };
-use call_log::{LinePosition, LogError, LogReader, LogReport, Progress, ReadLog, audit_log};
-use cluster::{ClusterSnapshot, ResumeFault};
-use diagnosis::{Escaped, LONG_WORDS, say_about, say_memory, say_write};
+use diagnosis::{say_about, say_memory, say_write};
+use faults::{Escaped, LONG_WORDS};
+use job_calls::{ClusterSnapshot, ResumeFault};
+use log_line::{LinePosition, LogError, LogReader, Progress, ReadLog};
+use log_words::{LogReport, audit_log};
 use memchr::memrchr;
 use program_io::{MOST_LINE_BYTES, ReadError, WriteError, write_all};
 use snapshot_text::SnapshotError;

@@ -8,7 +8,7 @@ ghost use Rattle.command.specs.Shows.{AreShown, HasNothingShown, IsNoneShown, Is
 use crate::arguments::{LogText, ViewWords};
 use crate::log_audit::{AuditError, Counting, read_all, say_torn};
 use crate::view_words::view_of;
-use call_log::{LinePosition, Log, Progress, ReadLog};
+use log_line::{LinePosition, Log, Progress, ReadLog};
 use log_picture::{LogPicture, log_svg};
 use log_view::{View, explain_log};
 use program_io::write_all;

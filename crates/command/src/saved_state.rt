@@ -8,8 +8,9 @@ ghost use Rattle.command.specs.Audits.{IsNotRead, IsState, IsStateRead};
 ghost use Rattle.command.specs.internals.{IsStateFrom};
 
 use crate::log_audit::AuditError;
-use cluster::{Cluster, ClusterSnapshot, Job, ResumeFault};
-use diagnosis::Escaped;
+use cluster::Cluster;
+use faults::Escaped;
+use job_calls::{ClusterSnapshot, Job, ResumeFault};
 use machines::Trouble;
 use program_io::{ReadError, read_all};
 use snapshot_text::{SnapshotError, first_line, snapshot_of, snapshot_text};

@@ -8,16 +8,18 @@ ghost use Rattle.program_io.specs.Status.{IsUnread};
 ghost use Rattle.command.specs.Runs.{AreFaultsOf, IsShown, IsShownNumbered, IsAnswered, IsFailed, numbered_lines, numbered_text};
 
 use crate::arguments::ScriptText;
-use diagnosis::{AnswerError, faults_of, first_fault_law, json_faults};
+use diagnosis::{faults_of, first_fault_law};
 use explain::{explained_text, step_word};
-use lease_table::policy_law;
+use faults::{AnswerError, json_faults};
+use grants::policy_law;
 use program_io::{Fault, read_all, write_all};
+use replies::{Line, Reply};
 use serde_json::{Category, Value};
-use service::{Line, Script, is_timely, output_of, replies_of, script_of};
+use service::{Script, is_timely, output_of, replies_of, script_of};
 use std::alloc::{AllocError, Global};
 use std::io::{Read, Write};
 use timeline::timeline_svg;
-use world::{Reply, Step};
+use world::Step;
 
 // Parses the script in the bytes.
 fn script_in(alloc: Global, bytes: &[u8]) -> Result<Script, AnswerError>

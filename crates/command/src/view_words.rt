@@ -6,7 +6,7 @@ ghost use Rattle.command.specs.Views.{AreWanted, IsIndexOrNone, IsKeyWanted, IsP
 
 use crate::arguments::ViewWords;
 use crate::log_audit::{AuditError, ViewFault};
-use call_log::LinePosition;
+use log_line::LinePosition;
 use log_view::{Calls, View};
 use slice_ranges::{SliceKey, slice_key};
 use std::alloc::{AllocError, Global};

@@ -5,8 +5,8 @@ use Rattle.world.specs.Jobs.{Job}
 use Rattle.world.specs.declared.step.Step.{Step}
 use Rattle.program_io.specs.declared.fault.WrongForm.{WrongForm}
 use Rattle.program_io.specs.Reading.{◌>>=◌, in_turn}
-use Rattle.service.specs.declared.fault.ScriptError.{ScriptError}
-use Rattle.service.specs.declared.fault.ScriptError.TheVariants.{BadStep}
+use Rattle.faults.specs.declared.script_error.ScriptError.{ScriptError}
+use Rattle.faults.specs.declared.script_error.ScriptError.TheVariants.{BadStep}
 use Rattle.service.specs.declared.script.Script.{Script}
 use Rattle.service.specs.Scripts.{or_refuse, step_at, steps_of, head_of, script_of}
 use Rattle.service.specs.Steps.{step_of}

@@ -1,5 +1,3 @@
 pub mod Telling
-pub mod NoJob
 pub mod Lines
 pub mod FirstFault
-pub mod ByteDigits

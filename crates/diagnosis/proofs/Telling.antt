@@ -6,8 +6,8 @@ use Rattle.world.specs.Jobs.{Job}
 use Rattle.world.specs.declared.step.Step.{Step}
 use Rattle.program_io.specs.declared.fault.WrongForm.{WrongForm}
 use Rattle.program_io.specs.Members.{wrong}
-use Rattle.service.specs.declared.fault.ScriptError.{ScriptError}
-use Rattle.service.specs.declared.fault.ScriptError.TheVariants.{BadStep}
+use Rattle.faults.specs.declared.script_error.ScriptError.{ScriptError}
+use Rattle.faults.specs.declared.script_error.ScriptError.TheVariants.{BadStep}
 use Rattle.service.specs.Steps.{step_of}
 use Rattle.diagnosis.specs.Faults.{before, bad_steps}
 

@@ -1,4 +1,2 @@
 pub mod Faults
-pub mod JobLines
-pub mod Quoted
 pub mod Sayings

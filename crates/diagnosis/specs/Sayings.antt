@@ -3,9 +3,9 @@ use Rattle.std.specs.Prelude.{◌++◌, ℕ, List, codes, Option}
 use Rattle.std.specs.Io.KnownBytes.{Appends}
 use Rattle.std.specs.List.{flat_map}
 use Rattle.program_io.specs.declared.fault.Fault.TheVariants as fault
-use Rattle.diagnosis.specs.declared.faults.ScriptFault.{ScriptFault}
-use Rattle.diagnosis.specs.Faults.{AnswerError, fault_words}
-use Rattle.diagnosis.specs.Quoted.{escaped}
+use Rattle.faults.specs.declared.script_fault.ScriptFault.{ScriptFault}
+use Rattle.faults.specs.Faults.{AnswerError, fault_words}
+use Rattle.faults.specs.Quoted.{escaped}
 
 -- a line of the command
 abbrev pub line : List ℕ → List ℕ

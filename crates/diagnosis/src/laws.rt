@@ -2,7 +2,7 @@
 
 ghost use Rattle.std.specs.Prelude.{◌≡◌, List, [], ◌∷◌, Ok, Err};
 ghost use Rattle.serde_json.specs.Data.{Data};
-ghost use Rattle.service.specs.declared.fault.ScriptError.{ScriptError};
+ghost use Rattle.faults.specs.declared.script_error.ScriptError.{ScriptError};
 ghost use Rattle.service.specs.declared.script.Script.{Script};
 ghost use Rattle.service.specs.Scripts.{script_of};
 ghost use Rattle.diagnosis.specs.Faults.{refusals_of};

@@ -2,11 +2,10 @@
 
 ghost use Rattle.std.specs.Prelude.{OnOk};
 ghost use Rattle.std.specs.Io.KnownBytes.{Appends};
-ghost use Rattle.diagnosis.specs.Faults.{fault_words};
+ghost use Rattle.faults.specs.Faults.{fault_words};
 ghost use Rattle.diagnosis.specs.Sayings.{IsFaultSaid, fault_lines, line_about, memory_line, write_line};
 
-use crate::faults::{AnswerError, ScriptFault};
-use crate::quoted::Escaped;
+use faults::{AnswerError, Escaped, ScriptFault};
 use program_io::Fault;
 use std::io::{self, Write};
 

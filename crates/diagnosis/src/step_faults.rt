@@ -1,37 +1,10 @@
 //! How to fix an element that is not a step.
 
-use crate::found::Found;
-use crate::quoted::Quoted;
-use crate::steps::{Members, members_of};
-use crate::wanted::{Wanted, WrongMember};
-use serde_json::{Map, Value};
+use crate::steps::members_of;
+use faults::{Found, Members, Quoted, Wanted, WrongMember, missing_member, unknown_member};
+use serde_json::Value;
 use std::alloc::{AllocError, Global};
 use world::Job;
-
-/// Returns the first member of an object that is neither in `members` nor named `other`.
-pub fn unknown_member<'v>(
-    object: &'v Map<String, Value>,
-    members: Members,
-    other: &str,
-) -> Option<&'v str> {
-    for name in object.keys() {
-        let name = name.as_str();
-        if name != other && !members.has(name) {
-            return Some(name);
-        }
-    }
-    None
-}
-
-/// Returns the first of these members that an object lacks.
-pub fn missing_member(value: &Value, members: Members) -> Option<&'static str> {
-    for name in members.names {
-        if value.get(*name).is_none() {
-            return Some(*name);
-        }
-    }
-    None
-}
 
 // Describes the first of these members whose value is wrong.
 fn wrong_member(

@@ -1,40 +1,6 @@
 //! The members of each step, in the order in which they are checked.
 
-use std::fmt;
-
-/// The members that a kind of object has, in the order in which they are checked.
-#[derive(Clone, Copy)]
-pub struct Members {
-    /// What the object is.
-    pub kind: &'static str,
-    /// The names of its members, without the `do` of a step.
-    pub names: &'static [&'static str],
-}
-
-impl Members {
-    /// Whether there is a member with this name.
-    pub fn has(self, name: &str) -> bool {
-        for member in self.names {
-            if *member == name {
-                return true;
-            }
-        }
-        false
-    }
-}
-
-impl fmt::Display for Members {
-    fn fmt<W: fmt::Write>(&self, f: &mut fmt::Formatter<W>) -> fmt::Result {
-        let [first, others @ ..] = self.names else {
-            return f.write_str("the only member is \"do\"");
-        };
-        write!(f, "the members are {first}")?;
-        for member in others {
-            write!(f, ", {member}")?;
-        }
-        Ok(())
-    }
-}
+use faults::Members;
 
 /// The members of each step, by its name.
 const STEPS: &[(&str, &[&str])] = &[

@@ -2,13 +2,13 @@
 use Rattle.std.proofs.Common.{◌≡◌, ◌∙◌, ℕ, ◌≤◌, Bool, true, false, not, refl, sym, ap, arith, true≢false}
 use Rattle.std.specs.Prelude.{◌==◌, ◌&&◌, ◌||◌, nat_lt, nat_le, Option, Some, None, Result, Ok, Err, if◌then◌else◌}
 use Rattle.std.proofs.lemmas.Bool.Decides.{nat_tests}
-use Rattle.slicelet.specs.declared.handle.KeyHandle.{KeyHandle}
-use Rattle.slicelet.specs.declared.error.Stranger.{Stranger}
+use Rattle.key_handle.specs.declared.handle.KeyHandle.{KeyHandle}
+use Rattle.grants.specs.declared.slicelet_error.Stranger.{Stranger}
 use Rattle.lease_rule.specs.declared.answer.Ground.{Ground}
 use Rattle.lease_rule.specs.declared.answer.Verdict.{Verdict}
 use Rattle.lease_rule.specs.declared.answer.Verdict.TheVariants.{Allow, Deny}
 use Rattle.slicelet.specs.Continuity.{handle_on, held_by, checked_in}
-use Rattle.slicelet.specs.Handles.{is_up_to}
+use Rattle.key_handle.specs.Handles.{is_up_to}
 use Rattle.slicelet.specs.Rules.{covers_key, is_allowed}
 use Rattle.slicelet.specs.States.{SliceletState, stamp_in, rule_in_state, permits}
 use Rattle.explain.specs.Breaking.{taken_after, HasNoBreakingCall}

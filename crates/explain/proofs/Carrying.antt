@@ -5,13 +5,14 @@ use Rattle.assignment.specs.Slices.{Slicing}
 use Rattle.assignment.specs.Owners.{owners_of}
 use Rattle.lease_rule.specs.declared.answer.Verdict.{Verdict}
 use Rattle.lease_rule.specs.declared.answer.Verdict.TheVariants.{Deny}
-use Rattle.lease_table.specs.declared.values.Grant.{Grant}
-use Rattle.lease_table.specs.declared.values.ReleaseNote.{ReleaseNote}
-use Rattle.lease_table.specs.Policies.{Terms}
-use Rattle.lease_table.specs.Tables.{Standing, generation_of, slices_of}
+use Rattle.grants.specs.declared.values.Grant.{Grant}
+use Rattle.grants.specs.declared.values.ReleaseNote.{ReleaseNote}
+use Rattle.grants.specs.Policies.{Terms}
+use Rattle.lease_table.specs.Tables.{Standing}
+use Rattle.grants.specs.Assignments.{generation_of, slices_of}
 use Rattle.lease_table.specs.Calls.{AnsweredTableCall, committed_in, standing_after, grants_sent}
-use Rattle.slicelet.specs.declared.call.SliceletCall.{SliceletCall}
-use Rattle.slicelet.specs.declared.handle.KeyHandle.{KeyHandle}
+use Rattle.grants.specs.declared.slicelet_call.SliceletCall.{SliceletCall}
+use Rattle.key_handle.specs.declared.handle.KeyHandle.{KeyHandle}
 use Rattle.slicelet.specs.Rules.{covers_key}
 use Rattle.slicelet.specs.States.{SliceletState, state_after, greatest_in, rule_in_state}
 use Rattle.cluster.specs.Numbers.{with_number}
@@ -19,7 +20,7 @@ use Rattle.cluster.specs.Pasts.{Past as Calls, table_calls, standing, grants, hi
 use Rattle.world.specs.Jobs.{Job}
 use Rattle.world.specs.declared.step.Step.{Step}
 use Rattle.world.specs.declared.step.Step.TheVariants as step
-use Rattle.world.specs.declared.reply.Reply.{Reply}
+use Rattle.replies.specs.declared.reply.Reply.{Reply}
 use Rattle.world.specs.Pasts.{Past}
 use Rattle.explain.specs.declared.reason.Break.{Break}
 use Rattle.explain.specs.declared.reason.Break.TheVariants as break

@@ -1,12 +1,12 @@
 -- What breaks a handle.
 use Rattle.std.proofs.Common.{◌≡◌, ℕ, true, false, refl, sym, subst}
 use Rattle.std.specs.Prelude.{Option, Some, None, MatchOption, reverse, ◌↔◌}
-use Rattle.slicelet.specs.declared.handle.KeyHandle.{KeyHandle}
+use Rattle.key_handle.specs.declared.handle.KeyHandle.{KeyHandle}
 use Rattle.slicelet.specs.Accepted.{AreAccepted, StandsAfter}
 use Rattle.slicelet.specs.Continuity.{is_strange, IsContinuous}
 use Rattle.slicelet.specs.Rules.{covers_key}
 use Rattle.slicelet.specs.States.{SliceletState, permits}
-use Rattle.cluster.specs.Jobs.{Job}
+use Rattle.job_calls.specs.Jobs.{Job}
 use Rattle.cluster.specs.Numbers.{with_number}
 use Rattle.cluster.specs.Pasts.{Past as Calls, history, task_calls}
 use Rattle.cluster.specs.Deliveries.{handles_made}

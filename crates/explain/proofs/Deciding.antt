@@ -7,7 +7,7 @@ use Rattle.lease_rule.specs.declared.answer.Ground.TheVariants.{Down, ClockBack,
 use Rattle.lease_rule.specs.declared.answer.Verdict.TheVariants.{Allow, Deny}
 use Rattle.lease_rule.specs.Leases.{SeenLease}
 use Rattle.lease_rule.specs.Rule.{serving_generation, is_covered, live_generation}
-use Rattle.lease_table.specs.declared.values.Grant.{Grant}
+use Rattle.grants.specs.declared.values.Grant.{Grant}
 use Rattle.slicelet.specs.Rules.{seen_by}
 use Rattle.slicelet.specs.States.{SliceletState, held_in, holding_in, rule_in_state}
 use Rattle.explain.specs.declared.reason.TaskLease.{TaskLease}

@@ -4,8 +4,8 @@ use Rattle.std.specs.Prelude.{Some, None, slice_get, nat_lt, if◌then◌else◌
 use Rattle.std.proofs.lemmas.Bool.Decides.{nat_tests}
 use Rattle.std.proofs.lemmas.Option.{slice_get-get_or}
 use Rattle.std.proofs.lemmas.List.{length-map, get_or-map}
-use Rattle.cluster.specs.declared.timing.Reading.{Reading}
-use Rattle.cluster.specs.declared.timing.Reading.TheVariants.{TableClock, TaskClock, NoClock}
+use Rattle.job_calls.specs.declared.timing.Reading.{Reading}
+use Rattle.job_calls.specs.declared.timing.Reading.TheVariants.{TableClock, TaskClock, NoClock}
 use Rattle.world.specs.declared.step.Step.{Step}
 use Rattle.world.specs.Pasts.{reading}
 use Rattle.explain.specs.declared.untimely.Untimely.{Untimely}

@@ -7,8 +7,8 @@ use Rattle.cluster.specs.Pasts.{Past as Calls}
 use Rattle.world.specs.Jobs.{Job}
 use Rattle.world.specs.declared.step.Step.{Step}
 use Rattle.world.specs.declared.step.Step.TheVariants as step
-use Rattle.world.specs.declared.reply.Reply.{Reply}
-use Rattle.world.specs.declared.reply.Reply.TheVariants as reply
+use Rattle.replies.specs.declared.reply.Reply.{Reply}
+use Rattle.replies.specs.declared.reply.Reply.TheVariants as reply
 use Rattle.world.specs.Pasts.{event, Past}
 use Rattle.world.specs.Calls.{calls_in}
 use Rattle.world.specs.Runs.{IsReply, past_after}

@@ -3,7 +3,7 @@ use Rattle.std.proofs.Common.{◌≡◌, ℕ, ◌+◌, List, ◌∙◌, ap}
 use Rattle.std.specs.Prelude.{Option, Some, slice_get, Contains, option_map}
 use Rattle.lease_rule.specs.declared.lease.Kind.{Kind}
 use Rattle.lease_rule.specs.declared.lease.Kind.TheVariants.{Guard, Bridge}
-use Rattle.lease_table.specs.declared.values.Grant.{Grant}
+use Rattle.grants.specs.declared.values.Grant.{Grant}
 use Rattle.lease_table.specs.OpenRows.{grant_numbered}
 use Rattle.slicelet.specs.Calls.{held_grant}
 use Rattle.slicelet.specs.Rules.{covers_key}

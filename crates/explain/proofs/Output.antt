@@ -3,10 +3,9 @@ use Rattle.std.proofs.Common.{◌≡◌, ◌∙◌, ℕ, Bool, true, MatchBool, 
 use Rattle.std.specs.Prelude.{Option, MatchOption}
 use Rattle.std.specs.List.{list_all}
 use Rattle.world.specs.Pasts.{IsTimely}
-use Rattle.lease_table.specs.Policies.{is_policy}
+use Rattle.grants.specs.Policies.{is_policy}
 use Rattle.service.specs.declared.script.Script.{Script}
-use Rattle.service.specs.Lines.{text_of}
-use Rattle.service.specs.Output.{is_answer}
+use Rattle.service.specs.Output.{text_of, is_answer}
 use Rattle.explain.specs.declared.explanation.Explanation.{Explanation}
 use Rattle.explain.specs.declared.untimely.Untimely.{Untimely}
 use Rattle.explain.specs.Hearing.{replies_of}

@@ -5,14 +5,14 @@ use Rattle.machines.specs.Numbers.{is_within}
 use Rattle.slice_ranges.specs.Hash.{slice_key}
 use Rattle.lease_rule.specs.declared.answer.Verdict.{Verdict}
 use Rattle.lease_rule.specs.declared.answer.Verdict.TheVariants.{Allow, Deny}
-use Rattle.slicelet.specs.declared.handle.KeyHandle.{KeyHandle}
+use Rattle.key_handle.specs.declared.handle.KeyHandle.{KeyHandle}
 use Rattle.slicelet.specs.Continuity.{handle_on, held_by}
-use Rattle.cluster.specs.declared.error.ClusterError.{ClusterError}
-use Rattle.cluster.specs.declared.error.ClusterError.TheVariants as error
-use Rattle.cluster.specs.declared.call.ClusterCall.{ClusterCall}
-use Rattle.cluster.specs.declared.call.ClusterCall.TheVariants as call
-use Rattle.cluster.specs.declared.reply.ClusterReply.{ClusterReply}
-use Rattle.cluster.specs.declared.reply.ClusterReply.TheVariants as machine
+use Rattle.job_calls.specs.declared.error.ClusterError.{ClusterError}
+use Rattle.job_calls.specs.declared.error.ClusterError.TheVariants as error
+use Rattle.job_calls.specs.declared.call.ClusterCall.{ClusterCall}
+use Rattle.job_calls.specs.declared.call.ClusterCall.TheVariants as call
+use Rattle.job_calls.specs.declared.reply.ClusterReply.{ClusterReply}
+use Rattle.job_calls.specs.declared.reply.ClusterReply.TheVariants as machine
 use Rattle.cluster.specs.Numbers.{with_number}
 use Rattle.cluster.specs.Pasts.{event as cluster_event, Past as Calls, is_accepted as is_accepted_call, table_calls, task_calls, history}
 use Rattle.cluster.specs.Deliveries.{notes_made, handles_made}
@@ -20,13 +20,14 @@ use Rattle.cluster.specs.Replies.{rule_in, hold_reply, reply_to as cluster_reply
 use Rattle.world.specs.Jobs.{Job}
 use Rattle.world.specs.declared.step.Step.{Step}
 use Rattle.world.specs.declared.step.Step.TheVariants as step
-use Rattle.world.specs.declared.reply.Refusal.{Refusal}
-use Rattle.world.specs.declared.reply.Refusal.TheVariants as refusal
-use Rattle.world.specs.declared.reply.Reply.TheVariants as reply
-use Rattle.world.specs.declared.told.NextNumbers.{NextNumbers}
+use Rattle.replies.specs.declared.reply.Refusal.{Refusal}
+use Rattle.replies.specs.declared.reply.Refusal.TheVariants as refusal
+use Rattle.replies.specs.declared.reply.Reply.TheVariants as reply
+use Rattle.replies.specs.declared.told.NextNumbers.{NextNumbers}
 use Rattle.world.specs.Pasts.{event, Past, is_accepted}
 use Rattle.world.specs.Calls.{call_of, with_call, calls_in, if_sent}
-use Rattle.world.specs.Replies.{named, next_numbers, told_as, is_continuous_in}
+use Rattle.world.specs.Replies.{named, next_numbers, is_continuous_in}
+use Rattle.replies.specs.Told.{told_as}
 use Rattle.world.specs.Runs.{IsReply}
 use Rattle.world.proofs.Telling.{faithful, calls_after}
 use Rattle.world.proofs.Asking.{replied_by_call}

@@ -6,34 +6,36 @@ use Rattle.machines.specs.Refusals.{when, first_of, unless_refused}
 use Rattle.machines.specs.Answers.{with_named_reply}
 use Rattle.slice_ranges.specs.Hash.{slice_key}
 use Rattle.lease_rule.specs.declared.answer.Verdict.{Verdict}
-use Rattle.lease_table.specs.declared.values.Grant.{Grant}
-use Rattle.lease_table.specs.declared.call.TableCall.TheVariants.{Commit as TableCommit}
-use Rattle.lease_table.specs.declared.call.TableReply.TheVariants.{Committed}
-use Rattle.lease_table.specs.declared.error.TableError.{TableError}
-use Rattle.lease_table.specs.declared.error.TableError.TheVariants.{ReadingRange, ClockBack as TableClockBack, NotHolder, NothingPending, Grace, Held as HeldBy}
-use Rattle.lease_table.specs.declared.table.TheConstants.{READINGS}
-use Rattle.lease_table.specs.declared.values.Row.{Row}
-use Rattle.lease_table.specs.Rows.{first_up_to}
-use Rattle.lease_table.specs.Tables.{Standing, generation_of, last_number}
+use Rattle.grants.specs.declared.values.Grant.{Grant}
+use Rattle.grants.specs.declared.table_call.TableCall.TheVariants.{Commit as TableCommit}
+use Rattle.grants.specs.declared.table_call.TableReply.TheVariants.{Committed}
+use Rattle.grants.specs.declared.table_error.TableError.{TableError}
+use Rattle.grants.specs.declared.table_error.TableError.TheVariants.{ReadingRange, ClockBack as TableClockBack, NotHolder, NothingPending, Grace, Held as HeldBy}
+use Rattle.grants.specs.declared.policy.TheConstants.{READINGS}
+use Rattle.grants.specs.declared.values.Row.{Row}
+use Rattle.grants.specs.Rows.{first_up_to}
+use Rattle.lease_table.specs.Tables.{Standing}
+use Rattle.grants.specs.JobTerms.{last_number}
+use Rattle.grants.specs.Assignments.{generation_of}
 use Rattle.lease_table.specs.Steps.{commit_checks, held_up, is_holder, standing_at}
 use Rattle.lease_table.specs.Calls.{AnsweredTableCall, standing_after, grants_sent}
 use Rattle.lease_table.specs.Generations.{covers_by_owners}
 use Rattle.lease_rule.specs.declared.lease.Kind.{Kind}
-use Rattle.slicelet.specs.declared.call.SliceletCall.{SliceletCall}
-use Rattle.slicelet.specs.declared.call.SliceletCall.TheVariants.{Hear}
-use Rattle.slicelet.specs.declared.call.SliceletReply.TheVariants.{Heard}
-use Rattle.slicelet.specs.declared.error.SliceletError.{SliceletError}
-use Rattle.slicelet.specs.declared.error.SliceletError.TheVariants.{NotStarted, ClockBack, OtherTask, OtherLife, Old, TooLate, HistoryFull}
+use Rattle.grants.specs.declared.slicelet_call.SliceletCall.{SliceletCall}
+use Rattle.grants.specs.declared.slicelet_call.SliceletCall.TheVariants.{Hear}
+use Rattle.grants.specs.declared.slicelet_call.SliceletReply.TheVariants.{Heard}
+use Rattle.grants.specs.declared.slicelet_error.SliceletError.{SliceletError}
+use Rattle.grants.specs.declared.slicelet_error.SliceletError.TheVariants.{NotStarted, ClockBack, OtherTask, OtherLife, Old, TooLate, HistoryFull}
 use Rattle.slicelet.specs.declared.slicelet.TheConstants.{CALLS}
-use Rattle.slicelet.specs.declared.handle.KeyHandle.{KeyHandle}
+use Rattle.key_handle.specs.declared.handle.KeyHandle.{KeyHandle}
 use Rattle.slicelet.specs.Continuity.{is_strange, IsContinuous}
 use Rattle.slicelet.specs.States.{SliceletState, state_after, greatest_in}
 use Rattle.slicelet.specs.Steps.{old_number, hear_checks, next_state}
-use Rattle.cluster.specs.declared.error.ClusterError.TheVariants as error
-use Rattle.cluster.specs.declared.call.ClusterCall.{ClusterCall}
-use Rattle.cluster.specs.declared.call.ClusterCall.TheVariants as call
-use Rattle.cluster.specs.declared.reply.ClusterReply.{ClusterReply}
-use Rattle.cluster.specs.declared.reply.ClusterReply.TheVariants as machine
+use Rattle.job_calls.specs.declared.error.ClusterError.TheVariants as error
+use Rattle.job_calls.specs.declared.call.ClusterCall.{ClusterCall}
+use Rattle.job_calls.specs.declared.call.ClusterCall.TheVariants as call
+use Rattle.job_calls.specs.declared.reply.ClusterReply.{ClusterReply}
+use Rattle.job_calls.specs.declared.reply.ClusterReply.TheVariants as machine
 use Rattle.cluster.specs.Numbers.{with_number}
 use Rattle.cluster.specs.Pasts.{Past as Calls, standing, grants, history, task_calls}
 use Rattle.cluster.specs.Deliveries.{handles_made, is_given, is_sent}
@@ -41,15 +43,16 @@ use Rattle.cluster.specs.Replies.{covers, check_reply, unless, from_machine}
 use Rattle.world.specs.Jobs.{Job}
 use Rattle.world.specs.declared.step.Step.{Step}
 use Rattle.world.specs.declared.step.Step.TheVariants as step
-use Rattle.world.specs.declared.reply.Refusal.{Refusal}
-use Rattle.world.specs.declared.reply.Refusal.TheVariants as refusal
-use Rattle.world.specs.declared.reply.Reply.{Reply}
-use Rattle.world.specs.declared.reply.Reply.TheVariants as reply
-use Rattle.world.specs.declared.told.NextNumbers.{NextNumbers}
+use Rattle.replies.specs.declared.reply.Refusal.{Refusal}
+use Rattle.replies.specs.declared.reply.Refusal.TheVariants as refusal
+use Rattle.replies.specs.declared.reply.Reply.{Reply}
+use Rattle.replies.specs.declared.reply.Reply.TheVariants as reply
+use Rattle.replies.specs.declared.told.NextNumbers.{NextNumbers}
 use Rattle.world.specs.Pasts.{event, Past}
 use Rattle.world.specs.Front.{kept_number}
 use Rattle.world.specs.Calls.{if_sent, calls_in}
-use Rattle.world.specs.Replies.{Outcome, named, next_numbers, told_as, reply_by_call, is_continuous_in, reply_to}
+use Rattle.world.specs.Replies.{Outcome, named, next_numbers, reply_by_call, is_continuous_in, reply_to}
+use Rattle.replies.specs.Told.{told_as}
 use Rattle.world.specs.Runs.{IsReply}
 use Rattle.explain.specs.declared.verdicts.KeyQuestion.{KeyQuestion}
 use Rattle.explain.specs.Verdicts.{asked_by}

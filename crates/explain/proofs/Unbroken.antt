@@ -3,13 +3,13 @@ use Rattle.std.proofs.Common.{◌≡◌, ◌∙◌, ℕ, zero, suc, ◌+◌, ◌
 use Rattle.std.specs.Prelude.{◌==◌, ◌&&◌, ◌||◌, nat_lt, nat_le, Result, Ok}
 use Rattle.std.proofs.lemmas.Bool.Decides.{nat_tests}
 use Rattle.slice_ranges.specs.declared.key.TheConstants.{KEYS}
-use Rattle.slicelet.specs.declared.call.SliceletCall.{SliceletCall}
-use Rattle.slicelet.specs.declared.error.Stranger.{Stranger}
-use Rattle.slicelet.specs.declared.handle.KeyHandle.{KeyHandle}
+use Rattle.grants.specs.declared.slicelet_call.SliceletCall.{SliceletCall}
+use Rattle.grants.specs.declared.slicelet_error.Stranger.{Stranger}
+use Rattle.key_handle.specs.declared.handle.KeyHandle.{KeyHandle}
 use Rattle.slicelet.specs.Calls.{this_process}
 use Rattle.slicelet.specs.Accepted.{StandsAfter}
 use Rattle.slicelet.specs.Continuity.{is_strange, is_kept, checked_in, IsKeptSince, IsContinuous, IsChecked}
-use Rattle.slicelet.specs.Handles.{is_up_to}
+use Rattle.key_handle.specs.Handles.{is_up_to}
 use Rattle.slicelet.specs.Rules.{covers_key}
 use Rattle.slicelet.specs.States.{SliceletState, stamp_in, permits}
 use Rattle.explain.specs.Breaking.{taken_after, HasNoBreakingCall}

@@ -1,6 +1,6 @@
 -- Which call since a handle was taken took its key away.
 use Rattle.std.specs.Prelude.{◌≡◌, ℕ, ◌+◌, ◌<◌, ◌==◌, ◌&&◌, Bool, true, false, [], ◌∷◌, length, Option, Some, None, Ok, if◌then◌else◌}
-use Rattle.slicelet.specs.declared.handle.KeyHandle.{KeyHandle}
+use Rattle.key_handle.specs.declared.handle.KeyHandle.{KeyHandle}
 use Rattle.slicelet.specs.States.{SliceletState, permits}
 use Rattle.slicelet.specs.Continuity.{checked_in}
 use Rattle.world.specs.declared.step.Step.{Step}

@@ -3,16 +3,17 @@ use Rattle.std.specs.Prelude.{◌≡◌, ◌≢◌, ℕ, Bool, true, false, leng
 use Rattle.lease_rule.specs.declared.lease.Kind.{Kind}
 use Rattle.lease_rule.specs.declared.answer.Verdict.{Verdict}
 use Rattle.lease_rule.specs.declared.answer.Verdict.TheVariants.{Deny}
-use Rattle.lease_table.specs.declared.values.Grant.{Grant}
-use Rattle.lease_table.specs.declared.values.Row.{Row}
-use Rattle.lease_table.specs.declared.error.TableError.{TableError}
-use Rattle.lease_table.specs.declared.error.TableError.TheVariants as table
-use Rattle.slicelet.specs.declared.error.SliceletError.{SliceletError}
-use Rattle.slicelet.specs.declared.error.SliceletError.TheVariants as slicelet
-use Rattle.lease_table.specs.Rows.{first_up_to}
-use Rattle.lease_table.specs.Tables.{Standing, generation_of}
+use Rattle.grants.specs.declared.values.Grant.{Grant}
+use Rattle.grants.specs.declared.values.Row.{Row}
+use Rattle.grants.specs.declared.table_error.TableError.{TableError}
+use Rattle.grants.specs.declared.table_error.TableError.TheVariants as table
+use Rattle.grants.specs.declared.slicelet_error.SliceletError.{SliceletError}
+use Rattle.grants.specs.declared.slicelet_error.SliceletError.TheVariants as slicelet
+use Rattle.grants.specs.Rows.{first_up_to}
+use Rattle.lease_table.specs.Tables.{Standing}
+use Rattle.grants.specs.Assignments.{generation_of}
 use Rattle.lease_table.specs.Calls.{committed_in}
-use Rattle.slicelet.specs.declared.handle.KeyHandle.{KeyHandle}
+use Rattle.key_handle.specs.declared.handle.KeyHandle.{KeyHandle}
 use Rattle.slicelet.specs.Rules.{covers_key}
 use Rattle.slicelet.specs.States.{greatest_in, rule_in_state}
 use Rattle.clerk.specs.declared.error.ClerkError.TheVariants as clerk
@@ -22,10 +23,10 @@ use Rattle.cluster.specs.Deliveries.{notes_made, handles_made}
 use Rattle.world.specs.Jobs.{Job}
 use Rattle.world.specs.declared.step.Step.{Step}
 use Rattle.world.specs.declared.step.Step.TheVariants as step
-use Rattle.world.specs.declared.reply.Reply.{Reply}
-use Rattle.world.specs.declared.reply.Reply.TheVariants as reply
-use Rattle.world.specs.declared.reply.Refusal.{Refusal}
-use Rattle.world.specs.declared.reply.Refusal.TheVariants as refusal
+use Rattle.replies.specs.declared.reply.Reply.{Reply}
+use Rattle.replies.specs.declared.reply.Reply.TheVariants as reply
+use Rattle.replies.specs.declared.reply.Refusal.{Refusal}
+use Rattle.replies.specs.declared.reply.Refusal.TheVariants as refusal
 use Rattle.world.specs.Pasts.{Past}
 use Rattle.world.specs.Calls.{calls_in}
 use Rattle.explain.specs.declared.reason.Reason.{Reason}

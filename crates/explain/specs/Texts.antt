@@ -1,10 +1,10 @@
 -- The text that explains a script.
 use Rattle.std.specs.Prelude.{◌≡◌, ℕ, suc, List, [], ◌∷◌, ◌++◌, length, codes, decimal, Bool, true, false, Option, Some, None, MatchOption}
 use Rattle.world.specs.declared.step.Step.{Step}
-use Rattle.world.specs.declared.reply.Reply.{Reply}
+use Rattle.replies.specs.declared.reply.Reply.{Reply}
 use Rattle.service.specs.declared.script.Script.{Script}
-use Rattle.service.specs.Lines.{line_of, timely_line}
-use Rattle.service.specs.Output.{IsOutput}
+use Rattle.replies.specs.Lines.{line_of}
+use Rattle.service.specs.Output.{timely_line, IsOutput}
 use Rattle.explain.specs.declared.explanation.Explanation.{Explanation}
 use Rattle.explain.specs.declared.reason.Reason.{Reason}
 use Rattle.explain.specs.declared.untimely.Untimely.{Untimely}

@@ -1,7 +1,7 @@
 -- Which two readings make steps untimely.
 use Rattle.std.specs.Prelude.{◌≡◌, ℕ, ◌+◌, ◌<◌, ◌≤◌, List, map, Some, slice_get}
-use Rattle.cluster.specs.declared.timing.Reading.{Reading}
-use Rattle.cluster.specs.declared.timing.Reading.TheVariants.{TableClock, TaskClock}
+use Rattle.job_calls.specs.declared.timing.Reading.{Reading}
+use Rattle.job_calls.specs.declared.timing.Reading.TheVariants.{TableClock, TaskClock}
 use Rattle.world.specs.declared.step.Step.{Step}
 use Rattle.world.specs.Pasts.{reading}
 use Rattle.explain.specs.declared.untimely.Untimely.{Untimely}

@@ -3,7 +3,7 @@ use Rattle.std.specs.Prelude.{◌≡◌, Option, Some, None}
 use Rattle.slice_ranges.specs.Hash.{slice_key}
 use Rattle.lease_rule.specs.declared.answer.Verdict.{Verdict}
 use Rattle.assignment.specs.Owners.{owners_of}
-use Rattle.lease_table.specs.Tables.{generation_of, slices_of}
+use Rattle.grants.specs.Assignments.{generation_of, slices_of}
 use Rattle.lease_table.specs.Calls.{committed_in}
 use Rattle.slicelet.specs.Rules.{covers_key}
 use Rattle.cluster.specs.Pasts.{Past as Calls, table_calls, history}

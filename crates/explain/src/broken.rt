@@ -1,10 +1,10 @@
 //! Why a handle is broken.
 
 ghost use Rattle.std.specs.Prelude.{◌≡◌, ℕ, false, None, length, MatchOption};
-ghost use Rattle.cluster.specs.Jobs.{Job};
+ghost use Rattle.job_calls.specs.Jobs.{Job};
 ghost use Rattle.cluster.specs.Pasts.{Past as Calls, history};
 ghost use Rattle.cluster.specs.Clusters.{LeadsTo};
-ghost use Rattle.world.specs.declared.reply.Reply.TheVariants as reply;
+ghost use Rattle.replies.specs.declared.reply.Reply.TheVariants as reply;
 ghost use Rattle.explain.specs.declared.reason.Break.TheVariants as break;
 ghost use Rattle.explain.specs.Breaking.{call_place, HasNoBreakingCall, HasNoCause, IsBreakingCall};
 ghost use Rattle.explain.specs.Hearing.{past_of};
@@ -17,8 +17,9 @@ use crate::laws::unbroken_law;
 use crate::reason::{Break, Reason};
 use crate::verdicts::{KeyQuestion, verdict_reason};
 use cluster::Cluster;
+use key_handle::KeyHandle;
 use lease_rule::Verdict;
-use slicelet::{KeyHandle, Slicelet};
+use slicelet::Slicelet;
 use world::Step;
 
 // Returns the task's last call since the handle was taken at which its key was denied, just before

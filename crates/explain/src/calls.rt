@@ -6,7 +6,8 @@ ghost use Rattle.explain.specs.Breaking.{is_call, call_place};
 ghost use Rattle.explain.specs.Hearing.{past_of};
 
 use crate::heard::{ToldSteps, is_accepted};
-use world::{Reply, Step};
+use replies::Reply;
+use world::Step;
 
 // Whether a step counts as a call of the task, if it is accepted.
 fn is_call(step: &Step, task: u64) -> bool

@@ -5,7 +5,7 @@ ghost use Rattle.cluster.specs.Pasts.{Past as Calls};
 ghost use Rattle.cluster.specs.Clusters.{LeadsTo as LeadsToCluster};
 ghost use Rattle.world.specs.Jobs.{Job};
 ghost use Rattle.world.specs.Worlds.{LeadsTo};
-ghost use Rattle.world.specs.declared.reply.Reply.TheVariants as reply;
+ghost use Rattle.replies.specs.declared.reply.Reply.TheVariants as reply;
 ghost use Rattle.explain.specs.Hearing.{past_of};
 ghost use Rattle.explain.specs.Verdicts.{asked_by};
 ghost use Rattle.explain.specs.Reasons.{IsReasonOrNone};
@@ -19,8 +19,9 @@ use crate::refusals::refusal_reason;
 use crate::verdicts::{KeyQuestion, verdict_reason};
 use cluster::Cluster;
 use lease_rule::Verdict;
+use replies::Reply;
 use std::alloc::{AllocError, Global};
-use world::{Job, Reply, Step, World};
+use world::{Job, Step, World};
 
 /// A reply and its reason, if there is more to say than its line says.
 #[derive(Debug, Drop)]

@@ -5,7 +5,8 @@ ghost use Rattle.world.specs.Pasts.{is_accepted};
 ghost use Rattle.explain.specs.Hearing.{is_hear, heard_in, past_of};
 
 use crate::explanation::Explanation;
-use world::{Reply, Step};
+use replies::Reply;
+use world::Step;
 
 /// Steps in order, with what was told of each.
 #[derive(Clone, Copy)]

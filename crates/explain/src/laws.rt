@@ -2,8 +2,8 @@
 
 ghost use Rattle.std.specs.Prelude.{◌≡◌, ◌<◌, ℕ, List, false};
 ghost use Rattle.slice_ranges.specs.declared.key.TheConstants.{KEYS};
-ghost use Rattle.slicelet.specs.declared.call.SliceletCall.{SliceletCall};
-ghost use Rattle.slicelet.specs.declared.handle.KeyHandle.{KeyHandle};
+ghost use Rattle.grants.specs.declared.slicelet_call.SliceletCall.{SliceletCall};
+ghost use Rattle.key_handle.specs.declared.handle.KeyHandle.{KeyHandle};
 ghost use Rattle.slicelet.specs.Accepted.{StandsAfter};
 ghost use Rattle.slicelet.specs.Continuity.{is_strange, IsContinuous};
 ghost use Rattle.slicelet.specs.Rules.{covers_key};

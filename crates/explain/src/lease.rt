@@ -2,10 +2,10 @@
 
 ghost use Rattle.std.specs.Prelude.{◌≡◌, ℕ, Some, option_map};
 ghost use Rattle.lease_rule.specs.declared.lease.Kind.{Kind as LeaseKind};
-ghost use Rattle.lease_table.specs.declared.values.Grant.{Grant};
+ghost use Rattle.grants.specs.declared.values.Grant.{Grant};
 ghost use Rattle.slicelet.specs.Rules.{covers_key};
 ghost use Rattle.slicelet.specs.States.{held_in};
-ghost use Rattle.cluster.specs.Jobs.{Job};
+ghost use Rattle.job_calls.specs.Jobs.{Job};
 ghost use Rattle.cluster.specs.Pasts.{Past as Calls, history};
 ghost use Rattle.cluster.specs.Clusters.{LeadsTo};
 ghost use Rattle.explain.specs.Leases.{lease_of};

@@ -1,8 +1,8 @@
 //! Reasons for replies.
 
+use grants::Row;
 use lease_rule::{Ground, Kind};
-use lease_table::Row;
-use world::OwnerList;
+use replies::OwnerList;
 
 /// A lease that a task holds.
 #[derive(Clone, Copy, Debug)]

@@ -1,14 +1,14 @@
 //! Why a step is refused.
 
 ghost use Rattle.std.specs.Prelude.{◌≡◌, List, IfOk, length};
-ghost use Rattle.lease_table.specs.Rows.{first_up_to};
-ghost use Rattle.lease_table.specs.Tables.{generation_of};
-ghost use Rattle.cluster.specs.Jobs.{Job};
+ghost use Rattle.grants.specs.Rows.{first_up_to};
+ghost use Rattle.grants.specs.Assignments.{generation_of};
+ghost use Rattle.job_calls.specs.Jobs.{Job};
 ghost use Rattle.cluster.specs.Pasts.{Past as Calls, standing};
 ghost use Rattle.cluster.specs.Clusters.{LeadsTo};
 ghost use Rattle.world.specs.Pasts.{Past};
-ghost use Rattle.world.specs.declared.reply.Reply.TheVariants as reply;
-ghost use Rattle.world.specs.declared.reply.Refusal.TheVariants as refusal;
+ghost use Rattle.replies.specs.declared.reply.Reply.TheVariants as reply;
+ghost use Rattle.replies.specs.declared.reply.Refusal.TheVariants as refusal;
 ghost use Rattle.world.specs.declared.step.Step.{Step};
 ghost use Rattle.explain.specs.Hearing.{granted_by, last_granted, past_of};
 ghost use Rattle.explain.specs.Reasons.{made_in, task_of, IsReasonOrNone};
@@ -20,10 +20,10 @@ use crate::reason::Reason;
 use crate::verdicts::committed_generation;
 use clerk::ClerkError;
 use cluster::Cluster;
-use lease_table::{Row, TableError};
-use slicelet::SliceletError;
+use grants::{Row, SliceletError, TableError};
+use replies::{Refusal, Reply};
 use std::alloc::AllocError;
-use world::{Refusal, Reply, Step};
+use world::Step;
 
 // Returns the first row of this generation or an older one that has not ended at a reading.
 fn first_up_to(rows: &[Row], generation: u64, at: u64) -> Option<Row>

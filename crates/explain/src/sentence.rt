@@ -1,20 +1,19 @@
 //! Reasons as sentences.
 
 ghost use Rattle.std.specs.Prelude.{◌≡◌, IfOk, Some, string_bytes};
-ghost use Rattle.explain.specs.Sentences.{below_words, break_words, deciding_words, delivery_number, delivery_word, ground_words};
-ghost use Rattle.explain.specs.Sentences.{lease_name, lease_words, old_grant_words, old_words, row_words, sentence_of};
-ghost use Rattle.explain.specs.Sentences.{task_in, tasks_text, ticks_in, unsent_words, verdict_in, verdict_words};
+ghost use Rattle.explain.specs.Sentences.{below_words, break_words, deciding_words, delivery_number, delivery_word, ground_words, lease_name, lease_words, old_grant_words, old_words, row_words, sentence_of, task_in, tasks_text, ticks_in, unsent_words, verdict_in, verdict_words};
 
 use crate::reason::{Break, Reason, TaskLease, VerdictReason};
 use crate::refusals::task_of;
 use assignment::TaskId;
-use cluster::Reading;
+use grants::Row;
+use job_calls::Reading;
 use lease_rule::{Ground, Kind, Verdict};
-use lease_table::Row;
+use replies::Reply;
 use std::alloc::{AllocError, Global};
 use std::fmt;
 use wire::kind_word;
-use world::{Reply, Step};
+use world::Step;
 
 /// Displays tasks, joined by commas.
 #[derive(Clone, Copy)]

@@ -2,7 +2,7 @@
 
 ghost use Rattle.std.specs.Prelude.{◌≡◌, true, IfOk, Some, string_bytes};
 ghost use Rattle.std.specs.List.{list_all};
-ghost use Rattle.service.specs.Lines.{line_of};
+ghost use Rattle.replies.specs.Lines.{line_of};
 ghost use Rattle.service.specs.Output.{is_answer};
 ghost use Rattle.explain.specs.Hearing.{replies_of};
 ghost use Rattle.explain.specs.Texts.{all_lines, explained_lines, heading, indented, last_lines, read_words, untimely_words, with_reason, IsExplainedText};
@@ -11,11 +11,12 @@ use crate::explanation::{Explanation, explanations_of};
 use crate::sentence::sentence_of;
 use crate::step_names::step_word;
 use crate::untimely::{Untimely, first_untimely};
-use lease_table::policy_law;
-use service::{Line, Script, is_timely};
+use grants::policy_law;
+use replies::{Line, Reply};
+use service::{Script, is_timely};
 use std::alloc::{AllocError, Global};
 use std::fmt;
-use world::{Reply, Step};
+use world::Step;
 
 // Returns the line of a reply.
 fn line_of(alloc: Global, reply: &Reply) -> Result<String, AllocError>

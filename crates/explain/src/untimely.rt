@@ -4,7 +4,7 @@ ghost use Rattle.std.specs.Prelude.{◌≡◌, ◌≤◌, ◌<◌, length, Match
 ghost use Rattle.explain.specs.Untimely.{AreNear, AreAllNear, IsFirstUntimely};
 ghost use Rattle.explain.specs.internals.Ahead.{ahead_of, IsFirstAhead, IsNearAt, IsUntimelyAt};
 
-use cluster::Reading;
+use job_calls::Reading;
 use world::Step;
 
 /// Two steps that are not timely: their places, from 1, and their readings in ticks.

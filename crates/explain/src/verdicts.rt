@@ -3,11 +3,11 @@
 ghost use Rattle.std.specs.Prelude.{◌≡◌, ℕ, length};
 ghost use Rattle.lease_rule.specs.declared.answer.Verdict.TheVariants.{Deny};
 ghost use Rattle.assignment.specs.Owners.{owners_of};
-ghost use Rattle.lease_table.specs.Tables.{generation_of, slices_of};
+ghost use Rattle.grants.specs.Assignments.{generation_of, slices_of};
 ghost use Rattle.lease_table.specs.Calls.{committed_in};
 ghost use Rattle.slicelet.specs.Rules.{covers_key};
 ghost use Rattle.slicelet.specs.States.{rule_in_state};
-ghost use Rattle.cluster.specs.Jobs.{Job};
+ghost use Rattle.job_calls.specs.Jobs.{Job};
 ghost use Rattle.cluster.specs.Pasts.{Past as Calls, table_calls, history};
 ghost use Rattle.cluster.specs.Clusters.{LeadsTo};
 ghost use Rattle.explain.specs.Hearing.{past_of, lease_heard_in};
@@ -21,9 +21,10 @@ use crate::reason::{TaskLease, VerdictReason};
 use arrayvec::ArrayVec;
 use cluster::Cluster;
 use lease_rule::{Ground, Kind, Verdict};
+use replies::OwnerList;
 use slice_ranges::{SliceKey, slice_key};
 use slicelet::Slicelet;
-use world::{OwnerList, Step};
+use world::Step;
 
 /// A question to a task: may it serve a key at a reading of its clock?
 #[derive(Clone, Copy, Debug)]

@@ -15,11 +15,10 @@ use Rattle.core.proofs.alloc.Calls.{α, Fits, handle_tells}
 use Rattle.std.specs.Prelude.{Option, Some, None, true, false, is_none}
 use Rattle.std.proofs.lemmas.Bool.{true≢false}
 use Rattle.std_alloc.proofs.ResultValues.{and_tt}
-use Rattle.std_alloc.proofs.BoxSteps.Form.{P, handle, box_ty, owning}
+use Rattle.std_alloc.proofs.BoxSteps.Form.{P, handle, box_ty, owning, Bx}
 use Rattle.std_heap.specs.declared.Global.{Global}
 use mir.Syntax.{impl, tnil, dnil}
 use denote.Signature.{Slot, plain}
-use Rattle.std_alloc.proofs.BoxSteps.Form.{Bx}
 use Rattle.std_heap.specs.contracts.Global as Heap
 use Rattle.std_heap.specs.contracts.GlobalAllocator.TheImpl.{ghosts, dict}
 use Rattle.std_heap.proofs.Global.TheLaws as heap

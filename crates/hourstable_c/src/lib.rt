@@ -7,6 +7,7 @@
 
 mod assigner_exports;
 mod assignment_exports;
+mod block_exports;
 mod clerk_exports;
 mod clock_exports;
 mod grant_exports;

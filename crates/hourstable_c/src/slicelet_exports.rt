@@ -1,15 +1,18 @@
 //! Exports for slicelets.
 
 ghost use Rattle.std.specs.Prelude.{◌≡◌, ⊤};
+ghost use Rattle.slice_ranges.specs.Hash.{slice_key};
+ghost use Rattle.slicelet.specs.States.{newest_covering};
 ghost use Rattle.c_calls.specs.Arguments.{kind_of, slice_key_of};
+ghost use Rattle.c_calls.specs.Details.{covering_details};
 ghost use Rattle.c_calls.specs.Jobs.{job_of};
 ghost use Rattle.c_calls.specs.Outputs.{output};
 ghost use Rattle.hourstable_c.specs.declared.held.Held.TheVariants as held;
 ghost use Rattle.c_calls.specs.slicelets.Keys.{rule_for, taken_by};
-ghost use Rattle.c_calls.specs.slicelets.KeyHandles.{check_answer, handle_of, hold_answer, hold_numbers};
+ghost use Rattle.c_calls.specs.slicelets.KeyHandles.{check_answer, handle_of, hold_numbers};
 ghost use Rattle.c_calls.specs.slicelets.Leases.{IsServed};
 ghost use Rattle.c_calls.specs.slicelets.Releases.{IsReleased};
-ghost use Rattle.c_calls.specs.slicelets.SliceKeys.{IsServedAt, hold_answer_at, hold_numbers_at};
+ghost use Rattle.c_calls.specs.slicelets.SliceKeys.{IsServedAt, covering_told, hold_numbers_at};
 ghost use Rattle.c_calls.specs.slicelets.Calls.{IsGrantHeard, IsStarted, opened_slicelet};
 ghost use Rattle.hourstable_c.specs.Kinds.{is_slicelet};
 ghost use Rattle.hourstable_c.specs.Opened.{AtPlace, IsClosed, IsOpened, with_job};
@@ -108,7 +111,8 @@ pub extern "C" fn hs_slicelet_release(
     }
 }
 
-/// Returns whether the task may serve a key; `told` has the lease under which it may.
+/// Returns whether the task may serve a key; `told` has the lease under which it may, and the
+/// greatest generation of the held leases that cover the key.
 #[unsafe(no_mangle)]
 #[tactic(auto, using(crate::proofs::Returning::tells))]
 pub extern "C" fn hs_slicelet_serve(
@@ -118,13 +122,14 @@ pub extern "C" fn hs_slicelet_serve(
     told: &mut AnswerDetails,
 ) -> i32
     ensures { OnSlicelet place.old.value place.new.value (told.new ≡ told.old) result
-        (λ job old new. (new ≡ old) × Tells (IsServed (rule_for key.now old at) old) told.old told.new result) }
+        (λ job old new. (new ≡ old) × Tells (IsServed (rule_for key.now old at) old)
+        (covering_details (newest_covering old (slice_key key.now)) told.old) told.new result) }
 {
     let Some(held) = place.read() else {
         return Answer::OtherPlace.number();
     };
     match held {
-        Held::Slicelet(_, slicelet) => serve(slicelet, key, at).tell(told),
+        Held::Slicelet(_, slicelet) => serve(slicelet, key, at, &mut told.covering).tell(told),
         _ => Answer::OtherPlace.number(),
     }
 }
@@ -139,18 +144,21 @@ pub extern "C" fn hs_slicelet_serve_at(
     told: &mut AnswerDetails,
 ) -> i32
     ensures { OnSlicelet place.old.value place.new.value (told.new ≡ told.old) result
-        (λ job old new. (new ≡ old) × Tells (IsServedAt (slice_key_of slice_key) old at) told.old told.new result) }
+        (λ job old new. (new ≡ old) × Tells (IsServedAt (slice_key_of slice_key) old at)
+        (covering_told (slice_key_of slice_key) old told.old) told.new result) }
 {
     let Some(held) = place.read() else {
         return Answer::OtherPlace.number();
     };
     match held {
-        Held::Slicelet(_, slicelet) => serve_at(slicelet, slice_key, at).tell(told),
+        Held::Slicelet(_, slicelet) => {
+            serve_at(slicelet, slice_key, at, &mut told.covering).tell(told)
+        }
         _ => Answer::OtherPlace.number(),
     }
 }
 
-/// Takes a handle on a key, if the task may serve it.
+/// Takes a handle on a key, if the task may serve it, and tells what [`hs_slicelet_serve`] tells.
 #[unsafe(no_mangle)]
 #[tactic(auto, using(crate::proofs::Returning::tells))]
 pub extern "C" fn hs_slicelet_hold(
@@ -163,18 +171,19 @@ pub extern "C" fn hs_slicelet_hold(
     ensures { OnSlicelet place.old.value place.new.value ((told.new ≡ told.old) × (out.new ≡ out.old)) result
         (λ job old new. (new ≡ old)
         × (out.new ≡ hold_numbers (taken_by (rule_for key.now old at) key.now old) out.old)
-        × Tells (λ answer. answer ≡ hold_answer (taken_by (rule_for key.now old at) key.now old)) told.old told.new result) }
+        × Tells (IsServed (rule_for key.now old at) old)
+        (covering_details (newest_covering old (slice_key key.now)) told.old) told.new result) }
 {
     let Some(held) = place.read() else {
         return Answer::OtherPlace.number();
     };
     match held {
-        Held::Slicelet(_, slicelet) => hold(slicelet, key, at, out).tell(told),
+        Held::Slicelet(_, slicelet) => hold(slicelet, key, at, out, &mut told.covering).tell(told),
         _ => Answer::OtherPlace.number(),
     }
 }
 
-/// Takes a handle on the keys of a slice key, if the task may serve them.
+/// Takes a handle on the keys of a slice key, as [`hs_slicelet_hold`] does.
 #[unsafe(no_mangle)]
 #[tactic(auto, using(crate::proofs::Returning::tells))]
 pub extern "C" fn hs_slicelet_hold_at(
@@ -187,13 +196,16 @@ pub extern "C" fn hs_slicelet_hold_at(
     ensures { OnSlicelet place.old.value place.new.value ((told.new ≡ told.old) × (out.new ≡ out.old)) result
         (λ job old new. (new ≡ old)
         × (out.new ≡ hold_numbers_at (slice_key_of slice_key) old at out.old)
-        × Tells (λ answer. answer ≡ hold_answer_at (slice_key_of slice_key) old at) told.old told.new result) }
+        × Tells (IsServedAt (slice_key_of slice_key) old at)
+        (covering_told (slice_key_of slice_key) old told.old) told.new result) }
 {
     let Some(held) = place.read() else {
         return Answer::OtherPlace.number();
     };
     match held {
-        Held::Slicelet(_, slicelet) => hold_at(slicelet, slice_key, at, out).tell(told),
+        Held::Slicelet(_, slicelet) => {
+            hold_at(slicelet, slice_key, at, out, &mut told.covering).tell(told)
+        }
         _ => Answer::OtherPlace.number(),
     }
 }

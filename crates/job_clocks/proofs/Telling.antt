@@ -5,35 +5,38 @@ use Rattle.std.specs.List.{AllByRecursion}
 use Rattle.machines.specs.Calls.{answered_call}
 use Rattle.machines.specs.Answers.{with_named_reply}
 use Rattle.assignment.specs.Slices.{Slicing}
-use Rattle.lease_table.specs.declared.call.TableCall.TheVariants as call
-use Rattle.lease_table.specs.declared.call.TableReply.TheVariants.{Granted, Term}
-use Rattle.lease_table.specs.declared.error.TableError.{TableError}
-use Rattle.lease_table.specs.declared.values.Grant.{Grant}
-use Rattle.lease_table.specs.declared.values.JobTerm.{JobTerm}
-use Rattle.lease_table.specs.Policies.{Terms}
+use Rattle.grants.specs.declared.table_call.TableCall.TheVariants as call
+use Rattle.grants.specs.declared.table_call.TableReply.TheVariants.{Granted, Term}
+use Rattle.grants.specs.declared.table_error.TableError.{TableError}
+use Rattle.grants.specs.declared.values.Grant.{Grant}
+use Rattle.grants.specs.declared.values.JobTerm.{JobTerm}
+use Rattle.grants.specs.Policies.{Terms}
 use Rattle.lease_table.specs.Tables.{Standing}
 use Rattle.lease_table.specs.Steps.{grant_with, take_step}
-use Rattle.lease_table.specs.Calls.{AnsweredTableCall, reading_of, pending_in, standing_after, grants_sent}
+use Rattle.lease_table.specs.Calls.{AnsweredTableCall, pending_in, standing_after, grants_sent}
+use Rattle.grants.specs.TableCalls.{reading_of}
 use Rattle.lease_table.specs.Runs.{IsRun as IsTableRun}
 use Rattle.lease_table.specs.OpenRows.{IsSent}
 use Rattle.lease_table.proofs.Acceptance.{IsGranted}
 use Rattle.lease_table.proofs.Leases.{granted_by}
 use Rattle.lease_table.proofs.Induction.{of_each_sent}
-use Rattle.lease_table.proofs.Members.{here, there, nowhere, first_or_rest}
-use Rattle.cluster.specs.declared.call.ClusterCall.TheVariants as asked
-use Rattle.cluster.specs.declared.error.ClusterError.{ClusterError}
-use Rattle.cluster.specs.declared.error.ClusterError.TheVariants as error
-use Rattle.cluster.specs.declared.reply.ClusterReply.TheVariants as reply
-use Rattle.cluster.specs.declared.timing.Reading.{Reading}
-use Rattle.cluster.specs.declared.timing.Reading.TheVariants.{TableClock, TaskClock}
-use Rattle.cluster.specs.Jobs.{Job}
+use Rattle.grants.proofs.Members.{here, there, nowhere, first_or_rest}
+use Rattle.job_calls.specs.declared.call.ClusterCall.TheVariants as asked
+use Rattle.job_calls.specs.declared.error.ClusterError.{ClusterError}
+use Rattle.job_calls.specs.declared.error.ClusterError.TheVariants as error
+use Rattle.job_calls.specs.declared.reply.ClusterReply.TheVariants as reply
+use Rattle.job_calls.specs.declared.timing.Reading.{Reading}
+use Rattle.job_calls.specs.declared.timing.Reading.TheVariants.{TableClock, TaskClock}
+use Rattle.job_calls.specs.Jobs.{Job}
 use Rattle.cluster.specs.Timing.{IsNear, IsTimely}
-use Rattle.cluster.specs.Pasts.{Event, event, Past, at_table, reading, readings, table_calls, with_answer, standing}
+use Rattle.cluster.specs.Pasts.{Event, event, Past, readings, table_calls, with_answer, standing}
+use Rattle.job_calls.specs.Readings.{at_table, reading}
 use Rattle.cluster.specs.Promises.{WasRead}
 use Rattle.cluster.specs.Deliveries.{table_refusal}
 use Rattle.cluster.specs.Replies.{unless, from_machine, reply_to}
 use Rattle.cluster.proofs.Adding.{AddsTableCall, adds_to_table}
-use Rattle.job_clocks.specs.Evidence.{sent_at, IsAhead, IsSilent}
+use Rattle.grant_evidence.specs.Evidence.{sent_at, IsAhead}
+use Rattle.job_clocks.specs.Evidence.{IsSilent}
 
 -- AN ACCEPTED GRANT TELLS ITS READING
 

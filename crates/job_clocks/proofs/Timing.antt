@@ -7,8 +7,8 @@ use Rattle.clocks.specs.declared.refusal.ClockRefusal.{ClockRefusal}
 use Rattle.clocks.specs.TaskClocks.{read_answer}
 use Rattle.clocks.specs.Pasts.{Event, EarlyRead, TableRead, Sampled, TaskRead, Other, Past, table_seen, KeepsDrift, SamplesAreAnswers, IsAtMost}
 use Rattle.clocks.specs.Timely.{clock_after, IsTimely as IsTimelyTask}
-use Rattle.cluster.specs.declared.timing.Reading.{Reading}
-use Rattle.cluster.specs.declared.timing.Reading.TheVariants.{TableClock, TaskClock, NoClock}
+use Rattle.job_calls.specs.declared.timing.Reading.{Reading}
+use Rattle.job_calls.specs.declared.timing.Reading.TheVariants.{TableClock, TaskClock, NoClock}
 use Rattle.cluster.specs.Timing.{IsNear, IsTimely}
 use Rattle.job_clocks.specs.JobPasts.{JobEvent, TableReads, LifeSamples, LifeReads, JobPast, seen_by, past_of, KeepsJobDrift, with_answer, readings_of}
 use Rattle.job_clocks.specs.Within.{clocked, HaveInOrder, AreWithinDrift}

@@ -1,28 +1,10 @@
--- What a grant tells of the clocks when it is heard.
-use Rattle.std.specs.Prelude.{◌≡◌, ℕ, ◌+◌, ◌-◌, ◌<◌, ◌∷◌, []}
-use Rattle.lease_rule.specs.declared.lease.Kind.{Kind}
-use Rattle.lease_rule.specs.declared.lease.Kind.TheVariants.{Guard, Bridge}
-use Rattle.lease_table.specs.declared.values.Grant.{Grant}
-use Rattle.lease_table.specs.Policies.{Terms}
-use Rattle.cluster.specs.declared.timing.Reading.TheVariants.{TaskClock}
-use Rattle.cluster.specs.Jobs.{Job}
+-- Clocks of which no grant tells that they are not timely.
+use Rattle.std.specs.Prelude.{◌≡◌, ℕ, ◌∷◌, []}
+use Rattle.job_calls.specs.declared.timing.Reading.TheVariants.{TaskClock}
+use Rattle.job_calls.specs.Jobs.{Job}
 use Rattle.cluster.specs.Pasts.{Past, readings, grants}
 use Rattle.cluster.specs.Runs.{IsRun}
 use Rattle.cluster.specs.Timing.{IsTimely}
-
--- the term of the leases of a kind, in ticks
-abbrev pub term_of : Terms → Kind → ℕ
-term_of policy Guard = policy.guard
-term_of policy Bridge = policy.bridge
-
--- the table's reading when it sent a grant: the end of its row, less the term
-abbrev pub sent_at : Terms → Grant → ℕ
-sent_at policy grant = grant.table_ends - term_of policy grant.lease.kind
-
--- the grant was sent at a reading of the table's clock that is more than the skew above this
--- reading of a task's
-abbrev pub IsAhead : Terms → Grant → ℕ → Type 0
-IsAhead policy grant at = at + policy.skew < sent_at policy grant
 
 -- clocks that are not timely, in a run without a grant, so that no grant tells of it
 pub record IsSilent (job : Job) : Type 0 where

@@ -7,8 +7,8 @@ use Rattle.clocks.specs.declared.task_clock.Sample.{Sample}
 use Rattle.clocks.specs.TaskClocks.{read_answer}
 use Rattle.clocks.specs.Pasts.{Event, Sampled, TaskRead, Other, Past, table_seen, KeepsDrift, SamplesAreAnswers}
 use Rattle.clocks.specs.Timely.{clock_after}
-use Rattle.cluster.specs.declared.timing.Reading.{Reading}
-use Rattle.cluster.specs.declared.timing.Reading.TheVariants.{TableClock, TaskClock}
+use Rattle.job_calls.specs.declared.timing.Reading.{Reading}
+use Rattle.job_calls.specs.declared.timing.Reading.TheVariants.{TableClock, TaskClock}
 
 -- the table reads its clock, when each life's local clock shows this, or does not run; a life takes
 -- a sample, or reads its clock, at a reading of its local clock. Lives have numbers, one for each

@@ -2,7 +2,7 @@
 use Rattle.std.specs.Prelude.{ℕ, IsTrue, ◌∷◌}
 use Rattle.clocks.specs.declared.drift.Drift.{Drift}
 use Rattle.slicelet.specs.Rules.{is_allowed}
-use Rattle.cluster.specs.declared.timing.Reading.TheVariants.{TaskClock}
+use Rattle.job_calls.specs.declared.timing.Reading.TheVariants.{TaskClock}
 use Rattle.cluster.specs.Pasts.{Past, readings}
 use Rattle.cluster.specs.Replies.{rule_in}
 use Rattle.job_clocks.specs.Within.{AreWithinDrift}

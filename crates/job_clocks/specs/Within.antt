@@ -1,8 +1,8 @@
 -- Readings of clocks whose rates differ by at most a drift.
 use Rattle.std.specs.Prelude.{◌≡◌, ℕ, ◌⊎◌, List, [], ◌∷◌}
 use Rattle.clocks.specs.declared.drift.Drift.{Drift}
-use Rattle.cluster.specs.declared.timing.Reading.{Reading}
-use Rattle.cluster.specs.declared.timing.Reading.TheVariants.{TableClock, TaskClock, NoClock}
+use Rattle.job_calls.specs.declared.timing.Reading.{Reading}
+use Rattle.job_calls.specs.declared.timing.Reading.TheVariants.{TableClock, TaskClock, NoClock}
 use Rattle.job_clocks.specs.JobPasts.{JobPast, KeepsJobDrift, readings_of}
 
 -- readings without those of no clock

@@ -3,19 +3,20 @@
 ghost use Rattle.std.specs.Prelude.{◌≡◌, ℕ, true, List, [], ◌∷◌};
 ghost use Rattle.clocks.specs.declared.drift.Drift.{Drift};
 ghost use Rattle.clocks.specs.Worked.{a_third};
-ghost use Rattle.slicelet.specs.declared.handle.KeyHandle.{KeyHandle};
-ghost use Rattle.lease_table.specs.declared.values.Grant.{Grant};
+ghost use Rattle.key_handle.specs.declared.handle.KeyHandle.{KeyHandle};
+ghost use Rattle.grants.specs.declared.values.Grant.{Grant};
 ghost use Rattle.lease_table.specs.OpenRows.{IsSent};
-ghost use Rattle.lease_table.specs.Policies.{is_policy};
-ghost use Rattle.cluster.specs.Jobs.{Job};
-ghost use Rattle.cluster.specs.declared.timing.Reading.{Reading};
+ghost use Rattle.grants.specs.Policies.{is_policy};
+ghost use Rattle.job_calls.specs.Jobs.{Job};
+ghost use Rattle.job_calls.specs.declared.timing.Reading.{Reading};
 ghost use Rattle.cluster.specs.Timing.{IsTimely};
-ghost use Rattle.cluster.specs.declared.timing.Reading.TheVariants.{TableClock, TaskClock, NoClock};
+ghost use Rattle.job_calls.specs.declared.timing.Reading.TheVariants.{TableClock, TaskClock, NoClock};
 ghost use Rattle.cluster.specs.Pasts.{Past, readings, table_calls};
 ghost use Rattle.cluster.specs.Promises.{WasRead};
 ghost use Rattle.cluster.specs.Runs.{IsRun};
 ghost use Rattle.cluster.specs.Headline.{IsOwner, IsWhileHeld};
-ghost use Rattle.job_clocks.specs.Evidence.{sent_at, IsAhead, IsSilent};
+ghost use Rattle.grant_evidence.specs.Evidence.{sent_at, IsAhead};
+ghost use Rattle.job_clocks.specs.Evidence.{IsSilent};
 ghost use Rattle.job_clocks.specs.Within.{AreWithinDrift};
 ghost use Rattle.job_clocks.specs.Serving.{MayServeByDrift};
 

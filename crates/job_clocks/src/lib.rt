@@ -4,8 +4,6 @@
 //! than it says. So whoever may serve a key owns it.
 #![tactic(auto)]
 
-mod evidence;
 mod laws;
 
-pub use evidence::{clock_evidence, sent_at};
 pub use laws::{drift_law, evidence_law, timely_job_law, worked_law};

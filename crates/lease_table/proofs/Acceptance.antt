@@ -8,18 +8,19 @@ use Rattle.machines.specs.Answers.{with_named_reply}
 use Rattle.machines.specs.Calls.{answer_of}
 use Rattle.machines.proofs.Refused.{all_none, not_when}
 use Rattle.assignment.specs.Slices.{Slicing}
-use Rattle.lease_table.specs.declared.call.TableCall.{TableCall}
-use Rattle.lease_table.specs.declared.call.TableCall.TheVariants as call
-use Rattle.lease_table.specs.declared.call.TableReply.{TableReply}
-use Rattle.lease_table.specs.declared.call.TableReply.TheVariants.{Term, Proposed, Committed, Granted, Freed, Lost}
-use Rattle.lease_table.specs.declared.error.TableError.{TableError}
-use Rattle.lease_table.specs.declared.error.TableError.TheVariants.{Held}
-use Rattle.lease_table.specs.declared.table.TheConstants.{READINGS}
-use Rattle.lease_table.specs.declared.values.ReleaseNote.{ReleaseNote}
-use Rattle.lease_table.specs.declared.values.Row.{Row}
-use Rattle.lease_table.specs.Policies.{Terms}
-use Rattle.lease_table.specs.Rows.{running_rows, closes, first_up_to}
-use Rattle.lease_table.specs.Tables.{Standing, generation_of}
+use Rattle.grants.specs.declared.table_call.TableCall.{TableCall}
+use Rattle.grants.specs.declared.table_call.TableCall.TheVariants as call
+use Rattle.grants.specs.declared.table_call.TableReply.{TableReply}
+use Rattle.grants.specs.declared.table_call.TableReply.TheVariants.{Term, Proposed, Committed, Granted, Freed, Lost}
+use Rattle.grants.specs.declared.table_error.TableError.{TableError}
+use Rattle.grants.specs.declared.table_error.TableError.TheVariants.{Held}
+use Rattle.grants.specs.declared.policy.TheConstants.{READINGS}
+use Rattle.grants.specs.declared.values.ReleaseNote.{ReleaseNote}
+use Rattle.grants.specs.declared.values.Row.{Row}
+use Rattle.grants.specs.Policies.{Terms}
+use Rattle.grants.specs.Rows.{running_rows, closes, first_up_to}
+use Rattle.lease_table.specs.Tables.{Standing}
+use Rattle.grants.specs.Assignments.{generation_of}
 use Rattle.lease_table.specs.internals.Numbers.{newest_of}
 use Rattle.lease_table.specs.Steps
 use Rattle.lease_table.specs.Calls.{AnsweredTableCall, reading_after, standing_after, table_step}

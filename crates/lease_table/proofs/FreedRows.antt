@@ -9,9 +9,9 @@ use Rattle.std.proofs.lemmas.Map.Keys.{IsDistinct-head, IsDistinct-tail}
 use Rattle.std.proofs.lemmas.List.Sums.{take_while-cons}
 use Rattle.machines.proofs.Every.{all_weaker}
 use Rattle.lease_table.specs.declared.holders.Holder.{Holder}
-use Rattle.lease_table.specs.declared.values.ReleaseNote.{ReleaseNote}
-use Rattle.lease_table.specs.declared.values.Row.{Row}
-use Rattle.lease_table.specs.Rows.{runs_at, running_rows, closes, rows_left_open}
+use Rattle.grants.specs.declared.values.ReleaseNote.{ReleaseNote}
+use Rattle.grants.specs.declared.values.Row.{Row}
+use Rattle.grants.specs.Rows.{runs_at, running_rows, closes, rows_left_open}
 use Rattle.lease_table.specs.internals.Holders.{holder_of, holder_in, same_holder, holds, freed_if, rows_freed, unfreed, is_numbered, entry_freed, entries_freed}
 use Rattle.lease_table.specs.internals.RowKeys.{IsKeyed}
 use Rattle.lease_table.specs.internals.RowOrder.{NumbersRise}

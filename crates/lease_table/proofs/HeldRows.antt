@@ -11,9 +11,9 @@ use Rattle.lease_rule.specs.Leases.{same_kind}
 use Rattle.lease_rule.specs.declared.lease.Kind.{Kind}
 use Rattle.lease_rule.specs.declared.lease.Kind.TheVariants.{Guard, Bridge}
 use Rattle.lease_table.specs.declared.holders.Holder.{Holder}
-use Rattle.lease_table.specs.declared.values.ReleaseNote.{ReleaseNote}
-use Rattle.lease_table.specs.declared.values.Row.{Row}
-use Rattle.lease_table.specs.Rows.{closes}
+use Rattle.grants.specs.declared.values.ReleaseNote.{ReleaseNote}
+use Rattle.grants.specs.declared.values.Row.{Row}
+use Rattle.grants.specs.Rows.{closes}
 use Rattle.lease_table.specs.internals.Holders.{holder_of, holder_in, same_holder, holds}
 
 -- EQUAL HOLDERS

@@ -7,23 +7,24 @@ use Rattle.machines.specs.Refusals.{when, first_of}
 use Rattle.machines.specs.Calls.{answered_call}
 use Rattle.machines.proofs.Refused.{all_none, not_when}
 use Rattle.assignment.specs.Slices.{Slicing}
-use Rattle.lease_table.specs.declared.call.TableCall.{TableCall}
-use Rattle.lease_table.specs.declared.call.TableCall.TheVariants as call
-use Rattle.lease_table.specs.declared.call.TableReply.{TableReply}
-use Rattle.lease_table.specs.declared.kept.Kept.{Kept}
-use Rattle.lease_table.specs.declared.kept.KeptFault.{KeptFault}
-use Rattle.lease_table.specs.declared.values.Grant.{Grant}
-use Rattle.lease_table.specs.declared.values.JobTerm.{JobTerm}
-use Rattle.lease_table.specs.declared.table.TheConstants.{READINGS}
-use Rattle.lease_table.specs.declared.policy.TheConstants.{LONGEST_TERM, MOST_GRANTS}
-use Rattle.lease_table.specs.Policies.{Terms, is_policy}
-use Rattle.lease_table.specs.Tables.{generation_of, last_number}
+use Rattle.grants.specs.declared.table_call.TableCall.{TableCall}
+use Rattle.grants.specs.declared.table_call.TableCall.TheVariants as call
+use Rattle.grants.specs.declared.table_call.TableReply.{TableReply}
+use Rattle.grants.specs.declared.kept.Kept.{Kept}
+use Rattle.grants.specs.declared.kept.KeptFault.{KeptFault}
+use Rattle.grants.specs.declared.values.Grant.{Grant}
+use Rattle.grants.specs.declared.values.JobTerm.{JobTerm}
+use Rattle.grants.specs.declared.policy.TheConstants.{READINGS, LONGEST_TERM, MOST_GRANTS}
+use Rattle.grants.specs.Policies.{Terms, is_policy}
+use Rattle.grants.specs.Assignments.{generation_of}
+use Rattle.grants.specs.JobTerms.{last_number}
 use Rattle.lease_table.specs.Steps.{job_held, is_holder, renewed_term, grant_with}
 use Rattle.lease_table.specs.Calls.{AnsweredTableCall, last_reading, last_term, committed_in, pending_in, grants_sent, greatest_end, standing_after}
 use Rattle.lease_table.specs.Runs.{IsRun, commits_in}
 use Rattle.lease_table.specs.Generations.{HasFewOwners}
 use Rattle.lease_table.specs.OpenRows.{IsSent}
-use Rattle.lease_table.specs.KeptValues.{kept_of, kept_checks, same_terms, is_term, is_committed, is_next, has_many_owners, is_deadline}
+use Rattle.lease_table.specs.KeptValues.{kept_of}
+use Rattle.grants.specs.KeptValues.{kept_checks, same_terms, is_term, is_committed, is_next, has_many_owners, is_deadline}
 use Rattle.lease_table.specs.internals.Numbers.{IsTermInRange, IsInRange, newest_of}
 use Rattle.lease_table.proofs.Acceptance.{IsAcceptedAfter}
 use Rattle.lease_table.proofs.Induction.{after_run, of_each_sent}
@@ -31,7 +32,7 @@ use Rattle.lease_table.proofs.Assignments.{counted, few_owners, assignment_commi
 use Rattle.lease_table.proofs.Leading.{row_runs}
 use Rattle.lease_table.proofs.Leases.{granted_by, leased}
 use Rattle.lease_table.proofs.Deadlines.{at_most}
-use Rattle.lease_table.proofs.Members.{here}
+use Rattle.grants.proofs.Members.{here}
 
 unnot : (b : Bool) → not b ≡ false → b ≡ true
 unnot true e = refl

@@ -3,17 +3,18 @@ use Rattle.std.proofs.Common.{◌≡◌, ◌∙◌, ◌⊎◌, inl, inr, true, L
 use Rattle.std.specs.Prelude.{None, Result, Ok, Err, Contains}
 use Rattle.machines.specs.Refusals.{first_of}
 use Rattle.machines.specs.Calls.{answered_call, answer_of, LeadsOn}
-use Rattle.lease_table.specs.declared.call.TableCall.{TableCall}
-use Rattle.lease_table.specs.declared.call.TableReply.{TableReply}
-use Rattle.lease_table.specs.declared.error.TableError.{TableError}
-use Rattle.lease_table.specs.declared.kept.Kept.{Kept}
-use Rattle.lease_table.specs.Policies.{Terms, is_policy}
+use Rattle.grants.specs.declared.table_call.TableCall.{TableCall}
+use Rattle.grants.specs.declared.table_call.TableReply.{TableReply}
+use Rattle.grants.specs.declared.table_error.TableError.{TableError}
+use Rattle.grants.specs.declared.kept.Kept.{Kept}
+use Rattle.grants.specs.Policies.{Terms, is_policy}
 use Rattle.lease_table.specs.Tables.{Standing}
 use Rattle.lease_table.specs.Calls.{AnsweredTableCall, standing_after, table_step, LeadsTo}
-use Rattle.lease_table.specs.KeptValues.{kept_of, kept_checks, restored_from, crashed, Covers, IsKeptAhead}
+use Rattle.lease_table.specs.KeptValues.{kept_of, restored_from, crashed, IsKeptAhead}
+use Rattle.grants.specs.KeptValues.{kept_checks, Covers}
 use Rattle.lease_table.specs.Lives.{Happening, Answered, Restored, left_by, table_after, IsLife, IsRunOf, IsOneRun}
 use Rattle.lease_table.proofs.Leading.{leads}
-use Rattle.lease_table.proofs.Members.{here, there, nowhere, first_or_rest}
+use Rattle.grants.proofs.Members.{here, there, nowhere, first_or_rest}
 use Rattle.lease_table.proofs.KeptValues.{taken}
 use Rattle.lease_table.proofs.SavingAhead.{covering}
 

@@ -8,15 +8,15 @@ use Rattle.machines.specs.Refusals.{first_of}
 use Rattle.machines.proofs.Every.{all_weaker}
 use Rattle.machines.proofs.Refused.{all_none, not_when}
 use Rattle.assignment.specs.Slices.{Slicing}
-use Rattle.lease_table.specs.declared.kept.KeptFault.{KeptFault}
-use Rattle.lease_table.specs.declared.snapshot.SnapshotFault.TheVariants as fault
-use Rattle.lease_table.specs.declared.snapshot.TableSnapshot.{TableSnapshot}
-use Rattle.lease_table.specs.declared.values.Row.{Row}
-use Rattle.lease_table.specs.Policies.{Terms, is_policy}
-use Rattle.lease_table.specs.Rows.{runs_at, running_rows}
-use Rattle.lease_table.specs.Tables.{generation_of}
-use Rattle.lease_table.specs.KeptValues.{kept_checks}
-use Rattle.lease_table.specs.Snapshots.{snapshot_checks, numbers_rise, generations_rise, newest_in, ends_between}
+use Rattle.grants.specs.declared.kept.KeptFault.{KeptFault}
+use Rattle.grants.specs.declared.snapshot.SnapshotFault.TheVariants as fault
+use Rattle.grants.specs.declared.snapshot.TableSnapshot.{TableSnapshot}
+use Rattle.grants.specs.declared.values.Row.{Row}
+use Rattle.grants.specs.Policies.{Terms, is_policy}
+use Rattle.grants.specs.Rows.{runs_at, running_rows}
+use Rattle.grants.specs.Assignments.{generation_of}
+use Rattle.grants.specs.KeptValues.{kept_checks}
+use Rattle.grants.specs.Snapshots.{snapshot_checks, numbers_rise, generations_rise, newest_in, ends_between}
 use Rattle.lease_table.specs.internals.Numbers.{IsInRange, newest_of}
 use Rattle.lease_table.specs.internals.RowOrder.{AllRise, NumbersRise, GenerationsRise}
 use Rattle.lease_table.proofs.KeptValues.{in_range}

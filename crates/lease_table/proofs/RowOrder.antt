@@ -4,9 +4,9 @@ use Rattle.std.specs.Prelude.{if◌then◌else◌, ◌&&◌, nat_lt, nat_le, Som
 use Rattle.std.specs.List.{AllByRecursion}
 use Rattle.std.proofs.lemmas.Bool.Decides.{nat_tests}
 use Rattle.machines.proofs.Every.{all_weaker, all_push}
-use Rattle.lease_table.specs.declared.values.Row.{Row}
-use Rattle.lease_table.specs.declared.values.ReleaseNote.{ReleaseNote}
-use Rattle.lease_table.specs.Rows.{runs_at, closes, first_up_to}
+use Rattle.grants.specs.declared.values.Row.{Row}
+use Rattle.grants.specs.declared.values.ReleaseNote.{ReleaseNote}
+use Rattle.grants.specs.Rows.{runs_at, closes, first_up_to}
 use Rattle.lease_table.specs.internals.Holders.{freed_if, rows_freed}
 use Rattle.lease_table.specs.internals.RowOrder.{AllRise, GenerationsRise, NumbersRise, HaveEnded, if_up_to}
 use Rattle.lease_table.proofs.Running.{all_of_filter}

@@ -6,18 +6,19 @@ use Rattle.std.proofs.lemmas.Bool.Decides.{nat_tests}
 use Rattle.machines.specs.Refusals.{first_of}
 use Rattle.machines.specs.Calls.{answered_call}
 use Rattle.assignment.specs.Slices.{Slicing}
-use Rattle.lease_table.specs.declared.call.TableCall.TheVariants as call
-use Rattle.lease_table.specs.declared.call.TableReply.TheVariants.{Granted}
-use Rattle.lease_table.specs.declared.kept.Kept.{Kept}
-use Rattle.lease_table.specs.declared.values.Grant.{Grant}
-use Rattle.lease_table.specs.declared.values.JobTerm.{JobTerm}
-use Rattle.lease_table.specs.declared.table.TheConstants.{READINGS}
-use Rattle.lease_table.specs.Policies.{Terms}
+use Rattle.grants.specs.declared.table_call.TableCall.TheVariants as call
+use Rattle.grants.specs.declared.table_call.TableReply.TheVariants.{Granted}
+use Rattle.grants.specs.declared.kept.Kept.{Kept}
+use Rattle.grants.specs.declared.values.Grant.{Grant}
+use Rattle.grants.specs.declared.values.JobTerm.{JobTerm}
+use Rattle.grants.specs.declared.policy.TheConstants.{READINGS}
+use Rattle.grants.specs.Policies.{Terms}
 use Rattle.lease_table.specs.Tables.{Standing}
 use Rattle.lease_table.specs.Steps.{grant_with, grant_checks}
 use Rattle.lease_table.specs.Calls.{AnsweredTableCall, last_reading, last_term, committed_in, pending_in, grants_sent, greatest_end, deadline_in, standing_after}
 use Rattle.lease_table.specs.Runs.{IsRun}
-use Rattle.lease_table.specs.KeptValues.{kept_of, lease_term, IsAhead, Covers, IsToNobody, IsKeptAhead}
+use Rattle.lease_table.specs.KeptValues.{kept_of, IsToNobody, IsKeptAhead}
+use Rattle.grants.specs.KeptValues.{lease_term, IsAhead, Covers}
 use Rattle.lease_table.proofs.Deadlines.{greatest_push}
 use Rattle.lease_table.proofs.KeptValues.{when_not}
 

@@ -8,24 +8,27 @@ use Rattle.machines.specs.Calls.{answered_call}
 use Rattle.machines.specs.Refusals.{when, first_of}
 use Rattle.machines.proofs.Every.{all_weaker, all_push}
 use Rattle.assignment.specs.Slices.{Slicing}
-use Rattle.lease_table.specs.declared.call.TableCall.{TableCall}
-use Rattle.lease_table.specs.declared.call.TableCall.TheVariants as call
-use Rattle.lease_table.specs.declared.call.TableReply.{TableReply}
-use Rattle.lease_table.specs.declared.kept.Kept.{Kept}
-use Rattle.lease_table.specs.declared.snapshot.SnapshotFault.{SnapshotFault}
-use Rattle.lease_table.specs.declared.snapshot.SnapshotFault.TheVariants as fault
-use Rattle.lease_table.specs.declared.snapshot.TableSnapshot.{TableSnapshot}
-use Rattle.lease_table.specs.declared.values.Grant.{Grant}
-use Rattle.lease_table.specs.declared.values.Row.{Row}
-use Rattle.lease_table.specs.Policies.{Terms, is_policy}
-use Rattle.lease_table.specs.Rows.{runs_at, running_rows, closes}
-use Rattle.lease_table.specs.Tables.{Standing, generation_of}
-use Rattle.lease_table.specs.Steps.{row_of, grant_with}
+use Rattle.grants.specs.declared.table_call.TableCall.{TableCall}
+use Rattle.grants.specs.declared.table_call.TableCall.TheVariants as call
+use Rattle.grants.specs.declared.table_call.TableReply.{TableReply}
+use Rattle.grants.specs.declared.kept.Kept.{Kept}
+use Rattle.grants.specs.declared.snapshot.SnapshotFault.{SnapshotFault}
+use Rattle.grants.specs.declared.snapshot.SnapshotFault.TheVariants as fault
+use Rattle.grants.specs.declared.snapshot.TableSnapshot.{TableSnapshot}
+use Rattle.grants.specs.declared.values.Grant.{Grant}
+use Rattle.grants.specs.declared.values.Row.{Row}
+use Rattle.grants.specs.Policies.{Terms, is_policy}
+use Rattle.grants.specs.Rows.{runs_at, running_rows, closes, row_of}
+use Rattle.lease_table.specs.Tables.{Standing}
+use Rattle.grants.specs.Assignments.{generation_of}
+use Rattle.lease_table.specs.Steps.{grant_with}
 use Rattle.lease_table.specs.Calls.{AnsweredTableCall, last_reading, committed_in, pending_in, grants_sent, greatest_end, deadline_in, grace_in, kept_rows, open_rows, standing_after}
 use Rattle.lease_table.specs.Runs.{IsRun, commits_in}
 use Rattle.lease_table.specs.Generations.{newest_with, newest_generation}
-use Rattle.lease_table.specs.KeptValues.{kept_of, kept_checks, restored_from}
-use Rattle.lease_table.specs.Snapshots.{IsSnapshotOf, resumed_from, snapshot_checks, numbers_rise, generations_rise, newest_in, ends_between}
+use Rattle.lease_table.specs.KeptValues.{kept_of, restored_from}
+use Rattle.grants.specs.KeptValues.{kept_checks}
+use Rattle.lease_table.specs.Snapshots.{IsSnapshotOf, resumed_from}
+use Rattle.grants.specs.Snapshots.{snapshot_checks, numbers_rise, generations_rise, newest_in, ends_between}
 use Rattle.lease_table.proofs.Acceptance.{IsAcceptedAfter}
 use Rattle.lease_table.proofs.Assignments.{IsCounted, counted, newest_call}
 use Rattle.lease_table.proofs.Deadlines.{greatest_push, grace_within}

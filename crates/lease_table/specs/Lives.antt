@@ -2,14 +2,15 @@
 use Rattle.std.specs.Prelude.{◌≡◌, List, [], ◌∷◌, ◌++◌, Result, Ok, Err, ⊤}
 use Rattle.std.specs.List.{AllByRecursion}
 use Rattle.machines.specs.Calls.{answer_of}
-use Rattle.lease_table.specs.declared.call.TableReply.{TableReply}
-use Rattle.lease_table.specs.declared.error.TableError.{TableError}
-use Rattle.lease_table.specs.declared.kept.Kept.{Kept}
-use Rattle.lease_table.specs.Policies.{Terms}
+use Rattle.grants.specs.declared.table_call.TableReply.{TableReply}
+use Rattle.grants.specs.declared.table_error.TableError.{TableError}
+use Rattle.grants.specs.declared.kept.Kept.{Kept}
+use Rattle.grants.specs.Policies.{Terms}
 use Rattle.lease_table.specs.Tables.{Standing, opening}
 use Rattle.lease_table.specs.Calls.{AnsweredTableCall, table_step, LeadsTo}
 use Rattle.lease_table.specs.Runs.{IsRun}
-use Rattle.lease_table.specs.KeptValues.{kept_of, restored_from, crashed, Covers, IsToNobody}
+use Rattle.lease_table.specs.KeptValues.{kept_of, restored_from, crashed, IsToNobody}
+use Rattle.grants.specs.KeptValues.{Covers}
 
 -- a call is answered, or the process ends and the table is restored from what was saved
 pub data Happening : Type 0 where

@@ -1,7 +1,7 @@
 -- Which calls take memory.
 use Rattle.std.specs.Prelude.{Bool, true, false}
-use Rattle.lease_table.specs.declared.call.TableCall.{TableCall}
-use Rattle.lease_table.specs.declared.call.TableCall.TheVariants.{Propose, Grant}
+use Rattle.grants.specs.declared.table_call.TableCall.{TableCall}
+use Rattle.grants.specs.declared.table_call.TableCall.TheVariants.{Propose, Grant}
 
 -- a call of the table may be out of memory
 abbrev pub takes_memory : TableCall → Bool

@@ -6,15 +6,17 @@ use Rattle.slice_ranges.specs.Sets.{keys_where}
 use Rattle.lease_rule.specs.declared.lease.Kind.TheVariants.{Guard, Bridge}
 use Rattle.assignment.specs.Slices.{Slicing}
 use Rattle.assignment.specs.Owners.{owns}
-use Rattle.lease_table.specs.declared.error.TableError.{TableError}
-use Rattle.lease_table.specs.declared.error.TableError.TheVariants.{ReadingRange, ClockBack, JobHeld, NotHolder, StaleBase, Pending, NothingPending, TooManyOwnersForJob, Grace, Held, NoRow, NoAssignment, NumbersSpent}
-use Rattle.lease_table.specs.declared.table.TheConstants.{READINGS}
-use Rattle.lease_table.specs.declared.values.JobTerm.{JobTerm}
-use Rattle.lease_table.specs.declared.values.Grant.{Grant}
-use Rattle.lease_table.specs.declared.values.ReleaseNote.{ReleaseNote}
-use Rattle.lease_table.specs.declared.values.Row.{Row}
-use Rattle.lease_table.specs.Rows.{running_rows, closes, rows_left_open, first_up_to}
-use Rattle.lease_table.specs.Tables.{Standing, generation_of, slices_of, last_number}
+use Rattle.grants.specs.declared.table_error.TableError.{TableError}
+use Rattle.grants.specs.declared.table_error.TableError.TheVariants.{ReadingRange, ClockBack, JobHeld, NotHolder, StaleBase, Pending, NothingPending, TooManyOwnersForJob, Grace, Held, NoRow, NoAssignment, NumbersSpent}
+use Rattle.grants.specs.declared.policy.TheConstants.{READINGS}
+use Rattle.grants.specs.declared.values.JobTerm.{JobTerm}
+use Rattle.grants.specs.declared.values.Grant.{Grant}
+use Rattle.grants.specs.declared.values.ReleaseNote.{ReleaseNote}
+use Rattle.grants.specs.declared.values.Row.{Row}
+use Rattle.grants.specs.Rows.{running_rows, closes, rows_left_open, first_up_to, row_of}
+use Rattle.lease_table.specs.Tables.{Standing}
+use Rattle.grants.specs.JobTerms.{last_number}
+use Rattle.grants.specs.Assignments.{generation_of, slices_of}
 
 -- the refusals of a reading
 abbrev pub out_of_range : ℕ → Option TableError
@@ -137,17 +139,6 @@ bridge_of t next task life at = record {
 abbrev pub grant_with : Standing → Option Slicing → ℕ → ℕ → ℕ → Grant
 grant_with t None task life at = guard_of t task life at
 grant_with t (Some next) task life at = bridge_of t next task life at
-
--- the row of a grant
-abbrev pub row_of : Grant → Row
-row_of grant = record {
-  number = grant.number;
-  task = grant.task;
-  life = grant.life;
-  kind = grant.lease.kind;
-  generation = grant.lease.generation;
-  table_ends = grant.table_ends;
-}
 
 abbrev pub with_row : Standing → ℕ → Row → Standing
 with_row t at row = record (standing_at t at) { granted = t.granted + 1; deadline = max t.deadline row.table_ends; rows = running_rows at t.rows ++ row ∷ [] }

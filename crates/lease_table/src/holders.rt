@@ -2,12 +2,12 @@
 
 ghost use Rattle.std.specs.Prelude.{◌≡◌, List, [], ◌∷◌, ◌++◌, if◌then◌else◌, filter, nat_le, nat_lt, length, IfOk, OnOk, OnErr};
 ghost use Rattle.lease_table.specs.declared.holders.Holder.{Holder};
-ghost use Rattle.lease_table.specs.Rows.{running_rows};
+ghost use Rattle.grants.specs.Rows.{running_rows};
 ghost use Rattle.lease_table.specs.internals.RowOrder.{NumbersRise};
 ghost use Rattle.lease_table.specs.internals.Holders.{holder_of, holder_in, same_holder, rows_held};
 
-use crate::values::{ReleaseNote, Row};
 use assignment::TaskId;
+use grants::{ReleaseNote, Row};
 use indexmap::IndexMap;
 use lease_rule::Kind;
 use std::alloc::{AllocError, Global};

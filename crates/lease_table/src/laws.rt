@@ -5,38 +5,35 @@ ghost use Rattle.slice_ranges.specs.Sets.{has};
 ghost use Rattle.lease_rule.specs.declared.lease.Kind.TheVariants.{Guard, Bridge};
 ghost use Rattle.assignment.specs.Slices.{Slicing};
 ghost use Rattle.assignment.specs.Owners.{owns};
-ghost use Rattle.lease_table.specs.declared.call.TableCall.{TableCall};
-ghost use Rattle.lease_table.specs.declared.call.TableCall.TheVariants as call;
-ghost use Rattle.lease_table.specs.declared.call.TableReply.{TableReply};
-ghost use Rattle.lease_table.specs.declared.call.TableReply.TheVariants.{Term};
-ghost use Rattle.lease_table.specs.declared.error.TableError.{TableError};
-ghost use Rattle.lease_table.specs.declared.error.TableError.TheVariants.{Grace, Held};
-ghost use Rattle.lease_table.specs.declared.values.Grant.{Grant};
-ghost use Rattle.lease_table.specs.declared.values.JobTerm.{JobTerm};
-ghost use Rattle.lease_table.specs.declared.values.Row.{Row};
-ghost use Rattle.lease_table.specs.Policies.{Terms, is_policy};
-ghost use Rattle.lease_table.specs.Tables.{Standing, opening, generation_of, slices_of, last_number};
-ghost use Rattle.lease_table.specs.Calls.{AnsweredTableCall, table_step, standing_after, LeadsTo};
-ghost use Rattle.lease_table.specs.Calls.{reading_after, last_reading, last_term, committed_in, pending_in, grants_sent, deadline_in, grace_in};
+ghost use Rattle.grants.specs.declared.table_call.TableCall.{TableCall};
+ghost use Rattle.grants.specs.declared.table_call.TableCall.TheVariants as call;
+ghost use Rattle.grants.specs.declared.table_call.TableReply.{TableReply};
+ghost use Rattle.grants.specs.declared.table_call.TableReply.TheVariants.{Term};
+ghost use Rattle.grants.specs.declared.table_error.TableError.{TableError};
+ghost use Rattle.grants.specs.declared.table_error.TableError.TheVariants.{Grace, Held};
+ghost use Rattle.grants.specs.declared.values.Grant.{Grant};
+ghost use Rattle.grants.specs.declared.values.JobTerm.{JobTerm};
+ghost use Rattle.grants.specs.declared.values.Row.{Row};
+ghost use Rattle.grants.specs.Policies.{Terms, is_policy};
+ghost use Rattle.lease_table.specs.Tables.{Standing, opening};
+ghost use Rattle.grants.specs.JobTerms.{last_number};
+ghost use Rattle.grants.specs.Assignments.{generation_of, slices_of};
+ghost use Rattle.lease_table.specs.Calls.{AnsweredTableCall, table_step, standing_after, LeadsTo, reading_after, last_reading, last_term, committed_in, pending_in, grants_sent, deadline_in, grace_in};
 ghost use Rattle.machines.specs.Calls.{LeadsOn, answered_call};
-ghost use Rattle.lease_table.specs.Runs.{IsRun, commits_in, proposed_at, restarted_at, longest_term};
+ghost use Rattle.lease_table.specs.Runs.{IsRun, commits_in, proposed_at, restarted_at};
+ghost use Rattle.grants.specs.KeptValues.{longest_term, kept_checks, Covers};
 ghost use Rattle.lease_table.specs.Generations.{assignment_in, published_in, newest_generation, covers_by_owners, HasFewOwners};
 ghost use Rattle.lease_table.specs.OpenRows.{IsSent, IsFreed, IsLost, IsOut, IsOpen, HoldsUp, IsHeldUp, grant_numbered};
-ghost use Rattle.lease_table.specs.Steps.{row_of, standing_after_restart, held_up, commit_step, guard_of, bridge_of};
+ghost use Rattle.grants.specs.Rows.{row_of};
+ghost use Rattle.lease_table.specs.Steps.{standing_after_restart, held_up, commit_step, guard_of, bridge_of};
 ghost use Rattle.machines.specs.Refusals.{first_of};
-ghost use Rattle.lease_table.specs.declared.kept.Kept.{Kept};
-ghost use Rattle.lease_table.specs.KeptValues.{kept_of, kept_checks, restored_from, crashed, Covers, IsKeptAhead};
+ghost use Rattle.grants.specs.declared.kept.Kept.{Kept};
+ghost use Rattle.lease_table.specs.KeptValues.{kept_of, restored_from, crashed, IsKeptAhead};
 ghost use Rattle.lease_table.specs.Lives.{Happening, Answered, table_after, IsLife, IsRunOf, IsOneRun};
 ghost use Rattle.lease_table.specs.JobTerms.{takes_in, number_passed, HoldsJob, IsGiven};
 
-use crate::policy::Policy;
-use crate::table::READINGS;
+use grants::READINGS;
 use slice_ranges::KEYS;
-
-/// States that every policy is within its limits.
-pub fn policy_law(policy: Policy)
-    ensures { is_policy policy ≡ true }
-{}
 
 /// States that the state and replies of a table are those defined over its list of calls.
 ///

@@ -4,7 +4,11 @@ ghost use Rattle.std.specs.Prelude.{◌≡◌, ◌≤◌, ◌<◌, ◌+◌, ◌&
 ghost use Rattle.machines.specs.Refusals.{first_of};
 ghost use Rattle.slice_ranges.specs.Sets.{keys_where};
 ghost use Rattle.assignment.specs.Owners.{owns};
-ghost use Rattle.lease_table.specs.Tables.{opening, phase_of, generation_of, slices_of, last_number};
+ghost use Rattle.lease_table.specs.Tables.{opening, phase_of};
+ghost use Rattle.grants.specs.JobTerms.{last_number};
+ghost use Rattle.grants.specs.Assignments.{generation_of, slices_of};
+ghost use Rattle.grants.specs.Rows.{row_of};
+ghost use Rattle.grants.specs.declared.policy.TheConstants.{READINGS};
 ghost use Rattle.lease_table.specs.internals.Numbers.{newest_of};
 ghost use Rattle.machines.specs.Answers.{Answers, Takes, trouble_of};
 ghost use Rattle.lease_table.specs.Steps.{grant_checks, standing_at, propose_checks, grant_with, with_row, take_step, renew_step, propose_step, commit_step, grant_step, free_step, standing_after_restart};
@@ -14,19 +18,16 @@ mod keeping;
 mod resuming;
 
 use self::checks::any_written_has_more_owners;
-use crate::error::TableError;
-use crate::policy::{MOST_GRANTS, Policy};
 use crate::publication::Publication;
 use crate::rows::Rows;
-use crate::values::{Grant, JobTerm, Phase, ReleaseNote, Row};
 use assignment::{Assignment, Slice, TaskId};
+use grants::{
+    Grant, JobTerm, MOST_GRANTS, Phase, Policy, ReleaseNote, Row, TableError, policy_law,
+};
 use lease_rule::{Kind, Lease};
 use machines::Trouble;
 use std::alloc::{AllocError, Global};
 use std::marker::Model;
-
-/// The bound of readings, 2^62 ticks: every reading that the table accepts is below it.
-pub const READINGS: u64 = 1 << 62;
 
 /// The lease table of a job: its job lease, its assignments, and the leases given to tasks.
 ///
@@ -50,7 +51,7 @@ impl Model for LeaseTable {
 
     ghost Value = { Standing };
 
-    ghost use Rattle.lease_table.specs.Rows.{running_rows};
+    ghost use Rattle.grants.specs.Rows.{running_rows};
     ghost use Rattle.lease_table.specs.internals.Numbers.{IsInRange, newest_of};
 
     ghost view = { λ t. record {
@@ -83,6 +84,13 @@ impl LeaseTable {
             grace: 0,
             rows: Rows::new(alloc),
         }
+    }
+
+    /// Returns the policy of the table.
+    pub fn policy(&self) -> Policy
+        ensures { result ≡ self.now.policy }
+    {
+        self.policy
     }
 
     /// Returns the committed assignment, if there is one.
@@ -249,10 +257,8 @@ impl LeaseTable {
     pub fn grant(&mut self, task: TaskId, life: u32, at: u64) -> Result<Grant, Trouble<TableError>>
         ensures { Takes (grant_step self.old task life at) self.old result self.new }
     {
-        self.check_grant(at).map_err(Trouble::Refused)?;
-        self.publication.keep_keys(task)?;
-        let grant = self.grant_of_phase(task, life, at)?;
-        self.add_row(grant.row(), at)?;
+        let grant = self.next_grant(task, life, at)?;
+        self.make(&grant, at)?;
         Ok(grant)
     }
 
@@ -274,6 +280,20 @@ impl LeaseTable {
         self.check_grant(at).map_err(Trouble::Refused)?;
         self.publication.keep_keys(task)?;
         Ok(self.grant_of_phase(task, life, at)?)
+    }
+
+    /// Makes a grant that [`next_grant`](Self::next_grant) returned for this table at the reading
+    /// `at`, in ticks.
+    ///
+    /// The only error is out of memory, which leaves the table unchanged.
+    pub fn make(&mut self, grant: &Grant, at: u64) -> Result<(), AllocError>
+        requires accepted { first_of (grant_checks self.old at) ≡ None }
+        requires next { grant.now ≡ grant_with self.old self.old.pending grant.now.task grant.now.life at }
+        ensures ok { OnOk result (self.new ≡ with_row self.old at (row_of grant.now)) }
+        ensures err { OnErr result (self.new ≡ self.old) }
+    {
+        policy_law(self.policy);
+        self.add_row(grant.row(), at)
     }
 
     /// Returns why a grant at the reading `at`, in ticks, would be refused, if it would.

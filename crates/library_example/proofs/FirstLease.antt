@@ -7,8 +7,8 @@ use Rattle.lease_rule.specs.declared.lease.Kind.{Kind}
 use Rattle.lease_rule.specs.declared.lease.Kind.TheVariants.{Guard, Bridge}
 use Rattle.lease_rule.specs.Leases.{is_live}
 use Rattle.lease_rule.proofs.Permitting.{permitted_live}
-use Rattle.lease_table.specs.declared.values.Grant.{Grant}
-use Rattle.slicelet.specs.declared.call.SliceletCall.TheVariants.{Start, Hear}
+use Rattle.grants.specs.declared.values.Grant.{Grant}
+use Rattle.grants.specs.declared.slicelet_call.SliceletCall.TheVariants.{Start, Hear}
 use Rattle.slicelet.specs.Rules.{covers_key}
 use Rattle.slicelet.specs.States.{SliceletState, opening, holding_in, permits}
 use Rattle.slicelet.specs.Steps.{start_checks, hear_checks, start_step, hear_step, next_state, with_grant, with_greatest, read_at, state_with_count}

@@ -2,9 +2,8 @@
 
 use assignment::AssignmentError;
 use clerk::{ClerkError, Unknown};
-use lease_table::TableError;
+use grants::{SliceletError, TableError};
 use machines::Trouble;
-use slicelet::SliceletError;
 use std::alloc::AllocError;
 use std::io::{self, Eprint};
 use std::process::ExitCode;

@@ -11,8 +11,9 @@ ghost use Rattle.assignment.specs.Owners.{owns};
 
 use assignment::{Assignment, Slice, TaskId};
 use error::{ExampleError, exit_code};
+use grants::{Grant, Policy};
 use lease_rule::{Lease, Verdict};
-use lease_table::{Grant, LeaseTable, Policy};
+use lease_table::LeaseTable;
 use machines::Listed;
 use slice_ranges::{KEYS, slice_key};
 use slicelet::Slicelet;

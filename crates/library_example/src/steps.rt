@@ -9,13 +9,15 @@ ghost use Rattle.lease_table.specs.Steps.{grant_step};
 ghost use Rattle.slicelet.specs.Rules.{covers_key};
 ghost use Rattle.slicelet.specs.States.{permits, rule_in_state};
 ghost use Rattle.wire.specs.declared.numerals.Numerals.TheVariants as numeral;
-ghost use Rattle.wire.specs.Messages.{IsDecodedAs, message_text};
+ghost use Rattle.wire.specs.Messages.{message_text};
+ghost use Rattle.library_example.specs.Carrying.{IsCarriedAs};
 
 use crate::error::ExampleError;
 use assignment::{Assignment, TaskId};
 use clerk::{Clerk, Found};
+use grants::Grant;
 use lease_rule::Verdict;
-use lease_table::{Grant, LeaseTable};
+use lease_table::LeaseTable;
 use slice_ranges::SliceKey;
 use slicelet::Slicelet;
 use std::alloc::Global;
@@ -24,7 +26,7 @@ use wire::{DecodeError, JobName, Wire, decode, encode};
 /// Carries a value as a message of a job, as a transport would: what arrives is what was sent,
 /// unless there are more bytes than a message may have, or memory runs out.
 pub fn carry<T: Wire>(alloc: Global, job: &JobName, value: &T) -> Result<T, DecodeError>
-    ensures { IsDecodedAs (message_text job.now T.name (T.data_of numeral.Quoted value.now)) value.now result }
+    ensures { IsCarriedAs (message_text job.now T.name (T.data_of numeral.Quoted value.now)) value.now result }
 {
     let bytes = encode(alloc, job, value)?;
     decode(alloc, job, bytes.as_slice())

@@ -5,18 +5,17 @@ use Rattle.std.proofs.lemmas.List.Sums.{sum_by-append}
 use Rattle.slice_ranges.specs.Hash.{slice_key}
 use Rattle.history_lock.specs.Passes.{Lock, PassView}
 use Rattle.tickets.specs.Tickets.{TicketPassView}
-use Rattle.cluster.specs.declared.record.CallRecord.{CallRecord}
-use Rattle.cluster.specs.declared.call.ClusterCall.{ClusterCall}
-use Rattle.cluster.specs.declared.call.ClusterCall.TheVariants.{Check, Clerk, Hold, Look, Phase, Rows, Serve, Table, Task}
-use Rattle.cluster.specs.declared.reply.ClusterReply.{ClusterReply}
-use Rattle.cluster.specs.declared.reply.ClusterReply.TheVariants as told
+use Rattle.job_calls.specs.declared.record.CallRecord.{CallRecord}
+use Rattle.job_calls.specs.declared.call.ClusterCall.{ClusterCall}
+use Rattle.job_calls.specs.declared.call.ClusterCall.TheVariants.{Check, Clerk, Hold, Look, Phase, Rows, Serve, Table, Task}
+use Rattle.job_calls.specs.declared.reply.ClusterReply.{ClusterReply}
+use Rattle.job_calls.specs.declared.reply.ClusterReply.TheVariants as told
 use Rattle.machines.specs.declared.event.Event.{Event}
 use Rattle.lease_rule.specs.declared.answer.Verdict.{Verdict}
 use Rattle.slicelet.specs.Rules.{covers_key}
-use Rattle.slicelet.specs.States.{rule_in_state}
+use Rattle.slicelet.specs.States.{rule_in_state, SliceletState}
 use Rattle.slicelet.specs.Steps.{event_step}
-use Rattle.slicelet.specs.States.{SliceletState}
-use Rattle.slicelet.specs.declared.call.SliceletCall.{SliceletCall}
+use Rattle.grants.specs.declared.slicelet_call.SliceletCall.{SliceletCall}
 use Rattle.shared_objects.specs.declared.error.Recorded.{Recorded}
 use Rattle.live_run.specs.internals.LiveTasks.{TellsVerdict}
 use Rattle.shared_objects.specs.Draws.{CanDraw}

@@ -9,11 +9,11 @@ use Rattle.history_lock.specs.declared.error.WriteError.{WriteError}
 use Rattle.history_lock.specs.declared.error.WriteError.TheVariants as write_error
 use Rattle.lease_table.specs.Calls.{event_step as table_step}
 use Rattle.lease_table.specs.Tables.{Standing}
-use Rattle.lease_table.specs.declared.call.TableCall.{TableCall}
-use Rattle.lease_table.specs.declared.values.Row.{Row}
+use Rattle.grants.specs.declared.table_call.TableCall.{TableCall}
+use Rattle.grants.specs.declared.values.Row.{Row}
 use Rattle.tickets.specs.Tickets.{TicketPassView}
-use Rattle.cluster.specs.declared.call.ClusterCall.{ClusterCall}
-use Rattle.cluster.specs.declared.reply.ClusterReply.{ClusterReply}
+use Rattle.job_calls.specs.declared.call.ClusterCall.{ClusterCall}
+use Rattle.job_calls.specs.declared.reply.ClusterReply.{ClusterReply}
 use Rattle.tickets.specs.declared.ticket.Spent.{Spent}
 use Rattle.shared_objects.specs.declared.error.CallError.{CallError}
 use Rattle.shared_objects.specs.declared.error.CallError.TheVariants as call_error

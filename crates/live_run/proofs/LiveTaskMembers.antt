@@ -15,7 +15,7 @@ use Rattle.tickets.specs.Tickets.{TicketView, TicketPassView, DrawsFrom, new_tic
 use Rattle.live_run.specs.declared.live_task.EndedTask.{EndedTask}
 use Rattle.live_run.specs.declared.live_task.Gathered.{Gathered}
 use Rattle.machines.specs.declared.event.Event.{Event}
-use Rattle.slicelet.specs.declared.call.SliceletCall.{SliceletCall}
+use Rattle.grants.specs.declared.slicelet_call.SliceletCall.{SliceletCall}
 use Rattle.live_run.specs.Reports.{asked_keys, serves, task_keys, worker_keys}
 use Rattle.live_run.proofs.Asked.{asked-append, asked_by_worker, asked_nothing, workers_push}
 use Rattle.live_run.specs.declared.worker.Member.{Member}

@@ -4,8 +4,8 @@ use Rattle.std.specs.Prelude.{Result, Ok, Err}
 use Rattle.machines.specs.declared.event.Event.{Event}
 use Rattle.history_lock.specs.Passes.{Lock, PassView}
 use Rattle.tickets.specs.Tickets.{TicketPassView}
-use Rattle.cluster.specs.declared.call.ClusterCall.{ClusterCall}
-use Rattle.cluster.specs.declared.reply.ClusterReply.{ClusterReply}
+use Rattle.job_calls.specs.declared.call.ClusterCall.{ClusterCall}
+use Rattle.job_calls.specs.declared.reply.ClusterReply.{ClusterReply}
 use Rattle.shared_objects.specs.declared.error.CallError.{CallError}
 use Rattle.live_run.specs.declared.notes.Halt.{Halt}
 use Rattle.live_run.specs.declared.notes.Halt.TheVariants as halt

@@ -10,7 +10,7 @@ use Rattle.history_lock.specs.declared.entry.Entry.{Entry}
 use Rattle.machines.specs.declared.event.Event.{Event}
 use Rattle.slicelet.specs.Steps.{event_step}
 use Rattle.slicelet.specs.States.{opening}
-use Rattle.slicelet.specs.declared.call.SliceletCall.{SliceletCall}
+use Rattle.grants.specs.declared.slicelet_call.SliceletCall.{SliceletCall}
 use Rattle.history_lock.specs.Passes.{Lock, PassView, ArePassesOf, AreNewFrom, new_pass}
 use Rattle.lease_table.specs.Tables.{Standing}
 use Rattle.shared_objects.specs.Objects.{SharedObject}

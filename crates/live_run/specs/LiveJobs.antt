@@ -3,9 +3,9 @@ use Rattle.std.specs.Prelude.{ℕ, ◌+◌, ◌%◌, ◌^◌, [], ◌∷◌, Boo
 use Rattle.assignment.specs.Slices.{Slicing}
 use Rattle.assignment.specs.Owners.{built}
 use Rattle.assignment.specs.declared.slice.Slice.{Slice}
-use Rattle.lease_table.specs.Policies.{Terms, terms}
+use Rattle.grants.specs.Policies.{Terms, terms}
 use Rattle.machines.specs.Numbers.{is_within}
-use Rattle.cluster.specs.Jobs.{Job, job_of}
+use Rattle.job_calls.specs.Jobs.{Job, job_of}
 use Rattle.live_run.specs.declared.job.TheConstants.{MOST_TASKS, MOST_WORKERS, MOST_ROUNDS, MOST_ASKS, LONG}
 
 -- how many tasks there are, how many workers a task has, how many generations are to be committed, and how many keys a worker asks for

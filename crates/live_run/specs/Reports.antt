@@ -2,24 +2,24 @@
 use Rattle.std.specs.Prelude.{◌≡◌, ℕ, zero, suc, ◌+◌, ◌*◌, Bool, true, false, List, [], ◌∷◌, ◌++◌, None, decimal, vec_len}
 use Rattle.std.specs.List.{AllByRecursion, count_by}
 use Rattle.slice_ranges.specs.Hash.{slice_key}
-use Rattle.lease_table.specs.declared.call.TableCall.{TableCall}
-use Rattle.lease_table.specs.declared.call.TableCall.TheVariants.{Commit}
+use Rattle.grants.specs.declared.table_call.TableCall.{TableCall}
+use Rattle.grants.specs.declared.table_call.TableCall.TheVariants.{Commit}
 use Rattle.lease_table.specs.Calls.{event_step as table_step}
 use Rattle.lease_table.specs.Tables.{opening as new_table}
 use Rattle.slicelet.specs.Steps.{event_step as slicelet_step}
 use Rattle.slicelet.specs.States.{opening as new_slicelet}
-use Rattle.slicelet.specs.declared.call.SliceletCall.{SliceletCall}
+use Rattle.grants.specs.declared.slicelet_call.SliceletCall.{SliceletCall}
 use Rattle.clerk.specs.Calls.{event_step as clerk_step}
 use Rattle.machines.specs.declared.event.Event.{Event}
 use Rattle.history_lock.specs.declared.entry.Entry.{Entry}
 use Rattle.history_lock.specs.Histories.{IsLegal}
-use Rattle.cluster.specs.declared.record.CallRecord.{CallRecord}
+use Rattle.job_calls.specs.declared.record.CallRecord.{CallRecord}
 use Rattle.audit.specs.Shown.{evidence}
 use Rattle.audit.specs.OneRun.{IsAudit}
 use Rattle.live_run.specs.LiveJobs.{LiveSizes, live_policy, played_job}
 use Rattle.live_run.specs.declared.report.LiveReport.{LiveReport}
-use Rattle.cluster.specs.declared.call.ClusterCall.{ClusterCall}
-use Rattle.cluster.specs.declared.call.ClusterCall.TheVariants.{Serve}
+use Rattle.job_calls.specs.declared.call.ClusterCall.{ClusterCall}
+use Rattle.job_calls.specs.declared.call.ClusterCall.TheVariants.{Serve}
 
 -- a task was asked for a key
 abbrev pub is_serve : ClusterCall → Bool

@@ -13,7 +13,7 @@ use crate::passes::TablePasses;
 use crate::table_caller::TableCaller;
 use assignment::{Assignment, Slice};
 use crossbeam_utils::Backoff;
-use lease_table::TableCall;
+use grants::TableCall;
 use machines::Listed;
 use shared_objects::job_term;
 use std::alloc::{AllocError, Global};

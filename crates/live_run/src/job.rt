@@ -3,8 +3,8 @@
 ghost use Rattle.std.specs.Prelude.{◌≡◌, ◌≤◌, is_some, IfSome};
 ghost use Rattle.live_run.specs.LiveJobs.{is_live_job, live_policy, live_sizes, played_job};
 
-use cluster::Job;
-use lease_table::Policy;
+use grants::Policy;
+use job_calls::Job;
 use std::marker::Model;
 
 /// The largest number of tasks in a live run.

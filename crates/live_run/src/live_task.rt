@@ -16,8 +16,8 @@ use crate::passes::{TablePasses, TaskPasses};
 use crate::task_loop::see_to_leases;
 use crate::worker::{Member, Worked, work};
 use assignment::TaskId;
-use cluster::CallRecord;
 use history_lock::{Closed, History, MOST_ENTRIES, Pass};
+use job_calls::CallRecord;
 use lease_table::LeaseTable;
 use shared_objects::{Gate, SharedSlicelet, SharedTable};
 use slicelet::{Slicelet, SliceletEvent};
@@ -86,14 +86,7 @@ impl LiveTask {
             before,
         } = plan;
         let lanes = u64::from(workers) + 1;
-        let slicelet = Slicelet::new(alloc, task);
-        let Ok((slicelet, passes)) = SharedSlicelet::new(
-            alloc,
-            slicelet,
-            task.number(),
-            lanes,
-            MOST_ENTRIES,
-        ) else {
+        let Ok((slicelet, passes)) = SharedSlicelet::new(alloc, task, lanes, MOST_ENTRIES) else {
             return Err(AllocError);
         };
         let members = members_of(alloc, &slicelet, ticket, before, passes, draws)?;

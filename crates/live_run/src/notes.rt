@@ -6,8 +6,8 @@ ghost use Rattle.live_run.specs.declared.notes.Halt.TheVariants as halt;
 ghost use Rattle.live_run.specs.internals.Notes.{CalledAndNoted, IsNoted, RefusesNoServe, TellsMemory};
 ghost use Rattle.live_run.specs.Reports.{is_serve, serves};
 
-use cluster::CallRecord;
 use history_lock::Pass;
+use job_calls::CallRecord;
 use shared_objects::{Actor, CallError, Draws, RefusedCall, Shared, When};
 use std::alloc::{AllocError, AllocFailed, Global};
 use std::sync::Wait;

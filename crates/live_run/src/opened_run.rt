@@ -52,11 +52,10 @@ impl OpenedRun {
             return Err(AllocError);
         };
         let lanes = job.tasks() + 2;
-        let table = LeaseTable::new(alloc, live_policy());
-        let Ok((table, passes)) = SharedTable::new(alloc, table, 0, lanes, MOST_ENTRIES) else {
+        let Ok((table, passes)) = SharedTable::new(alloc, live_policy(), lanes, MOST_ENTRIES) else {
             return Err(AllocError);
         };
-        let Ok((clerk, own)) = SharedClerk::new(alloc, Clerk::new(), 1, 1, MOST_ENTRIES) else {
+        let Ok((clerk, own)) = SharedClerk::new(alloc, 1, 1, MOST_ENTRIES) else {
             return Err(AllocError);
         };
         let objects = Objects {

@@ -5,9 +5,10 @@ ghost use Rattle.live_run.specs.Reports.{commits, is_commit, is_serve, serves};
 
 use audit::Audit;
 use clerk::ClerkEvent;
-use cluster::{CallRecord, ClusterCall};
+use grants::TableCall;
 use history_lock::{Entry, History};
-use lease_table::{TableCall, TableEvent};
+use job_calls::{CallRecord, ClusterCall};
+use lease_table::TableEvent;
 use slicelet::SliceletEvent;
 
 /// The report of a live run: the histories of all locks, the callers' records and an audit of both.

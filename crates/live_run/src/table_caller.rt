@@ -5,10 +5,11 @@ ghost use Rattle.history_lock.specs.Passes.{IsPassOf};
 use crate::notes::{Halt, Notes, call_noted};
 use crate::passes::TablePasses;
 use assignment::Assignment;
+use grants::{Phase, Row, TableCall, TableReply};
 use history_lock::Pass;
-use lease_table::{LeaseTable, Phase, Row, TableCall, TableReply};
+use lease_table::LeaseTable;
 use machines::Listed;
-use shared_objects::{AskPhase, Draws, RowsError, SharedTable, When};
+use shared_objects::{Draws, RowsError, SharedTable};
 use std::sync::Wait;
 use tickets::Ticket;
 
@@ -99,13 +100,7 @@ impl TableCaller<'_> {
         ensures memory { TellsMemory result self.new.notes }
         ensures noted { IsReadNoted self.old.notes result self.new.notes }
     {
-        let asked = self.table.ask(
-            rt,
-            &mut self.pass,
-            &mut self.draws,
-            AskPhase,
-            When::AtTicket,
-        )?;
+        let asked = self.table.phase(rt, &mut self.pass, &mut self.draws)?;
         Ok(asked.answer)
     }
 

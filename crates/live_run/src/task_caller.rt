@@ -8,11 +8,11 @@ use crate::objects::TaskObjects;
 use crate::passes::TaskPasses;
 use crate::table_caller::TableCaller;
 use assignment::TaskId;
+use grants::{SliceletCall, SliceletReply, TableCall};
 use history_lock::Pass;
 use lease_rule::Kind;
-use lease_table::TableCall;
 use shared_objects::{SharedSlicelet, release_note};
-use slicelet::{Slicelet, SliceletCall, SliceletReply};
+use slicelet::Slicelet;
 use std::sync::Wait;
 
 /// What a task's thread calls with: its means to call the table, its slicelet, and its pass of the slicelet's

@@ -10,10 +10,9 @@ use crate::objects::TaskObjects;
 use crate::passes::TaskPasses;
 use crate::task_caller::TaskCaller;
 use crossbeam_utils::Backoff;
+use grants::{Grant, Phase, SliceletCall, TableCall};
 use lease_rule::Kind;
-use lease_table::{Grant, Phase, TableCall};
 use shared_objects::grant;
-use slicelet::SliceletCall;
 use std::alloc::AllocError;
 use std::sync::Wait;
 

@@ -4,16 +4,15 @@ ghost use Rattle.std.specs.Prelude.{◌≡◌, ◌≤◌, ◌+◌, IfOk, length,
 ghost use Rattle.history_lock.specs.Passes.{IsPassOf};
 ghost use Rattle.slice_ranges.specs.Hash.{slice_key};
 ghost use Rattle.tickets.specs.Tickets.{DrawsFrom, new_ticket_pass};
-ghost use Rattle.cluster.specs.declared.call.ClusterCall.TheVariants as recorded_call;
+ghost use Rattle.job_calls.specs.declared.call.ClusterCall.TheVariants as recorded_call;
 ghost use Rattle.shared_objects.specs.Draws.{CanDraw};
 ghost use Rattle.shared_objects.specs.declared.when.When.TheVariants as when;
 ghost use Rattle.live_run.specs.internals.LiveTasks.{HasWorked, TellsVerdict};
 
-use crate::job::TICKET;
 use crate::objects::TaskObjects;
-use cluster::CallRecord;
 use history_lock::Pass;
-use shared_objects::{AskServe, Draws, Gate, SharedSlicelet, Turn, When};
+use job_calls::CallRecord;
+use shared_objects::{Draws, Gate, SharedSlicelet, Turn, When};
 use slice_ranges::{SliceKey, slice_key};
 use slicelet::Slicelet;
 use std::alloc::{AllocError, Global};
@@ -109,8 +108,7 @@ impl WorkerCaller<'_> {
         ensures told { TellsVerdict self.old.slicelet.now self.old.draws.pass self.new.draws.pass key self.old.pass result self.new.pass }
     {
         let (pass, draws) = (&mut self.pass, &mut self.draws);
-        let question = AskServe { key, at: TICKET };
-        let Ok(asked) = self.slicelet.ask_gated(rt, pass, draws, question, turn) else {
+        let Ok(asked) = self.slicelet.serve_gated(rt, pass, draws, key, turn) else {
             unreachable!()
         };
         asked.call

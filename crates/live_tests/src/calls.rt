@@ -8,18 +8,16 @@ use crate::objects::{
 };
 use assignment::TaskId;
 use audit::{Audit, audit};
-use clerk::{Clerk, ClerkCall, ClerkEvent};
-use cluster::{CallRecord, ClusterReply, Job};
+use clerk::{Clerk, ClerkEvent};
+use grants::{Phase, Row};
 use history_lock::{History, Pass};
+use job_calls::{CallRecord, ClusterReply, Job};
 use lease_rule::{Kind, Verdict};
-use lease_table::{LeaseTable, Phase, Row, TableCall, TableEvent};
+use lease_table::{LeaseTable, TableEvent};
 use machines::Event;
-use shared_objects::{
-    AskCheck, AskHold, AskLook, AskPhase, AskServe, Draws, SharedClerk, SharedSlicelet,
-    SharedTable, When, freed_rows, generation, grant, job_term, release_note,
-};
+use shared_objects::{Draws, Proposal, SharedClerk, SharedSlicelet, SharedTable, TaskLife, When};
 use slice_ranges::slice_key;
-use slicelet::{Slicelet, SliceletCall, SliceletEvent};
+use slicelet::{Slicelet, SliceletEvent};
 use std::alloc::Global;
 use std::sync::Wait;
 use std::test::Fail;
@@ -36,34 +34,17 @@ pub fn commit_first<R: Wait>(
     ensures own { IsPassOf table.now.lock pass.new }
 {
     let first = first_assignment(alloc)?;
-    let take = TableCall::JobTake { assigner: 1, at: 0 };
-    let taken = table.write(rt, pass, draws, take, When::AsGiven);
-    let term = job_term(taken.ok().ok_or("nobody holds the job")?);
-    let propose = TableCall::Propose {
-        number: term.number,
+    let taken = table.take(rt, pass, draws, 1, When::At(0));
+    let term = taken.ok().ok_or("nobody holds the job")?;
+    let proposal = Proposal {
+        term: term.number,
         assignment: first,
-        at: 1,
     };
-    let proposed = table.write(rt, pass, draws, propose, When::AsGiven);
+    let proposed = table.propose(rt, pass, draws, proposal, When::At(1));
     proposed.ok().ok_or("nothing is proposed")?;
-    let generation = commit(rt, table, pass, draws, term.number)?;
+    let committed = table.commit(rt, pass, draws, term.number, When::At(2));
+    let generation = committed.ok().ok_or("no row holds it up")?;
     Ok((term.until, generation))
-}
-
-// Commits what is proposed under the term with this number: the generation.
-fn commit<R: Wait>(
-    rt: &R,
-    table: &SharedTable,
-    pass: &mut Pass<LeaseTable>,
-    draws: &mut Draws<'_>,
-    number: u64,
-) -> Result<u64, Fail>
-    requires own { IsPassOf table.now.lock pass.old }
-    ensures own { IsPassOf table.now.lock pass.new }
-{
-    let call = TableCall::Commit { number, at: 2 };
-    let committed = table.write(rt, pass, draws, call, When::AsGiven);
-    Ok(generation(committed.ok().ok_or("no row holds it up")?))
 }
 
 // Task 1 starts its first life, is granted a lease and hears of it: the grant's number and its two ends.
@@ -80,19 +61,16 @@ fn hear_first<R: Wait>(
     ensures table { IsPassOf table.now.lock table_pass.new }
     ensures task { IsPassOf task.now.lock task_pass.new }
 {
-    let start = SliceletCall::Start { life: 1, at: 3 };
-    let started = task.write(rt, task_pass, draws, start, When::AsGiven);
+    let started = task.start(rt, task_pass, draws, 1, When::At(3));
     started.ok().ok_or("no life was started")?;
-    let ask = TableCall::Grant {
+    let life = TaskLife {
         task: first_task()?,
         life: 1,
-        at: 5,
     };
-    let granted = table.write(rt, table_pass, draws, ask, When::AsGiven);
-    let grant = grant(granted.ok().ok_or("numbers are left")?);
+    let granted = table.grant(rt, table_pass, draws, life, When::At(5));
+    let grant = granted.ok().ok_or("numbers are left")?;
     let numbers = (grant.number, grant.lease.ends, grant.table_ends);
-    let hear = SliceletCall::Hear { grant, at: 6 };
-    let heard = task.write(rt, task_pass, draws, hear, When::AsGiven);
+    let heard = task.hear(rt, task_pass, draws, grant, When::At(6));
     heard.ok().ok_or("the grant is the task's first")?;
     Ok(numbers)
 }
@@ -115,11 +93,11 @@ fn serve_twice<R: Wait>(
 {
     let key = slice_key(b"hello");
     let served = task
-        .ask(rt, pass, draws, AskServe { key, at: 7 }, When::AsGiven)
+        .serve(rt, pass, draws, key, When::At(7))
         .ok()
         .ok_or("a draw is left")?;
     let tried = task
-        .try_ask(pass, draws, AskServe { key, at: 7 }, When::AsGiven)
+        .try_serve(pass, draws, key, When::At(7))
         .ok()
         .ok_or("the lane is free")?;
     records.push(served.call)?;
@@ -138,19 +116,14 @@ fn hold_and_check<R: Wait>(
     requires own { IsPassOf task.now.lock pass.old }
     ensures own { IsPassOf task.now.lock pass.new }
 {
-    let query = AskHold {
-        key: slice_key(b"hello"),
-        at: 7,
-    };
     let held = task
-        .ask(rt, pass, draws, query, When::AsGiven)
+        .hold(rt, pass, draws, slice_key(b"hello"), When::At(7))
         .ok()
         .ok_or("a draw is left")?;
     let handle = held.answer.ok().ok_or("the task may serve the key")?;
     records.push(held.call)?;
-    let query = AskCheck { handle, at: 8 };
     let checked = task
-        .ask(rt, pass, draws, query, When::AsGiven)
+        .check(rt, pass, draws, handle, When::At(8))
         .ok()
         .ok_or("a draw is left")?;
     let told = matches!(checked.call.reply, ClusterReply::Continuous);
@@ -169,10 +142,7 @@ fn ask_table<R: Wait>(
     requires own { IsPassOf table.now.lock pass.old }
     ensures own { IsPassOf table.now.lock pass.new }
 {
-    let phase = table
-        .ask(rt, pass, draws, AskPhase, When::AsGiven)
-        .ok()
-        .ok_or("a draw is left")?;
+    let phase = table.phase(rt, pass, draws).ok().ok_or("a draw is left")?;
     records.push(phase.call)?;
     let rows = table
         .rows(rt, pass, draws)
@@ -196,9 +166,8 @@ fn renew<R: Wait>(
     requires own { IsPassOf table.now.lock pass.old }
     ensures own { IsPassOf table.now.lock pass.new }
 {
-    let renew = TableCall::JobRenew { number: 1, at: 8 };
-    let renewed = table.write(rt, pass, draws, renew, When::AsGiven);
-    let term = job_term(renewed.ok().ok_or("assigner 1 holds the job")?);
+    let renewed = table.renew(rt, pass, draws, 1, When::At(8));
+    let term = renewed.ok().ok_or("assigner 1 holds the job")?;
     Ok(term.until)
 }
 
@@ -219,8 +188,7 @@ fn learn<R: Wait>(
     let committed = table
         .committed(rt, table_pass)?
         .ok_or("generation 1 is committed")?;
-    let learn = ClerkCall::Learn(committed);
-    let learnt = clerk.write(rt, clerk_pass, draws, learn, When::AsGiven);
+    let learnt = clerk.learn(rt, clerk_pass, draws, committed);
     learnt.ok().ok_or("the clerk has learnt nothing")?;
     Ok(())
 }
@@ -236,17 +204,14 @@ fn look<R: Wait>(
     requires own { IsPassOf clerk.now.lock pass.old }
     ensures own { IsPassOf clerk.now.lock pass.new }
 {
-    let query = AskLook {
-        key: slice_key(b"hello"),
-    };
     let looked = clerk
-        .ask(rt, pass, draws, query, When::AsGiven)
+        .look(rt, pass, draws, slice_key(b"hello"))
         .ok()
         .ok_or("a draw is left")?;
     records.push(looked.call)?;
     let found = looked.answer.ok().ok_or("the clerk has learnt")?;
     let alone = is_task_1(found.owners.as_slice());
-    let forgot = clerk.write(rt, pass, draws, ClerkCall::Forget, When::AsGiven);
+    let forgot = clerk.forget(rt, pass, draws);
     forgot.ok().ok_or("a clerk forgets at any time")?;
     Ok((found.generation, alone))
 }
@@ -269,15 +234,10 @@ fn give_up<R: Wait>(
     ensures table { IsPassOf table.now.lock table_pass.new }
     ensures task { IsPassOf task.now.lock task_pass.new }
 {
-    let release = SliceletCall::Release {
-        kind: Kind::Guard,
-        at: 9,
-    };
-    let released = task.write(rt, task_pass, draws, release, When::AsGiven);
-    let note = release_note(released.ok().ok_or("the task holds a guard")?);
-    let free = TableCall::Free { note, at: 10 };
-    let freed = table.write(rt, table_pass, draws, free, When::AsGiven);
-    Ok(freed_rows(freed.ok().ok_or("the row is open")?))
+    let released = task.release(rt, task_pass, draws, Kind::Guard, When::At(9));
+    let note = released.ok().ok_or("the task holds a guard")?;
+    let freed = table.free(rt, table_pass, draws, note, When::At(10));
+    Ok(freed.ok().ok_or("the row is open")?)
 }
 
 // The tickets of a history's entries.

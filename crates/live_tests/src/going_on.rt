@@ -2,9 +2,9 @@
 
 use crate::objects::{close_table, close_whole, open_over, open_table, open_ticket, policy};
 use audit::{Audit, Why, audit};
-use cluster::Job;
 use history_lock::{Closed, History};
-use lease_table::{LeaseTable, TableCall, TableEvent};
+use job_calls::Job;
+use lease_table::{LeaseTable, TableEvent};
 use shared_objects::{CallError, Draws, When};
 use std::alloc::Global;
 use std::sync::Wait;
@@ -16,10 +16,8 @@ fn audited(alloc: Global, table: &History<TableEvent>) -> Result<Audit, Fail> {
     Ok(audit(alloc, &job, table, &[], &[], &[])?)
 }
 
-// Assigner 1 renews its term.
-fn renew() -> TableCall {
-    TableCall::JobRenew { number: 1, at: 5 }
-}
+// When assigner 1 renews its term.
+const RENEWAL: When = When::At(5);
 
 // Takes the job under a lock of one entry, finds the lock full, and closes it.
 fn take_and_close<R: Wait>(
@@ -28,10 +26,9 @@ fn take_and_close<R: Wait>(
     draws: &mut Draws<'_>,
 ) -> Result<Closed<LeaseTable>, Fail> {
     let (first, mut pass) = open_table(alloc, 1)?;
-    let take = TableCall::JobTake { assigner: 1, at: 0 };
-    let taken = first.write(rt, &mut pass, draws, take, When::AsGiven);
+    let taken = first.take(rt, &mut pass, draws, 1, When::At(0));
     taken.ok().ok_or("nobody holds the job")?;
-    let second = first.write(rt, &mut pass, draws, renew(), When::AsGiven);
+    let second = first.renew(rt, &mut pass, draws, 1, RENEWAL);
     let is_full = matches!(second, Err(CallError::HistoryFull));
     is_full.then_some(()).ok_or("there is room for one entry")?;
     close_whole(alloc, first, pass)
@@ -45,7 +42,7 @@ fn renew_later<R: Wait>(
     table: &LeaseTable,
 ) -> Result<History<TableEvent>, Fail> {
     let (second, mut pass) = open_over(alloc, table, 1)?;
-    let renewed = second.write(rt, &mut pass, draws, renew(), When::AsGiven);
+    let renewed = second.renew(rt, &mut pass, draws, 1, RENEWAL);
     renewed.ok().ok_or("term 1 is in force")?;
     close_table(alloc, second, pass)
 }

@@ -6,8 +6,9 @@ ghost use Rattle.tickets.specs.Tickets.{DrawsFrom};
 
 use assignment::{Assignment, Slice, TaskId};
 use clerk::{Clerk, ClerkEvent};
+use grants::Policy;
 use history_lock::{Closed, History, Pass};
-use lease_table::{LeaseTable, Policy, TableEvent};
+use lease_table::{LeaseTable, TableEvent};
 use machines::Listed;
 use shared_objects::{SharedClerk, SharedSlicelet, SharedTable};
 use slicelet::{Slicelet, SliceletEvent};
@@ -97,8 +98,7 @@ pub fn open_over(
 pub fn open_table(alloc: Global, entries: usize) -> Result<(SharedTable, Pass<LeaseTable>), Fail>
     ensures { IfOk result (λ made. IsPassOf made.0.lock made.1) }
 {
-    let table = LeaseTable::new(alloc, policy()?);
-    let made = SharedTable::new(alloc, table, 0, 1, entries);
+    let made = SharedTable::new(alloc, policy()?, 1, entries);
     let (table, mut others) = made.ok().ok_or("one lane and some entries")?;
     let pass = others.pop().ok_or("the pass of lane 0")?;
     Ok((table, pass))
@@ -107,8 +107,7 @@ pub fn open_table(alloc: Global, entries: usize) -> Result<(SharedTable, Pass<Le
 fn open_task(alloc: Global) -> Result<(SharedSlicelet, Pass<Slicelet>), Fail>
     ensures { IfOk result (λ made. IsPassOf made.0.lock made.1) }
 {
-    let task = first_task()?;
-    let made = SharedSlicelet::new(alloc, Slicelet::new(alloc, task), task.number(), 1, 10);
+    let made = SharedSlicelet::new(alloc, first_task()?, 1, 10);
     let (task, mut others) = made.ok().ok_or("one lane and ten entries")?;
     let pass = others.pop().ok_or("the pass of lane 0")?;
     Ok((task, pass))
@@ -117,7 +116,7 @@ fn open_task(alloc: Global) -> Result<(SharedSlicelet, Pass<Slicelet>), Fail>
 fn open_clerk(alloc: Global) -> Result<(SharedClerk, Pass<Clerk>), Fail>
     ensures { IfOk result (λ made. IsPassOf made.0.lock made.1) }
 {
-    let made = SharedClerk::new(alloc, Clerk::new(), 1, 1, 10);
+    let made = SharedClerk::new(alloc, 1, 1, 10);
     let (clerk, mut others) = made.ok().ok_or("one lane and ten entries")?;
     let pass = others.pop().ok_or("the pass of lane 0")?;
     Ok((clerk, pass))

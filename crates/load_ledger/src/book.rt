@@ -104,6 +104,15 @@ impl LoadBook {
     {
         self.totals[task.number() as usize - 1]
     }
+
+    /// Returns a copy that equals this book.
+    pub fn copy(&self) -> Self
+        ensures { result ≡ self.now }
+    {
+        LoadBook {
+            totals: self.totals,
+        }
+    }
 }
 
 // Adds shares to the totals of their tasks.

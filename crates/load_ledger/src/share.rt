@@ -1,14 +1,14 @@
 //! What one task counts.
 
-ghost use Rattle.std.specs.Prelude.{◌≡◌, ◌^◌, ◌≤◌, []};
+ghost use Rattle.std.specs.Prelude.{◌≡◌, ◌^◌, ◌≤◌, [], IfOk};
 ghost use Rattle.machines.specs.Answers.{Takes};
 ghost use Rattle.load_ledger.specs.Shares.{add_step, share_total, total_weight};
 
 use crate::error::LoadError;
 use assignment::TaskId;
-use machines::Trouble;
+use machines::{Duplicate, Trouble};
 use slice_ranges::SliceKey;
-use std::alloc::Global;
+use std::alloc::{AllocError, Global};
 use std::marker::Model;
 
 /// The greatest weight of a record, 2^32.
@@ -97,5 +97,15 @@ impl LoadShare {
         ensures { result.now ≡ self.now.records }
     {
         self.records.as_slice()
+    }
+}
+
+impl Duplicate for LoadShare {
+    fn copy(&self) -> Result<LoadShare, AllocError> {
+        Ok(LoadShare {
+            task: self.task,
+            records: Vec::from_slice(*self.records.allocator(), self.records.as_slice())?,
+            total: self.total,
+        })
     }
 }

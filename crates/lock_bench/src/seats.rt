@@ -1,8 +1,9 @@
 //! How a thread reads and writes.
 
 use crate::table::TERM;
+use grants::{Phase, TableCall};
 use history_lock::{LaneLock, Pass};
-use lease_table::{LeaseTable, Phase, TableCall, TableEvent};
+use lease_table::{LeaseTable, TableEvent};
 use machines::Event;
 use std::marker::Model;
 use std::sync::{Mutex, RwLock, Wait};
@@ -29,7 +30,7 @@ impl<'a> Model for LaneSeat<'a> {
     ghost use Rattle.history_lock.specs.Passes.{PassView, IsPassOf};
     ghost use Rattle.lease_table.specs.Tables.{Standing};
     ghost use Rattle.machines.specs.declared.event.Event.{Event};
-    ghost use Rattle.lease_table.specs.declared.call.TableCall.{TableCall};
+    ghost use Rattle.grants.specs.declared.table_call.TableCall.{TableCall};
 
     ghost Value = { PassView Standing (Event TableCall) };
 

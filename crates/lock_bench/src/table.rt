@@ -1,7 +1,8 @@
 //! The lease table that is read and written.
 
 use assignment::{Assignment, Slice};
-use lease_table::{LeaseTable, Policy};
+use grants::Policy;
+use lease_table::LeaseTable;
 use machines::Listed;
 use slice_ranges::KEYS;
 use std::alloc::{AllocError, Global};

@@ -7,13 +7,13 @@ use Rattle.assignment.specs.Slices.{Slicing, refusal_of}
 use Rattle.assignment.specs.Owners.{with_rising_owners}
 use Rattle.assignment.specs.declared.task.TheConstants.{TASKS}
 use Rattle.lease_rule.specs.declared.lease.Kind.{Kind}
-use Rattle.lease_table.specs.declared.values.Grant as values
-use Rattle.lease_table.specs.declared.values.ReleaseNote.{ReleaseNote}
-use Rattle.lease_table.specs.declared.call.TableCall.TheVariants.{JobTake, JobRenew, Propose, Commit, Grant, Free, Restart}
-use Rattle.slicelet.specs.declared.handle.KeyHandle.{KeyHandle}
-use Rattle.slicelet.specs.declared.call.SliceletCall.TheVariants.{Start, Hear, Release, Resume}
+use Rattle.grants.specs.declared.values.Grant as values
+use Rattle.grants.specs.declared.values.ReleaseNote.{ReleaseNote}
+use Rattle.grants.specs.declared.table_call.TableCall.TheVariants.{JobTake, JobRenew, Propose, Commit, Grant, Free, Restart}
+use Rattle.key_handle.specs.declared.handle.KeyHandle.{KeyHandle}
+use Rattle.grants.specs.declared.slicelet_call.SliceletCall.TheVariants.{Start, Hear, Release, Resume}
 use Rattle.clerk.specs.declared.call.ClerkCall.TheVariants.{Learn, Forget}
-use Rattle.cluster.specs.declared.call.ClusterCall.TheVariants as call
+use Rattle.job_calls.specs.declared.call.ClusterCall.TheVariants as call
 use Rattle.program_io.specs.Members.{list_at}
 use Rattle.wire.specs.Assignments.{slicing_in}
 use Rattle.wire.specs.TableCalls.{take_of, renew_of, propose_of, commit_of, grant_call_of, free_of, lose_of}
@@ -21,12 +21,12 @@ use Rattle.wire.specs.TaskCalls.{start_of, release_of}
 use Rattle.wire.specs.ClerkCalls.{forget_of}
 use Rattle.wire.proofs.Notes.{kind_read}
 use Rattle.wire.proofs.Numbers.{is_life, is_task}
-use Rattle.call_log.specs.declared.line.BareGrant.{BareGrant}
-use Rattle.call_log.specs.declared.line.LoggedCall.TheVariants.{Whole, HearBare, LearnBare, Restore, Sample}
-use Rattle.call_log.specs.declared.line.TaskSample.{TaskSample}
-use Rattle.call_log.specs.declared.restored.KeptNumbers.{KeptNumbers}
-use Rattle.call_log.specs.Lines.{line_of, call_in}
-use Rattle.call_log.specs.OwnCalls.{phase_line, rows_line, sample_line, restore_line, open_line, hear_line, heard_of, bare_grant_of, serve_line, hold_line, check_line, learn_line, look_line}
+use Rattle.log_line.specs.declared.line.BareGrant.{BareGrant}
+use Rattle.log_line.specs.declared.line.LoggedCall.TheVariants.{Whole, HearBare, LearnBare, Restore, Sample}
+use Rattle.log_line.specs.declared.line.TaskSample.{TaskSample}
+use Rattle.log_line.specs.declared.restored.KeptNumbers.{KeptNumbers}
+use Rattle.log_line.specs.Lines.{line_of, call_in}
+use Rattle.log_line.specs.OwnCalls.{phase_line, rows_line, sample_line, restore_line, open_line, hear_line, heard_of, bare_grant_of, serve_line, hold_line, check_line, learn_line, look_line}
 use Rattle.log_lines.specs.Lines.{IsReadBack}
 use Rattle.log_lines.proofs.Values.{slices_read, grant_read, note_read, handle_read}
 

@@ -4,19 +4,19 @@ use Rattle.std.specs.Prelude.{IsUtf8, Some}
 use Rattle.serde_json.specs.Data.{Data, depth}
 use Rattle.serde_json.specs.Read.{max_depth, read}
 use Rattle.serde_json.specs.Written.{IsInOrder, compact_text, has_float, outline}
-use Rattle.lease_table.specs.declared.call.TableCall.{TableCall}
-use Rattle.lease_table.specs.declared.call.TableCall.TheVariants.{JobTake, JobRenew, Propose, Commit, Grant, Free, Restart}
-use Rattle.slicelet.specs.declared.call.SliceletCall.{SliceletCall}
-use Rattle.slicelet.specs.declared.call.SliceletCall.TheVariants.{Start, Hear, Release, Resume}
+use Rattle.grants.specs.declared.table_call.TableCall.{TableCall}
+use Rattle.grants.specs.declared.table_call.TableCall.TheVariants.{JobTake, JobRenew, Propose, Commit, Grant, Free, Restart}
+use Rattle.grants.specs.declared.slicelet_call.SliceletCall.{SliceletCall}
+use Rattle.grants.specs.declared.slicelet_call.SliceletCall.TheVariants.{Start, Hear, Release, Resume}
 use Rattle.clerk.specs.declared.call.ClerkCall.{ClerkCall}
 use Rattle.clerk.specs.declared.call.ClerkCall.TheVariants.{Learn, Forget}
-use Rattle.cluster.specs.declared.call.ClusterCall.{ClusterCall}
-use Rattle.cluster.specs.declared.call.ClusterCall.TheVariants as call
+use Rattle.job_calls.specs.declared.call.ClusterCall.{ClusterCall}
+use Rattle.job_calls.specs.declared.call.ClusterCall.TheVariants as call
 use Rattle.program_io.specs.Repeated.{first_repeated}
 use Rattle.program_io.proofs.Once.{written_once}
-use Rattle.call_log.specs.declared.line.LoggedCall.{LoggedCall}
-use Rattle.call_log.specs.declared.line.LoggedCall.TheVariants.{Whole, HearBare, LearnBare, Restore, Sample}
-use Rattle.call_log.specs.Lines.{SaysLine}
+use Rattle.log_line.specs.declared.line.LoggedCall.{LoggedCall}
+use Rattle.log_line.specs.declared.line.LoggedCall.TheVariants.{Whole, HearBare, LearnBare, Restore, Sample}
+use Rattle.log_line.specs.Lines.{SaysLine}
 use Rattle.log_lines.specs.LineData.{clerk_data, line_data, machine_data, table_data, task_data}
 use Rattle.log_lines.specs.Lines.{IsReadBack, line_text, logged_line}
 use Rattle.log_lines.proofs.Values.{grant_once, grant_shallow, grant_whole, slices_once, slices_shallow, slices_whole}

@@ -1,18 +1,18 @@
 -- The call that numbers and a message say, if they say one.
 use Rattle.std.specs.Prelude.{Option, Some, None, option_map}
 use Rattle.assignment.specs.Slices.{Slicing}
-use Rattle.lease_table.specs.declared.call.TableCall.{TableCall}
-use Rattle.lease_table.specs.declared.call.TableCall.TheVariants.{JobTake, JobRenew, Propose, Commit, Grant, Free, Restart}
-use Rattle.lease_table.specs.declared.values.Grant as values
-use Rattle.lease_table.specs.declared.values.ReleaseNote.{ReleaseNote}
-use Rattle.slicelet.specs.declared.call.SliceletCall.{SliceletCall}
-use Rattle.slicelet.specs.declared.call.SliceletCall.TheVariants.{Start, Hear, Release, Resume}
+use Rattle.grants.specs.declared.table_call.TableCall.{TableCall}
+use Rattle.grants.specs.declared.table_call.TableCall.TheVariants.{JobTake, JobRenew, Propose, Commit, Grant, Free, Restart}
+use Rattle.grants.specs.declared.values.Grant as values
+use Rattle.grants.specs.declared.values.ReleaseNote.{ReleaseNote}
+use Rattle.grants.specs.declared.slicelet_call.SliceletCall.{SliceletCall}
+use Rattle.grants.specs.declared.slicelet_call.SliceletCall.TheVariants.{Start, Hear, Release, Resume}
 use Rattle.clerk.specs.declared.call.ClerkCall.TheVariants as clerk_call
-use Rattle.cluster.specs.declared.call.ClusterCall.{ClusterCall}
-use Rattle.cluster.specs.declared.call.ClusterCall.TheVariants as call
-use Rattle.call_log.specs.declared.line.LoggedCall.{LoggedCall}
-use Rattle.call_log.specs.declared.line.LoggedCall.TheVariants as logged
-use Rattle.call_log.specs.declared.restored.KeptNumbers.{KeptNumbers}
+use Rattle.job_calls.specs.declared.call.ClusterCall.{ClusterCall}
+use Rattle.job_calls.specs.declared.call.ClusterCall.TheVariants as call
+use Rattle.log_line.specs.declared.line.LoggedCall.{LoggedCall}
+use Rattle.log_line.specs.declared.line.LoggedCall.TheVariants as logged
+use Rattle.log_line.specs.declared.restored.KeptNumbers.{KeptNumbers}
 use Rattle.c_calls.specs.Arguments.{kind_of, slice_key_of, task_of}
 use Rattle.c_calls.specs.slicelets.KeyHandles.{handle_of}
 use Rattle.log_lines.specs.declared.call_name.CallName.{CallName}

@@ -6,3 +6,4 @@ pub mod Refusals
 pub mod Replies
 pub mod LineData
 pub mod Lines
+pub mod Blocks

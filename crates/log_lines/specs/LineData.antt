@@ -1,14 +1,14 @@
 -- How a call at its ticket, with the words that its caller was told, is written as a line of a log.
 use Rattle.std.specs.Prelude.{ℕ, List, [], ◌∷◌, codes}
 use Rattle.serde_json.specs.Data.{Data, string}
-use Rattle.lease_table.specs.declared.call.TableCall.{TableCall}
-use Rattle.lease_table.specs.declared.call.TableCall.TheVariants.{JobTake, JobRenew, Propose, Commit, Grant, Free, Restart}
-use Rattle.slicelet.specs.declared.call.SliceletCall.{SliceletCall}
-use Rattle.slicelet.specs.declared.call.SliceletCall.TheVariants.{Start, Hear, Release, Resume}
+use Rattle.grants.specs.declared.table_call.TableCall.{TableCall}
+use Rattle.grants.specs.declared.table_call.TableCall.TheVariants.{JobTake, JobRenew, Propose, Commit, Grant, Free, Restart}
+use Rattle.grants.specs.declared.slicelet_call.SliceletCall.{SliceletCall}
+use Rattle.grants.specs.declared.slicelet_call.SliceletCall.TheVariants.{Start, Hear, Release, Resume}
 use Rattle.clerk.specs.declared.call.ClerkCall.{ClerkCall}
 use Rattle.clerk.specs.declared.call.ClerkCall.TheVariants.{Learn, Forget}
-use Rattle.cluster.specs.declared.call.ClusterCall.{ClusterCall}
-use Rattle.cluster.specs.declared.call.ClusterCall.TheVariants as call
+use Rattle.job_calls.specs.declared.call.ClusterCall.{ClusterCall}
+use Rattle.job_calls.specs.declared.call.ClusterCall.TheVariants as call
 use Rattle.wire.specs.declared.numerals.Numerals.TheVariants.{Either}
 use Rattle.wire.specs.Assignments.{slice_data}
 use Rattle.wire.specs.Grants.{grant_data}
@@ -16,11 +16,11 @@ use Rattle.wire.specs.Handles.{handle_data}
 use Rattle.wire.specs.LeaseMembers.{kind_data}
 use Rattle.wire.specs.Notes.{note_data}
 use Rattle.wire.specs.Objects.{list_data, number_data, object_data}
-use Rattle.call_log.specs.declared.line.BareGrant.{BareGrant}
-use Rattle.call_log.specs.declared.line.LoggedCall.{LoggedCall}
-use Rattle.call_log.specs.declared.line.LoggedCall.TheVariants.{Whole, HearBare, LearnBare, Restore, Sample}
-use Rattle.call_log.specs.declared.line.TaskSample.{TaskSample}
-use Rattle.call_log.specs.declared.restored.KeptNumbers.{KeptNumbers}
+use Rattle.log_line.specs.declared.line.BareGrant.{BareGrant}
+use Rattle.log_line.specs.declared.line.LoggedCall.{LoggedCall}
+use Rattle.log_line.specs.declared.line.LoggedCall.TheVariants.{Whole, HearBare, LearnBare, Restore, Sample}
+use Rattle.log_line.specs.declared.line.TaskSample.{TaskSample}
+use Rattle.log_line.specs.declared.restored.KeptNumbers.{KeptNumbers}
 
 -- a call that has nothing more than its name
 abbrev pub lone_data : List ℕ → ℕ → List ℕ → Data

@@ -1,11 +1,11 @@
 -- The line of a log that is written of a call and of what its caller was told.
 use Rattle.std.specs.Prelude.{◌≡◌, ◌==◌, ℕ, ℤ, pos, Bool, false, List, ◌++◌, codes, Option, Ok}
 use Rattle.serde_json.specs.Written.{compact_text}
-use Rattle.call_log.specs.declared.line.LoggedCall.{LoggedCall}
-use Rattle.call_log.specs.declared.line.LoggedLine.{LoggedLine}
-use Rattle.call_log.specs.Extensions.{without_extensions}
-use Rattle.call_log.specs.Lines.{SaysLine, line_of}
-use Rattle.call_log.specs.Told.{plain_text}
+use Rattle.log_line.specs.declared.line.LoggedCall.{LoggedCall}
+use Rattle.log_line.specs.declared.line.LoggedLine.{LoggedLine}
+use Rattle.log_line.specs.Extensions.{without_extensions}
+use Rattle.log_line.specs.Lines.{SaysLine, line_of}
+use Rattle.log_line.specs.Told.{plain_text}
 use Rattle.c_calls.specs.declared.answer.Answer.{Answer}
 use Rattle.c_calls.specs.Arguments.{InForm}
 use Rattle.c_calls.specs.Outputs.{IsOneGivenUnlessMemory, Output}

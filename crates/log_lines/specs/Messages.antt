@@ -1,8 +1,8 @@
 -- The message that a call delivers, or that it made.
 use Rattle.std.specs.Prelude.{ℕ, Bool, true, List, codes, Result, Ok, Err}
-use Rattle.lease_table.specs.declared.kept.Kept.{Kept}
-use Rattle.lease_table.specs.Tables.{generation_of}
-use Rattle.call_log.specs.Restores.{numbers_of}
+use Rattle.grants.specs.declared.kept.Kept.{Kept}
+use Rattle.grants.specs.Assignments.{generation_of}
+use Rattle.log_line.specs.Calls.{numbers_of}
 use Rattle.wire.specs.declared.fault.DecodeError.{DecodeError}
 use Rattle.wire.specs.Assignments.{assignment_of}
 use Rattle.wire.specs.Grants.{grant_of}

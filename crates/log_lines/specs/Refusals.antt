@@ -3,14 +3,14 @@ use Rattle.std.specs.Prelude.{ℕ, [], ◌∷◌, Option, Some, None, option_map
 use Rattle.lease_rule.specs.declared.answer.Ground.{Ground}
 use Rattle.lease_rule.specs.declared.answer.Ground.TheVariants as ground
 use Rattle.lease_rule.specs.declared.answer.Verdict.TheVariants.{Deny}
-use Rattle.lease_table.specs.declared.error.TableError.{TableError}
-use Rattle.lease_table.specs.declared.error.TableError.TheVariants as table
-use Rattle.slicelet.specs.declared.error.SliceletError.{SliceletError}
-use Rattle.slicelet.specs.declared.error.SliceletError.TheVariants as task
+use Rattle.grants.specs.declared.table_error.TableError.{TableError}
+use Rattle.grants.specs.declared.table_error.TableError.TheVariants as table
+use Rattle.grants.specs.declared.slicelet_error.SliceletError.{SliceletError}
+use Rattle.grants.specs.declared.slicelet_error.SliceletError.TheVariants as task
 use Rattle.clerk.specs.declared.error.ClerkError.TheVariants.{Old}
-use Rattle.cluster.specs.declared.error.ClusterError.TheVariants as error
-use Rattle.cluster.specs.declared.reply.ClusterReply.{ClusterReply}
-use Rattle.cluster.specs.declared.reply.ClusterReply.TheVariants as reply
+use Rattle.job_calls.specs.declared.error.ClusterError.TheVariants as error
+use Rattle.job_calls.specs.declared.reply.ClusterReply.{ClusterReply}
+use Rattle.job_calls.specs.declared.reply.ClusterReply.TheVariants as reply
 use Rattle.c_calls.specs.Arguments.{kind_of, task_of}
 use Rattle.c_calls.specs.declared.details.AnswerDetails.{AnswerDetails}
 use Rattle.log_lines.specs.Coded.{coded}

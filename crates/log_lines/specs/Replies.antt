@@ -4,19 +4,19 @@ use Rattle.std.specs.List.{list_all}
 use Rattle.assignment.specs.Slices.{is_task}
 use Rattle.assignment.specs.declared.slice.TheConstants.{MOST_OWNERS}
 use Rattle.lease_rule.specs.declared.answer.Verdict.TheVariants.{Allow}
-use Rattle.lease_table.specs.declared.call.TableReply.{TableReply}
-use Rattle.lease_table.specs.declared.call.TableReply.TheVariants as table_reply
-use Rattle.slicelet.specs.declared.call.SliceletReply.{SliceletReply}
-use Rattle.slicelet.specs.declared.call.SliceletReply.TheVariants as task_reply
+use Rattle.grants.specs.declared.table_call.TableReply.{TableReply}
+use Rattle.grants.specs.declared.table_call.TableReply.TheVariants as table_reply
+use Rattle.grants.specs.declared.slicelet_call.SliceletReply.{SliceletReply}
+use Rattle.grants.specs.declared.slicelet_call.SliceletReply.TheVariants as task_reply
 use Rattle.clerk.specs.declared.call.ClerkReply.TheVariants as clerk_reply
 use Rattle.clerk.specs.declared.clerk.Found.{Found}
-use Rattle.cluster.specs.declared.reply.ClusterReply.{ClusterReply}
-use Rattle.cluster.specs.declared.reply.ClusterReply.TheVariants as reply
-use Rattle.world.specs.declared.told.NextNumbers.{NextNumbers}
-use Rattle.call_log.specs.declared.line.LoggedCall.{LoggedCall}
-use Rattle.call_log.specs.declared.told.CallerReply.{CallerReply}
-use Rattle.call_log.specs.declared.told.CallerReply.TheVariants as told
-use Rattle.call_log.specs.Told.{told_as}
+use Rattle.job_calls.specs.declared.reply.ClusterReply.{ClusterReply}
+use Rattle.job_calls.specs.declared.reply.ClusterReply.TheVariants as reply
+use Rattle.replies.specs.declared.told.NextNumbers.{NextNumbers}
+use Rattle.log_line.specs.declared.line.LoggedCall.{LoggedCall}
+use Rattle.log_line.specs.declared.told.CallerReply.{CallerReply}
+use Rattle.log_line.specs.declared.told.CallerReply.TheVariants as told
+use Rattle.log_line.specs.Told.{told_as}
 use Rattle.c_calls.specs.Arguments.{kind_of}
 use Rattle.c_calls.specs.declared.clerks.owners.OwnersNumbers.{OwnersNumbers}
 use Rattle.c_calls.specs.slicelets.KeyHandles.{handle_of}

@@ -7,11 +7,10 @@ use crate::arguments::{kind_of, slice_key_of, task_of};
 use crate::call_name::{CallName, TableCallName, TaskCallName};
 use crate::message::Message;
 use crate::numbers::LoggedNumbers;
-use call_log::LoggedCall;
 use clerk::ClerkCall;
-use cluster::ClusterCall;
-use lease_table::TableCall;
-use slicelet::SliceletCall;
+use grants::{SliceletCall, TableCall};
+use job_calls::ClusterCall;
+use log_line::LoggedCall;
 
 fn table_call_in(name: TableCallName, n: &LoggedNumbers, message: Message) -> Option<TableCall>
     ensures { result ≡ table_call_in name n.now message }

@@ -8,9 +8,8 @@ ghost use Rattle.log_lines.specs.Coded.{code_of};
 ghost use Rattle.log_lines.specs.Refusals.{ground_in, table_error_in, task_error_in};
 
 use c_calls::AnswerDetails;
+use grants::{SliceletError, TableError};
 use lease_rule::{Ground, Kind};
-use lease_table::TableError;
-use slicelet::SliceletError;
 
 /// States that why a key is denied is found by its code and what it tells.
 pub fn ground_law(ground: Ground, told: &AnswerDetails)

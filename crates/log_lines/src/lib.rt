@@ -5,6 +5,7 @@
 #![tactic(auto)]
 
 mod arguments;
+mod blocks;
 mod call_name;
 mod calls;
 mod laws;
@@ -15,8 +16,9 @@ mod message;
 mod numbers;
 mod output;
 mod refusals;
-mod replies;
+mod replied;
 
+pub use blocks::{BlockNumbers, enter, leave};
 pub use call_name::{CallName, TableCallName, TaskCallName};
 pub use laws::{ground_law, table_error_law, task_error_law};
 pub use line::log_line;

@@ -1,7 +1,7 @@
 //! The line of a call, given whole or not at all.
 
 ghost use Rattle.std.specs.Prelude.{◌≡◌, IfOk};
-ghost use Rattle.call_log.specs.Lines.{SaysLine};
+ghost use Rattle.log_line.specs.Lines.{SaysLine};
 ghost use Rattle.c_calls.specs.Jobs.{job_of};
 ghost use Rattle.c_calls.specs.Outputs.{output};
 ghost use Rattle.log_lines.specs.Lines.{IsLine, IsLineGiven, IsLineOf, IsLineOfNumbers, IsNamedLineGiven, is_done, line_text, logged_line};
@@ -14,10 +14,10 @@ use crate::line_json::line_json;
 use crate::line_laws::line_law;
 use crate::message::{Message, MessageKind, message_kind, read_message};
 use crate::numbers::LoggedNumbers;
-use crate::output::{give, unread_answer};
-use crate::replies::told_in;
+use crate::output::{give_made, unread_answer};
+use crate::replied::told_in;
 use c_calls::{Answer, job_of};
-use call_log::{CallerReply, LoggedCall, PlainLine};
+use log_line::{CallerReply, LoggedCall, PlainLine};
 use std::alloc::{AllocError, Global};
 use std::marker::Model;
 use wire::JobName;
@@ -85,10 +85,7 @@ fn give_line(
     let Some(logged) = logged_in(name, numbers, message) else {
         return Answer::WrongForm;
     };
-    match line_of(alloc, numbers.ticket, &logged) {
-        Ok(text) => give(&text, out, needed),
-        Err(_) => Answer::NoMemory,
-    }
+    give_made(line_of(alloc, numbers.ticket, &logged), out, needed)
 }
 
 fn is_done(code: i32) -> bool
@@ -104,8 +101,8 @@ fn kind_in(name: CallName, numbers: &LoggedNumbers) -> MessageKind
     message_kind(name, is_done(numbers.code))
 }
 
-// Writes the line of a call of this name.
-fn give_named_line(
+/// Writes the line of a call of this name.
+pub fn give_named_line(
     alloc: Global,
     job: &JobName,
     name: CallName,

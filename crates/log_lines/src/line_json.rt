@@ -5,19 +5,19 @@ ghost use Rattle.serde_json.specs.View.{view};
 ghost use Rattle.wire.specs.declared.numerals.Numerals.TheVariants.{Either};
 ghost use Rattle.wire.specs.Assignments.{slice_data};
 ghost use Rattle.wire.specs.Objects.{list_data};
-ghost use Rattle.lease_table.specs.declared.call.TableCall.TheVariants as table_call;
-ghost use Rattle.slicelet.specs.declared.call.SliceletCall.TheVariants as task_call;
-ghost use Rattle.cluster.specs.declared.call.ClusterCall.TheVariants as cluster_call;
+ghost use Rattle.grants.specs.declared.table_call.TableCall.TheVariants as table_call;
+ghost use Rattle.grants.specs.declared.slicelet_call.SliceletCall.TheVariants as task_call;
+ghost use Rattle.job_calls.specs.declared.call.ClusterCall.TheVariants as cluster_call;
 ghost use Rattle.log_lines.specs.LineData.{bare_data, bare_learn_data, clerk_data, heard_data, key_data, line_data, lone_data, machine_data, restore_data, sample_data, table_data, task_data, term_data};
 
 use assignment::{Assignment, TaskId};
-use call_log::{BareGrant, KeptNumbers, LoggedCall, TaskSample};
 use clerk::ClerkCall;
-use cluster::ClusterCall;
-use lease_table::{ReleaseNote, TableCall};
+use grants::{ReleaseNote, SliceletCall, TableCall};
+use job_calls::ClusterCall;
+use key_handle::KeyHandle;
+use log_line::{BareGrant, KeptNumbers, LoggedCall, TaskSample};
 use serde_json::{Value, json};
 use slice_ranges::SliceKey;
-use slicelet::{KeyHandle, SliceletCall};
 use std::alloc::{AllocError, Global};
 use wire::{Numerals, assignment_json, grant_json, handle_json, kind_word, note_json};
 

@@ -1,14 +1,13 @@
 //! What is written of a line is read as the line.
 
-ghost use Rattle.call_log.specs.declared.line.LoggedCall.TheVariants as logged;
-ghost use Rattle.cluster.specs.declared.call.ClusterCall.TheVariants as cluster_call;
+ghost use Rattle.log_line.specs.declared.line.LoggedCall.TheVariants as logged;
+ghost use Rattle.job_calls.specs.declared.call.ClusterCall.TheVariants as cluster_call;
 ghost use Rattle.log_lines.specs.Lines.{IsReadBack};
 
-use call_log::LoggedCall;
 use clerk::ClerkCall;
-use cluster::ClusterCall;
-use lease_table::TableCall;
-use slicelet::SliceletCall;
+use grants::{SliceletCall, TableCall};
+use job_calls::ClusterCall;
+use log_line::LoggedCall;
 
 // States that a line of a call of the table is read as the call.
 fn table_law(ticket: u64, call: &TableCall, words: &str)

@@ -7,7 +7,7 @@ ghost use Rattle.wire.specs.Kept.{kept_of};
 ghost use Rattle.wire.specs.Notes.{note_of};
 ghost use Rattle.wire.specs.Refusals.{or_wrong};
 ghost use Rattle.c_calls.specs.Reading.{IsReadFrom};
-ghost use Rattle.call_log.specs.declared.line.LoggedCall.{LoggedCall};
+ghost use Rattle.log_line.specs.declared.line.LoggedCall.{LoggedCall};
 ghost use Rattle.log_lines.specs.declared.numbers.LoggedNumbers.{LoggedNumbers};
 ghost use Rattle.log_lines.specs.Calls.{assignment_in, call_in, grant_in, kept_in, note_in};
 ghost use Rattle.log_lines.specs.Replies.{told_in};
@@ -16,8 +16,8 @@ ghost use Rattle.log_lines.specs.declared.message.Message.TheVariants as message
 
 use crate::call_name::{CallName, TableCallName, TaskCallName};
 use assignment::Assignment;
-use call_log::KeptNumbers;
-use lease_table::{Grant, Kept, ReleaseNote};
+use grants::{Grant, Kept, ReleaseNote};
+use log_line::KeptNumbers;
 use std::alloc::Global;
 use wire::{DecodeError, JobName, decode};
 

@@ -7,10 +7,9 @@ use crate::arguments::{kind_of, task_of};
 use crate::call_name::CallName;
 use c_calls::AnswerDetails;
 use clerk::ClerkError;
-use cluster::{ClusterError, ClusterReply};
+use grants::{SliceletError, TableError};
+use job_calls::{ClusterError, ClusterReply};
 use lease_rule::{Ground, Verdict};
-use lease_table::TableError;
-use slicelet::SliceletError;
 
 /// Returns why a key is not served.
 pub fn ground_in(code: u32, told: &AnswerDetails) -> Option<Ground>

@@ -4,30 +4,30 @@ use Rattle.std.specs.Prelude.{Option, Some, None, reverse, if◌then◌else◌}
 use Rattle.std.specs.List.{AllByRecursion}
 use Rattle.std.proofs.lemmas.List.{take_more, reverse-append, length-reverse, length-take-le}
 use Rattle.lease_table.specs.Calls.{committed_in}
-use Rattle.cluster.specs.Jobs.{Job}
+use Rattle.job_calls.specs.Jobs.{Job}
 use Rattle.cluster.specs.continued.Jobs.{from_start}
-use Rattle.cluster.specs.declared.timing.Reading.{Reading}
-use Rattle.cluster.specs.declared.call.ClusterCall.{ClusterCall}
-use Rattle.cluster.specs.declared.call.ClusterCall.TheVariants as call
-use Rattle.cluster.specs.declared.reply.ClusterReply.{ClusterReply}
+use Rattle.job_calls.specs.declared.timing.Reading.{Reading}
+use Rattle.job_calls.specs.declared.call.ClusterCall.{ClusterCall}
+use Rattle.job_calls.specs.declared.call.ClusterCall.TheVariants as call
+use Rattle.job_calls.specs.declared.reply.ClusterReply.{ClusterReply}
 use Rattle.cluster.specs.Pasts.{Event, Past, event, table_calls, task_calls, with_task_call}
-use Rattle.call_log.specs.declared.entry.LogEntry.{LogEntry}
-use Rattle.call_log.specs.declared.line.LoggedCall.{LoggedCall}
-use Rattle.call_log.specs.declared.line.LoggedCall.TheVariants.{Whole, HearBare, LearnBare, Restore, Sample}
-use Rattle.call_log.specs.declared.log_machines.LogMachines.{LogMachines}
-use Rattle.call_log.specs.declared.restored.KeptNumbers.{KeptNumbers}
-use Rattle.call_log.specs.declared.restored.RestoreFault.{RestoreFault}
-use Rattle.call_log.specs.declared.told.CallerReply.{CallerReply}
-use Rattle.call_log.specs.Calls.{reading_in}
-use Rattle.call_log.specs.Played.{StandsFor}
-use Rattle.call_log.specs.Restores.{IsTaken, grant_to_nobody}
-use Rattle.slicelet.specs.declared.call.SliceletCall.{SliceletCall}
+use Rattle.log_line.specs.declared.entry.LogEntry.{LogEntry}
+use Rattle.log_line.specs.declared.line.LoggedCall.{LoggedCall}
+use Rattle.log_line.specs.declared.line.LoggedCall.TheVariants.{Whole, HearBare, LearnBare, Restore, Sample}
+use Rattle.log_run.specs.declared.log_machines.LogMachines.{LogMachines}
+use Rattle.log_line.specs.declared.restored.KeptNumbers.{KeptNumbers}
+use Rattle.log_line.specs.declared.restored.RestoreFault.{RestoreFault}
+use Rattle.log_line.specs.declared.told.CallerReply.{CallerReply}
+use Rattle.log_line.specs.Calls.{reading_in}
+use Rattle.log_run.specs.Played.{StandsFor}
+use Rattle.log_run.specs.Restores.{IsTaken, grant_to_nobody}
+use Rattle.grants.specs.declared.slicelet_call.SliceletCall.{SliceletCall}
 use Rattle.timeline.specs.declared.stretch.KeyStretches.{KeyStretches}
 use Rattle.timeline.specs.Stretches.{IsKept}
 use Rattle.timeline.specs.Tasks.{Each, IsKeptOf, IsNextPast}
 use Rattle.timeline.proofs.Lists.{each_gives}
 use Rattle.timeline.proofs.Tasks.{next_call}
-use Rattle.call_log.specs.internals.Answers.{IsPlayed}
+use Rattle.log_run.specs.internals.Answers.{IsPlayed}
 use Rattle.timeline.specs.declared.alarm.Alarm.{Alarm}
 use Rattle.timeline.specs.Alarms.{greatest_of_table, warnings_of}
 use Rattle.log_picture.specs.declared.alarms.LogWatch.{LogWatch}

@@ -1,13 +1,13 @@
 -- The stretches of each task that a picture of a log colours.
 use Rattle.std.specs.Prelude.{◌≡◌, ℕ, ◌&&◌, List, reverse}
 use Rattle.std.specs.List.{list_any}
-use Rattle.slicelet.specs.declared.call.SliceletCall.{SliceletCall}
-use Rattle.cluster.specs.Jobs.{Job}
+use Rattle.grants.specs.declared.slicelet_call.SliceletCall.{SliceletCall}
+use Rattle.job_calls.specs.Jobs.{Job}
 use Rattle.cluster.specs.Pasts.{Past, task_calls}
 use Rattle.cluster.specs.Runs.{IsRun}
 use Rattle.cluster.specs.continued.Jobs.{from_start}
-use Rattle.call_log.specs.declared.entry.LogEntry.{LogEntry}
-use Rattle.call_log.specs.Played.{AreCallsOf}
+use Rattle.log_line.specs.declared.entry.LogEntry.{LogEntry}
+use Rattle.log_run.specs.Played.{AreCallsOf}
 use Rattle.timeline.specs.declared.stretch.Stretch.{Stretch}
 use Rattle.timeline.specs.Stretches.{is_in, may_serve}
 use Rattle.timeline.specs.Tasks.{Each}

@@ -2,16 +2,16 @@
 use Rattle.std.specs.Prelude.{◌≡◌, ℕ, Bool, List, [], ◌++◌, codes, reverse, take, Option, Some, None, MatchOption, string_bytes}
 use Rattle.std.specs.Ordering.{nat_cmp}
 use Rattle.std.specs.List.Sorted.{IsPermutation, IsStableByKey}
-use Rattle.cluster.specs.Jobs.{Job}
+use Rattle.job_calls.specs.Jobs.{Job}
 use Rattle.cluster.specs.continued.Jobs.{from_start}
-use Rattle.call_log.specs.declared.entry.LogEntry.{LogEntry}
-use Rattle.call_log.specs.declared.finding.Finding.{Finding}
-use Rattle.call_log.specs.declared.finding.Finding.TheVariants.{One, Double, Other}
-use Rattle.call_log.specs.declared.hint.Hint.{Hint}
-use Rattle.call_log.specs.declared.log.Log.{Log}
-use Rattle.call_log.specs.Audited.{IsFound, is_one}
-use Rattle.call_log.specs.Hints.{IsHinted}
-use Rattle.call_log.specs.Reports.{IsWholeReport}
+use Rattle.log_line.specs.declared.entry.LogEntry.{LogEntry}
+use Rattle.log_words.specs.declared.finding.Finding.{Finding}
+use Rattle.log_words.specs.declared.finding.Finding.TheVariants.{One, Double, Other}
+use Rattle.log_words.specs.declared.hint.Hint.{Hint}
+use Rattle.log_line.specs.declared.log.Log.{Log}
+use Rattle.log_words.specs.Audited.{IsFound, is_one}
+use Rattle.log_words.specs.Hints.{IsHinted}
+use Rattle.log_words.specs.Reports.{IsWholeReport}
 use Rattle.log_view.specs.declared.window.View.{View}
 use Rattle.log_view.specs.declared.window.Window.{Window}
 use Rattle.log_view.specs.Windows.{IsWindow}

@@ -1,11 +1,11 @@
 -- What is drawn of a log.
 use Rattle.std.specs.Prelude.{ℕ, Bool, ◌&&◌, nat_le, nat_lt, min, max, List, [], ◌∷◌, length, map, Option, if◌then◌else◌}
-use Rattle.cluster.specs.declared.timing.Reading.{Reading}
-use Rattle.cluster.specs.declared.timing.Reading.TheVariants.{TableClock, TaskClock, NoClock}
-use Rattle.call_log.specs.declared.entry.LogEntry.{LogEntry}
-use Rattle.call_log.specs.declared.finding.Finding.{Finding}
-use Rattle.call_log.specs.declared.finding.Finding.TheVariants.{One, Double, Other}
-use Rattle.call_log.specs.Calls.{reading_in}
+use Rattle.job_calls.specs.declared.timing.Reading.{Reading}
+use Rattle.job_calls.specs.declared.timing.Reading.TheVariants.{TableClock, TaskClock, NoClock}
+use Rattle.log_line.specs.declared.entry.LogEntry.{LogEntry}
+use Rattle.log_words.specs.declared.finding.Finding.{Finding}
+use Rattle.log_words.specs.declared.finding.Finding.TheVariants.{One, Double, Other}
+use Rattle.log_line.specs.Calls.{reading_in}
 use Rattle.log_view.specs.declared.window.Window.{Window}
 use Rattle.timeline.specs.declared.stretch.Stretch.{Stretch}
 use Rattle.log_picture.specs.declared.scene.Scene.{Scene}

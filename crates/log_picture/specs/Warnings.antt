@@ -3,21 +3,21 @@
 use Rattle.std.specs.Prelude.{◌≡◌, ℕ, Bool, false, List, [], ◌∷◌, ◌++◌, length, map, reverse, Option, Some, None, if◌then◌else◌}
 use Rattle.assignment.specs.Slices.{Slicing}
 use Rattle.lease_table.specs.Calls.{committed_in}
-use Rattle.cluster.specs.Jobs.{Job}
-use Rattle.cluster.specs.declared.call.ClusterCall.TheVariants as call
-use Rattle.cluster.specs.declared.timing.Reading.{Reading}
-use Rattle.cluster.specs.declared.timing.Reading.TheVariants.{TaskClock}
+use Rattle.job_calls.specs.Jobs.{Job}
+use Rattle.job_calls.specs.declared.call.ClusterCall.TheVariants as call
+use Rattle.job_calls.specs.declared.timing.Reading.{Reading}
+use Rattle.job_calls.specs.declared.timing.Reading.TheVariants.{TaskClock}
 use Rattle.cluster.specs.Pasts.{Past, table_calls}
 use Rattle.cluster.specs.Runs.{IsRun}
 use Rattle.world.specs.Headline.{is_served}
-use Rattle.call_log.specs.declared.entry.LogEntry.{LogEntry}
-use Rattle.call_log.specs.declared.line.LoggedCall.{LoggedCall}
-use Rattle.call_log.specs.declared.line.LoggedCall.TheVariants.{Whole, HearBare}
-use Rattle.call_log.specs.declared.told.CallerReply.{CallerReply}
-use Rattle.call_log.specs.declared.told.CallerReply.TheVariants.{Scripted}
-use Rattle.call_log.specs.Calls.{reading_in}
-use Rattle.call_log.specs.Played.{StandsFor}
-use Rattle.call_log.specs.Reports.{standing_at}
+use Rattle.log_line.specs.declared.entry.LogEntry.{LogEntry}
+use Rattle.log_line.specs.declared.line.LoggedCall.{LoggedCall}
+use Rattle.log_line.specs.declared.line.LoggedCall.TheVariants.{Whole, HearBare}
+use Rattle.log_line.specs.declared.told.CallerReply.{CallerReply}
+use Rattle.log_line.specs.declared.told.CallerReply.TheVariants.{Scripted}
+use Rattle.log_line.specs.Calls.{reading_in}
+use Rattle.log_run.specs.Played.{StandsFor}
+use Rattle.log_words.specs.Reports.{standing_at}
 use Rattle.timeline.specs.declared.alarm.Alarm.{Alarm}
 use Rattle.timeline.specs.declared.alarm.Seen.{Seen}
 use Rattle.timeline.specs.Alarms.{foreign_at, greatest_of_table, warnings_of}

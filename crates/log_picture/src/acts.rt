@@ -1,10 +1,9 @@
 //! What the calls of a log do, as a picture tells it.
 
-use call_log::LoggedCall;
 use clerk::ClerkCall;
-use cluster::{ClusterCall, Reading};
-use lease_table::TableCall;
-use slicelet::SliceletCall;
+use grants::{SliceletCall, TableCall};
+use job_calls::{ClusterCall, Reading};
+use log_line::LoggedCall;
 use timeline::Act;
 
 fn table_act(call: &TableCall) -> Act {

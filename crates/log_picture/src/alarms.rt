@@ -1,24 +1,26 @@
 //! The calls that a picture warns of.
 
 ghost use Rattle.std.specs.Prelude.{◌≡◌, [], ◌∷◌, ◌++◌, List, IfOk, OnOk, None, if◌then◌else◌};
-ghost use Rattle.cluster.specs.Jobs.{Job};
+ghost use Rattle.job_calls.specs.Jobs.{Job};
 ghost use Rattle.cluster.specs.Pasts.{Past, table_calls};
 ghost use Rattle.cluster.specs.Clusters.{LeadsTo};
 ghost use Rattle.lease_table.specs.Calls.{committed_in};
-ghost use Rattle.call_log.specs.Calls.{reading_in};
+ghost use Rattle.log_line.specs.Calls.{reading_in};
 ghost use Rattle.timeline.specs.Alarms.{greatest_of_table, warnings_of};
-ghost use Rattle.cluster.specs.declared.timing.Reading.{Reading as ReadingOf};
+ghost use Rattle.job_calls.specs.declared.timing.Reading.{Reading as ReadingOf};
 ghost use Rattle.log_picture.specs.Shots.{is_in_window, shot_of};
 ghost use Rattle.log_picture.specs.Warnings.{foreign_in, place_at, seen_in, serves, task_in};
 
 use crate::scene::{Scene, is_in_window};
-use call_log::{CallerReply, LogEntry, LoggedCall, Standing};
-use cluster::{Cluster, ClusterCall, Job, Reading};
+use cluster::Cluster;
+use job_calls::{ClusterCall, Job, Reading};
 use lease_rule::Verdict;
+use log_line::{CallerReply, LogEntry, LoggedCall};
+use log_words::Standing;
+use replies::Reply;
 use slice_ranges::SliceKey;
 use std::alloc::{AllocError, Global};
 use timeline::{Alarm, PlaceWords, Seen, foreign_at, greatest, push_alarms, push_text};
-use world::Reply;
 
 /// What is known of the calls so far.
 #[derive(Drop)]

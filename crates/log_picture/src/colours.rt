@@ -1,18 +1,20 @@
 //! The stretches in which each task may serve a key, from the calls of a log.
 
 ghost use Rattle.std.specs.Prelude.{◌≡◌, ℕ, List, ◌∷◌, IfOk, OnOk};
-ghost use Rattle.cluster.specs.Jobs.{Job};
+ghost use Rattle.job_calls.specs.Jobs.{Job};
 ghost use Rattle.cluster.specs.Pasts.{Past, task_calls};
 ghost use Rattle.cluster.specs.Clusters.{LeadsTo};
-ghost use Rattle.call_log.specs.declared.entry.LogEntry.{LogEntry as PlayedEntry};
-ghost use Rattle.call_log.specs.declared.told.CallerReply.{CallerReply as CallerReplyOf};
-ghost use Rattle.call_log.specs.Played.{StandsFor};
+ghost use Rattle.log_line.specs.declared.entry.LogEntry.{LogEntry as PlayedEntry};
+ghost use Rattle.log_line.specs.declared.told.CallerReply.{CallerReply as CallerReplyOf};
+ghost use Rattle.log_run.specs.Played.{StandsFor};
 ghost use Rattle.timeline.specs.Tasks.{Each, AreTaskStretches, IsKeptOf};
 ghost use Rattle.log_picture.specs.Colours.{AreColoured, AreCut};
 ghost use Rattle.log_picture.specs.internals.Playing.{ArePlayed, calls_task};
 
-use call_log::{LogEntry, LogMachines, LoggedCall, Start, tell};
-use cluster::{Cluster, ClusterCall, Job};
+use cluster::Cluster;
+use job_calls::{ClusterCall, Job};
+use log_line::{LogEntry, LoggedCall};
+use log_run::{LogMachines, Start, tell};
 use machines::Listed;
 use slice_ranges::SliceKey;
 use std::alloc::{AllocError, Global};

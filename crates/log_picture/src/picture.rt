@@ -1,7 +1,7 @@
 //! Logs as pictures, with the reports of their audits.
 
 ghost use Rattle.std.specs.Prelude.{◌≡◌, [], IfOk, MatchOption, map, reverse, string_bytes};
-ghost use Rattle.call_log.specs.Audited.{is_one};
+ghost use Rattle.log_words.specs.Audited.{is_one};
 ghost use Rattle.timeline.specs.Actors.{AreLanes};
 ghost use Rattle.log_picture.specs.Colours.{AreColoured};
 ghost use Rattle.log_picture.specs.Pictures.{HasNoWindow, IsLogPicture, ShowsRun, note_of};
@@ -12,11 +12,11 @@ use crate::colours::colours_of;
 use crate::scene::{Scene, is_in_window, played_of};
 use crate::span::span_of;
 use crate::story::{Told, told_of};
-use call_log::{
-    Finding, LinePosition, Log, NamedEntries, Progress, Start, audit_calls, hint_for, report_of,
-};
-use cluster::Job;
+use job_calls::Job;
+use log_line::{LinePosition, Log, Progress};
+use log_run::Start;
 use log_view::{View, is_shown, window_of};
+use log_words::{Finding, NamedEntries, audit_calls, hint_for, report_of};
 use machines::Listed;
 use slice_ranges::SliceKey;
 use std::alloc::{AllocError, Global};

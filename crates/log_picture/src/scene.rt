@@ -3,8 +3,9 @@
 ghost use Rattle.std.specs.Prelude.{◌≡◌, take};
 ghost use Rattle.log_picture.specs.Shots.{end_of, is_in_window};
 
-use call_log::{Finding, LogEntry, NamedEntries};
+use log_line::LogEntry;
 use log_view::Window;
+use log_words::{Finding, NamedEntries};
 use slice_ranges::SliceKey;
 
 /// The calls of a log that are drawn, and the calls before them.

@@ -4,8 +4,8 @@ ghost use Rattle.std.specs.Prelude.{◌≡◌, reverse, if◌then◌else◌};
 ghost use Rattle.log_picture.specs.Shots.{is_in_window, span_of, with_reading};
 
 use crate::scene::is_in_window;
-use call_log::LogEntry;
-use cluster::Reading;
+use job_calls::Reading;
+use log_line::LogEntry;
 use log_view::Window;
 use timeline::Stretch;
 

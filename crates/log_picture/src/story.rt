@@ -2,7 +2,7 @@
 
 ghost use Rattle.std.specs.Prelude.{◌+◌, ◌<◌, IfOk, OnOk, length, reverse, take};
 ghost use Rattle.timeline.specs.Actors.{AreLanes};
-ghost use Rattle.cluster.specs.Jobs.{Job as PlayedJob};
+ghost use Rattle.job_calls.specs.Jobs.{Job as PlayedJob};
 ghost use Rattle.log_picture.specs.Shots.{shot_of};
 ghost use Rattle.log_picture.specs.Warnings.{AreAlarms};
 ghost use Rattle.log_picture.specs.internals.Playing.{AreWatched};
@@ -12,12 +12,15 @@ use crate::alarms::{LogWatch, foreign_in};
 use crate::cutting::cut_lanes;
 use crate::scene::{Scene, is_in_window};
 use crate::texts::{asked_words, key_words, label_of};
-use call_log::{CallerReply, LogEntry, LogMachines, PlainLine, Standing, Start, tell};
-use cluster::{Cluster, Job};
+use cluster::Cluster;
+use job_calls::Job;
+use log_line::{CallerReply, LogEntry, PlainLine};
+use log_run::{LogMachines, Start, tell};
 use log_view::is_shown;
+use log_words::Standing;
+use replies::Reply;
 use std::alloc::{AllocError, Global};
 use timeline::{Act, Alarm, Deed, Lane, Story, Stretch};
-use world::Reply;
 
 /// What is told of a log: the lanes of its actors, and the warnings of its calls.
 #[derive(Drop)]

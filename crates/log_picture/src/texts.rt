@@ -1,13 +1,13 @@
 //! The words of a picture for the calls of a log.
 
 use crate::acts::call_word;
-use call_log::{CallerReply, LogEntry, LoggedCall};
-use cluster::ClusterCall;
+use job_calls::ClusterCall;
 use lease_rule::Verdict;
+use log_line::{CallerReply, LogEntry, LoggedCall};
+use replies::Reply;
 use slice_ranges::SliceKey;
 use std::alloc::{AllocError, Global};
 use timeline::ground_word;
-use world::Reply;
 
 // Returns the slice key that a request names.
 fn asked_key(call: &LoggedCall) -> Option<SliceKey> {

@@ -1,14 +1,14 @@
 -- Calls of a log that are played one after another.
 use Rattle.std.proofs.Common.{◌≡◌, ℕ, ◌+◌, ◌<◌, List, [], ◌∷◌, ◌++◌, length, get_or, take, reverse, sym, ◌∙◌, ap, subst, refl}
 use Rattle.std.proofs.lemmas.List.{take_more, reverse-append}
-use Rattle.cluster.specs.Jobs.{Job}
+use Rattle.job_calls.specs.Jobs.{Job}
 use Rattle.cluster.specs.continued.Jobs.{from_start}
-use Rattle.call_log.specs.declared.entry.LogEntry.{LogEntry}
-use Rattle.call_log.specs.declared.log_machines.LogMachines.{LogMachines}
-use Rattle.call_log.specs.declared.told.CallerReply.{CallerReply}
-use Rattle.call_log.specs.Played.{AreCallsOf}
-use Rattle.call_log.specs.internals.Answers.{IsPlayed}
-use Rattle.call_log.specs.internals.Machines.{HavePlayed}
+use Rattle.log_line.specs.declared.entry.LogEntry.{LogEntry}
+use Rattle.log_run.specs.declared.log_machines.LogMachines.{LogMachines}
+use Rattle.log_line.specs.declared.told.CallerReply.{CallerReply}
+use Rattle.log_run.specs.Played.{AreCallsOf}
+use Rattle.log_run.specs.internals.Answers.{IsPlayed}
+use Rattle.log_run.specs.internals.Machines.{HavePlayed}
 use Rattle.log_view.specs.internals.Playing.{IsPlayedTo}
 
 -- before the first call

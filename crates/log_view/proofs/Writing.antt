@@ -5,9 +5,9 @@ use Rattle.std.specs.List.{filter, range_with_len}
 use Rattle.std.proofs.lemmas.List.{append-nil, map-id}
 use Rattle.std.proofs.lemmas.List.FromFn.{filter_of_map_range_with_len_more}
 use Rattle.std.proofs.lemmas.Option.{slice_get-get_or}
-use Rattle.cluster.specs.Jobs.{Job}
-use Rattle.call_log.specs.declared.entry.LogEntry.{LogEntry}
-use Rattle.call_log.specs.declared.log_machines.LogMachines.{LogMachines}
+use Rattle.job_calls.specs.Jobs.{Job}
+use Rattle.log_line.specs.declared.entry.LogEntry.{LogEntry}
+use Rattle.log_run.specs.declared.log_machines.LogMachines.{LogMachines}
 use Rattle.log_view.specs.Lines.{AreLines, IsLineOf, shown_places, shows}
 use Rattle.log_view.specs.Windows.{is_shown}
 use Rattle.log_view.specs.internals.Playing.{IsLineAfter, IsLineAt, IsLineIf, IsPlayedTo}

@@ -1,18 +1,18 @@
 -- The words of a call: what it does, then its members with their names. What it delivers is named by its numbers alone.
 use Rattle.std.specs.Prelude.{ℕ, List, ◌++◌, codes, decimal}
 use Rattle.wire.specs.LeaseMembers.{kind_word}
-use Rattle.lease_table.specs.declared.values.ReleaseNote.{ReleaseNote}
-use Rattle.lease_table.specs.declared.call.TableCall.{TableCall}
-use Rattle.lease_table.specs.declared.call.TableCall.TheVariants as table_call
-use Rattle.slicelet.specs.declared.handle.KeyHandle.{KeyHandle}
-use Rattle.slicelet.specs.declared.call.SliceletCall.{SliceletCall}
-use Rattle.slicelet.specs.declared.call.SliceletCall.TheVariants as task_call
+use Rattle.grants.specs.declared.values.ReleaseNote.{ReleaseNote}
+use Rattle.grants.specs.declared.table_call.TableCall.{TableCall}
+use Rattle.grants.specs.declared.table_call.TableCall.TheVariants as table_call
+use Rattle.key_handle.specs.declared.handle.KeyHandle.{KeyHandle}
+use Rattle.grants.specs.declared.slicelet_call.SliceletCall.{SliceletCall}
+use Rattle.grants.specs.declared.slicelet_call.SliceletCall.TheVariants as task_call
 use Rattle.clerk.specs.declared.call.ClerkCall.{ClerkCall}
 use Rattle.clerk.specs.declared.call.ClerkCall.TheVariants as clerk_call
-use Rattle.cluster.specs.declared.call.ClusterCall.{ClusterCall}
-use Rattle.cluster.specs.declared.call.ClusterCall.TheVariants as call
-use Rattle.call_log.specs.declared.line.LoggedCall.{LoggedCall}
-use Rattle.call_log.specs.declared.line.LoggedCall.TheVariants.{Whole, HearBare, LearnBare, Restore, Sample}
+use Rattle.job_calls.specs.declared.call.ClusterCall.{ClusterCall}
+use Rattle.job_calls.specs.declared.call.ClusterCall.TheVariants as call
+use Rattle.log_line.specs.declared.line.LoggedCall.{LoggedCall}
+use Rattle.log_line.specs.declared.line.LoggedCall.TheVariants.{Whole, HearBare, LearnBare, Restore, Sample}
 
 -- a note, and a handle without its task
 abbrev pub note_text : ReleaseNote → List ℕ

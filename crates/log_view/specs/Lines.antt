@@ -1,20 +1,21 @@
 -- What is written of the calls of a log that are shown.
 use Rattle.std.specs.Prelude.{◌≡◌, ℕ, ◌-◌, Bool, false, List, [], ◌∷◌, ◌++◌, codes, reverse, take, Option, Some, None, slice_get}
 use Rattle.std.specs.List.{filter, range_with_len}
-use Rattle.cluster.specs.Jobs.{Job}
+use Rattle.job_calls.specs.Jobs.{Job}
 use Rattle.cluster.specs.Pasts.{Past}
 use Rattle.cluster.specs.Runs.{IsRun}
 use Rattle.cluster.specs.continued.Jobs.{from_start}
-use Rattle.call_log.specs.declared.cause.Cause.{Cause}
-use Rattle.call_log.specs.declared.entry.LogEntry.{LogEntry}
-use Rattle.call_log.specs.declared.finding.HeldLeases.{HeldLeases}
-use Rattle.call_log.specs.declared.line.LoggedCall.{LoggedCall}
-use Rattle.call_log.specs.declared.told.CallerReply.{CallerReply}
-use Rattle.call_log.specs.Calls.{held_by_asked, reading_in}
-use Rattle.call_log.specs.Played.{AreCallsOf, StandsFor}
-use Rattle.call_log.specs.Questions.{IsCauseOf}
-use Rattle.call_log.specs.Reports.{cause_text, reason_text, standing_at}
-use Rattle.call_log.specs.Told.{plain_text}
+use Rattle.log_words.specs.declared.cause.Cause.{Cause}
+use Rattle.log_line.specs.declared.entry.LogEntry.{LogEntry}
+use Rattle.log_run.specs.declared.held.HeldLeases.{HeldLeases}
+use Rattle.log_line.specs.declared.line.LoggedCall.{LoggedCall}
+use Rattle.log_line.specs.declared.told.CallerReply.{CallerReply}
+use Rattle.log_run.specs.Calls.{held_by_asked}
+use Rattle.log_line.specs.Calls.{reading_in}
+use Rattle.log_run.specs.Played.{AreCallsOf, StandsFor}
+use Rattle.log_words.specs.Questions.{IsCauseOf}
+use Rattle.log_words.specs.Reports.{cause_text, reason_text, standing_at}
+use Rattle.log_line.specs.Told.{plain_text}
 use Rattle.log_view.specs.CallTexts.{call_text}
 use Rattle.log_view.specs.Windows.{is_shown}
 

@@ -1,14 +1,14 @@
 -- The calls of a log that are shown.
 use Rattle.std.specs.Prelude.{◌≡◌, ℕ, ◌+◌, ◌-◌, ◌&&◌, nat_eq, nat_le, min, Bool, true, false, List, length, Option, Some, None, slice_get}
-use Rattle.cluster.specs.declared.call.ClusterCall.TheVariants as call
-use Rattle.cluster.specs.declared.timing.Reading.{Reading}
-use Rattle.cluster.specs.declared.timing.Reading.TheVariants.{TableClock, TaskClock, NoClock}
-use Rattle.call_log.specs.declared.entry.LinePosition.{LinePosition}
-use Rattle.call_log.specs.declared.entry.LogEntry.{LogEntry}
-use Rattle.call_log.specs.declared.line.LoggedCall.{LoggedCall}
-use Rattle.call_log.specs.declared.line.LoggedCall.TheVariants.{Whole}
-use Rattle.call_log.specs.Calls.{reading_in}
-use Rattle.call_log.specs.Sent.{NonePasses, IsFirst, IsFirstFrom}
+use Rattle.job_calls.specs.declared.call.ClusterCall.TheVariants as call
+use Rattle.job_calls.specs.declared.timing.Reading.{Reading}
+use Rattle.job_calls.specs.declared.timing.Reading.TheVariants.{TableClock, TaskClock, NoClock}
+use Rattle.log_line.specs.declared.entry.LinePosition.{LinePosition}
+use Rattle.log_line.specs.declared.entry.LogEntry.{LogEntry}
+use Rattle.log_line.specs.declared.line.LoggedCall.{LoggedCall}
+use Rattle.log_line.specs.declared.line.LoggedCall.TheVariants.{Whole}
+use Rattle.log_line.specs.Calls.{reading_in}
+use Rattle.log_line.specs.Sent.{NonePasses, IsFirst, IsFirstFrom}
 use Rattle.log_view.specs.declared.window.Calls.{Calls}
 use Rattle.log_view.specs.declared.window.Calls.TheVariants.{All, Around, Readings}
 use Rattle.log_view.specs.declared.window.Window.{Window}

@@ -3,11 +3,11 @@
 ghost use Rattle.std.specs.Prelude.{◌≡◌, Some};
 ghost use Rattle.log_view.specs.CallTexts.{ask_text, call_text, clerk_text, handle_text, note_text, table_text, task_text};
 
-use call_log::LoggedCall;
 use clerk::ClerkCall;
-use cluster::ClusterCall;
-use lease_table::{ReleaseNote, TableCall};
-use slicelet::{KeyHandle, SliceletCall};
+use grants::{ReleaseNote, SliceletCall, TableCall};
+use job_calls::ClusterCall;
+use key_handle::KeyHandle;
+use log_line::LoggedCall;
 use std::fmt;
 use wire::kind_word;
 

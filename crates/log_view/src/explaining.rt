@@ -1,14 +1,14 @@
 //! The calls of a log with the machines' replies and the reasons for them.
 
 ghost use Rattle.std.specs.Prelude.{◌≡◌, ◌≤◌, IfOk, length, map};
-ghost use Rattle.call_log.specs.Audited.{IsFound, is_one};
+ghost use Rattle.log_words.specs.Audited.{IsFound, is_one};
 ghost use Rattle.log_view.specs.Explained.{IsExplainedLog, played};
 
 use crate::lines::{Part, lines_of};
 use crate::window::{View, window_of};
-use call_log::{
-    Finding, LinePosition, Log, NamedEntries, Progress, Start, audit_calls, hint_for, report_of,
-};
+use log_line::{LinePosition, Log, Progress};
+use log_run::Start;
+use log_words::{Finding, NamedEntries, audit_calls, hint_for, report_of};
 use std::alloc::{AllocError, Global};
 
 /// The calls of a log that a view shows, with their reasons, and the report of the audit.

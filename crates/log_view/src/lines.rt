@@ -4,18 +4,17 @@ ghost use Rattle.std.specs.Prelude.{◌≡◌, ◌≤◌, ◌<◌, IfOk, length,
 ghost use Rattle.std.specs.Option.{option_map};
 ghost use Rattle.cluster.specs.Pasts.{Past};
 ghost use Rattle.cluster.specs.continued.Jobs.{from_start};
-ghost use Rattle.call_log.specs.Reports.{cause_text, standing_at};
-ghost use Rattle.call_log.specs.internals.Machines.{HavePlayed};
+ghost use Rattle.log_words.specs.Reports.{cause_text, standing_at};
+ghost use Rattle.log_run.specs.internals.Machines.{HavePlayed};
 ghost use Rattle.log_view.specs.Lines.{AreLines, call_line, shown_places};
 ghost use Rattle.log_view.specs.internals.Playing.{IsLineAfter, IsLineAt, IsPlayedTo};
 
 use crate::call_text::CallText;
 use crate::window::is_shown;
-use call_log::{
-    CallerReply, CauseText, HeldLeases, LogEntry, LogMachines, LoggedCall, NamedEntries, PlainLine,
-    Reason, Standing, Start, WrongCall, cause_of, held_by_asked, tell,
-};
-use cluster::Job;
+use job_calls::Job;
+use log_line::{CallerReply, LogEntry, LoggedCall, PlainLine};
+use log_run::{HeldLeases, LogMachines, Start, held_by_asked, tell};
+use log_words::{CauseText, NamedEntries, Reason, Standing, WrongCall, cause_of};
 use slice_ranges::SliceKey;
 use std::alloc::{AllocError, Global};
 

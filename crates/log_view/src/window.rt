@@ -1,11 +1,11 @@
 //! The calls of a log that are shown.
 
 ghost use Rattle.std.specs.Prelude.{◌≡◌, ◌<◌, ◌≤◌, IfSome, length};
-ghost use Rattle.call_log.specs.Sent.{IsFirstFrom};
+ghost use Rattle.log_line.specs.Sent.{IsFirstFrom};
 ghost use Rattle.log_view.specs.Windows.{IsLastOf, IsWindow, around, asked_key, is_shown, is_within, reads_within, stands_at};
 
-use call_log::{LinePosition, LogEntry, LoggedCall};
-use cluster::{ClusterCall, Reading};
+use job_calls::{ClusterCall, Reading};
+use log_line::{LinePosition, LogEntry, LoggedCall};
 use slice_ranges::SliceKey;
 
 /// How many calls [`Calls::Around`] shows before the call and after it.

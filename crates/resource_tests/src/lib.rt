@@ -8,6 +8,8 @@
 #[cfg(test)]
 mod asking;
 #[cfg(test)]
+mod calls;
+#[cfg(test)]
 mod loads;
 #[cfg(test)]
 mod messages;

@@ -2,9 +2,9 @@
 
 use crate::asking::{is_written, read};
 use assignment::Assignment;
-use clerk::{Clerk, ClerkCall, ClerkReply};
-use lease_table::{Grant, Kept, ReleaseNote, Row, TableCall, TableReply};
-use slicelet::{KeyHandle, SliceletCall, SliceletReply};
+use clerk::Clerk;
+use grants::{Grant, Kept, ReleaseNote, Row, SliceletCall};
+use key_handle::KeyHandle;
 use std::alloc::Global;
 use std::test::Fail;
 use wire::Wire;
@@ -45,45 +45,12 @@ const KEPT_VALUES: &[&str] = &[
     r#"{"committed":null,"deadline":"0","granted":"0","last":"0","pending":null,"policy":{"bridge":100,"guard":4294967296,"job":1000,"numbers":4294967296,"redundancy":[1,2],"skew":10},"term":null}"#,
 ];
 
-const TABLE_CALLS: &[&str] = &[
-    r#"{"assigner":"1","at":"2","do":"take"}"#,
-    r#"{"at":"4","do":"renew","term":"3"}"#,
-    r#"{"at":"5","do":"propose","generation":"4","slices":[["0",[1,2]],["4611686018427387904",[3]]],"term":"1"}"#,
-    r#"{"at":"6","do":"commit","term":"1"}"#,
-    r#"{"at":"7","do":"grant","life":3,"task":2}"#,
-    r#"{"at":"8","do":"free","note":{"kind":"guard","life":4294967295,"number":"18446744073709551615","task":2}}"#,
-    r#"{"do":"lose"}"#,
-];
-
-const TABLE_REPLIES: &[&str] = &[
-    r#"{"assigner":"2","number":"1","reply":"term","until":"1000"}"#,
-    r#"{"reply":"proposed"}"#,
-    r#"{"generation":"4","reply":"committed"}"#,
-    r#"{"grant":{"ends":"95","generation":"3","kind":"bridge","life":1,"number":"7","ranges":[["0","5"],["9","9223372036854775808"]],"task":64,"until":"105"},"reply":"grant"}"#,
-    r#"{"reply":"freed","rows":"2"}"#,
-    r#"{"reply":"lost","rows":"0"}"#,
-];
-
 const SLICELET_CALLS: &[&str] = &[
     r#"{"at":"3","do":"start","life":2}"#,
     r#"{"at":"6","do":"hear","grant":{"ends":"95","generation":"3","kind":"bridge","life":1,"number":"7","ranges":[["0","5"],["9","9223372036854775808"]],"task":64,"until":"105"}}"#,
     r#"{"at":"8","do":"release","kind":"guard"}"#,
     r#"{"do":"resume","life":2}"#,
 ];
-
-const SLICELET_REPLIES: &[&str] = &[
-    r#"{"reply":"started"}"#,
-    r#"{"reply":"heard"}"#,
-    r#"{"note":{"kind":"guard","life":4294967295,"number":"18446744073709551615","task":2},"reply":"released"}"#,
-    r#"{"bridge":{"kind":"bridge","life":2,"number":"4294967296","task":2},"guard":{"kind":"guard","life":2,"number":"4294967296","task":2},"reply":"resumed"}"#,
-];
-
-const CLERK_CALLS: &[&str] = &[
-    r#"{"do":"learn","generation":"4","slices":[["0",[1,2]],["4611686018427387904",[3]]]}"#,
-    r#"{"do":"forget"}"#,
-];
-
-const CLERK_REPLIES: &[&str] = &[r#"{"reply":"learnt"}"#, r#"{"reply":"forgotten"}"#];
 
 const CLERKS: &[&str] = &[
     r#"{"generation":"4","slices":[["0",[1,2]],["4611686018427387904",[3]]]}"#,
@@ -99,12 +66,7 @@ fn messages_are_carried_without_memory(rt: HostRuntime) -> Result<(), Fail> {
     assert!(rt; round::<Row>(alloc, ROWS)?);
     assert!(rt; round::<KeyHandle>(alloc, KEY_HANDLES)?);
     assert!(rt; round::<Kept>(alloc, KEPT_VALUES)?);
-    assert!(rt; round::<TableCall>(alloc, TABLE_CALLS)?);
-    assert!(rt; round::<TableReply>(alloc, TABLE_REPLIES)?);
     assert!(rt; round::<SliceletCall>(alloc, SLICELET_CALLS)?);
-    assert!(rt; round::<SliceletReply>(alloc, SLICELET_REPLIES)?);
-    assert!(rt; round::<ClerkCall>(alloc, CLERK_CALLS)?);
-    assert!(rt; round::<ClerkReply>(alloc, CLERK_REPLIES)?);
     assert!(rt; round::<Clerk>(alloc, CLERKS)?);
     Ok(())
 }

@@ -1,9 +1,11 @@
 //! Scripts, where memory is refused once.
 
 use crate::asking::again;
-use machines::Listed;
+use faults::ScriptError;
+use machines::{Duplicate, Listed};
 use program_io::{Fault, value_of};
-use service::{Script, ScriptError, lone_step, output_of, run_script, script_of};
+use replies::Line;
+use service::{Script, lone_step, output_of, replies_of, run_script, script_of};
 use std::alloc::{AllocError, Global};
 use std::io::Read;
 use std::test::Fail;
@@ -144,5 +146,26 @@ fn scripts_are_read_without_memory(rt: HostRuntime) -> Result<(), Fail> {
     let steps = Listed::from_vec(steps);
     let joined = Script { job, steps };
     assert_eq!(rt; again(|| output_of(alloc, &joined))?, wanted);
+    Ok(())
+}
+
+#[test]
+fn scripts_and_replies_are_copied_without_memory(rt: HostRuntime) -> Result<(), Fail> {
+    let alloc = rt.alloc();
+    let text = again(|| script(alloc))?;
+    let wanted = again(|| lines(alloc))?;
+    let value = again(|| value_of(alloc, text.as_bytes()))
+        .ok()
+        .ok_or("it is JSON")?;
+    let whole = again(|| script_of(alloc, &value))?;
+    let copied = again(|| whole.copy())?;
+    assert_eq!(rt; again(|| output_of(alloc, &copied))?, wanted);
+    let replies = again(|| replies_of(alloc, copied.job, copied.steps.as_slice()))?;
+    assert_eq!(rt; replies.len(), STEPS.len());
+    for (reply, (_, line)) in replies.iter().zip(STEPS) {
+        let copied = again(|| reply.copy())?;
+        let told = again(|| format!(in alloc; "{}", Line(&copied)))?;
+        assert_eq!(rt; told.as_str(), *line);
+    }
     Ok(())
 }

@@ -1,16 +1,17 @@
 //! Tables, slicelets and clerks: each call of a story is answered, at the second time where memory
 //! is refused.
 
-use crate::asking::{again, changed, is_written, read};
+use crate::asking::{again, changed, is_written};
+use crate::calls::{Named, Told, read_call};
 use assignment::TaskId;
 use clerk::Clerk;
+use grants::{Policy, TableReply};
 use lease_rule::Kind;
-use lease_table::{LeaseTable, Policy, TableReply};
+use lease_table::LeaseTable;
 use machines::{Duplicate, Event, Machine};
 use slicelet::Slicelet;
 use std::alloc::{AllocError, Global};
 use std::test::Fail;
-use wire::Wire;
 
 /// A machine whose state a test can compare.
 trait Shown: Machine {
@@ -60,18 +61,18 @@ fn first_wrong<'s, M, C>(
 ) -> Result<Option<&'s str>, Fail>
 where
     M: Shown + Machine<Event = Event<C>>,
-    M::Reply: Wire,
-    C: Wire + Duplicate,
+    M::Reply: Told,
+    C: Named + Duplicate,
 {
     for (call, wanted) in story {
-        let call_read: C = read(alloc, call)?;
+        let call_read: C = read_call(alloc, call)?;
         let event = Event {
             ticket: 1,
             call: call_read,
         };
         let copied = again(|| M::copy_event(&event))?;
         let reply = applied(alloc, machine, &copied)?;
-        if !is_written(alloc, &reply, wanted)? {
+        if again(|| reply.told(alloc))?.as_str() != *wanted {
             return Ok(Some(*call));
         }
     }
@@ -83,41 +84,35 @@ where
 const TABLE_STORY: [(&str, &str); 10] = [
     (
         r#"{"assigner":"1","at":"0","do":"take"}"#,
-        r#"{"assigner":"1","number":"1","reply":"term","until":"1000"}"#,
+        "term 1 of 1 until 1000",
     ),
     (
         r#"{"at":"1","do":"propose","generation":"1","slices":[["0",[1]],["4611686018427387904",[2]]],"term":"1"}"#,
-        r#"{"reply":"proposed"}"#,
+        "proposed",
     ),
-    (
-        r#"{"at":"2","do":"commit","term":"1"}"#,
-        r#"{"generation":"1","reply":"committed"}"#,
-    ),
+    (r#"{"at":"2","do":"commit","term":"1"}"#, "committed 1"),
     (
         r#"{"at":"5","do":"grant","life":1,"task":1}"#,
-        r#"{"grant":{"ends":"95","generation":"1","kind":"guard","life":1,"number":"1","ranges":[["0","4611686018427387904"]],"task":1,"until":"105"},"reply":"grant"}"#,
+        r#"{"ends":"95","generation":"1","kind":"guard","life":1,"number":"1","ranges":[["0","4611686018427387904"]],"task":1,"until":"105"}"#,
     ),
     (
         r#"{"at":"6","do":"renew","term":"1"}"#,
-        r#"{"assigner":"1","number":"1","reply":"term","until":"1006"}"#,
+        "term 1 of 1 until 1006",
     ),
     (
         r#"{"at":"20","do":"propose","generation":"2","slices":[["0",[1]],["1024",[2]]],"term":"1"}"#,
-        r#"{"reply":"proposed"}"#,
+        "proposed",
     ),
     (
         r#"{"at":"24","do":"grant","life":1,"task":1}"#,
-        r#"{"grant":{"ends":"114","generation":"2","kind":"bridge","life":1,"number":"2","ranges":[["0","1024"]],"task":1,"until":"124"},"reply":"grant"}"#,
+        r#"{"ends":"114","generation":"2","kind":"bridge","life":1,"number":"2","ranges":[["0","1024"]],"task":1,"until":"124"}"#,
     ),
     (
         r#"{"at":"28","do":"free","note":{"kind":"guard","life":1,"number":"1","task":1}}"#,
-        r#"{"reply":"freed","rows":"1"}"#,
+        "freed 1",
     ),
-    (
-        r#"{"at":"29","do":"commit","term":"1"}"#,
-        r#"{"generation":"2","reply":"committed"}"#,
-    ),
-    (r#"{"do":"lose"}"#, r#"{"reply":"lost","rows":"1"}"#),
+    (r#"{"at":"29","do":"commit","term":"1"}"#, "committed 2"),
+    (r#"{"do":"lose"}"#, "lost 1"),
 ];
 
 // What the table keeps and lists after the first seven calls.
@@ -131,7 +126,7 @@ const ROWS: [&str; 2] = [
 
 // The grant that task 2 would get at 24: of its keys in both generations.
 const NEXT_GRANT: &str =
-    r#"{"grant":{"ends":"114","generation":"2","kind":"bridge","life":1,"number":"3","ranges":[["4611686018427387904","9223372036854775808"]],"task":2,"until":"124"},"reply":"grant"}"#;
+    r#"{"ends":"114","generation":"2","kind":"bridge","life":1,"number":"3","ranges":[["4611686018427387904","9223372036854775808"]],"task":2,"until":"124"}"#;
 
 #[test]
 fn table_answers_without_memory(rt: HostRuntime) -> Result<(), Fail> {
@@ -146,7 +141,8 @@ fn table_answers_without_memory(rt: HostRuntime) -> Result<(), Fail> {
         |t| t.next_grant(task, 1, 24),
     )?;
     let reply = TableReply::Granted(again(|| grant.copy())?);
-    assert!(rt; is_written(alloc, &again(|| reply.copy())?, NEXT_GRANT)?);
+    let reply = again(|| reply.copy())?;
+    assert_eq!(rt; again(|| reply.told(alloc))?.as_str(), NEXT_GRANT);
     let kept = again(|| table.kept())?;
     assert!(rt; is_written(alloc, &again(|| kept.copy())?, KEPT)?);
     let rows = again(|| table.rows())?;
@@ -164,25 +160,22 @@ fn table_answers_without_memory(rt: HostRuntime) -> Result<(), Fail> {
 }
 
 const SLICELET_STORY: [(&str, &str); 5] = [
-    (
-        r#"{"at":"3","do":"start","life":1}"#,
-        r#"{"reply":"started"}"#,
-    ),
+    (r#"{"at":"3","do":"start","life":1}"#, "started"),
     (
         r#"{"at":"6","do":"hear","grant":{"ends":"95","generation":"1","kind":"guard","life":1,"number":"1","ranges":[["0","5"],["9","20"]],"task":1,"until":"105"}}"#,
-        r#"{"reply":"heard"}"#,
+        "heard",
     ),
     (
         r#"{"at":"25","do":"hear","grant":{"ends":"114","generation":"2","kind":"bridge","life":1,"number":"2","ranges":[["3","11"]],"task":1,"until":"124"}}"#,
-        r#"{"reply":"heard"}"#,
+        "heard",
     ),
     (
         r#"{"at":"26","do":"release","kind":"guard"}"#,
-        r#"{"note":{"kind":"guard","life":1,"number":"1","task":1},"reply":"released"}"#,
+        r#"{"kind":"guard","life":1,"number":"1","task":1}"#,
     ),
     (
         r#"{"do":"resume","life":1}"#,
-        r#"{"bridge":{"kind":"bridge","life":1,"number":"4294967296","task":1},"guard":{"kind":"guard","life":1,"number":"4294967296","task":1},"reply":"resumed"}"#,
+        r#"{"kind":"guard","life":1,"number":"4294967296","task":1} {"kind":"bridge","life":1,"number":"4294967296","task":1}"#,
     ),
 ];
 
@@ -210,13 +203,13 @@ fn slicelet_answers_without_memory(rt: HostRuntime) -> Result<(), Fail> {
 const CLERK_STORY: [(&str, &str); 3] = [
     (
         r#"{"do":"learn","generation":"1","slices":[["0",[1]],["4611686018427387904",[2]]]}"#,
-        r#"{"reply":"learnt"}"#,
+        "learnt",
     ),
     (
         r#"{"do":"learn","generation":"4","slices":[["0",[1,2]]]}"#,
-        r#"{"reply":"learnt"}"#,
+        "learnt",
     ),
-    (r#"{"do":"forget"}"#, r#"{"reply":"forgotten"}"#),
+    (r#"{"do":"forget"}"#, "forgotten"),
 ];
 
 #[test]

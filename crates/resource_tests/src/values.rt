@@ -2,9 +2,9 @@
 
 use crate::asking::{again, read};
 use assignment::{Assignment, Slice, TaskId};
+use key_handle::Stamped;
 use machines::{Duplicate, Listed};
 use slice_ranges::{Ranges, SliceKey};
-use slicelet::Stamped;
 use std::alloc::Global;
 use std::test::Fail;
 

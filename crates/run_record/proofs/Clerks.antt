@@ -14,12 +14,12 @@ use Rattle.clerk.specs.declared.error.ClerkError.{ClerkError}
 use Rattle.clerk.specs.declared.error.ClerkError.TheVariants.{Old}
 use Rattle.clerk.specs.Calls.{clerk_step}
 use Rattle.clerk.specs.Knowledge.{accepted_with, greater, greatest_of}
-use Rattle.cluster.specs.declared.call.ClusterCall.{ClusterCall}
-use Rattle.cluster.specs.declared.call.ClusterCall.TheVariants as call
-use Rattle.cluster.specs.declared.error.ClusterError.{ClusterError}
-use Rattle.cluster.specs.declared.error.ClusterError.TheVariants as error
-use Rattle.cluster.specs.declared.reply.ClusterReply.{ClusterReply}
-use Rattle.cluster.specs.declared.reply.ClusterReply.TheVariants as reply
+use Rattle.job_calls.specs.declared.call.ClusterCall.{ClusterCall}
+use Rattle.job_calls.specs.declared.call.ClusterCall.TheVariants as call
+use Rattle.job_calls.specs.declared.error.ClusterError.{ClusterError}
+use Rattle.job_calls.specs.declared.error.ClusterError.TheVariants as error
+use Rattle.job_calls.specs.declared.reply.ClusterReply.{ClusterReply}
+use Rattle.job_calls.specs.declared.reply.ClusterReply.TheVariants as reply
 use Rattle.cluster.specs.ActorLists.{AreActors}
 use Rattle.cluster.specs.Answers.{unless, from_machine}
 use Rattle.cluster.specs.Pasts.{event, Past, is_accepted, learnt_by, newest_learnt}

@@ -5,24 +5,26 @@ use Rattle.std.specs.List.{list_any}
 use Rattle.std.proofs.lemmas.List.{append_assoc, append-nil, reverse-append, take-append-drop}
 use Rattle.std.proofs.lemmas.List.Folds.{list_any-append}
 use Rattle.assignment.specs.Slices.{Slicing}
-use Rattle.lease_table.specs.declared.call.TableCall.{TableCall}
-use Rattle.lease_table.specs.declared.call.TableCall.TheVariants as table_call
-use Rattle.lease_table.specs.declared.call.TableReply.{TableReply}
-use Rattle.lease_table.specs.declared.call.TableReply.TheVariants as table_told
-use Rattle.lease_table.specs.declared.values.Grant.{Grant}
-use Rattle.lease_table.specs.declared.values.ReleaseNote.{ReleaseNote}
+use Rattle.grants.specs.declared.table_call.TableCall.{TableCall}
+use Rattle.grants.specs.declared.table_call.TableCall.TheVariants as table_call
+use Rattle.grants.specs.declared.table_call.TableReply.{TableReply}
+use Rattle.grants.specs.declared.table_call.TableReply.TheVariants as table_told
+use Rattle.grants.specs.declared.values.Grant.{Grant}
+use Rattle.grants.specs.declared.values.ReleaseNote.{ReleaseNote}
 use Rattle.lease_table.specs.Calls.{AnsweredTableCall, grants_sent}
-use Rattle.lease_table.specs.Snapshots.{IsSnapshotOf as IsTableSnapshotOf, newest_in}
-use Rattle.slicelet.specs.declared.handle.KeyHandle.{KeyHandle}
-use Rattle.cluster.specs.declared.call.ClusterCall.{ClusterCall}
-use Rattle.cluster.specs.declared.call.ClusterCall.TheVariants as call
-use Rattle.cluster.specs.declared.reply.ClusterReply.{ClusterReply}
-use Rattle.cluster.specs.declared.reply.ClusterReply.TheVariants as reply
-use Rattle.cluster.specs.declared.snapshot.ClusterSnapshot.{ClusterSnapshot}
+use Rattle.lease_table.specs.Snapshots.{IsSnapshotOf as IsTableSnapshotOf}
+use Rattle.grants.specs.Snapshots.{newest_in}
+use Rattle.key_handle.specs.declared.handle.KeyHandle.{KeyHandle}
+use Rattle.job_calls.specs.declared.call.ClusterCall.{ClusterCall}
+use Rattle.job_calls.specs.declared.call.ClusterCall.TheVariants as call
+use Rattle.job_calls.specs.declared.reply.ClusterReply.{ClusterReply}
+use Rattle.job_calls.specs.declared.reply.ClusterReply.TheVariants as reply
+use Rattle.job_calls.specs.declared.snapshot.ClusterSnapshot.{ClusterSnapshot}
 use Rattle.cluster.specs.ActorLists.{AreActors}
-use Rattle.cluster.specs.Jobs.{Job}
+use Rattle.job_calls.specs.Jobs.{Job}
 use Rattle.cluster.specs.Made.{with_note, notes_made, handles_made, same_note, same_handle, is_made, is_given}
-use Rattle.cluster.specs.Pasts.{event, Past, with_table_call, table_calls, standing, grants, newest_learnt, reading, readings}
+use Rattle.cluster.specs.Pasts.{event, Past, with_table_call, table_calls, standing, grants, newest_learnt, readings}
+use Rattle.job_calls.specs.Readings.{reading}
 use Rattle.cluster.specs.Runs.{IsRun}
 use Rattle.cluster.specs.Timing.{greater_reading, greatest_reading}
 use Rattle.cluster.specs.continued.Clusters.{AreAfter}

@@ -1,14 +1,15 @@
 -- What a refused call leaves of a record.
 use Rattle.std.proofs.Common.{◌≡◌, ℕ, ◌∷◌, refl, sym, ◌∙◌}
 use Rattle.std.specs.Prelude.{Option, Some, None}
-use Rattle.slicelet.specs.declared.call.SliceletCall.{SliceletCall}
-use Rattle.slicelet.specs.Calls.{clock_reading}
+use Rattle.grants.specs.declared.slicelet_call.SliceletCall.{SliceletCall}
+use Rattle.grants.specs.SliceletCalls.{clock_reading}
 use Rattle.clerk.specs.declared.call.ClerkCall.{ClerkCall}
-use Rattle.cluster.specs.declared.call.ClusterCall.TheVariants as call
-use Rattle.cluster.specs.declared.error.ClusterError.{ClusterError}
-use Rattle.cluster.specs.declared.reply.ClusterReply.TheVariants as reply
-use Rattle.cluster.specs.Jobs.{Job}
-use Rattle.cluster.specs.Pasts.{event, Past, at_task, readings}
+use Rattle.job_calls.specs.declared.call.ClusterCall.TheVariants as call
+use Rattle.job_calls.specs.declared.error.ClusterError.{ClusterError}
+use Rattle.job_calls.specs.declared.reply.ClusterReply.TheVariants as reply
+use Rattle.job_calls.specs.Jobs.{Job}
+use Rattle.cluster.specs.Pasts.{event, Past, readings}
+use Rattle.job_calls.specs.Readings.{at_task}
 use Rattle.cluster.specs.Timing.{greater_reading, greatest_reading}
 use Rattle.run_record.specs.Records.{IsRecordOf}
 use Rattle.run_record.specs.declared.run_record.RunRecord.{RunRecord}

@@ -7,19 +7,19 @@ use Rattle.std.proofs.lemmas.List.{get_or-set_other}
 use Rattle.std.proofs.lemmas.Grind.{get_or-set_at}
 use Rattle.std.proofs.lemmas.Option.{slice_get_within, get_or_from_slice_get, slice_get-get_or}
 use Rattle.machines.specs.Refusals.{first_of}
-use Rattle.slicelet.specs.declared.call.SliceletCall.{SliceletCall}
-use Rattle.slicelet.specs.declared.call.SliceletCall.TheVariants.{Start, Hear, Release, Resume}
-use Rattle.slicelet.specs.declared.call.SliceletReply.{SliceletReply}
+use Rattle.grants.specs.declared.slicelet_call.SliceletCall.{SliceletCall}
+use Rattle.grants.specs.declared.slicelet_call.SliceletCall.TheVariants.{Start, Hear, Release, Resume}
+use Rattle.grants.specs.declared.slicelet_call.SliceletReply.{SliceletReply}
 use Rattle.slicelet.specs.Accepted.{checks_of, AreAccepted}
 use Rattle.slicelet.specs.States.{SliceletState, state_after}
 use Rattle.slicelet.specs.Steps.{next_state}
 use Rattle.slicelet.proofs.Accepting.{resume_allowed}
 use Rattle.slicelet.proofs.Standing.{next_after}
-use Rattle.cluster.specs.declared.call.ClusterCall.{ClusterCall}
-use Rattle.cluster.specs.declared.call.ClusterCall.TheVariants as call
-use Rattle.cluster.specs.declared.reply.ClusterReply.{ClusterReply}
-use Rattle.cluster.specs.declared.reply.ClusterReply.TheVariants as reply
-use Rattle.cluster.specs.declared.snapshot.TaskSnapshot.{TaskSnapshot}
+use Rattle.job_calls.specs.declared.call.ClusterCall.{ClusterCall}
+use Rattle.job_calls.specs.declared.call.ClusterCall.TheVariants as call
+use Rattle.job_calls.specs.declared.reply.ClusterReply.{ClusterReply}
+use Rattle.job_calls.specs.declared.reply.ClusterReply.TheVariants as reply
+use Rattle.job_calls.specs.declared.snapshot.TaskSnapshot.{TaskSnapshot}
 use Rattle.cluster.specs.ActorLists.{AreActors}
 use Rattle.cluster.specs.Pasts.{Event, event, Past, is_accepted, task_calls, history}
 use Rattle.cluster.specs.continued.Jobs.{Continued}

@@ -1,11 +1,11 @@
 -- What one call makes of an actor.
 use Rattle.std.specs.Prelude.{[], ◌∷◌, ◌++◌, Option, Result, Ok, Err}
 use Rattle.assignment.specs.Slices.{Slicing}
-use Rattle.slicelet.specs.declared.call.SliceletCall.{SliceletCall}
-use Rattle.slicelet.specs.declared.call.SliceletCall.TheVariants.{Start, Hear, Release, Resume}
+use Rattle.grants.specs.declared.slicelet_call.SliceletCall.{SliceletCall}
+use Rattle.grants.specs.declared.slicelet_call.SliceletCall.TheVariants.{Start, Hear, Release, Resume}
 use Rattle.clerk.specs.declared.call.ClerkCall.{ClerkCall}
 use Rattle.clerk.specs.Calls.{clerk_step}
-use Rattle.cluster.specs.declared.snapshot.TaskSnapshot.{TaskSnapshot}
+use Rattle.job_calls.specs.declared.snapshot.TaskSnapshot.{TaskSnapshot}
 
 -- a task before its first call
 abbrev pub new_task : TaskSnapshot

@@ -9,9 +9,10 @@ ghost use Rattle.run_record.specs.Records.{AreTasksAt};
 ghost use Rattle.run_record.specs.internals.{clerk_after, new_task, task_after};
 
 use clerk::{Clerk, ClerkCall};
-use cluster::{ClusterCall, ClusterReply, Job, TaskSnapshot, place_of};
+use cluster::place_of;
+use grants::SliceletCall;
+use job_calls::{ClusterCall, ClusterReply, Job, TaskSnapshot};
 use machines::{Duplicate, Listed, Trouble};
-use slicelet::SliceletCall;
 use std::alloc::{AllocError, Global};
 
 /// Returns the tasks of a job before their first calls.

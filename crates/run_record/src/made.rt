@@ -9,10 +9,11 @@ ghost use Rattle.indexmap.specs.IndexSet.{insert_all};
 ghost use Rattle.run_record.specs.Records.{handles_shown};
 
 use assignment::Assignment;
-use cluster::{ClusterCall, ClusterReply, KnownHandle};
+use cluster::KnownHandle;
+use grants::{Grant, ReleaseNote, SliceletReply, TableCall, TableReply};
 use indexmap::IndexSet;
-use lease_table::{Grant, ReleaseNote, TableCall, TableReply};
-use slicelet::{KeyHandle, SliceletReply};
+use job_calls::{ClusterCall, ClusterReply};
+use key_handle::KeyHandle;
 use std::alloc::{AllocError, Global};
 
 pub(crate) fn assignment_copies(

@@ -3,7 +3,7 @@
 ghost use Rattle.std.specs.Prelude.{◌≡◌};
 ghost use Rattle.cluster.specs.Timing.{greater_reading};
 
-use cluster::Reading;
+use job_calls::Reading;
 
 /// Returns the greatest reading of the table's clock after one more reading.
 pub(crate) fn greater_reading(reading: Reading, greatest: u64) -> u64

@@ -1,16 +1,16 @@
 //! The record of a run.
 
 ghost use Rattle.std.specs.Prelude.{◌≡◌, ℕ, [], ◌∷◌, IfOk};
-ghost use Rattle.slicelet.specs.declared.call.SliceletCall.{SliceletCall};
+ghost use Rattle.grants.specs.declared.slicelet_call.SliceletCall.{SliceletCall};
 ghost use Rattle.clerk.specs.declared.call.ClerkCall.{ClerkCall};
-ghost use Rattle.cluster.specs.declared.call.ClusterCall.TheVariants as asked;
-ghost use Rattle.cluster.specs.declared.error.ClusterError.{ClusterError};
-ghost use Rattle.cluster.specs.declared.reply.ClusterReply.TheVariants as reply;
+ghost use Rattle.job_calls.specs.declared.call.ClusterCall.TheVariants as asked;
+ghost use Rattle.job_calls.specs.declared.error.ClusterError.{ClusterError};
+ghost use Rattle.job_calls.specs.declared.reply.ClusterReply.TheVariants as reply;
 ghost use Rattle.cluster.specs.continued.Clusters as continued_cluster;
 ghost use Rattle.cluster.specs.continued.Jobs.{Continued, job_in};
 ghost use Rattle.cluster.specs.continued.Runs as continued;
 ghost use Rattle.cluster.specs.continued.Snapshots.{IsSnapshotOf};
-ghost use Rattle.cluster.specs.Jobs.{Job as JobTerms};
+ghost use Rattle.job_calls.specs.Jobs.{Job as JobTerms};
 ghost use Rattle.cluster.specs.Pasts.{Past, event};
 ghost use Rattle.cluster.specs.Runs.{IsRun};
 ghost use Rattle.run_record.specs.Records.{HasParts, IsRecordOf, IsTakenOver, RemembersMore};
@@ -23,11 +23,10 @@ use crate::made::{
 use crate::reading::greater_reading;
 use assignment::Assignment;
 use clerk::Clerk;
-use cluster::{
-    Cluster, ClusterCall, ClusterReply, ClusterSnapshot, Job, KnownHandle, TaskSnapshot,
-};
+use cluster::{Cluster, KnownHandle};
+use grants::{Grant, ReleaseNote};
 use indexmap::IndexSet;
-use lease_table::{Grant, ReleaseNote};
+use job_calls::{ClusterCall, ClusterReply, ClusterSnapshot, Job, TaskSnapshot};
 use std::alloc::{AllocError, Global};
 
 /// A record of a run, kept beside its machines: what a snapshot of them has and they do not show.

@@ -1,14 +1,13 @@
 -- What makes the output of a script.
 use Rattle.std.proofs.Common.{◌≡◌, ℕ, Bool, true, MatchBool, List, [], length, reverse}
 use Rattle.std.specs.List.{list_all}
-use Rattle.world.specs.declared.reply.Reply.{Reply}
+use Rattle.replies.specs.declared.reply.Reply.{Reply}
 use Rattle.world.specs.declared.step.Step.{Step}
 use Rattle.world.specs.Pasts.{IsTimely}
-use Rattle.lease_table.specs.Policies.{is_policy}
+use Rattle.grants.specs.Policies.{is_policy}
 use Rattle.world.specs.Runs.{IsRun, past_after}
 use Rattle.service.specs.declared.script.Script.{Script}
-use Rattle.service.specs.Lines.{text_of}
-use Rattle.service.specs.Output.{is_answer, IsOutput}
+use Rattle.service.specs.Output.{text_of, is_answer, IsOutput}
 
 pub is_output : (script : Script) (steps : List Step) (replies shown : List Reply) (timely : Bool) (text : List ℕ)
     → is_policy script.job.policy ≡ true → steps ≡ script.steps → shown ≡ replies

@@ -2,7 +2,7 @@
 use Rattle.std.proofs.Common.{◌≡◌, ℕ, Bool, true, false, MatchBool, List, [], ◌∷◌, length, refl, subst, sym}
 use mathlib.Core.List.{reverse_aux}
 use Rattle.world.specs.declared.step.Step.{Step}
-use Rattle.world.specs.declared.reply.Reply.{Reply}
+use Rattle.replies.specs.declared.reply.Reply.{Reply}
 use Rattle.world.specs.Pasts.{Past, event, steps_of, IsTimely}
 use Rattle.world.specs.Runs.{past_after}
 use Rattle.service.specs.declared.script.Script.{Script}

@@ -1,9 +1,6 @@
-pub mod Keys
-pub mod Jobs
 pub mod Questions
 pub mod Steps
 pub mod Scripts
-pub mod Lines
 pub mod Output
 pub mod Service
 pub mod Status

@@ -1,13 +1,21 @@
 -- What is written for a script.
-use Rattle.std.specs.Prelude.{◌≡◌, ℕ, Bool, true, false, MatchBool, List, [], length, reverse}
-use Rattle.std.specs.List.{list_all}
-use Rattle.lease_table.specs.Policies.{is_policy}
+use Rattle.std.specs.Prelude.{◌≡◌, ℕ, Bool, true, false, MatchBool, List, [], ◌++◌, codes, if◌then◌else◌, length, reverse}
+use Rattle.std.specs.List.{flat_map, list_all}
+use Rattle.grants.specs.Policies.{is_policy}
 use Rattle.world.specs.Pasts.{Past, IsTimely}
-use Rattle.world.specs.declared.reply.Reply.{Reply}
-use Rattle.world.specs.declared.reply.Reply.TheVariants as reply
+use Rattle.replies.specs.declared.reply.Reply.{Reply}
+use Rattle.replies.specs.declared.reply.Reply.TheVariants as reply
 use Rattle.world.specs.Runs.{IsRun, past_after}
 use Rattle.service.specs.declared.script.Script.{Script}
-use Rattle.service.specs.Lines.{text_of}
+use Rattle.replies.specs.Lines.{line_of}
+
+-- the last line: whether the steps are timely
+abbrev pub timely_line : Bool → List ℕ
+timely_line timely = if timely then codes "timely yes\n" else codes "timely no\n"
+
+-- the lines of the replies and the last line
+abbrev pub text_of : List Reply → Bool → List ℕ
+text_of replies timely = flat_map line_of replies ++ timely_line timely
 
 -- a reply is another than `NoMemory`
 abbrev pub is_answer : Reply → Bool

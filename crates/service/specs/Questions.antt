@@ -4,23 +4,14 @@ use Rattle.serde_json.specs.Data.{Data}
 use Rattle.lease_rule.specs.declared.lease.Kind.{Kind}
 use Rattle.lease_rule.specs.declared.lease.Kind.TheVariants.{Guard, Bridge}
 use Rattle.lease_rule.specs.Leases.{same_kind}
-use Rattle.world.specs.declared.judge.WrittenLease.{WrittenLease}
+use Rattle.replies.specs.declared.written_lease.WrittenLease.{WrittenLease}
 use Rattle.world.specs.declared.judge.Question.{Question}
 use Rattle.program_io.specs.declared.fault.WrongForm.{WrongForm}
 use Rattle.program_io.specs.Reading.{◌>>=◌, ◌>>◌, check}
-use Rattle.program_io.specs.Members.{wrong, exactly, flag_at, number_at, list_at, two_numbers_of}
+use Rattle.program_io.specs.Members.{wrong, exactly, flag_at, number_at, list_at}
 use Rattle.wire.specs.LeaseMembers.{kind_at}
-use Rattle.service.specs.Keys.{key_at}
-
--- a lease: four members and no other; a range is written as `[start, end]`
-unfoldable pub lease_of : Data → Result WrittenLease WrongForm
-lease_of d = do
-  exactly (codes "kind" ∷ codes "generation" ∷ codes "ranges" ∷ codes "ends" ∷ []) d
-  kind ← kind_at (codes "kind") d
-  generation ← number_at (codes "generation") d
-  ranges ← list_at two_numbers_of (codes "ranges") d
-  ends ← number_at (codes "ends") d
-  Ok (record { kind = kind; generation = generation; ranges = ranges; ends = ends })
+use Rattle.replies.specs.Keys.{key_at}
+use Rattle.replies.specs.WrittenLeases.{lease_of}
 
 -- at most one of the leases is of this kind
 abbrev pub has_one_at_most : Kind → List WrittenLease → Bool

@@ -4,15 +4,15 @@ use Rattle.serde_json.specs.Data.{Data}
 use Rattle.world.specs.Jobs.{Job}
 use Rattle.world.specs.declared.step.Step.{Step}
 use Rattle.program_io.specs.declared.fault.WrongForm.{WrongForm}
-use Rattle.service.specs.declared.fault.ScriptError.{ScriptError}
-use Rattle.service.specs.declared.fault.ScriptError.TheVariants.{NotArray, NoJob, BadJob, TooManySteps, BadStep}
+use Rattle.faults.specs.declared.script_error.ScriptError.{ScriptError}
+use Rattle.faults.specs.declared.script_error.ScriptError.TheVariants.{NotArray, NoJob, BadJob, TooManySteps, BadStep}
 use Rattle.program_io.specs.declared.fault.Fault.{Fault}
 use Rattle.program_io.specs.declared.fault.Fault.TheVariants as fault
 use Rattle.service.specs.declared.script.Script.{Script}
 use Rattle.program_io.specs.Status.{IsUnread}
 use Rattle.program_io.specs.Reading.{◌>>=◌, ◌>>◌, check, in_turn}
 use Rattle.program_io.specs.Members.{array_of}
-use Rattle.service.specs.Jobs.{job_member, script_job_of}
+use Rattle.replies.specs.Jobs.{job_member, script_job_of}
 use Rattle.service.specs.Steps.{step_of}
 
 -- what is read, or this refusal

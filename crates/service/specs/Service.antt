@@ -2,8 +2,8 @@
 use Rattle.std.specs.Prelude.{◌≡◌, ◌⊎◌, ℕ, List, Option, Ok, Err}
 use Rattle.serde_json.specs.Data.{Data}
 use Rattle.program_io.specs.declared.fault.Fault.{Fault}
-use Rattle.service.specs.declared.fault.ScriptError.{ScriptError}
-use Rattle.service.specs.declared.fault.ScriptError.TheVariants.{NotJson}
+use Rattle.faults.specs.declared.script_error.ScriptError.{ScriptError}
+use Rattle.faults.specs.declared.script_error.ScriptError.TheVariants.{NotJson}
 use Rattle.service.specs.declared.script.Script.{Script}
 use Rattle.service.specs.Scripts.{script_of}
 use Rattle.service.specs.Output.{IsOutput}

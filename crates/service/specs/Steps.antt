@@ -15,7 +15,7 @@ use Rattle.program_io.specs.Members.{wrong, exactly, number_at, number_in, numbe
 use Rattle.wire.specs.declared.numerals.Numerals.TheVariants.{Bare}
 use Rattle.wire.specs.Assignments.{slice_of}
 use Rattle.wire.specs.LeaseMembers.{kind_at, life_at}
-use Rattle.service.specs.Keys.{key_at}
+use Rattle.replies.specs.Keys.{key_at}
 use Rattle.service.specs.Questions.{question_of}
 
 -- a `hash` has a key

@@ -5,9 +5,9 @@ ghost use Rattle.serde_json.specs.View.{view};
 ghost use Rattle.program_io.specs.Reading.{Gives};
 ghost use Rattle.service.specs.Steps.{learn_step, look_step, forget_step, read_named, clerk_kinds, load_kinds};
 
-use crate::key_member::key_at;
 use crate::load_steps::step_of_loads;
 use program_io::{Unread, WrongForm, exactly, number_at, number_in};
+use replies::key_at;
 use serde_json::Value;
 use std::alloc::Global;
 use world::{Job, Step};

@@ -5,9 +5,9 @@ ghost use Rattle.serde_json.specs.View.{view};
 ghost use Rattle.program_io.specs.Reading.{Gives};
 ghost use Rattle.service.specs.Steps.{load_step, gather_step, next_step, read_named, load_kinds};
 
-use crate::key_member::key_at;
 use crate::plan_step::plan_step;
 use program_io::{Unread, WrongForm, exactly, flag_at, number_at, number_in};
+use replies::key_at;
 use serde_json::Value;
 use std::alloc::Global;
 use world::{Job, Step};

@@ -4,14 +4,14 @@ ghost use Rattle.std.specs.Prelude.{◌≡◌, [], true, IfOk, MatchBool, length
 ghost use Rattle.std.specs.List.{flat_map, list_all};
 ghost use Rattle.world.specs.Pasts.{IsTimely};
 ghost use Rattle.world.specs.Runs.{IsRun, past_after};
-ghost use Rattle.service.specs.Lines.{line_of, text_of};
-ghost use Rattle.service.specs.Output.{is_answer, IsOutput};
+ghost use Rattle.replies.specs.Lines.{line_of};
+ghost use Rattle.service.specs.Output.{text_of, is_answer, IsOutput};
 
-use crate::line::Line;
 use crate::script::Script;
-use lease_table::policy_law;
+use grants::policy_law;
+use replies::{Line, Reply};
 use std::alloc::{AllocError, Global};
-use world::{Job, Reply, Step, World, timely};
+use world::{Job, Step, World, timely};
 
 /// Returns the replies to the steps, which are the first steps of their job.
 ///

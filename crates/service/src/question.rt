@@ -4,35 +4,15 @@ ghost use Rattle.std.specs.Prelude.{◌≡◌, nat_le, count_by};
 ghost use Rattle.serde_json.specs.View.{view};
 ghost use Rattle.lease_rule.specs.Leases.{same_kind};
 ghost use Rattle.program_io.specs.Reading.{Gives};
-ghost use Rattle.service.specs.Questions.{lease_of, question_of};
+ghost use Rattle.replies.specs.WrittenLeases.{lease_of};
+ghost use Rattle.service.specs.Questions.{question_of};
 
-use crate::key_member::key_at;
 use lease_rule::Kind;
-use program_io::{Form, TwoNumbers, Unread, exactly, flag_at, list_at, number_at};
+use program_io::{Unread, exactly, flag_at, list_at, number_at};
+use replies::{LeaseForm, WrittenLease, key_at};
 use serde_json::Value;
 use std::alloc::Global;
-use wire::kind_at;
-use world::{Question, WrittenLease};
-
-/// The form of a lease, as a `judge` writes it.
-pub struct LeaseForm;
-
-impl Form for LeaseForm {
-    type Output = WrittenLease;
-
-    ghost form = { lease_of };
-
-    #[tactic(auto, unfolding(crate::specs::Questions::lease_of))]
-    fn read(alloc: Global, value: &Value) -> Result<WrittenLease, Unread> {
-        exactly(&["kind", "generation", "ranges", "ends"], value)?;
-        Ok(WrittenLease {
-            kind: kind_at("kind", value)?,
-            generation: number_at("generation", value)?,
-            ranges: list_at::<TwoNumbers>(alloc, "ranges", value)?,
-            ends: number_at("ends", value)?,
-        })
-    }
-}
+use world::Question;
 
 // Whether at most one of the leases is of this kind.
 fn has_one_at_most(kind: Kind, leases: &[WrittenLease]) -> bool

@@ -4,9 +4,9 @@ ghost use Rattle.std.specs.Prelude.{IfOk, IfErr, OnOk};
 ghost use Rattle.program_io.specs.Status.{IsUnread};
 ghost use Rattle.service.specs.Service.{SaysScript, IsRefusedFor, Answered, Failed};
 
-use crate::fault::ScriptError;
 use crate::output::output_of;
 use crate::script::{Script, script_of};
+use faults::ScriptError;
 use program_io::{Fault, Unread, read_all, value_of, write_all};
 use std::alloc::Global;
 use std::io::{Read, Write};

@@ -6,13 +6,13 @@ ghost use Rattle.program_io.specs.Reading.{Gives};
 ghost use Rattle.service.specs.Steps.{step_of};
 ghost use Rattle.service.specs.Scripts.{IsReadOrRefused, Answers, AnswersScript, head_of, steps_of, script_of};
 
-use crate::fault::ScriptError;
-use crate::job::{job_member, script_job_of};
 use crate::step::step_of;
-use machines::Listed;
+use faults::ScriptError;
+use machines::{Duplicate, Listed};
 use program_io::{Fault, Unread, array_of};
+use replies::{job_member, script_job_of};
 use serde_json::Value;
-use std::alloc::Global;
+use std::alloc::{AllocError, Global};
 use std::slice;
 use world::{Job, Step};
 
@@ -24,6 +24,15 @@ const MOST_STEPS: usize = 4096;
 pub struct Script {
     pub job: Job,
     pub steps: Listed<Step>,
+}
+
+impl Duplicate for Script {
+    fn copy(&self) -> Result<Script, AllocError> {
+        Ok(Script {
+            job: self.job,
+            steps: self.steps.copy()?,
+        })
+    }
 }
 
 /// Returns the job of a script, and the elements after the job line.

@@ -5,10 +5,10 @@ ghost use Rattle.serde_json.specs.View.{view};
 ghost use Rattle.program_io.specs.Reading.{Gives};
 ghost use Rattle.service.specs.Steps.{hash_step, assign_step, owners_step, step_of};
 
-use crate::key_member::key_at;
 use crate::question::question_of;
 use crate::table_steps::step_of_table;
 use program_io::{Unread, exactly, list_at, number_at, text_at};
+use replies::key_at;
 use serde_json::Value;
 use std::alloc::Global;
 use wire::SliceForm;

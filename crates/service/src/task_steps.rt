@@ -6,8 +6,8 @@ ghost use Rattle.program_io.specs.Reading.{Gives};
 ghost use Rattle.service.specs.Steps.{start_step, hear_step, release_step, serve_step, hold_step, check_step, read_named, task_kinds, clerk_kinds, load_kinds};
 
 use crate::clerk_steps::step_of_clerk;
-use crate::key_member::key_at;
 use program_io::{Unread, WrongForm, exactly, number_at, number_in};
+use replies::key_at;
 use serde_json::Value;
 use std::alloc::Global;
 use wire::{kind_at, life_at};

@@ -7,8 +7,8 @@ use Rattle.history_lock.specs.Answers.{HasWaited, Wrote}
 use Rattle.history_lock.specs.declared.error.WriteError.{WriteError}
 use Rattle.history_lock.specs.declared.error.WriteError.TheVariants.{HistoryFull, Refused, NoMemory}
 use Rattle.tickets.specs.Tickets.{TicketPassView, IsDrawn}
-use Rattle.cluster.specs.declared.call.ClusterCall.{ClusterCall}
-use Rattle.cluster.specs.declared.reply.ClusterReply.{ClusterReply}
+use Rattle.job_calls.specs.declared.call.ClusterCall.{ClusterCall}
+use Rattle.job_calls.specs.declared.reply.ClusterReply.{ClusterReply}
 use Rattle.shared_objects.specs.declared.error.RefusedCall.{RefusedCall}
 use Rattle.shared_objects.specs.Draws.{CanDraw, DrewFor, IsRefusal}
 use Rattle.shared_objects.specs.Calls.{Writes}

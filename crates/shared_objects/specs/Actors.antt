@@ -1,32 +1,36 @@
 -- The calls of tables, slicelets and clerks, as shared objects make and record them.
 use Rattle.std.specs.Prelude.{◌≡◌, ℕ, Bool, true, false}
-use Rattle.lease_table.specs.declared.call.TableCall.{TableCall}
-use Rattle.lease_table.specs.declared.call.TableCall.TheVariants as table_call
-use Rattle.lease_table.specs.declared.call.TableReply.{TableReply}
-use Rattle.lease_table.specs.declared.call.TableReply.TheVariants as table_reply
-use Rattle.lease_table.specs.declared.error.TableError.{TableError}
-use Rattle.slicelet.specs.declared.call.SliceletCall.{SliceletCall}
-use Rattle.slicelet.specs.declared.call.SliceletCall.TheVariants as slicelet_call
-use Rattle.slicelet.specs.declared.call.SliceletReply.{SliceletReply}
-use Rattle.slicelet.specs.declared.call.SliceletReply.TheVariants as slicelet_reply
-use Rattle.slicelet.specs.declared.error.SliceletError.{SliceletError}
+use Rattle.grants.specs.declared.table_call.TableCall.{TableCall}
+use Rattle.grants.specs.declared.table_call.TableCall.TheVariants as table_call
+use Rattle.grants.specs.declared.table_call.TableReply.{TableReply}
+use Rattle.grants.specs.declared.table_call.TableReply.TheVariants as table_reply
+use Rattle.grants.specs.declared.table_error.TableError.{TableError}
+use Rattle.grants.specs.declared.slicelet_call.SliceletCall.{SliceletCall}
+use Rattle.grants.specs.declared.slicelet_call.SliceletCall.TheVariants as slicelet_call
+use Rattle.grants.specs.declared.slicelet_call.SliceletReply.{SliceletReply}
+use Rattle.grants.specs.declared.slicelet_call.SliceletReply.TheVariants as slicelet_reply
+use Rattle.grants.specs.declared.slicelet_error.SliceletError.{SliceletError}
 use Rattle.clerk.specs.declared.call.ClerkCall.{ClerkCall}
 use Rattle.clerk.specs.declared.call.ClerkCall.TheVariants as clerk_call
 use Rattle.clerk.specs.declared.call.ClerkReply.{ClerkReply}
 use Rattle.clerk.specs.declared.call.ClerkReply.TheVariants as clerk_reply
 use Rattle.clerk.specs.declared.error.ClerkError.{ClerkError}
-use Rattle.cluster.specs.declared.error.ClusterError.TheVariants as refusal
-use Rattle.cluster.specs.declared.reply.ClusterReply.{ClusterReply}
-use Rattle.cluster.specs.declared.reply.ClusterReply.TheVariants as told
+use Rattle.job_calls.specs.declared.error.ClusterError.TheVariants as refusal
+use Rattle.job_calls.specs.declared.reply.ClusterReply.{ClusterReply}
+use Rattle.job_calls.specs.declared.reply.ClusterReply.TheVariants as told
 use Rattle.shared_objects.specs.declared.when.When.{When}
-use Rattle.shared_objects.specs.declared.when.When.TheVariants.{AsGiven, AtTicket}
+use Rattle.shared_objects.specs.declared.when.When.TheVariants.{At, AtTicket}
 
 -- READINGS
 
--- what is made of a call or query that drew a ticket: itself, or the same at the ticket
+-- the reading of a call or query that drew a ticket: the one that is given, or the ticket itself
+abbrev pub reading_at : When → ℕ → ℕ
+reading_at (At reading) ticket = reading
+reading_at AtTicket ticket = ticket
+
+-- what is made of a call or query that drew a ticket: the same at that reading
 abbrev pub made_at : {A : Type 0} → (A → ℕ → A) → When → A → ℕ → A
-made_at at AsGiven given ticket = given
-made_at at AtTicket given ticket = at given ticket
+made_at at when given ticket = at given (reading_at when ticket)
 
 -- a call at another reading; a restart has none
 abbrev pub table_call_at : TableCall → ℕ → TableCall

@@ -8,8 +8,8 @@ use Rattle.history_lock.specs.declared.error.Busy.{Busy}
 use Rattle.history_lock.specs.declared.error.WriteError.{WriteError}
 use Rattle.history_lock.specs.declared.error.WriteError.TheVariants as write_error
 use Rattle.tickets.specs.Tickets.{TicketPassView, IsDrawn}
-use Rattle.cluster.specs.declared.call.ClusterCall.{ClusterCall}
-use Rattle.cluster.specs.declared.reply.ClusterReply.{ClusterReply}
+use Rattle.job_calls.specs.declared.call.ClusterCall.{ClusterCall}
+use Rattle.job_calls.specs.declared.reply.ClusterReply.{ClusterReply}
 use Rattle.tickets.specs.declared.ticket.Spent.{Spent}
 use Rattle.shared_objects.specs.declared.error.CallError.{CallError}
 use Rattle.shared_objects.specs.declared.error.CallError.TheVariants as call_error

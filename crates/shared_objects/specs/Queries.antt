@@ -1,9 +1,9 @@
 -- What queries answer.
 use Rattle.std.specs.Prelude.{Bool, true, false, Result, Ok, Err}
-use Rattle.slicelet.specs.declared.error.Stranger.{Stranger}
-use Rattle.cluster.specs.declared.error.ClusterError.TheVariants as error
-use Rattle.cluster.specs.declared.reply.ClusterReply.{ClusterReply}
-use Rattle.cluster.specs.declared.reply.ClusterReply.TheVariants as reply
+use Rattle.grants.specs.declared.slicelet_error.Stranger.{Stranger}
+use Rattle.job_calls.specs.declared.error.ClusterError.TheVariants as error
+use Rattle.job_calls.specs.declared.reply.ClusterReply.{ClusterReply}
+use Rattle.job_calls.specs.declared.reply.ClusterReply.TheVariants as reply
 
 -- whether the checked handle is continuous, or that it is none that the task can have given
 abbrev pub check_told : Result Bool Stranger → ClusterReply

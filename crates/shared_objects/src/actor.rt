@@ -2,16 +2,19 @@
 
 ghost use Rattle.std.specs.Prelude.{◌≡◌, ℕ, Bool, true, Ok, Err};
 ghost use Rattle.machines.specs.declared.event.Event.{Event};
-ghost use Rattle.cluster.specs.declared.call.ClusterCall.{ClusterCall};
-ghost use Rattle.cluster.specs.declared.call.ClusterCall.TheVariants as recorded_call;
-ghost use Rattle.cluster.specs.declared.reply.ClusterReply.{ClusterReply};
+ghost use Rattle.job_calls.specs.declared.call.ClusterCall.{ClusterCall};
+ghost use Rattle.job_calls.specs.declared.call.ClusterCall.TheVariants as recorded_call;
+ghost use Rattle.job_calls.specs.declared.reply.ClusterReply.{ClusterReply};
 ghost use Rattle.shared_objects.specs.Actors.{clerk_told, slicelet_told, table_told};
 
+use assignment::TaskId;
 use clerk::{Clerk, ClerkCall, ClerkError};
-use cluster::{ClusterCall, ClusterError, ClusterReply};
-use lease_table::{LeaseTable, TableCall, TableError};
+use grants::{Policy, SliceletCall, SliceletError, TableCall, TableError};
+use job_calls::{ClusterCall, ClusterError, ClusterReply};
+use lease_table::LeaseTable;
 use machines::{Event, Machine};
-use slicelet::{Slicelet, SliceletCall, SliceletError};
+use slicelet::Slicelet;
+use std::alloc::Global;
 
 /// The machine of a job's table, of a task or of a clerk.
 ///
@@ -19,6 +22,15 @@ use slicelet::{Slicelet, SliceletCall, SliceletError};
 pub trait Actor: Machine<Event = Event<Self::Call>> {
     /// A call that may change the machine.
     type Call: Drop;
+
+    /// What a new machine is created from: a policy, a task, or the number of a clerk.
+    type Opening: Drop;
+
+    // The machine before its first call.
+    ghost opened: { Self.Opening → Self };
+
+    // The number under which the calls of a new machine are recorded.
+    ghost opened_number: { Self.Opening → ℕ };
 
     // The actor with this number may have this machine.
     ghost is_numbered: { ℕ → Self → Type 0 };
@@ -37,6 +49,17 @@ pub trait Actor: Machine<Event = Event<Self::Call>> {
 
     // The reply that is recorded for a refusal.
     ghost told: { Self.Fault → ClusterReply };
+
+    /// Returns the number under which the calls of a new machine are recorded.
+    ///
+    /// It is the task of a slicelet, the number that is given for a clerk, and 0 for a table.
+    fn number_of(opening: &Self::Opening) -> u64
+        ensures { result ≡ opened_number opening.now };
+
+    /// Creates a machine before its first call.
+    fn open(alloc: Global, opening: Self::Opening) -> Self
+        ensures machine { result ≡ opened opening }
+        ensures numbered { is_numbered (opened_number opening) result };
 
     /// Returns the same call at another reading, in ticks.
     ///
@@ -64,8 +87,15 @@ pub trait Actor: Machine<Event = Event<Self::Call>> {
 impl Actor for LeaseTable {
     type Call = TableCall;
 
+    type Opening = Policy;
+
+    ghost use Rattle.lease_table.specs.Tables.{opening};
     ghost use Rattle.shared_objects.specs.Actors.{IsTableReply, table_call_at, table_may_refuse};
     ghost use Rattle.shared_objects.specs.internals.Laws.{table_replies, table_refuses, table_replies_alike, table_refuses_alike};
+
+    ghost opened = { opening };
+
+    ghost opened_number = { λ policy. 0 };
 
     ghost is_numbered = { λ number table. Unit {0} };
 
@@ -78,6 +108,14 @@ impl Actor for LeaseTable {
     ghost recorded = { λ actor call. recorded_call.Table call };
 
     ghost told = { table_told };
+
+    fn number_of(_policy: &Policy) -> u64 {
+        0
+    }
+
+    fn open(alloc: Global, policy: Policy) -> LeaseTable {
+        LeaseTable::new(alloc, policy)
+    }
 
     fn at(call: TableCall, reading: u64) -> TableCall {
         match call {
@@ -132,9 +170,16 @@ impl Actor for LeaseTable {
 impl Actor for Slicelet {
     type Call = SliceletCall;
 
+    type Opening = TaskId;
+
     ghost use Rattle.std.specs.Prelude.{◌≡◌, true, refl};
+    ghost use Rattle.slicelet.specs.States.{opening};
     ghost use Rattle.shared_objects.specs.Actors.{IsSliceletReply, slicelet_call_at};
     ghost use Rattle.shared_objects.specs.internals.Laws.{slicelet_replies, slicelet_replies_alike};
+
+    ghost opened = { opening };
+
+    ghost opened_number = { λ task. task };
 
     // A task's slicelet knows the task.
     ghost is_numbered = { λ number slicelet. slicelet.task ≡ number };
@@ -148,6 +193,14 @@ impl Actor for Slicelet {
     ghost recorded = { λ actor call. recorded_call.Task actor call };
 
     ghost told = { slicelet_told };
+
+    fn number_of(task: &TaskId) -> u64 {
+        task.number()
+    }
+
+    fn open(alloc: Global, task: TaskId) -> Slicelet {
+        Slicelet::new(alloc, task)
+    }
 
     fn at(call: SliceletCall, reading: u64) -> SliceletCall {
         match call {
@@ -178,9 +231,15 @@ impl Actor for Slicelet {
 impl Actor for Clerk {
     type Call = ClerkCall;
 
-    ghost use Rattle.std.specs.Prelude.{refl};
+    type Opening = u64;
+
+    ghost use Rattle.std.specs.Prelude.{None, refl};
     ghost use Rattle.shared_objects.specs.Actors.{IsClerkReply, clerk_may_refuse};
     ghost use Rattle.shared_objects.specs.internals.Laws.{clerk_replies, clerk_refuses};
+
+    ghost opened = { λ number. None };
+
+    ghost opened_number = { λ number. number };
 
     // A clerk does not know its number.
     ghost is_numbered = { λ number clerk. Unit {0} };
@@ -194,6 +253,14 @@ impl Actor for Clerk {
     ghost recorded = { λ actor call. recorded_call.Clerk actor call };
 
     ghost told = { clerk_told };
+
+    fn number_of(number: &u64) -> u64 {
+        *number
+    }
+
+    fn open(_alloc: Global, _number: u64) -> Clerk {
+        Clerk::new()
+    }
 
     fn at(call: ClerkCall, _reading: u64) -> ClerkCall {
         call

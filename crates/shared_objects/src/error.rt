@@ -1,7 +1,7 @@
 //! Why calls of shared objects return no answer.
 
-use cluster::CallRecord;
 use history_lock::Busy;
+use job_calls::CallRecord;
 
 /// A refusal of a machine, with the record of the call.
 #[derive(Debug, Drop)]

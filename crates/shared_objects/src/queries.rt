@@ -1,16 +1,18 @@
 //! The queries of a table, a task and a clerk.
 
 ghost use Rattle.std.specs.Prelude.{◌≡◌};
-ghost use Rattle.cluster.specs.declared.call.ClusterCall.TheVariants as recorded_call;
-ghost use Rattle.cluster.specs.declared.reply.ClusterReply.TheVariants as told_reply;
+ghost use Rattle.job_calls.specs.declared.call.ClusterCall.TheVariants as recorded_call;
+ghost use Rattle.job_calls.specs.declared.reply.ClusterReply.TheVariants as told_reply;
 
 use crate::query::{Query, RecordedQuery};
 use clerk::{Clerk, Found, Unknown};
-use cluster::{ClusterCall, ClusterError, ClusterReply};
+use grants::{Phase, Stranger};
+use job_calls::{ClusterCall, ClusterError, ClusterReply};
+use key_handle::KeyHandle;
 use lease_rule::{Ground, Verdict};
-use lease_table::{LeaseTable, Phase};
+use lease_table::LeaseTable;
 use slice_ranges::SliceKey;
-use slicelet::{KeyHandle, Slicelet, Stranger};
+use slicelet::Slicelet;
 
 /// Asks the table whether an assignment is proposed, and for the generations.
 #[derive(Clone, Copy, Debug, PartialEq, Eq)]
@@ -53,7 +55,7 @@ impl RecordedQuery<LeaseTable> for AskPhase {
 pub struct AskServe {
     /// The key.
     pub key: SliceKey,
-    /// The reading.
+    /// The reading, which [`Shared::ask`](crate::Shared::ask) replaces.
     pub at: u64,
 }
 
@@ -104,7 +106,7 @@ impl RecordedQuery<Slicelet> for AskServe {
 pub struct AskHold {
     /// The key.
     pub key: SliceKey,
-    /// The reading.
+    /// The reading, which [`Shared::ask`](crate::Shared::ask) replaces.
     pub at: u64,
 }
 
@@ -161,7 +163,7 @@ impl RecordedQuery<Slicelet> for AskHold {
 pub struct AskCheck {
     /// The handle.
     pub handle: KeyHandle,
-    /// The reading.
+    /// The reading, which [`Shared::ask`](crate::Shared::ask) replaces.
     pub at: u64,
 }
 

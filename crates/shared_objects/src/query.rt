@@ -1,10 +1,10 @@
 //! Queries to a machine, which change nothing.
 
 ghost use Rattle.std.specs.Prelude.{◌≡◌, ℕ};
-ghost use Rattle.cluster.specs.declared.call.ClusterCall.{ClusterCall};
-ghost use Rattle.cluster.specs.declared.reply.ClusterReply.{ClusterReply};
+ghost use Rattle.job_calls.specs.declared.call.ClusterCall.{ClusterCall};
+ghost use Rattle.job_calls.specs.declared.reply.ClusterReply.{ClusterReply};
 
-use cluster::{ClusterCall, ClusterReply};
+use job_calls::{ClusterCall, ClusterReply};
 
 /// A query to a machine.
 pub trait Query<M>: Copy {

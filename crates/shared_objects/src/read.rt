@@ -21,10 +21,7 @@ use tickets::Spent;
 pub(crate) fn asked_at<M, Q: Query<M>>(query: Q, when: When, ticket: u64) -> Q
     ensures { result ≡ made_at Q.at when query ticket }
 {
-    match when {
-        When::AsGiven => query,
-        When::AtTicket => query.at(ticket),
-    }
+    query.at(when.reading(ticket))
 }
 
 // Makes one shared call of the lock, which draws a ticket, calls the gate and answers the query.

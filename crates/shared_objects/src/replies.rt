@@ -4,12 +4,11 @@
 //! takes only the reply that it opens.
 
 ghost use Rattle.std.specs.Prelude.{◌≡◌};
-ghost use Rattle.lease_table.specs.declared.call.TableReply.TheVariants as table_reply;
-ghost use Rattle.slicelet.specs.declared.call.SliceletReply.TheVariants as slicelet_reply;
+ghost use Rattle.grants.specs.declared.table_call.TableReply.TheVariants as table_reply;
+ghost use Rattle.grants.specs.declared.slicelet_call.SliceletReply.TheVariants as slicelet_reply;
 ghost use Rattle.shared_objects.specs.Actors.{IsNamed};
 
-use lease_table::{Grant, JobTerm, ReleaseNote, TableReply};
-use slicelet::{EndedNotes, SliceletReply};
+use grants::{EndedNotes, Grant, JobTerm, ReleaseNote, SliceletReply, TableReply};
 
 /// Returns the term in the reply to a `JobTake` or a `JobRenew`.
 pub fn job_term(reply: TableReply) -> JobTerm

@@ -15,10 +15,8 @@ use crate::query::RecordedQuery;
 use crate::read::{asked_at, read_gated, try_read};
 use crate::when::When;
 use crate::write::{Order, write};
-use clerk::Clerk;
-use cluster::CallRecord;
 use history_lock::{Closed, LaneLock, NewLockError, Pass};
-use slicelet::Slicelet;
+use job_calls::CallRecord;
 use std::alloc::Global;
 use std::marker::Model;
 use std::sync::Wait;
@@ -32,12 +30,6 @@ pub struct Shared<M: Actor> {
     number: u64,
     pub(crate) lock: LaneLock<M>,
 }
-
-/// The slicelet of a task, which threads share. Its number is that of the task.
-pub type SharedSlicelet = Shared<Slicelet>;
-
-/// A clerk that threads share. Its number is the one under which its calls are recorded.
-pub type SharedClerk = Shared<Clerk>;
 
 /// A shared object that was not closed because one of its passes is missing, with its passes.
 ///
@@ -61,11 +53,11 @@ impl<M: Actor> Model for Shared<M> {
 }
 
 impl<M: Actor> Shared<M> {
-    /// Creates an object around a machine, and a pass for each lane of its lock, lane 0 first.
+    /// Creates an object around a new machine, and a pass for each lane of its lock, lane 0 first.
     ///
-    /// `number` is the number under which the calls are recorded: that of a slicelet's task, any
-    /// for a clerk, and 0 for a table, whose calls are recorded without a number. The history of
-    /// the lock holds at most `limit` entries.
+    /// `opening` is the policy of a table, the task of a slicelet, or the number under which the
+    /// calls of a clerk are recorded. The calls of a slicelet are recorded under its task, those of
+    /// a table without a number. The history of the lock holds at most `limit` entries.
     ///
     /// # Errors
     ///
@@ -73,17 +65,17 @@ impl<M: Actor> Shared<M> {
     /// 65,536, and out of memory.
     pub fn new(
         alloc: Global,
-        machine: M,
-        number: u64,
+        opening: M::Opening,
         lanes: u64,
         limit: usize,
     ) -> Result<(Shared<M>, Vec<Pass<M>>), NewLockError>
-        requires { M.is_numbered number machine }
-        ensures opened { IfOk result (λ made. (made.0.lock.opened ≡ record { machine = machine; lanes = lanes; limit = limit })
-            × (made.0.number ≡ number) × (vec_len made.1 ≡ lanes) × AreNewFrom 0 made.0.lock made.1.items) }
+        ensures opened { IfOk result (λ made. (made.0.lock.opened ≡ record { machine = M.opened opening; lanes = lanes; limit = limit })
+            × (made.0.number ≡ M.opened_number opening) × (vec_len made.1 ≡ lanes) × AreNewFrom 0 made.0.lock made.1.items) }
         ensures accepted { OnOk result (is_allowed lanes limit ≡ true) }
         ensures refused { IfErr result (λ e. e ≡ (if is_allowed lanes limit then new_lock_error.NoMemory else new_lock_error.Lanes)) }
     {
+        let number = M::number_of(&opening);
+        let machine = M::open(alloc, opening);
         match LaneLock::new(alloc, machine, lanes, limit) {
             Ok((lock, passes)) => Ok((Shared { number, lock }, passes)),
             Err(error) => Err(error),
@@ -95,8 +87,10 @@ impl<M: Actor> Shared<M> {
     ///
     /// A machine whose lock was closed, for instance because its history was full, goes on in an
     /// object that is created over it. The history of the lock is legal from the machine as it is
-    /// now, and holds at most `limit` entries. The machine that was copied is unchanged. `number`
-    /// is as in [`Shared::new`].
+    /// now, and holds at most `limit` entries. The machine that was copied is unchanged.
+    ///
+    /// `number` is the number under which the calls are recorded: that of a slicelet's task, any
+    /// for a clerk, and 0 for a table.
     ///
     /// # Errors
     ///
@@ -122,7 +116,8 @@ impl<M: Actor> Shared<M> {
 
     /// Makes a call that may change the machine, and returns the machine's reply.
     ///
-    /// `when` says whether the ticket that the call draws replaces the reading in it.
+    /// `when` gives the reading of the call, and replaces the one in it. A call without a reading
+    /// stays as it is.
     ///
     /// # Errors
     ///
@@ -155,8 +150,8 @@ impl<M: Actor> Shared<M> {
 
     /// Answers a query from the machine's state, and returns the answer with its record.
     ///
-    /// `when` says whether the ticket that is drawn replaces the reading in the query. Fails
-    /// with [`Spent`] if the ticket pass may draw no more.
+    /// `when` gives the reading of the query, and replaces the one in it. A query without a
+    /// reading stays as it is. Fails with [`Spent`] if the ticket pass may draw no more.
     pub fn ask<R: Wait, Q: RecordedQuery<M>>(
         &self,
         rt: &R,

@@ -10,8 +10,8 @@ use crate::actor::Actor;
 use crate::draws::Draws;
 use crate::error::{CallError, RefusedCall};
 use crate::when::When;
-use cluster::CallRecord;
 use history_lock::{LaneLock, Pass, WriteError};
+use job_calls::CallRecord;
 use machines::Event;
 use std::sync::Wait;
 
@@ -66,10 +66,7 @@ fn event_of<M: Actor>(call: M::Call, when: When, ticket: u64) -> Event<M::Call>
     ensures ticket { result.ticket ≡ ticket }
     ensures call { result.call ≡ made_at M.at when call ticket }
 {
-    let call = match when {
-        When::AsGiven => call,
-        When::AtTicket => M::at(call, ticket),
-    };
+    let call = M::at(call, when.reading(ticket));
     Event { ticket, call }
 }
 

@@ -5,7 +5,7 @@ use Rattle.std.specs.Prelude.{None, ◌==◌, Bool, not, nat_lt, nat_le, is_none
 use Rattle.machines.specs.Refusals.{first_of}
 use Rattle.machines.proofs.Refused.{all_none, not_when}
 use Rattle.lease_rule.specs.declared.lease.Kind.{Kind}
-use Rattle.lease_table.specs.declared.values.Grant.{Grant}
+use Rattle.grants.specs.declared.values.Grant.{Grant}
 use Rattle.slicelet.specs.declared.slicelet.TheConstants.{CALLS}
 use Rattle.slicelet.specs.States.{SliceletState, held_in, greatest_in}
 use Rattle.slicelet.specs.Steps.{start_checks, hear_checks, release_checks, resume_checks, old_number}

@@ -2,8 +2,8 @@
 use Rattle.std.proofs.Common.{◌≡◌, ◌∙◌, ℕ, ◌≤◌, Bool, List, [], ◌∷◌, ◌++◌, length, sym}
 use Rattle.std.proofs.lemmas.List.{append_assoc}
 use Rattle.std.specs.Prelude.{IsTrue}
-use Rattle.lease_table.specs.declared.values.Grant.{Grant}
-use Rattle.slicelet.specs.declared.call.SliceletCall.{SliceletCall}
+use Rattle.grants.specs.declared.values.Grant.{Grant}
+use Rattle.grants.specs.declared.slicelet_call.SliceletCall.{SliceletCall}
 use Rattle.slicelet.specs.Calls.{reading_of}
 use Rattle.slicelet.specs.Rules.{is_permitted}
 use Rattle.slicelet.specs.Continuity.{IsKeptSince, next_reading}

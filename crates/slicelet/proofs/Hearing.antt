@@ -7,10 +7,10 @@ use Rattle.lease_rule.specs.declared.lease.Kind.{Kind}
 use Rattle.lease_rule.specs.declared.lease.Kind.TheVariants.{Guard, Bridge}
 use Rattle.lease_rule.specs.Leases.{SeenLease, same_kind}
 use Rattle.lease_rule.specs.Rule.{SeenHolding, rule}
-use Rattle.lease_table.specs.declared.values.Grant.{Grant}
-use Rattle.slicelet.specs.declared.handle.KeyHandle.{KeyHandle}
-use Rattle.slicelet.specs.declared.call.SliceletCall.{SliceletCall}
-use Rattle.slicelet.specs.declared.call.SliceletCall.TheVariants.{Start, Hear, Release, Resume}
+use Rattle.grants.specs.declared.values.Grant.{Grant}
+use Rattle.key_handle.specs.declared.handle.KeyHandle.{KeyHandle}
+use Rattle.grants.specs.declared.slicelet_call.SliceletCall.{SliceletCall}
+use Rattle.grants.specs.declared.slicelet_call.SliceletCall.TheVariants.{Start, Hear, Release, Resume}
 use Rattle.slicelet.specs.Calls.{this_process, this_life, is_about, heard_by, held_grant, is_started, last_reading, reading_of}
 use Rattle.slicelet.specs.Rules.{seen_by, rule_after, is_allowed, is_permitted}
 use Rattle.slicelet.specs.Continuity.{IsContinuous}

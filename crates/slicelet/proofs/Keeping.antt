@@ -9,14 +9,14 @@ use Rattle.lease_rule.specs.declared.lease.Kind.TheVariants.{Guard, Bridge}
 use Rattle.lease_rule.specs.declared.holding.Holding.{Holding}
 use Rattle.lease_rule.specs.declared.lease.Lease.{Lease}
 use Rattle.lease_rule.specs.Rule.{SeenHolding, holding_seen_from, rule, is_allowed}
-use Rattle.slicelet.specs.Stamps.{Stamps, since, stamp_after_change}
-use Rattle.lease_table.specs.declared.values.Grant.{Grant}
-use Rattle.lease_table.specs.declared.values.ReleaseNote.{ReleaseNote}
-use Rattle.slicelet.specs.declared.error.SliceletError.{SliceletError}
+use Rattle.key_handle.specs.Stamps.{Stamps, since, stamp_after_change}
+use Rattle.grants.specs.declared.values.Grant.{Grant}
+use Rattle.grants.specs.declared.values.ReleaseNote.{ReleaseNote}
+use Rattle.grants.specs.declared.slicelet_error.SliceletError.{SliceletError}
 use Rattle.slicelet.specs.declared.heard.HeardGrant.{HeardGrant}
 use Rattle.slicelet.specs.declared.heard.HeardGrants.{HeardGrants}
-use Rattle.slicelet.specs.declared.call.SliceletCall.{SliceletCall}
-use Rattle.slicelet.specs.declared.call.SliceletCall.TheVariants.{Start, Hear, Release, Resume}
+use Rattle.grants.specs.declared.slicelet_call.SliceletCall.{SliceletCall}
+use Rattle.grants.specs.declared.slicelet_call.SliceletCall.TheVariants.{Start, Hear, Release, Resume}
 use Rattle.slicelet.specs.Calls.{is_resume, this_process, reading_of, is_started, last_reading}
 use Rattle.slicelet.specs.Rules.{covers_key, is_permitted}
 use Rattle.slicelet.specs.Stamping.{turns, stamp_of, stamps_where}

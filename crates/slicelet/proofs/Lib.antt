@@ -9,6 +9,3 @@ pub mod Hearing
 pub mod Standing
 pub mod Seeing
 pub mod Keeping
-pub mod Searching
-pub mod StampWriting
-pub mod Restamping

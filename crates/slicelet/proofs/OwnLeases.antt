@@ -9,14 +9,15 @@ use Rattle.lease_rule.specs.declared.lease.Kind.{Kind}
 use Rattle.lease_rule.specs.declared.lease.Kind.TheVariants.{Guard, Bridge}
 use Rattle.lease_rule.specs.Leases.{same_kind}
 use Rattle.lease_rule.specs.Rule.{greatest}
-use Rattle.lease_table.specs.declared.values.Grant.{Grant}
-use Rattle.lease_table.specs.declared.values.ReleaseNote.{ReleaseNote}
-use Rattle.slicelet.specs.declared.error.SliceletError.TheVariants.{Old}
-use Rattle.slicelet.specs.declared.call.SliceletCall.{SliceletCall}
-use Rattle.slicelet.specs.declared.call.SliceletCall.TheVariants.{Start, Hear, Release, Resume}
+use Rattle.grants.specs.declared.values.Grant.{Grant}
+use Rattle.grants.specs.declared.values.ReleaseNote.{ReleaseNote}
+use Rattle.grants.specs.declared.slicelet_error.SliceletError.TheVariants.{Old}
+use Rattle.grants.specs.declared.slicelet_call.SliceletCall.{SliceletCall}
+use Rattle.grants.specs.declared.slicelet_call.SliceletCall.TheVariants.{Start, Hear, Release, Resume}
 use Rattle.slicelet.specs.Calls.{this_life, life_of, is_about, heard_by, held_grant, greatest_heard}
 use Rattle.slicelet.specs.States.{state_after}
-use Rattle.slicelet.specs.Steps.{start_checks, hear_checks, release_checks, resume_checks, old_number, number_of, note_of, ended_note}
+use Rattle.slicelet.specs.Steps.{start_checks, hear_checks, release_checks, resume_checks, old_number, number_of, note_of}
+use Rattle.grants.specs.SliceletCalls.{ended_note}
 use Rattle.slicelet.specs.Accepted.{AreAccepted, notes_sent}
 use Rattle.slicelet.proofs.States.{held_after, greatest_after}
 use Rattle.slicelet.proofs.Accepting.{IsHearAccepted, start_accepted, hear_accepted, release_accepted, resume_accepted}

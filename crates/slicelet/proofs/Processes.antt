@@ -6,15 +6,15 @@ use Rattle.std.proofs.lemmas.Bool.Decides.{nat_tests}
 use Rattle.std.specs.Prelude.{not, nat_le, nat_lt, ◌==◌, ◌&&◌, ◌||◌}
 use Rattle.lease_rule.specs.Rule.{SeenHolding, rule, is_allowed}
 use Rattle.lease_rule.proofs.Permitting.{permitted_down}
-use Rattle.lease_table.specs.declared.values.Grant.{Grant}
-use Rattle.lease_table.specs.declared.values.Row.{Row}
-use Rattle.lease_table.specs.declared.policy.TheConstants.{MOST_GRANTS}
-use Rattle.lease_table.specs.Rows.{closes}
+use Rattle.grants.specs.declared.values.Grant.{Grant}
+use Rattle.grants.specs.declared.values.Row.{Row}
+use Rattle.grants.specs.declared.policy.TheConstants.{MOST_GRANTS}
+use Rattle.grants.specs.Rows.{closes}
 use Rattle.lease_rule.specs.Leases.{same_kind}
-use Rattle.slicelet.specs.Steps.{ended_note}
-use Rattle.slicelet.specs.declared.handle.KeyHandle.{KeyHandle}
-use Rattle.slicelet.specs.declared.call.SliceletCall.{SliceletCall}
-use Rattle.slicelet.specs.declared.call.SliceletCall.TheVariants.{Start, Hear, Release, Resume}
+use Rattle.grants.specs.SliceletCalls.{ended_note}
+use Rattle.key_handle.specs.declared.handle.KeyHandle.{KeyHandle}
+use Rattle.grants.specs.declared.slicelet_call.SliceletCall.{SliceletCall}
+use Rattle.grants.specs.declared.slicelet_call.SliceletCall.TheVariants.{Start, Hear, Release, Resume}
 use Rattle.slicelet.specs.Calls.{is_resume, ends_life, this_process, this_life, is_started, last_reading, life_of, resumed_of}
 use Rattle.slicelet.specs.Rules.{holding_after, is_permitted}
 use Rattle.slicelet.specs.Continuity.{IsContinuous, is_strange}

@@ -4,7 +4,7 @@ use Rattle.std.specs.Prelude.{Option, Some, None, option_map}
 use Rattle.lease_rule.specs.Leases.{seen_from}
 use Rattle.lease_rule.specs.Rule.{SeenHolding, holding_seen_from, rule, is_allowed}
 use Rattle.lease_rule.proofs.Permitting.{permitted_live}
-use Rattle.lease_table.specs.declared.values.Grant.{Grant}
+use Rattle.grants.specs.declared.values.Grant.{Grant}
 use Rattle.slicelet.specs.Rules.{seen_by, covers_key}
 use Rattle.slicelet.specs.States.{SliceletState, holding_in, permits}
 use Rattle.slicelet.specs.internals.State.{leases_of}

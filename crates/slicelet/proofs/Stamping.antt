@@ -4,11 +4,11 @@ use Rattle.std.proofs.lemmas.Bool.{le-leb, lt-leb, cases_lt, true≢false}
 use Rattle.std.proofs.lemmas.Bool.Decides.{nat_tests}
 use Rattle.std.specs.Prelude.{Option, Some, None, IsTrue, ◌==◌, ◌&&◌, nat_le, if◌then◌else◌, MatchBool}
 use Rattle.lease_rule.proofs.Permitting.{permitted_down, permitted_at_last}
-use Rattle.lease_table.specs.declared.values.Grant.{Grant}
-use Rattle.slicelet.specs.declared.handle.KeyHandle.{KeyHandle}
-use Rattle.slicelet.specs.Stamps.{stamp_after_change}
-use Rattle.slicelet.specs.Handles.{is_up_to}
-use Rattle.slicelet.specs.declared.call.SliceletCall.{SliceletCall}
+use Rattle.grants.specs.declared.values.Grant.{Grant}
+use Rattle.key_handle.specs.declared.handle.KeyHandle.{KeyHandle}
+use Rattle.key_handle.specs.Stamps.{stamp_after_change}
+use Rattle.key_handle.specs.Handles.{is_up_to}
+use Rattle.grants.specs.declared.slicelet_call.SliceletCall.{SliceletCall}
 use Rattle.slicelet.specs.Calls.{reading_of, life_of, this_process}
 use Rattle.slicelet.specs.Rules.{holding_after, is_permitted}
 use Rattle.slicelet.specs.Continuity.{IsKeptSince, IsContinuous}

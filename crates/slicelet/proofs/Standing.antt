@@ -7,21 +7,22 @@ use Rattle.machines.specs.Refusals.{first_of, unless_refused}
 use Rattle.machines.specs.Answers.{with_named_reply}
 use Rattle.lease_rule.specs.declared.lease.Kind.{Kind}
 use Rattle.lease_rule.specs.declared.lease.Kind.TheVariants.{Guard, Bridge}
-use Rattle.lease_table.specs.declared.values.Grant.{Grant}
-use Rattle.lease_table.specs.declared.values.ReleaseNote.{ReleaseNote}
-use Rattle.slicelet.specs.declared.handle.KeyHandle.{KeyHandle}
-use Rattle.slicelet.specs.Stamps.{stamp_after_change}
-use Rattle.slicelet.specs.Handles.{is_up_to}
-use Rattle.slicelet.specs.declared.error.SliceletError.{SliceletError}
-use Rattle.slicelet.specs.declared.call.SliceletReply.{SliceletReply}
-use Rattle.slicelet.specs.declared.call.SliceletReply.TheVariants.{Started, Heard, Released, Resumed}
-use Rattle.slicelet.specs.declared.call.SliceletCall.{SliceletCall}
-use Rattle.slicelet.specs.declared.call.SliceletCall.TheVariants.{Start, Hear, Release, Resume}
+use Rattle.grants.specs.declared.values.Grant.{Grant}
+use Rattle.grants.specs.declared.values.ReleaseNote.{ReleaseNote}
+use Rattle.key_handle.specs.declared.handle.KeyHandle.{KeyHandle}
+use Rattle.key_handle.specs.Stamps.{stamp_after_change}
+use Rattle.key_handle.specs.Handles.{is_up_to}
+use Rattle.grants.specs.declared.slicelet_error.SliceletError.{SliceletError}
+use Rattle.grants.specs.declared.slicelet_call.SliceletReply.{SliceletReply}
+use Rattle.grants.specs.declared.slicelet_call.SliceletReply.TheVariants.{Started, Heard, Released, Resumed}
+use Rattle.grants.specs.declared.slicelet_call.SliceletCall.{SliceletCall}
+use Rattle.grants.specs.declared.slicelet_call.SliceletCall.TheVariants.{Start, Hear, Release, Resume}
 use Rattle.slicelet.specs.Calls.{is_resume, this_process, count_of, life_of, reading_of, held_grant, greatest_heard}
 use Rattle.slicelet.specs.Rules.{covers_key, rule_after, is_permitted}
 use Rattle.slicelet.specs.Stamping.{turns, stamp_after, stamp_of, stamps_where}
 use Rattle.slicelet.specs.States.{SliceletState, resumed, state_after, held_in, greatest_in, stamp_in, rule_in_state}
-use Rattle.slicelet.specs.Steps.{start_checks, hear_checks, release_checks, resume_checks, old_number, with_grant, with_greatest, moved_by, read_at, state_with_count, next_state, note_of, ended_notes, slicelet_step}
+use Rattle.slicelet.specs.Steps.{start_checks, hear_checks, release_checks, resume_checks, old_number, with_grant, with_greatest, moved_by, read_at, state_with_count, next_state, note_of, slicelet_step}
+use Rattle.grants.specs.SliceletCalls.{ended_notes}
 use Rattle.slicelet.specs.Accepted.{checks_of, AreAccepted, StandsAfter, notes_of, notes_after}
 use Rattle.slicelet.specs.Continuity.{IsContinuous, is_strange, is_kept, checked_in, IsChecked}
 use Rattle.slicelet.proofs.Accepting.{hear_accepted, resume_allowed}

@@ -4,7 +4,7 @@ use Rattle.std.specs.Prelude.{Option, None, slice_index_or}
 use Rattle.slice_ranges.specs.declared.key.TheConstants.{KEYS}
 use Rattle.lease_rule.specs.declared.lease.Kind.{Kind}
 use Rattle.lease_rule.specs.declared.lease.Kind.TheVariants.{Guard, Bridge}
-use Rattle.slicelet.specs.declared.call.SliceletCall.{SliceletCall}
+use Rattle.grants.specs.declared.slicelet_call.SliceletCall.{SliceletCall}
 use Rattle.slicelet.specs.Calls.{held_grant, greatest_heard}
 use Rattle.slicelet.specs.Stamping.{stamps_from, stamps_where, stamp_among}
 use Rattle.slicelet.specs.States.{state_after, held_in, greatest_in}

@@ -1,15 +1,16 @@
 -- Lists of accepted calls, newest first, the states after them, and the notes that they sent.
 use Rattle.std.specs.Prelude.{◌≡◌, ℕ, List, [], ◌∷◌, Option, None, ⊤}
 use Rattle.machines.specs.Refusals.{first_of}
-use Rattle.lease_table.specs.declared.values.ReleaseNote.{ReleaseNote}
-use Rattle.slicelet.specs.declared.error.SliceletError.{SliceletError}
-use Rattle.slicelet.specs.declared.call.SliceletReply.{SliceletReply}
-use Rattle.slicelet.specs.declared.call.SliceletReply.TheVariants.{Started, Heard, Released, Resumed}
-use Rattle.slicelet.specs.declared.call.SliceletCall.{SliceletCall}
-use Rattle.slicelet.specs.declared.call.SliceletCall.TheVariants.{Start, Hear, Release, Resume}
+use Rattle.grants.specs.declared.values.ReleaseNote.{ReleaseNote}
+use Rattle.grants.specs.declared.slicelet_error.SliceletError.{SliceletError}
+use Rattle.grants.specs.declared.slicelet_call.SliceletReply.{SliceletReply}
+use Rattle.grants.specs.declared.slicelet_call.SliceletReply.TheVariants.{Started, Heard, Released, Resumed}
+use Rattle.grants.specs.declared.slicelet_call.SliceletCall.{SliceletCall}
+use Rattle.grants.specs.declared.slicelet_call.SliceletCall.TheVariants.{Start, Hear, Release, Resume}
 use Rattle.slicelet.specs.States.{SliceletState, state_after}
 use Rattle.lease_rule.specs.declared.lease.Kind.TheVariants.{Guard, Bridge}
-use Rattle.slicelet.specs.Steps.{start_checks, hear_checks, release_checks, resume_checks, note_of, ended_note}
+use Rattle.slicelet.specs.Steps.{start_checks, hear_checks, release_checks, resume_checks, note_of}
+use Rattle.grants.specs.SliceletCalls.{ended_note}
 
 -- the refusals of a call
 abbrev pub checks_of : SliceletState → SliceletCall → List (Option SliceletError)

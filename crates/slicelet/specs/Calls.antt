@@ -3,16 +3,9 @@ use Rattle.std.specs.Prelude.{ℕ, Bool, true, false, List, [], ◌∷◌, find,
 use Rattle.lease_rule.specs.declared.lease.Kind.{Kind}
 use Rattle.lease_rule.specs.Leases.{same_kind}
 use Rattle.lease_rule.specs.Rule.{greatest}
-use Rattle.lease_table.specs.declared.values.Grant.{Grant}
-use Rattle.slicelet.specs.declared.call.SliceletCall.{SliceletCall}
-use Rattle.slicelet.specs.declared.call.SliceletCall.TheVariants.{Start, Hear, Release, Resume}
-
--- the reading of a call, if it reads the clock
-abbrev pub clock_reading : SliceletCall → Option ℕ
-clock_reading (Start life at) = Some at
-clock_reading (Hear grant at) = Some at
-clock_reading (Release kind at) = Some at
-clock_reading (Resume life) = None
+use Rattle.grants.specs.declared.values.Grant.{Grant}
+use Rattle.grants.specs.declared.slicelet_call.SliceletCall.{SliceletCall}
+use Rattle.grants.specs.declared.slicelet_call.SliceletCall.TheVariants.{Start, Hear, Release, Resume}
 
 -- the reading that a call leaves as the last one; the clock of a new process counts from 0
 abbrev pub reading_of : SliceletCall → ℕ

@@ -3,11 +3,11 @@ use Rattle.std.specs.Prelude.{◌≡◌, ℕ, ◌≤◌, ◌==◌, Bool, true, f
 use Rattle.lease_rule.specs.declared.answer.Ground.{Ground}
 use Rattle.lease_rule.specs.declared.answer.Verdict.{Verdict}
 use Rattle.lease_rule.specs.declared.answer.Verdict.TheVariants.{Allow, Deny}
-use Rattle.lease_table.specs.declared.values.Grant.{Grant}
-use Rattle.slicelet.specs.declared.handle.KeyHandle.{KeyHandle}
-use Rattle.slicelet.specs.Handles.{is_up_to}
-use Rattle.slicelet.specs.declared.error.Stranger.{Stranger}
-use Rattle.slicelet.specs.declared.call.SliceletCall.{SliceletCall}
+use Rattle.grants.specs.declared.values.Grant.{Grant}
+use Rattle.key_handle.specs.declared.handle.KeyHandle.{KeyHandle}
+use Rattle.key_handle.specs.Handles.{is_up_to}
+use Rattle.grants.specs.declared.slicelet_error.Stranger.{Stranger}
+use Rattle.grants.specs.declared.slicelet_call.SliceletCall.{SliceletCall}
 use Rattle.slicelet.specs.Calls.{reading_of, life_of, this_process}
 use Rattle.slicelet.specs.Rules.{is_permitted, covers_key}
 use Rattle.slicelet.specs.States.{SliceletState, state_after, stamp_in, permits}

@@ -2,8 +2,6 @@ pub mod Calls
 pub mod Memory
 pub mod Rules
 pub mod Stamping
-pub mod Stamps
-pub mod Handles
 pub mod States
 pub mod Steps
 pub mod Accepted

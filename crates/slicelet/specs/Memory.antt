@@ -1,7 +1,7 @@
 -- Which calls take memory.
 use Rattle.std.specs.Prelude.{Bool, true, false}
-use Rattle.slicelet.specs.declared.call.SliceletCall.{SliceletCall}
-use Rattle.slicelet.specs.declared.call.SliceletCall.TheVariants.{Start, Hear, Release, Resume}
+use Rattle.grants.specs.declared.slicelet_call.SliceletCall.{SliceletCall}
+use Rattle.grants.specs.declared.slicelet_call.SliceletCall.TheVariants.{Start, Hear, Release, Resume}
 
 -- a call of a slicelet may be out of memory
 abbrev pub takes_memory : SliceletCall → Bool

@@ -3,9 +3,9 @@ use Rattle.std.specs.Prelude.{ℕ, ◌==◌, ◌&&◌, Bool, false, not, nat_lt,
 use Rattle.machines.specs.Refusals.{when, first_of}
 use Rattle.lease_rule.specs.declared.lease.Kind.{Kind}
 use Rattle.lease_rule.specs.declared.lease.Kind.TheVariants.{Guard, Bridge}
-use Rattle.lease_table.specs.declared.values.Grant.{Grant}
-use Rattle.lease_table.specs.declared.values.Phase.{Phase}
-use Rattle.lease_table.specs.declared.values.Phase.TheVariants.{Steady, Bridging}
+use Rattle.grants.specs.declared.values.Grant.{Grant}
+use Rattle.grants.specs.declared.values.Phase.{Phase}
+use Rattle.grants.specs.declared.values.Phase.TheVariants.{Steady, Bridging}
 use Rattle.slicelet.specs.declared.next_action.TaskAction.{TaskAction}
 use Rattle.slicelet.specs.declared.next_action.TaskAction.TheVariants.{Start, Ask, GiveUp, Rest}
 use Rattle.slicelet.specs.States.{SliceletState, held_in}

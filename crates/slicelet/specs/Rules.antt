@@ -1,13 +1,13 @@
 -- The written rule over what a slicelet heard.
-use Rattle.std.specs.Prelude.{ℕ, Bool, List, option_map}
+use Rattle.std.specs.Prelude.{ℕ, Bool, List, Option, Some, None, option_map, if◌then◌else◌}
 use Rattle.lease_rule.specs.declared.lease.Kind.TheVariants.{Guard, Bridge}
 use Rattle.lease_rule.specs.declared.answer.Verdict.{Verdict}
 use Rattle.lease_rule.specs.Leases.{SeenLease}
 use Rattle.lease_rule.specs.Rule.{SeenHolding, rule}
 pub use Rattle.lease_rule.specs.Rule.{is_allowed}
 use Rattle.slice_ranges.specs.Sets.{has}
-use Rattle.lease_table.specs.declared.values.Grant.{Grant}
-use Rattle.slicelet.specs.declared.call.SliceletCall.{SliceletCall}
+use Rattle.grants.specs.declared.values.Grant.{Grant}
+use Rattle.grants.specs.declared.slicelet_call.SliceletCall.{SliceletCall}
 use Rattle.slicelet.specs.Calls.{is_started, last_reading, held_grant}
 
 -- a granted lease as it is seen by whoever knows whether it covers a key
@@ -34,3 +34,8 @@ covers_key key grant = has grant.lease.ranges key
 -- a key is permitted after these calls at a reading
 abbrev pub is_permitted : (Grant → Bool) → List SliceletCall → ℕ → Bool
 is_permitted covers h at = is_allowed (rule_after covers h at)
+
+-- the generation of a held lease that covers the key, whether or not it has ended
+abbrev pub covering_generation : Option SeenLease → Option ℕ
+covering_generation None = None
+covering_generation (Some lease) = if lease.covers then Some lease.generation else None

@@ -1,9 +1,9 @@
 -- The stamp of a key: the call since which it has been permitted.
 use Rattle.std.specs.Prelude.{ℕ, zero, suc, ◌+◌, Bool, List, [], ◌∷◌, length, Option, None, slice_index_or}
 use Rattle.slice_ranges.specs.declared.key.TheConstants.{KEYS}
-use Rattle.lease_table.specs.declared.values.Grant.{Grant}
-use Rattle.slicelet.specs.Stamps.{stamp_after_change}
-use Rattle.slicelet.specs.declared.call.SliceletCall.{SliceletCall}
+use Rattle.grants.specs.declared.values.Grant.{Grant}
+use Rattle.key_handle.specs.Stamps.{stamp_after_change}
+use Rattle.grants.specs.declared.slicelet_call.SliceletCall.{SliceletCall}
 use Rattle.slicelet.specs.Calls.{reading_of, this_process}
 use Rattle.slicelet.specs.Rules.{is_permitted}
 

@@ -3,12 +3,12 @@ use Rattle.std.specs.Prelude.{ℕ, Bool, false, List, Option, None, option_map}
 use Rattle.lease_rule.specs.declared.lease.Kind.{Kind}
 use Rattle.lease_rule.specs.declared.lease.Kind.TheVariants.{Guard, Bridge}
 use Rattle.lease_rule.specs.declared.answer.Verdict.{Verdict}
-use Rattle.lease_rule.specs.Rule.{SeenHolding, rule, is_allowed}
-use Rattle.lease_table.specs.declared.values.Grant.{Grant}
-use Rattle.slicelet.specs.declared.call.SliceletCall.{SliceletCall}
+use Rattle.lease_rule.specs.Rule.{SeenHolding, rule, is_allowed, greatest}
+use Rattle.grants.specs.declared.values.Grant.{Grant}
+use Rattle.grants.specs.declared.slicelet_call.SliceletCall.{SliceletCall}
 use Rattle.slicelet.specs.declared.heard.HeldLease.{HeldLease}
 use Rattle.slicelet.specs.Calls.{count_of, is_started, life_of, resumed_of, last_reading, held_grant, greatest_heard}
-use Rattle.slicelet.specs.Rules.{seen_by, covers_key}
+use Rattle.slicelet.specs.Rules.{seen_by, covers_key, covering_generation}
 use Rattle.slicelet.specs.Stamping.{stamp_of, stamps_where, stamp_among}
 
 -- a slicelet: its task, how many calls it accepted, its life (0 before the first), the greatest life of earlier processes of its
@@ -71,6 +71,14 @@ held_in s Bridge = s.bridge
 -- a held lease, by its grant
 abbrev pub held_lease : Grant → HeldLease
 held_lease grant = record { number = grant.number; generation = grant.lease.generation; ends = grant.lease.ends }
+
+-- the generation of the lease of a kind that is held and covers a key, live or ended
+abbrev pub covering_in : SliceletState → Kind → ℕ → Option ℕ
+covering_in s kind key = covering_generation (option_map (seen_by (covers_key key)) (held_in s kind))
+
+-- the greatest generation of the held leases that cover a key, live or ended
+abbrev pub newest_covering : SliceletState → ℕ → Option ℕ
+newest_covering s key = greatest (covering_in s Guard key) (covering_in s Bridge key)
 
 -- the greatest number heard of a kind
 abbrev pub greatest_in : SliceletState → Kind → Option ℕ

@@ -3,19 +3,19 @@ use Rattle.std.specs.Prelude.{ℕ, ◌+◌, ◌==◌, true, not, nat_lt, nat_le,
 use Rattle.machines.specs.Refusals.{when, answer}
 use Rattle.lease_rule.specs.declared.lease.Kind.{Kind}
 use Rattle.lease_rule.specs.declared.lease.Kind.TheVariants.{Guard, Bridge}
-use Rattle.lease_table.specs.declared.values.Grant.{Grant}
-use Rattle.lease_table.specs.declared.values.ReleaseNote.{ReleaseNote}
-use Rattle.lease_table.specs.declared.policy.TheConstants.{MOST_GRANTS}
-use Rattle.slicelet.specs.Stamps.{stamp_after_change}
-use Rattle.slicelet.specs.declared.error.SliceletError.{SliceletError}
-use Rattle.slicelet.specs.declared.error.SliceletError.TheVariants.{NotStarted, OldLife, ClockBack, OtherTask, OtherLife, Old, TooLate, NothingHeld, HistoryFull}
+use Rattle.grants.specs.declared.values.Grant.{Grant}
+use Rattle.grants.specs.declared.values.ReleaseNote.{ReleaseNote}
+use Rattle.key_handle.specs.Stamps.{stamp_after_change}
+use Rattle.grants.specs.declared.slicelet_error.SliceletError.{SliceletError}
+use Rattle.grants.specs.declared.slicelet_error.SliceletError.TheVariants.{NotStarted, OldLife, ClockBack, OtherTask, OtherLife, Old, TooLate, NothingHeld, HistoryFull}
 use Rattle.machines.specs.Answers.{with_named_reply}
 use Rattle.machines.specs.declared.event.Event.{Event}
-use Rattle.slicelet.specs.declared.call.SliceletReply.{SliceletReply}
-use Rattle.slicelet.specs.declared.call.SliceletReply.TheVariants.{Started, Heard, Released, Resumed}
-use Rattle.slicelet.specs.declared.call.EndedNotes.{EndedNotes}
-use Rattle.slicelet.specs.declared.call.SliceletCall.{SliceletCall}
-use Rattle.slicelet.specs.declared.call.SliceletCall.TheVariants.{Start, Hear, Release, Resume}
+use Rattle.grants.specs.declared.slicelet_call.SliceletReply.{SliceletReply}
+use Rattle.grants.specs.declared.slicelet_call.SliceletReply.TheVariants.{Started, Heard, Released, Resumed}
+use Rattle.grants.specs.declared.slicelet_call.EndedNotes.{EndedNotes}
+use Rattle.grants.specs.declared.slicelet_call.SliceletCall.{SliceletCall}
+use Rattle.grants.specs.SliceletCalls.{ended_notes}
+use Rattle.grants.specs.declared.slicelet_call.SliceletCall.TheVariants.{Start, Hear, Release, Resume}
 use Rattle.slicelet.specs.declared.slicelet.TheConstants.{CALLS}
 use Rattle.slicelet.specs.Stamping.{stamps_where}
 use Rattle.slicelet.specs.States.{SliceletState, held_in, greatest_in, stamp_in, permits}
@@ -109,13 +109,6 @@ note_of s kind = record { task = s.task; life = s.life; kind = kind; number = nu
 
 abbrev pub release_step : SliceletState → Kind → ℕ → Result (SliceletState × ReleaseNote) SliceletError
 release_step s kind at = answer (release_checks s kind at) (next_state s (Release kind at), note_of s kind)
-
--- the notes of a life that ended with its process: the greatest number that a grant can have closes every row
-abbrev pub ended_note : ℕ → ℕ → Kind → ReleaseNote
-ended_note task life kind = record { task = task; life = life; kind = kind; number = MOST_GRANTS }
-
-abbrev pub ended_notes : ℕ → ℕ → EndedNotes
-ended_notes task life = record { guard = ended_note task life Guard; bridge = ended_note task life Bridge }
 
 abbrev pub resume_step : SliceletState → ℕ → Result (SliceletState × EndedNotes) SliceletError
 resume_step s life = answer (resume_checks s life) (next_state s (Resume life), ended_notes s.task life)

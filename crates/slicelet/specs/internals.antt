@@ -1,4 +1,3 @@
 -- What the bodies and their proofs speak of, and no clause of a public call.
 pub mod State
 pub mod Stamping
-pub mod Sweeping

@@ -2,21 +2,13 @@
 //! has held the key without a break since it took a handle.
 #![tactic(auto)]
 
-mod call;
-mod error;
-mod handle;
 mod heard;
 mod laws;
 mod life_stamps;
 mod machine;
 mod next_action;
 mod slicelet;
-mod stamped;
-mod sweep;
 
-pub use call::{EndedNotes, SliceletCall, SliceletReply};
-pub use error::{SliceletError, Stranger};
-pub use handle::KeyHandle;
 pub use heard::HeldLease;
 pub use laws::{
     agreement_law, between_law, covering_lease_law, heard_law, held_law, lives_law, processes_law,
@@ -25,4 +17,3 @@ pub use laws::{
 pub use machine::SliceletEvent;
 pub use next_action::TaskAction;
 pub use slicelet::{CALLS, Slicelet};
-pub use stamped::Stamped;

@@ -3,12 +3,11 @@
 ghost use Rattle.std.specs.Prelude.{◌≡◌, ◌<◌, ℕ, Some, IfOk};
 ghost use Rattle.slice_ranges.specs.declared.key.TheConstants.{KEYS};
 ghost use Rattle.slice_ranges.specs.Sets.{has};
-ghost use Rattle.slicelet.specs.Handles.{is_still};
-ghost use Rattle.slicelet.specs.Stamps.{since, stamp_after_change};
+ghost use Rattle.key_handle.specs.Handles.{is_still};
+ghost use Rattle.key_handle.specs.Stamps.{since, stamp_after_change};
 ghost use Rattle.slicelet.specs.internals.State.{stamps_in};
 
-use crate::handle::KeyHandle;
-use crate::stamped::Stamped;
+use key_handle::{KeyHandle, Stamped};
 use slice_ranges::{Ranges, SliceKey};
 use std::alloc::{AllocError, Global};
 

@@ -6,9 +6,8 @@ ghost use Rattle.machines.specs.Answers.{Takes};
 ghost use Rattle.slicelet.specs.Memory.{takes_memory};
 ghost use Rattle.slicelet.specs.Steps.{event_step, slicelet_step};
 
-use crate::call::{SliceletCall, SliceletReply};
-use crate::error::SliceletError;
 use crate::slicelet::Slicelet;
+use grants::{SliceletCall, SliceletError, SliceletReply};
 use machines::{Duplicate, Event, Machine, Trouble};
 use std::alloc::AllocError;
 

@@ -5,8 +5,8 @@ ghost use Rattle.slicelet.specs.States.{held_lease, held_in};
 ghost use Rattle.slicelet.specs.NextActions.{wanted_kind, wanted_generation, other_kind, is_live_of, next_action};
 
 use crate::slicelet::Slicelet;
+use grants::Phase;
 use lease_rule::Kind;
-use lease_table::Phase;
 
 /// What a task does next about its leases.
 #[derive(Clone, Copy, Debug, PartialEq, Eq)]

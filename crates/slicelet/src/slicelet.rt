@@ -4,30 +4,28 @@ ghost use Rattle.std.specs.Prelude.{◌≡◌, ◌+◌, ◌-◌, ◌^◌, ◌<�
 ghost use Rattle.std.specs.Result.{result_err};
 ghost use Rattle.machines.specs.Refusals.{first_of};
 ghost use Rattle.machines.specs.Answers.{Answers, Takes};
-ghost use Rattle.slicelet.specs.declared.call.SliceletCall.{SliceletCall};
-ghost use Rattle.slicelet.specs.declared.call.SliceletCall.TheVariants as call;
+ghost use Rattle.grants.specs.declared.slicelet_call.SliceletCall.{SliceletCall};
+ghost use Rattle.grants.specs.declared.slicelet_call.SliceletCall.TheVariants as call;
 ghost use Rattle.slicelet.specs.declared.slicelet.TheConstants.{CALLS};
 ghost use Rattle.slice_ranges.specs.Sets.{has};
 ghost use Rattle.slicelet.specs.Calls.{life_of, count_of};
 ghost use Rattle.slicelet.specs.Rules.{rule_after, covers_key};
-ghost use Rattle.slicelet.specs.States.{opening, resumed, held_in, held_lease, greatest_in, rule_in_state, permits};
+ghost use Rattle.slicelet.specs.States.{opening, resumed, held_in, held_lease, greatest_in, rule_in_state, permits, covering_in, newest_covering};
 ghost use Rattle.slicelet.specs.Steps.{not_started, clock_back, history_full, number_of, start_checks, hear_checks, release_checks, resume_checks, start_step, hear_step, release_step, resume_step};
 ghost use Rattle.slicelet.specs.Accepted.{AreAccepted, StandsAfter};
 ghost use Rattle.slicelet.specs.Continuity.{handle_on, held_by, is_strange, is_kept, checked_in, IsChecked};
 ghost use Rattle.slicelet.specs.internals.State.{leases_of, with_lease};
 ghost use Rattle.slicelet.specs.internals.Stamping.{IsRestamped};
 
-use crate::call::EndedNotes;
-use crate::error::{SliceletError, Stranger};
-use crate::handle::KeyHandle;
 use crate::heard::{
-    HeardGrants, HeldLease, held_as, holds, live_keys_with, no_leases, put_lease, renews,
+    HeardGrants, HeldLease, covering, greatest, held_as, holds, live_keys_with, no_leases,
+    put_lease, renews,
 };
 use crate::life_stamps::{copy_of, key_law, put_stamps, restamp, still};
-use crate::stamped::Stamped;
 use assignment::TaskId;
+use grants::{EndedNotes, Grant, ReleaseNote, SliceletError, Stranger};
+use key_handle::{KeyHandle, Stamped};
 use lease_rule::{Ground, Holding, Kind, Lease, Verdict, permitted, verdict};
-use lease_table::{Grant, ReleaseNote};
 use machines::Trouble;
 use slice_ranges::{Ranges, SliceKey};
 use std::alloc::{AllocError, Global};
@@ -68,7 +66,7 @@ impl Model for Slicelet {
     ghost Value = { SliceletState };
 
     ghost use Rattle.std.specs.Prelude.{List};
-    ghost use Rattle.slicelet.specs.declared.call.SliceletCall.{SliceletCall};
+    ghost use Rattle.grants.specs.declared.slicelet_call.SliceletCall.{SliceletCall};
     ghost use Rattle.slicelet.specs.Accepted.{StandsAfter};
     ghost use Rattle.slicelet.specs.internals.State.{state_of, stamps_in};
 
@@ -295,6 +293,28 @@ impl Slicelet {
             Kind::Guard => held_as(&self.holding.guard, self.heard.guard),
             Kind::Bridge => held_as(&self.holding.bridge, self.heard.bridge),
         }
+    }
+
+    /// Returns the generation of the lease of a kind that the task holds, if the lease covers the
+    /// key, whether or not it has ended.
+    pub fn covering(&self, kind: Kind, key: SliceKey) -> Option<u64>
+        ensures { result ≡ covering_in self.now kind key }
+    {
+        match kind {
+            Kind::Guard => covering(&self.holding.guard, key),
+            Kind::Bridge => covering(&self.holding.bridge, key),
+        }
+    }
+
+    /// Returns the greatest generation of the held leases that cover the key, guard or bridge,
+    /// whether or not they have ended; `None` if none covers it.
+    pub fn newest_covering(&self, key: SliceKey) -> Option<u64>
+        ensures { result ≡ newest_covering self.now key }
+    {
+        greatest(
+            self.covering(Kind::Guard, key),
+            self.covering(Kind::Bridge, key),
+        )
     }
 
     /// Returns the task.

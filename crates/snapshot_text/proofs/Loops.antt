@@ -3,10 +3,9 @@ use Rattle.std.proofs.Common.{◌≡◌, ◌∙◌, ℕ, ◌+◌, ◌<◌, List,
 use Rattle.std.specs.List.{flat_map, AllByRecursion}
 use Rattle.std.proofs.lemmas.List.{take_more, flat_map_more}
 use Rattle.snapshot_text.specs.declared.error.SnapshotError.{SnapshotError}
-use Rattle.snapshot_text.specs.declared.error.SnapshotError.TheVariants.{Line, Short, Long, Memory}
-use Rattle.snapshot_text.specs.Lines.{Place, Form, IsNext, AreNext, Each, IsNot, AreNot, Fewer, Then, UnlessMemory}
+use Rattle.snapshot_text.specs.Lines.{Place, Form, IsNext, AreNext, Each, IsNot, AreNot, Fewer, Then}
 use Rattle.snapshot_text.specs.Texts.{AreTasks, AreNoTasks, Due}
-use Rattle.cluster.specs.declared.snapshot.TaskSnapshot.{TaskSnapshot}
+use Rattle.job_calls.specs.declared.snapshot.TaskSnapshot.{TaskSnapshot}
 
 taken : {A : Type 0} (xs : List A) (i : ℕ) (x : A) → i < length xs → x ≡ get_or xs i x → take (i + 1) xs ≡ take i xs ++ x ∷ []
 taken xs i x below is = take_more xs i x below ∙ ap (λ y. take i xs ++ y ∷ []) (sym is)
@@ -32,47 +31,38 @@ one_more xs x n long = omega (arith, length-append xs (x ∷ []))
 
 -- the next part is not there
 pub fewer_fails : {A : Type 0} (Says : Place → A → Place → Type 0) (Fails : Place → SnapshotError → Type 0) (count : ℕ) (xs : List A) (at after : Place) (e : SnapshotError)
-    → length xs < count → Each Says at xs after → UnlessMemory (Fails after) e → UnlessMemory (Fewer Says Fails count at) e
-fewer_fails Says Fails count xs at after (Line number why) fewer says fails = record { first = xs; after = after; fewer = fewer; says = says; fails = fails }
-fewer_fails Says Fails count xs at after Short fewer says fails = record { first = xs; after = after; fewer = fewer; says = says; fails = fails }
-fewer_fails Says Fails count xs at after Long fewer says fails = record { first = xs; after = after; fewer = fewer; says = says; fails = fails }
-fewer_fails Says Fails count xs at after Memory fewer says fails = tt
+    → length xs < count → Each Says at xs after → Fails after e → Fewer Says Fails count at e
+fewer_fails Says Fails count xs at after e fewer says fails = record { first = xs; after = after; fewer = fewer; says = says; fails = fails }
 
 -- the first part is not there
 pub first_fails : {A : Type 0} (Says : Place → A → Place → Type 0) (Fails : Place → SnapshotError → Type 0) (Rest : A → Place → SnapshotError → Type 0) (at : Place) (e : SnapshotError)
-    → UnlessMemory (Fails at) e → UnlessMemory (Then Says Fails Rest at) e
-first_fails Says Fails Rest at (Line number why) fails = inl fails
-first_fails Says Fails Rest at Short fails = inl fails
-first_fails Says Fails Rest at Long fails = inl fails
-first_fails Says Fails Rest at Memory fails = tt
+    → Fails at e → Then Says Fails Rest at e
+first_fails Says Fails Rest at e fails = inl fails
 
 -- it is there, and then a later one is not
 pub later_fails : {A : Type 0} (Says : Place → A → Place → Type 0) (Fails : Place → SnapshotError → Type 0) (Rest : A → Place → SnapshotError → Type 0) (at : Place) (x : A) (after : Place) (e : SnapshotError)
-    → Says at x after → UnlessMemory (Rest x after) e → UnlessMemory (Then Says Fails Rest at) e
-later_fails Says Fails Rest at x after (Line number why) says fails = inr (x, after, says, fails)
-later_fails Says Fails Rest at x after Short says fails = inr (x, after, says, fails)
-later_fails Says Fails Rest at x after Long says fails = inr (x, after, says, fails)
-later_fails Says Fails Rest at x after Memory says fails = tt
+    → Says at x after → Rest x after e → Then Says Fails Rest at e
+later_fails Says Fails Rest at x after e says fails = inr (x, after, says, fails)
 
 -- a line is there, and then a later one is not
 pub after_line : {A : Type 0} (job : List ℕ) (form : Form A) (Rest : A → Place → SnapshotError → Type 0) (at : Place) (x : A) (after : Place) (e : SnapshotError)
-    → IsNext job form at x after → UnlessMemory (Rest x after) e → UnlessMemory (Then (IsNext job form) (IsNot job form) Rest at) e
+    → IsNext job form at x after → Rest x after e → Then (IsNext job form) (IsNot job form) Rest at e
 after_line job form = later_fails (IsNext job form) (IsNot job form)
 
 -- so many lines are there, and then a later one is not
 pub after_lines : {A : Type 0} (job : List ℕ) (form : Form A) (count : ℕ) (Rest : Place → SnapshotError → Type 0) (at : Place) (xs : List A) (after : Place) (e : SnapshotError)
-    → AreNext job form count at xs after → UnlessMemory (Rest after) e → UnlessMemory (Due job form count Rest at) e
+    → AreNext job form count at xs after → Rest after e → Due job form count Rest at e
 after_lines job form count Rest = later_fails (AreNext job form count) (AreNot job form count) (λ _. Rest)
 
 pub no_lines : {A : Type 0} (job : List ℕ) (form : Form A) (count : ℕ) (Rest : Place → SnapshotError → Type 0) (at : Place) (e : SnapshotError)
-    → UnlessMemory (AreNot job form count at) e → UnlessMemory (Due job form count Rest at) e
+    → AreNot job form count at e → Due job form count Rest at e
 no_lines job form count Rest = first_fails (AreNext job form count) (AreNot job form count) (λ _. Rest)
 
 -- so many tasks are there, and then a later line is not
 pub after_tasks : (job : List ℕ) (count : ℕ) (Rest : Place → SnapshotError → Type 0) (at : Place) (xs : List TaskSnapshot) (after : Place) (e : SnapshotError)
-    → AreTasks job count at xs after → UnlessMemory (Rest after) e → UnlessMemory (Then (AreTasks job count) (AreNoTasks job count) (λ _. Rest) at) e
+    → AreTasks job count at xs after → Rest after e → Then (AreTasks job count) (AreNoTasks job count) (λ _. Rest) at e
 after_tasks job count Rest = later_fails (AreTasks job count) (AreNoTasks job count) (λ _. Rest)
 
 pub no_tasks : (job : List ℕ) (count : ℕ) (Rest : Place → SnapshotError → Type 0) (at : Place) (e : SnapshotError)
-    → UnlessMemory (AreNoTasks job count at) e → UnlessMemory (Then (AreTasks job count) (AreNoTasks job count) (λ _. Rest) at) e
+    → AreNoTasks job count at e → Then (AreTasks job count) (AreNoTasks job count) (λ _. Rest) at e
 no_tasks job count Rest = first_fails (AreTasks job count) (AreNoTasks job count) (λ _. Rest)

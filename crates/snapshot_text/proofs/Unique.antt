@@ -1,14 +1,14 @@
 -- A text is that of one snapshot at the most, and then no part of it is missing.
 use Rattle.std.proofs.Common.{◌≡◌, ◌∙◌, ℕ, ◌<◌, false, List, [], ◌∷◌, length, Some, Result, Ok, Err, IfOk, inl, inr, refl, sym, ap, ap₂, subst, arith}
 use Rattle.std.specs.Prelude.{IfErr}
-use Rattle.slicelet.specs.declared.call.SliceletCall.{SliceletCall}
-use Rattle.cluster.specs.declared.snapshot.ClusterSnapshot.{ClusterSnapshot}
-use Rattle.cluster.specs.declared.snapshot.TaskSnapshot.{TaskSnapshot}
+use Rattle.grants.specs.declared.slicelet_call.SliceletCall.{SliceletCall}
+use Rattle.job_calls.specs.declared.snapshot.ClusterSnapshot.{ClusterSnapshot}
+use Rattle.job_calls.specs.declared.snapshot.TaskSnapshot.{TaskSnapshot}
 use Rattle.wire.proofs.Decoding.{is_no_other, one_message}
 use Rattle.snapshot_text.specs.declared.error.SnapshotError.{SnapshotError}
 use Rattle.snapshot_text.specs.declared.error.SnapshotError.TheVariants.{Line, Short, Long, Memory}
 use Rattle.snapshot_text.specs.Heads.{head_in, task_head_in}
-use Rattle.snapshot_text.specs.Lines.{Place, place, is_empty, Form, IsNext, AreNext, Each, Many, IsNot, AreNot, Fewer, Then, UnlessMemory}
+use Rattle.snapshot_text.specs.Lines.{Place, place, is_empty, Form, IsNext, AreNext, Each, Many, IsNot, AreNot, Fewer, Then}
 use Rattle.snapshot_text.specs.Texts.{head_line, kept_line, row_line, task_line, call_line, clerk_line, grant_line, assignment_line, note_line, handle_line, NextTask, AreTasks, IsText, AreAlike, IsReadAs, IsUnread, NoTask, AreNoTasks, IsLong, Due, FromKept, FromRows, FromTasks, FromClerks, FromGrants, FromAssignments, FromNotes, FromHandles, IsTextFault}
 
 -- ONE READING
@@ -66,7 +66,7 @@ next_here job form at x after (Line number why) is (_, bad) =
     ]
 next_here job form at x after Short is none = let here = is.here in absurd (cc)
 next_here job form at x after Long is not = not
-next_here job form at x after Memory is not = absurd not
+next_here job form at x after Memory is not = tt
 
 fewer_here : {A : Type 0} (Says : Place → A → Place → Type 0) (Fails : Place → SnapshotError → Type 0) → IsSingle Says → IsHere Says Fails
     → (xs ys : List A) (at after other : Place) (e : SnapshotError) → length xs < length ys → Each Says at xs after → Each Says at ys other → Fails after e → IsUnread e
@@ -133,12 +133,6 @@ no_fault job text s e is =
     (lines_here job handle_line IsLong is.handles_at s.handles.items is.end e is.handles
     (not_long is.end e is.nothing)))))))))
 
-unread_for : (job text : List ℕ) (s : ClusterSnapshot) (e : SnapshotError) → IsText job text s → UnlessMemory (IsTextFault job text) e → IsUnread e
-unread_for job text s (Line number why) is fault = no_fault job text s (Line number why) is fault
-unread_for job text s Short is fault = no_fault job text s Short is fault
-unread_for job text s Long is fault = no_fault job text s Long is fault
-unread_for job text s Memory is fault = tt
-
 -- ONE SNAPSHOT
 
 same_lines : {A : Type 0} (job : List ℕ) (form : Form A) (xs ys : List A) (at there after other : Place) → at ≡ there → length xs ≡ length ys
@@ -171,6 +165,6 @@ one_snapshot job text s t p q =
     }
 
 -- the text of a snapshot is read as it
-pub read_as : (job text : List ℕ) (s : ClusterSnapshot) (r : Result ClusterSnapshot SnapshotError) → IsText job text s → IfOk r (IsText job text) → IfErr r (UnlessMemory (IsTextFault job text)) → IsReadAs s r
+pub read_as : (job text : List ℕ) (s : ClusterSnapshot) (r : Result ClusterSnapshot SnapshotError) → IsText job text s → IfOk r (IsText job text) → IfErr r (IsTextFault job text) → IsReadAs s r
 read_as job text s (Ok t) is ok err = one_snapshot job text t s ok is
-read_as job text s (Err e) is ok err = unread_for job text s e is err
+read_as job text s (Err e) is ok err = no_fault job text s e is err

@@ -8,8 +8,8 @@ use Rattle.wire.specs.declared.numerals.Numerals.{Numerals}
 use Rattle.wire.specs.LeaseMembers.{life_at}
 use Rattle.wire.specs.Numerals.{numeral_at, numeral_data}
 use Rattle.wire.specs.Objects.{number_data, object_data}
-use Rattle.cluster.specs.declared.snapshot.ClusterSnapshot.{ClusterSnapshot}
-use Rattle.cluster.specs.declared.snapshot.TaskSnapshot.{TaskSnapshot}
+use Rattle.job_calls.specs.declared.snapshot.ClusterSnapshot.{ClusterSnapshot}
+use Rattle.job_calls.specs.declared.snapshot.TaskSnapshot.{TaskSnapshot}
 use Rattle.snapshot_text.specs.declared.head.Head.{Head}
 use Rattle.snapshot_text.specs.declared.task_head.TaskHead.{TaskHead}
 

@@ -1,11 +1,11 @@
 -- Lines of a text, each of which is a message of a value.
-use Rattle.std.specs.Prelude.{◌≡◌, ◌⊎◌, ℕ, ◌+◌, ◌<◌, ◌==◌, ⊤, Bool, true, false, List, [], ◌∷◌, ◌++◌, length, Option, Some, None, option_map, Result, if◌then◌else◌}
+use Rattle.std.specs.Prelude.{◌≡◌, ◌⊎◌, ℕ, ◌+◌, ◌<◌, ◌==◌, Bool, true, false, List, [], ◌∷◌, ◌++◌, length, Option, Some, None, option_map, Result, if◌then◌else◌}
 use Rattle.std.specs.List.{flat_map, AllByRecursion}
 use Rattle.serde_json.specs.Data.{Data}
 use Rattle.wire.specs.declared.fault.DecodeRefusal.{DecodeRefusal}
 use Rattle.wire.specs.declared.numerals.Numerals.{Numerals}
 use Rattle.wire.specs.declared.numerals.Numerals.TheVariants.{Quoted}
-use Rattle.wire.specs.Messages.{IsMessage, IsRefusedFor, message_text}
+use Rattle.wire.specs.Messages.{IsMessage, IsRefusedFor, IsShort, message_text}
 use Rattle.snapshot_text.specs.declared.error.SnapshotError.{SnapshotError}
 use Rattle.snapshot_text.specs.declared.error.SnapshotError.TheVariants.{Line, Short, Long, Memory}
 
@@ -96,12 +96,19 @@ pub record IsBadLine {A : Type 0} (job : List ℕ) (form : Form A) (at : Place) 
   pub here : line_at at ≡ Some (line, after)
   pub refused : IsRefusedFor job form.name form.read line why
 
--- no value of this form is next: its line is refused, or there is none
+-- the line at a place is there, and is not too long to be read
+pub record HasLine (at : Place) : Type 0 where
+  pub line : List ℕ
+  pub after : Place
+  pub here : line_at at ≡ Some (line, after)
+  pub short : IsShort line
+
+-- no value of this form is next: its line is refused, or there is none, or it is there and memory ran out
 abbrev pub IsNot : {A : Type 0} → List ℕ → Form A → Place → SnapshotError → Type 0
 IsNot job form at (Line number why) = (number ≡ at.number + 1) × IsBadLine job form at why
 IsNot job form at Short = line_at at ≡ None
 IsNot job form at Long = ⊥
-IsNot job form at Memory = ⊥
+IsNot job form at Memory = HasLine at
 
 -- of the next so many values some are there, and then one is not
 pub record Fewer {A : Type 0} (Says : Place → A → Place → Type 0) (Fails : Place → SnapshotError → Type 0) (count : ℕ) (at : Place) (e : SnapshotError)
@@ -119,10 +126,3 @@ AreNot job form = Fewer (IsNext job form) (IsNot job form)
 abbrev pub Then : {A : Type 0} → (Place → A → Place → Type 0) → (Place → SnapshotError → Type 0) → (A → Place → SnapshotError → Type 0)
     → Place → SnapshotError → Type 0
 Then Says Fails Rest at e = Fails at e ⊎ ((x : _) × (after : Place) × Says at x after × Rest x after e)
-
--- memory ran out, or the error says this
-abbrev pub UnlessMemory : (SnapshotError → Type 0) → SnapshotError → Type 0
-UnlessMemory Says (Line number why) = Says (Line number why)
-UnlessMemory Says Short = Says Short
-UnlessMemory Says Long = Says Long
-UnlessMemory Says Memory = ⊤

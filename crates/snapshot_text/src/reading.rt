@@ -1,25 +1,25 @@
 //! Reading a snapshot.
 
-ghost use Rattle.std.specs.Prelude.{IfOk, IfErr};
-ghost use Rattle.cluster.specs.declared.snapshot.ClusterSnapshot.{ClusterSnapshot as Snapshot};
-ghost use Rattle.snapshot_text.specs.Lines.{AreNext, AreNot, IsNext, IsNot, UnlessMemory, form_of};
+ghost use Rattle.std.specs.Prelude.{IfErr, IfOk, OnOk};
+ghost use Rattle.job_calls.specs.declared.snapshot.ClusterSnapshot.{ClusterSnapshot as Snapshot};
+ghost use Rattle.snapshot_text.specs.Lines.{AreNext, AreNot, HasLine, IsNext, IsNot, form_of};
 ghost use Rattle.snapshot_text.specs.Texts.{IsReadAs, IsText, IsTextFault, NextTask, NoTask, AreTasks, AreNoTasks};
 
 use crate::error::SnapshotError;
 use crate::head::Head;
 use crate::lines::Lines;
 use crate::task_head::TaskHead;
-use cluster::{ClusterSnapshot, TaskSnapshot};
-use lease_table::{Kept, TableSnapshot};
+use grants::{Kept, SliceletCall, TableSnapshot};
+use job_calls::{ClusterSnapshot, TaskSnapshot};
 use machines::Listed;
-use slicelet::SliceletCall;
 use std::alloc::Global;
 use wire::{DecodeError, JobName, Wire, decode};
 
 // Reads the next line as a value.
 fn next_value<T: Wire>(alloc: Global, job: &JobName, lines: &mut Lines) -> Result<T, SnapshotError>
     ensures ok { IfOk result (λ x. IsNext job.now (form_of T.name T.data_of T.form) lines.old x lines.new) }
-    ensures err { IfErr result (UnlessMemory (IsNot job.now (form_of T.name T.data_of T.form) lines.old)) }
+    ensures err { IfErr result (IsNot job.now (form_of T.name T.data_of T.form) lines.old) }
+    ensures there { OnOk result (HasLine lines.old) }
 {
     let Some(line) = lines.take() else {
         return Err(SnapshotError::Short);
@@ -42,7 +42,7 @@ fn next_values<T: Wire>(
     lines: &mut Lines,
 ) -> Result<Vec<T>, SnapshotError>
     ensures ok { IfOk result (λ xs. AreNext job.now (form_of T.name T.data_of T.form) count lines.old xs.items lines.new) }
-    ensures err { IfErr result (UnlessMemory (AreNot job.now (form_of T.name T.data_of T.form) count lines.old)) }
+    ensures err { IfErr result (AreNot job.now (form_of T.name T.data_of T.form) count lines.old) }
 {
     let mut values = Vec::new(alloc);
     for _taken in 0..count {
@@ -54,7 +54,8 @@ fn next_values<T: Wire>(
 // Reads the next lines as a task.
 fn next_task(alloc: Global, job: &JobName, lines: &mut Lines) -> Result<TaskSnapshot, SnapshotError>
     ensures ok { IfOk result (λ task. NextTask job.now lines.old task lines.new) }
-    ensures err { IfErr result (UnlessMemory (NoTask job.now lines.old)) }
+    ensures err { IfErr result (NoTask job.now lines.old) }
+    ensures there { OnOk result (HasLine lines.old) }
 {
     let head: TaskHead = next_value(alloc, job, lines)?;
     let calls: Vec<SliceletCall> = next_values(alloc, job, head.calls, lines)?;
@@ -72,7 +73,7 @@ fn next_tasks(
     lines: &mut Lines,
 ) -> Result<Vec<TaskSnapshot>, SnapshotError>
     ensures ok { IfOk result (λ tasks. AreTasks job.now count lines.old tasks.items lines.new) }
-    ensures err { IfErr result (UnlessMemory (AreNoTasks job.now count lines.old)) }
+    ensures err { IfErr result (AreNoTasks job.now count lines.old) }
 {
     let mut tasks = Vec::new(alloc);
     for _taken in 0..count {
@@ -84,7 +85,7 @@ fn next_tasks(
 // Reads the parts of a snapshot, one after another.
 fn parts_of(alloc: Global, job: &JobName, text: &[u8]) -> Result<ClusterSnapshot, SnapshotError>
     ensures ok { IfOk result (λ snapshot. IsText job.now text.now snapshot) }
-    ensures err { IfErr result (UnlessMemory (IsTextFault job.now text.now)) }
+    ensures err { IfErr result (IsTextFault job.now text.now) }
 {
     let mut lines = Lines::new(text);
     let head: Head = next_value(alloc, job, &mut lines)?;
@@ -125,7 +126,8 @@ fn parts_of(alloc: Global, job: &JobName, text: &[u8]) -> Result<ClusterSnapshot
 /// # Errors
 ///
 /// The first line that is not the part that is due there, `Short` if there is none, or `Long` if
-/// something follows the last part; or out of memory. No machines may stand at a snapshot that is
+/// something follows the last part; or out of memory, which is possible only at a line that is there and
+/// not too long, after parts that are all read. No machines may stand at a snapshot that is
 /// read: `Cluster::resume` checks that.
 pub fn snapshot_of(
     alloc: Global,
@@ -133,7 +135,7 @@ pub fn snapshot_of(
     text: &[u8],
 ) -> Result<ClusterSnapshot, SnapshotError>
     ensures ok { IfOk result (λ snapshot. IsText job.now text.now snapshot) }
-    ensures err { IfErr result (UnlessMemory (IsTextFault job.now text.now)) }
+    ensures err { IfErr result (IsTextFault job.now text.now) }
     ensures same { (snapshot : Snapshot) → IsText job.now text.now snapshot → IsReadAs snapshot result }
 {
     parts_of(alloc, job, text)

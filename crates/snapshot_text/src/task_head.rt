@@ -6,7 +6,7 @@ ghost use Rattle.wire.specs.declared.numerals.Numerals.TheVariants as numeral;
 ghost use Rattle.wire.specs.Refusals.{or_wrong};
 ghost use Rattle.snapshot_text.specs.Heads.{task_head_data, task_head_of, task_head_in};
 
-use cluster::TaskSnapshot;
+use job_calls::TaskSnapshot;
 use program_io::{WrongForm, exactly, number_at};
 use serde_json::{Value, json};
 use std::alloc::{AllocError, Global};

@@ -7,7 +7,7 @@ ghost use Rattle.snapshot_text.specs.Texts.{IsText, AreTasksReadBack, IsTaskRead
 
 use crate::head::Head;
 use crate::task_head::TaskHead;
-use cluster::{ClusterSnapshot, TaskSnapshot};
+use job_calls::{ClusterSnapshot, TaskSnapshot};
 use std::alloc::{AllocError, Global};
 use wire::{JobName, Wire, encode};
 

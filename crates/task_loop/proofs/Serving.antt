@@ -2,7 +2,7 @@
 use Rattle.std.proofs.Common.{◌≡◌, ℕ, true, List, [], ◌∷◌, length, slice_index_or, subst, arith}
 use Rattle.world.specs.Jobs.{Job}
 use Rattle.world.specs.declared.step.Step.TheVariants as step
-use Rattle.world.specs.declared.reply.Reply.{Reply}
+use Rattle.replies.specs.declared.reply.Reply.{Reply}
 use Rattle.world.specs.Pasts.{Past, steps_of, IsTimely}
 use Rattle.world.specs.Runs.{IsRun, past_after}
 use Rattle.world.specs.Headline.{MayServe, is_served}

@@ -3,15 +3,16 @@
 ghost use Rattle.std.specs.Prelude.{◌≡◌, ℕ, ◌∷◌, true, IfOk, OnErr, Ok, if◌then◌else◌};
 ghost use Rattle.world.specs.Jobs.{Job};
 ghost use Rattle.world.specs.declared.step.Step.TheVariants as step;
-ghost use Rattle.world.specs.declared.reply.Reply.{Reply};
+ghost use Rattle.replies.specs.declared.reply.Reply.{Reply};
 ghost use Rattle.world.specs.Pasts.{Past, event, steps_of, IsTimely};
 ghost use Rattle.world.specs.Headline.{MayServe, IsOwner, is_served};
 ghost use Rattle.world.specs.Worlds.{LeadsTo};
 
 use lease_rule::Verdict;
 use machines::Listed;
+use replies::Reply;
 use std::alloc::AllocError;
-use world::{Reply, Step, World};
+use world::{Step, World};
 
 /// Writes a value to a task's record if the task may serve the key, and returns whether it did.
 ///

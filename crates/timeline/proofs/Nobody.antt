@@ -3,7 +3,7 @@ use Rattle.std.proofs.Common.{◌≡◌, ◌∙◌, ℕ, false, List, [], ◌∷
 use Rattle.std.specs.Prelude.{Option, None}
 use Rattle.assignment.specs.Slices.{Slicing, is_among}
 use Rattle.assignment.specs.Owners.{owns, owners_of, tasks}
-use Rattle.lease_table.specs.Tables.{slices_of}
+use Rattle.grants.specs.Assignments.{slices_of}
 
 nobody : (key : ℕ) (some : List ℕ) → filter (owns [] key) some ≡ []
 nobody key [] = refl

@@ -1,6 +1,5 @@
 -- Lanes one after another, and texts with a part for each.
-use Rattle.std.proofs.Common.{◌≡◌, ◌∙◌, ℕ, suc, ◌+◌, ◌<◌, List, [], ◌∷◌, ◌++◌}
-use Rattle.std.proofs.Common.{length, take, map, get_or, refl, sym, ap, ap₂, subst, arith, append_assoc, append-nil, inl, inr, Result, IfOk, OnOk}
+use Rattle.std.proofs.Common.{◌≡◌, ◌∙◌, ℕ, suc, ◌+◌, ◌<◌, List, [], ◌∷◌, ◌++◌, length, take, map, get_or, refl, sym, ap, ap₂, subst, arith, append_assoc, append-nil, inl, inr, Result, IfOk, OnOk}
 use Rattle.std.proofs.lemmas.List.{take_more, map-append}
 use Rattle.std.proofs.lemmas.Result.{IfOk-weaker, on_ok_weaker}
 use Rattle.timeline.specs.declared.alarm.Alarm.{Alarm}

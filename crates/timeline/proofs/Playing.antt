@@ -4,15 +4,15 @@ use Rattle.std.specs.Prelude.{Result, Ok, Err, reverse}
 use Rattle.std.proofs.lemmas.List.{take_more, reverse-append}
 use Rattle.world.specs.Jobs.{Job}
 use Rattle.world.specs.declared.step.Step.{Step}
-use Rattle.world.specs.declared.reply.Reply.{Reply}
-use Rattle.world.specs.declared.reply.Reply.TheVariants as reply
-use Rattle.world.specs.declared.reply.Refusal.{Refusal}
+use Rattle.replies.specs.declared.reply.Reply.{Reply}
+use Rattle.replies.specs.declared.reply.Reply.TheVariants as reply
+use Rattle.replies.specs.declared.reply.Refusal.{Refusal}
 use Rattle.world.specs.declared.world.World.{World}
 use Rattle.world.specs.Pasts.{Event, event, Past}
 use Rattle.world.specs.Calls.{call_of, calls_in, with_call, unless_out_of_memory}
 use Rattle.world.specs.Worlds.{LeadsTo}
 use Rattle.world.specs.Runs.{past_after}
-use Rattle.cluster.specs.declared.call.ClusterCall.{ClusterCall}
+use Rattle.job_calls.specs.declared.call.ClusterCall.{ClusterCall}
 use Rattle.cluster.specs.Pasts.{Event as ClusterEvent, Past as ClusterPast}
 use Rattle.timeline.specs.Tasks.{IsNextPast}
 use Rattle.timeline.proofs.Tasks.{next_call, next_none}

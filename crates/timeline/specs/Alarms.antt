@@ -1,15 +1,14 @@
 -- What a picture warns of: readings that are not timely, and requests that were served by a task that does not own their key.
-use Rattle.std.specs.Prelude.{◌≡◌, ℕ, ◌+◌, ◌-◌, ◌==◌, Bool, true, not, nat_lt, max, List}
-use Rattle.std.specs.Prelude.{[], ◌∷◌, ◌++◌, length, map, reverse, codes, decimal, Option, Some, None, if◌then◌else◌}
+use Rattle.std.specs.Prelude.{◌≡◌, ℕ, ◌+◌, ◌-◌, ◌==◌, Bool, true, not, nat_lt, max, List, [], ◌∷◌, ◌++◌, length, map, reverse, codes, decimal, Option, Some, None, if◌then◌else◌}
 use Rattle.std.specs.List.{AllByRecursion}
 use Rattle.slice_ranges.specs.Hash.{slice_key}
 use Rattle.assignment.specs.Slices.{Slicing, is_among}
 use Rattle.assignment.specs.Owners.{owners_of}
-use Rattle.lease_table.specs.Tables.{generation_of, slices_of}
+use Rattle.grants.specs.Assignments.{generation_of, slices_of}
 use Rattle.lease_table.specs.Calls.{committed_in}
 use Rattle.cluster.specs.Pasts.{table_calls}
-use Rattle.cluster.specs.declared.timing.Reading.{Reading}
-use Rattle.cluster.specs.declared.timing.Reading.TheVariants.{TableClock, TaskClock}
+use Rattle.job_calls.specs.declared.timing.Reading.{Reading}
+use Rattle.job_calls.specs.declared.timing.Reading.TheVariants.{TableClock, TaskClock}
 use Rattle.world.specs.Jobs.{Job}
 use Rattle.world.specs.declared.step.Step.{Step}
 use Rattle.world.specs.declared.step.Step.TheVariants as step

@@ -1,6 +1,5 @@
 -- The levels of a lane: things beside each other, with their labels.
-use Rattle.std.specs.Prelude.{◌≡◌, ℕ, ◌+◌, ◌*◌, ◌≤◌, min, ⊤, List, [], ◌∷◌}
-use Rattle.std.specs.Prelude.{◌++◌, codes, chars, decimal, length, Option, Some, None, MatchOption, slice_get, string_bytes}
+use Rattle.std.specs.Prelude.{◌≡◌, ℕ, ◌+◌, ◌*◌, ◌≤◌, min, ⊤, List, [], ◌∷◌, ◌++◌, codes, chars, decimal, length, Option, Some, None, MatchOption, slice_get, string_bytes}
 use Rattle.timeline.specs.declared.levels.Label.{Label}
 use Rattle.timeline.specs.declared.levels.Place.{Place}
 use Rattle.timeline.specs.declared.levels.Level.{Level}

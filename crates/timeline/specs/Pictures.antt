@@ -1,6 +1,5 @@
 -- What a picture has of each actor: its lane, and what is told of it.
-use Rattle.std.specs.Prelude.{◌≡◌, ◌≢◌, ◌⊎◌, ℕ, ◌-◌, ◌==◌, max, Bool, false, List}
-use Rattle.std.specs.Prelude.{[], ◌∷◌, ◌++◌, codes, decimal, Option, MatchOption, unwrap_or, slice_get, if◌then◌else◌}
+use Rattle.std.specs.Prelude.{◌≡◌, ◌≢◌, ◌⊎◌, ℕ, ◌-◌, ◌==◌, max, Bool, false, List, [], ◌∷◌, ◌++◌, codes, decimal, Option, MatchOption, unwrap_or, slice_get, if◌then◌else◌}
 use Rattle.std.specs.List.{flat_map, list_any}
 use Rattle.std.specs.Ordering.{nat_cmp}
 use Rattle.std.specs.BTreeMap.{get_by}

@@ -3,7 +3,7 @@ use Rattle.std.specs.Prelude.{◌≡◌, ℕ, List, reverse}
 use Rattle.std.specs.List.{AllByRecursion}
 use Rattle.world.specs.Jobs.{Job}
 use Rattle.world.specs.declared.step.Step.{Step}
-use Rattle.world.specs.declared.reply.Reply.TheVariants as reply
+use Rattle.replies.specs.declared.reply.Reply.TheVariants as reply
 use Rattle.world.specs.Pasts.{Event, Past, steps_of}
 use Rattle.world.specs.Calls.{calls_in}
 use Rattle.world.specs.Runs.{IsRun}

@@ -1,7 +1,7 @@
 -- The stretches of readings in which a task may serve a key.
 use Rattle.std.specs.Prelude.{◌≡◌, ◌⊎◌, ℕ, ◌≤◌, Bool, ◌&&◌, ◌||◌, nat_lt, nat_le, List, [], ◌∷◌, if◌then◌else◌}
 use Rattle.std.specs.List.{list_any}
-use Rattle.slicelet.specs.declared.call.SliceletCall.{SliceletCall}
+use Rattle.grants.specs.declared.slicelet_call.SliceletCall.{SliceletCall}
 use Rattle.slicelet.specs.Calls.{is_resume, reading_of}
 use Rattle.slicelet.specs.Rules.{covers_key, is_permitted}
 use Rattle.timeline.specs.declared.stretch.Stretch.{Stretch}

@@ -4,9 +4,8 @@ use crate::deed::Deed;
 use crate::lane::{Item, Look, Row, add_row};
 use crate::words::OwnerWords;
 use clerk::Found;
-use service::RefusalWords;
+use replies::{RefusalWords, Reply};
 use std::alloc::{AllocError, Global};
-use world::Reply;
 
 /// What happened to a clerk.
 #[derive(Drop)]

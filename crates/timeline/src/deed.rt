@@ -1,6 +1,6 @@
 //! What actors do, as a picture tells it.
 
-use lease_table::ReleaseNote;
+use grants::ReleaseNote;
 
 /// What was done, and by which actor.
 #[derive(Clone, Copy, Debug)]

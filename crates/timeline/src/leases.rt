@@ -2,8 +2,8 @@
 
 use crate::lane::{Item, Look, Part};
 use crate::words::kind_word;
+use grants::{MOST_GRANTS, ReleaseNote};
 use lease_rule::Kind;
-use lease_table::{MOST_GRANTS, ReleaseNote};
 use std::alloc::{AllocError, Global};
 
 /// What happened to a grant.

@@ -9,10 +9,11 @@ ghost use Rattle.timeline.specs.internals.Playing.{ArePlayed};
 use crate::stretch::{KeyStretches, Stretch};
 use crate::task_stretches::{new_stretches, observe_tasks, stretches_of};
 use machines::Listed;
+use replies::Reply;
 use slice_ranges::SliceKey;
 use std::alloc::{AllocError, Global};
 use std::slice;
-use world::{Job, Reply, Step, World};
+use world::{Job, Step, World};
 
 // Plays a step, and records what each task knows after it.
 fn play(world: &mut World, tasks: &mut Vec<KeyStretches>, step: &Step) -> Result<(), AllocError>

@@ -15,11 +15,12 @@ use crate::watch::{Watch, foreign_generation, is_shown_key};
 use crate::words::{ground_word, key_label, reading_of, table_word};
 use cluster::Cluster;
 use lease_rule::Verdict;
-use service::{Line, Script};
+use replies::{Line, Reply};
+use service::Script;
 use slice_ranges::{SliceKey, slice_key};
 use std::alloc::{AllocError, Global};
 use std::slice;
-use world::{Reply, Step, World};
+use world::{Step, World};
 
 /// What is told of a script: the lanes of its actors, and the warnings of its steps.
 #[derive(Drop)]

@@ -11,9 +11,10 @@ use crate::leases::LeaseRecord;
 use crate::table_lane::TableRecord;
 use crate::task_lane::TaskRecord;
 use cluster::Cluster;
-use lease_table::{Grant, ReleaseNote};
+use grants::{Grant, ReleaseNote};
+use replies::Reply;
 use std::alloc::{AllocError, Global};
-use world::{Job, Reply};
+use world::Job;
 
 /// What happened to the actors of a job.
 #[derive(Drop)]

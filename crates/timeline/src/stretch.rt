@@ -2,7 +2,7 @@
 
 ghost use Rattle.std.specs.Prelude.{◌≡◌, ℕ, ◌≤◌, ◌&&◌, ◌||◌, List, [], IfOk, OnOk, nat_le, nat_lt};
 ghost use Rattle.std.specs.List.{list_any};
-ghost use Rattle.slicelet.specs.declared.call.SliceletCall.{SliceletCall};
+ghost use Rattle.grants.specs.declared.slicelet_call.SliceletCall.{SliceletCall};
 ghost use Rattle.slicelet.specs.Accepted.{StandsAfter};
 ghost use Rattle.slicelet.specs.Rules.{covers_key, is_permitted};
 ghost use Rattle.slicelet.specs.States.{holding_in, permits};

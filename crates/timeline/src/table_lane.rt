@@ -3,10 +3,9 @@
 use crate::deed::Deed;
 use crate::lane::{FOREVER, Item, Look, Part, Row, add_row};
 use crate::words::Ending;
-use lease_table::{JobTerm, Phase};
-use service::RefusalWords;
+use grants::{JobTerm, Phase};
+use replies::{RefusalWords, Reply};
 use std::alloc::{AllocError, Global};
-use world::Reply;
 
 /// A term of the job lease, and the reading when it was taken.
 #[derive(Clone, Copy, Debug, PartialEq, Eq)]

@@ -5,11 +5,12 @@ use crate::lane::{FOREVER, Item, Look, Part, Row, add_row};
 use crate::leases::LeaseRecord;
 use crate::stretch::serving_end;
 use crate::words::Ending;
+use grants::ReleaseNote;
+use key_handle::KeyHandle;
 use lease_rule::{Kind, Verdict};
-use lease_table::ReleaseNote;
-use slicelet::{KeyHandle, Slicelet};
+use replies::Reply;
+use slicelet::Slicelet;
 use std::alloc::{AllocError, Global};
-use world::Reply;
 
 /// A life of a task, and the reading when it was started.
 #[derive(Clone, Copy, Debug, PartialEq, Eq)]

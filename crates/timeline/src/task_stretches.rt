@@ -2,13 +2,14 @@
 
 ghost use Rattle.std.specs.Prelude.{◌≡◌, ℕ, [], true, IfOk, OnOk};
 ghost use Rattle.machines.specs.Numbers.{is_within};
-ghost use Rattle.cluster.specs.Jobs.{Job};
+ghost use Rattle.job_calls.specs.Jobs.{Job};
 ghost use Rattle.cluster.specs.Pasts.{Past};
 ghost use Rattle.cluster.specs.Clusters.{LeadsTo};
 ghost use Rattle.timeline.specs.Tasks.{Each, AreTaskStretches, IsKeptOf, IsNextPast};
 
 use crate::stretch::{KeyStretches, Stretch};
-use cluster::{Cluster, Job, told_law};
+use cluster::{Cluster, told_law};
+use job_calls::Job;
 use machines::Listed;
 use slice_ranges::SliceKey;
 use std::alloc::{AllocError, Global};

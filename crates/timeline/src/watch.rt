@@ -8,20 +8,22 @@ ghost use Rattle.cluster.specs.Pasts.{Past as Calls, table_calls};
 ghost use Rattle.cluster.specs.Clusters.{LeadsTo};
 ghost use Rattle.assignment.specs.Slices.{is_among};
 ghost use Rattle.assignment.specs.Owners.{owners_of};
-ghost use Rattle.lease_table.specs.Tables.{generation_of, slices_of};
+ghost use Rattle.grants.specs.Assignments.{generation_of, slices_of};
 ghost use Rattle.lease_table.specs.Calls.{committed_in};
-ghost use Rattle.cluster.specs.declared.timing.Reading.{Reading as ReadingOf};
+ghost use Rattle.job_calls.specs.declared.timing.Reading.{Reading as ReadingOf};
 ghost use Rattle.timeline.specs.Levels.{counted};
 ghost use Rattle.timeline.specs.Alarms.{committed_after, foreign_at, foreign_in, greatest_of_table, is_shown_key, late_of, seen_in, task_of, unowned_of};
 ghost use Rattle.timeline.specs.internals.Watching.{IsWatch};
 
 use crate::alarm::{Alarm, PlaceWords, Seen, Why};
 use assignment::TaskId;
-use cluster::{Cluster, Reading};
+use cluster::Cluster;
+use job_calls::Reading;
 use lease_rule::Verdict;
+use replies::Reply;
 use slice_ranges::{SliceKey, slice_key};
 use std::alloc::{AllocError, Global};
-use world::{Job, Reply, Step};
+use world::{Job, Step};
 
 /// What is known of the steps so far.
 #[derive(Drop)]

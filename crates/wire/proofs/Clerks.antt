@@ -1,5 +1,5 @@
 -- What is written of a clerk is read as the clerk.
-use Rattle.std.proofs.Common.{◌≡◌, ◌≤◌, Option, Ok, refl, arith}
+use Rattle.std.proofs.Common.{◌≡◌, Option, Ok, refl, arith}
 use Rattle.serde_json.specs.Data.{Data}
 use Rattle.assignment.specs.Slices.{Slicing}
 use Rattle.wire.specs.declared.numerals.Numerals.TheVariants.{Quoted}

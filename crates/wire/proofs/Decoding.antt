@@ -14,6 +14,7 @@ use Rattle.wire.specs.declared.fault.DecodeRefusal.TheVariants.{OtherJob}
 use Rattle.wire.specs.declared.numerals.Numerals.{Numerals}
 use Rattle.wire.specs.declared.numerals.Numerals.TheVariants.{Quoted}
 use Rattle.wire.specs.Messages.{Content, IsDecodedAs, IsMessage, IsNoMessage, IsOfOtherJob, IsUndecoded, IsWritten, content, content_of, message_data, message_of, named_content, value_for}
+use Rattle.wire.specs.Refusals.{OutOfMemory}
 use Rattle.program_io.proofs.Once.{written_once}
 use Rattle.wire.proofs.Digits.{bytes_themselves}
 
@@ -47,7 +48,12 @@ pub decoded_as : {A : Type 0} (job name : List ℕ) (form : Numerals → Data �
     → IsUndecoded job name form bytes e → IsDecodedAs bytes x (Err e)
 decoded_as job name form bytes x (failed.Refused why) is (inl long) = inl (ap failed.Refused long.0, long.1)
 decoded_as job name form bytes x (failed.Refused why) is (inr (_, not)) = absurd (is_no_other job name form bytes x why is not)
-decoded_as job name form bytes x failed.NoMemory is not = inr refl
+decoded_as job name form bytes x failed.NoMemory is not = inr (refl, not)
+
+pub where_memory_ran_out : {A : Type 0} (Holds : Type 0) (r : Result A DecodeError) → Holds → OutOfMemory Holds r
+where_memory_ran_out Holds (Ok x) holds = tt
+where_memory_ran_out Holds (Err (failed.Refused why)) holds = tt
+where_memory_ran_out Holds (Err failed.NoMemory) holds = holds
 
 -- A MESSAGE OF ANOTHER JOB
 
@@ -98,7 +104,7 @@ pub refused_as_other : {A : Type 0} (job other name : List ℕ) (form : Numerals
     → IsUndecoded job name form bytes e → IsOfOtherJob {A = A} bytes (Err e)
 refused_as_other job other name form bytes x (failed.Refused why) differs is (inl long) = inr (inl (ap failed.Refused long.0, long.1))
 refused_as_other job other name form bytes x (failed.Refused why) differs is (inr (_, not)) = inl (ap failed.Refused (other_why job other name form bytes x why differs is not))
-refused_as_other job other name form bytes x failed.NoMemory differs is not = inr (inr refl)
+refused_as_other job other name form bytes x failed.NoMemory differs is not = inr (inr (refl, not))
 
 -- WHAT WAS WRITTEN
 

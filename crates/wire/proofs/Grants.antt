@@ -4,7 +4,7 @@ use Rattle.serde_json.specs.Data.{Data, depth}
 use Rattle.serde_json.specs.Written.{has_float, outline}
 use Rattle.assignment.specs.declared.task.TheConstants.{TASKS}
 use Rattle.slice_ranges.specs.Sets.{IsRanges}
-use Rattle.lease_table.specs.declared.values.Grant.{Grant}
+use Rattle.grants.specs.declared.values.Grant.{Grant}
 use Rattle.program_io.specs.Repeated.{first_repeated}
 use Rattle.wire.specs.declared.numerals.Numerals.TheVariants.{Quoted}
 use Rattle.wire.specs.Grants.{grant_data, grant_of}

@@ -4,7 +4,7 @@ use Rattle.std.proofs.lemmas.Bool.{lt-ltb}
 use Rattle.serde_json.specs.Data.{Data}
 use Rattle.slice_ranges.specs.declared.key.TheConstants.{KEYS}
 use Rattle.assignment.specs.declared.task.TheConstants.{TASKS}
-use Rattle.slicelet.specs.declared.handle.KeyHandle.{KeyHandle}
+use Rattle.key_handle.specs.declared.handle.KeyHandle.{KeyHandle}
 use Rattle.wire.specs.declared.numerals.Numerals.TheVariants.{Quoted}
 use Rattle.wire.specs.Handles.{handle_data, handle_of}
 use Rattle.wire.specs.Messages.{IsWritten}

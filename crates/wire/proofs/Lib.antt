@@ -6,10 +6,7 @@ pub mod Notes
 pub mod Handles
 pub mod Grants
 pub mod Assignments
-pub mod TableCalls
-pub mod TableReplies
 pub mod TaskCalls
-pub mod ClerkCalls
 pub mod KeptValues
 pub mod Clerks
 pub mod Rows

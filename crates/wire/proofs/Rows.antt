@@ -1,7 +1,7 @@
 -- What is written of a row is read as the row.
 use Rattle.std.proofs.Common.{◌≡◌, ◌^◌, ◌<◌, ◌≤◌, Ok, refl, arith}
 use Rattle.assignment.specs.declared.task.TheConstants.{TASKS}
-use Rattle.lease_table.specs.declared.values.Row.{Row}
+use Rattle.grants.specs.declared.values.Row.{Row}
 use Rattle.serde_json.specs.Data.{Data}
 use Rattle.wire.specs.declared.numerals.Numerals.TheVariants.{Quoted}
 use Rattle.wire.specs.Messages.{IsWritten}

@@ -1,21 +1,16 @@
--- What is written of the calls of a slicelet and their replies is read as these.
+-- What is written of a call of a slicelet is read as the call.
 use Rattle.std.proofs.Common.{◌≡◌, ℕ, ◌^◌, ◌<◌, ◌≤◌, false, None, Ok, refl, arith}
 use Rattle.serde_json.specs.Data.{Data, depth}
 use Rattle.serde_json.specs.Written.{has_float, outline}
 use Rattle.lease_rule.specs.declared.lease.Kind.{Kind}
-use Rattle.lease_table.specs.declared.values.Grant.{Grant}
-use Rattle.lease_table.specs.declared.values.ReleaseNote.{ReleaseNote}
-use Rattle.slicelet.specs.declared.call.EndedNotes.{EndedNotes}
-use Rattle.slicelet.specs.declared.call.SliceletCall.{SliceletCall}
-use Rattle.slicelet.specs.declared.call.SliceletCall.TheVariants.{Start, Hear, Release, Resume}
-use Rattle.slicelet.specs.declared.call.SliceletReply.{SliceletReply}
-use Rattle.slicelet.specs.declared.call.SliceletReply.TheVariants.{Started, Heard, Released, Resumed}
+use Rattle.grants.specs.declared.values.Grant.{Grant}
+use Rattle.grants.specs.declared.slicelet_call.SliceletCall.{SliceletCall}
+use Rattle.grants.specs.declared.slicelet_call.SliceletCall.TheVariants.{Start, Hear, Release, Resume}
 use Rattle.program_io.specs.Repeated.{first_repeated}
 use Rattle.wire.specs.declared.numerals.Numerals.TheVariants.{Quoted}
 use Rattle.wire.specs.Grants.{grant_data, grant_of}
 use Rattle.wire.specs.Messages.{IsWritten}
-use Rattle.wire.specs.Notes.{note_data, note_of}
-use Rattle.wire.specs.TaskCalls.{task_call_data, task_call_of, start_of, hear_of, release_of, resume_of, task_reply_data, task_reply_of, started_of, heard_of, released_of, resumed_of}
+use Rattle.wire.specs.TaskCalls.{task_call_data, task_call_of, start_of, hear_of, release_of, resume_of}
 use Rattle.wire.proofs.Digits.{digits_read}
 use Rattle.wire.proofs.Grants.{grant_once, grant_shallow, grant_whole}
 use Rattle.wire.proofs.Notes.{kind_read}
@@ -62,48 +57,4 @@ task_call_written call d is reads = record {
   whole = rw (is, task_call_whole call) refl;
   shallow = rw is (omega (arith, task_call_shallow call));
   once = rw (is, task_call_once call) refl;
-}
-
-pub started_read : task_reply_of Quoted (task_reply_data Quoted Started) ≡ Ok Started
-unfolding task_reply_of started_of
-started_read = refl
-
-pub heard_read : task_reply_of Quoted (task_reply_data Quoted Heard) ≡ Ok Heard
-unfolding task_reply_of heard_of
-heard_read = refl
-
-pub released_read : (note : ReleaseNote) → note_of Quoted (note_data Quoted note) ≡ Ok note → task_reply_of Quoted (task_reply_data Quoted (Released note)) ≡ Ok (Released note)
-unfolding task_reply_of released_of
-released_read note read = rw read refl
-
-pub resumed_read : (ended : EndedNotes) → note_of Quoted (note_data Quoted ended.guard) ≡ Ok ended.guard → note_of Quoted (note_data Quoted ended.bridge) ≡ Ok ended.bridge
-    → task_reply_of Quoted (task_reply_data Quoted (Resumed ended)) ≡ Ok (Resumed ended)
-unfolding task_reply_of resumed_of
-resumed_read ended guard bridge = rw (guard, bridge) refl
-
-task_reply_whole : (reply : SliceletReply) → has_float (task_reply_data Quoted reply) ≡ false
-task_reply_whole Started = refl
-task_reply_whole Heard = refl
-task_reply_whole (Released note) = refl
-task_reply_whole (Resumed ended) = refl
-
-task_reply_shallow : (reply : SliceletReply) → depth (task_reply_data Quoted reply) ≤ 4
-task_reply_shallow Started = omega arith
-task_reply_shallow Heard = omega arith
-task_reply_shallow (Released note) = omega arith
-task_reply_shallow (Resumed ended) = omega arith
-
-task_reply_once : (reply : SliceletReply) → first_repeated (outline (task_reply_data Quoted reply)) ≡ None
-task_reply_once Started = refl
-task_reply_once Heard = refl
-task_reply_once (Released note) = refl
-task_reply_once (Resumed ended) = refl
-
-pub task_reply_written : (reply : SliceletReply) (d : Data) → d ≡ task_reply_data Quoted reply → task_reply_of Quoted (task_reply_data Quoted reply) ≡ Ok reply → IsWritten task_reply_data task_reply_of reply d
-task_reply_written reply d is reads = record {
-  is = is;
-  reads = rw (is, reads) refl;
-  whole = rw (is, task_reply_whole reply) refl;
-  shallow = rw is (omega (arith, task_reply_shallow reply));
-  once = rw (is, task_reply_once reply) refl;
 }

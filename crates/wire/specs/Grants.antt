@@ -1,7 +1,7 @@
 -- Grants as JSON.
 use Rattle.std.specs.Prelude.{[], ◌∷◌, codes, Result, Ok}
 use Rattle.serde_json.specs.Data.{Data}
-use Rattle.lease_table.specs.declared.values.Grant.{Grant}
+use Rattle.grants.specs.declared.values.Grant.{Grant}
 use Rattle.program_io.specs.Reading.{◌>>=◌, ◌>>◌}
 use Rattle.program_io.specs.Members.{exactly, member_at}
 use Rattle.wire.specs.declared.fault.DecodeRefusal.{DecodeRefusal}

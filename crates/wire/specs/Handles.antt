@@ -2,7 +2,7 @@
 use Rattle.std.specs.Prelude.{ℕ, List, [], ◌∷◌, codes, nat_lt, Result, Ok}
 use Rattle.serde_json.specs.Data.{Data}
 use Rattle.slice_ranges.specs.declared.key.TheConstants.{KEYS}
-use Rattle.slicelet.specs.declared.handle.KeyHandle.{KeyHandle}
+use Rattle.key_handle.specs.declared.handle.KeyHandle.{KeyHandle}
 use Rattle.program_io.specs.declared.fault.WrongForm.{WrongForm}
 use Rattle.program_io.specs.Reading.{◌>>=◌, ◌>>◌, check}
 use Rattle.program_io.specs.Members.{wrong, exactly}

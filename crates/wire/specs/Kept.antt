@@ -2,9 +2,9 @@
 use Rattle.std.specs.Prelude.{ℕ, List, [], ◌∷◌, codes, Option, Some, None, Result, Ok, is_some, if◌then◌else◌}
 use Rattle.serde_json.specs.Data.{Data, null}
 use Rattle.serde_json.specs.Find.{as_null}
-use Rattle.lease_table.specs.declared.kept.Kept.{Kept}
-use Rattle.lease_table.specs.declared.values.JobTerm.{JobTerm}
-use Rattle.lease_table.specs.Policies.{Terms, is_policy, terms}
+use Rattle.grants.specs.declared.kept.Kept.{Kept}
+use Rattle.grants.specs.declared.values.JobTerm.{JobTerm}
+use Rattle.grants.specs.Policies.{Terms, is_policy, terms}
 use Rattle.program_io.specs.declared.fault.WrongForm.{WrongForm}
 use Rattle.program_io.specs.Reading.{◌>>=◌, ◌>>◌, check}
 use Rattle.program_io.specs.Members.{wrong, exactly, member_at, number_at, two_numbers_of}

@@ -9,7 +9,6 @@ pub mod Ranges
 pub mod Grants
 pub mod Assignments
 pub mod TableCalls
-pub mod TableReplies
 pub mod TaskCalls
 pub mod ClerkCalls
 pub mod Kept

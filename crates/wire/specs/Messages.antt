@@ -1,5 +1,5 @@
 -- Messages: a value of a type as bytes, of a job.
-use Rattle.std.specs.Prelude.{◌≡◌, ◌⊎◌, ◌==◌, ◌<◌, ◌≤◌, ℕ, List, [], ◌∷◌, length, codes, false, None, ⊤, Result, Ok, Err, if◌then◌else◌}
+use Rattle.std.specs.Prelude.{◌≡◌, ◌⊎◌, ◌==◌, ◌<◌, ◌≤◌, ℕ, List, [], ◌∷◌, length, codes, true, false, None, Result, Ok, Err, if◌then◌else◌}
 use Rattle.std.specs.Str.{bytes_eq}
 use Rattle.serde_json.specs.Data.{Data, string, depth}
 use Rattle.serde_json.specs.Written.{compact_text, has_float, outline}
@@ -76,6 +76,12 @@ value_for job form c = do
 abbrev pub message_of : {A : Type 0} → List ℕ → List ℕ → (Numerals → Data → Result A DecodeRefusal) → Data → Result A DecodeRefusal
 message_of job name form d = content_of name d >>= value_for job form
 
+-- the message holds a value, and is of this job
+pub record IsOurs (job name : List ℕ) (d : Data) : Type 0 where
+  pub content : Content
+  pub holds : content_of name d ≡ Ok content
+  pub ours : bytes_eq content.job job ≡ true
+
 -- there are not too many bytes to read
 abbrev pub IsShort : List ℕ → Type 0
 IsShort bytes = length bytes ≤ MOST_BYTES
@@ -101,14 +107,14 @@ IsNoMessage job name form bytes why =
 abbrev pub IsRefusedFor : {A : Type 0} → List ℕ → List ℕ → (Numerals → Data → Result A DecodeRefusal) → List ℕ → DecodeRefusal → Type 0
 IsRefusedFor job name form bytes why = ((why ≡ TooLong) × (MOST_BYTES < length bytes)) ⊎ (IsShort bytes × IsNoMessage job name form bytes why)
 
--- nothing was decoded: the bytes are refused, or memory ran out
+-- nothing was decoded: the bytes are refused, or memory ran out, which takes bytes that are not too many
 abbrev pub IsUndecoded : {A : Type 0} → List ℕ → List ℕ → (Numerals → Data → Result A DecodeRefusal) → List ℕ → DecodeError → Type 0
 IsUndecoded job name form bytes (failed.Refused why) = IsRefusedFor job name form bytes why
-IsUndecoded job name form bytes failed.NoMemory = ⊤
+IsUndecoded job name form bytes failed.NoMemory = IsShort bytes
 
--- there are too many bytes, or memory ran out
+-- there are too many bytes, or there are not, and memory ran out
 abbrev pub IsUnread : List ℕ → DecodeError → Type 0
-IsUnread bytes e = ((e ≡ failed.Refused TooLong) × (MOST_BYTES < length bytes)) ⊎ (e ≡ failed.NoMemory)
+IsUnread bytes e = ((e ≡ failed.Refused TooLong) × (MOST_BYTES < length bytes)) ⊎ ((e ≡ failed.NoMemory) × IsShort bytes)
 
 -- the bytes of this value were decoded, unless they were not read
 abbrev pub IsDecodedAs : {A : Type 0} → List ℕ → A → Result A DecodeError → Type 0

@@ -1,5 +1,9 @@
 -- What is read as a value of a type, or why it is refused.
 use Rattle.std.specs.Prelude.{◌≡◌, ⊤, Result, Ok, Err}
+use Rattle.machines.specs.declared.machine.Trouble.{Trouble}
+use Rattle.machines.specs.declared.machine.Trouble.TheVariants.{Refused, NoMemory}
+use Rattle.assignment.specs.declared.error.AssignmentError.{AssignmentError}
+use Rattle.slice_ranges.specs.declared.error.RangesError.{RangesError}
 use Rattle.program_io.specs.declared.fault.WrongForm.{WrongForm}
 use Rattle.program_io.specs.declared.fault.Unread.{Unread}
 use Rattle.program_io.specs.declared.fault.Unread.TheVariants as unread
@@ -27,6 +31,22 @@ FailsAs failed.NoMemory read = ⊤
 abbrev pub Gives : {A : Type 0} → Result A DecodeError → Result A DecodeRefusal → Type 0
 Gives (Ok x) read = read ≡ Ok x
 Gives (Err e) read = FailsAs e read
+
+-- where memory ran out, this holds
+abbrev pub OutOfMemory : {A : Type 0} → Type 0 → Result A DecodeError → Type 0
+OutOfMemory Holds (Ok x) = ⊤
+OutOfMemory Holds (Err (failed.Refused why)) = ⊤
+OutOfMemory Holds (Err failed.NoMemory) = Holds
+
+-- why no set is built: the refusal, or that memory ran out where there is none
+abbrev pub ranges_failure : Trouble RangesError → DecodeError
+ranges_failure (Refused why) = failed.Refused (refusal.Ranges why)
+ranges_failure NoMemory = failed.NoMemory
+
+-- why no assignment is built
+abbrev pub slices_failure : Trouble AssignmentError → DecodeError
+slices_failure (Refused why) = failed.Refused (refusal.Slices why)
+slices_failure NoMemory = failed.NoMemory
 
 -- what a function returned, seen by f, is what is read
 abbrev pub IsRead : {X A : Type 0} → (X → A) → Result X DecodeRefusal → Result A DecodeRefusal → Type 0

@@ -1,7 +1,7 @@
 -- Rows of a table as JSON.
 use Rattle.std.specs.Prelude.{[], ◌∷◌, codes, Result, Ok}
 use Rattle.serde_json.specs.Data.{Data}
-use Rattle.lease_table.specs.declared.values.Row.{Row}
+use Rattle.grants.specs.declared.values.Row.{Row}
 use Rattle.program_io.specs.declared.fault.WrongForm.{WrongForm}
 use Rattle.program_io.specs.Reading.{◌>>=◌, ◌>>◌}
 use Rattle.program_io.specs.Members.{exactly}

@@ -1,36 +1,17 @@
 -- Calls of the table as JSON.
 use Rattle.std.specs.Prelude.{List, [], ◌∷◌, ◌++◌, codes, Result, Ok, ℕ}
-use Rattle.serde_json.specs.Data.{Data, string}
-use Rattle.lease_table.specs.declared.call.TableCall.{TableCall}
-use Rattle.lease_table.specs.declared.call.TableCall.TheVariants.{JobTake, JobRenew, Propose, Commit, Grant, Free, Restart}
+use Rattle.serde_json.specs.Data.{Data}
+use Rattle.grants.specs.declared.table_call.TableCall.{TableCall}
+use Rattle.grants.specs.declared.table_call.TableCall.TheVariants.{JobTake, JobRenew, Propose, Commit, Grant, Free, Restart}
 use Rattle.program_io.specs.Reading.{◌>>=◌, ◌>>◌}
-use Rattle.program_io.specs.Members.{exactly, member_at, text_at}
+use Rattle.program_io.specs.Members.{exactly, member_at}
 use Rattle.wire.specs.declared.fault.DecodeRefusal.{DecodeRefusal}
 use Rattle.wire.specs.declared.numerals.Numerals.{Numerals}
-use Rattle.wire.specs.Assignments.{slice_data, slicing_in}
+use Rattle.wire.specs.Assignments.{slicing_in}
 use Rattle.wire.specs.LeaseMembers.{life_at, task_at}
-use Rattle.wire.specs.Named.{read_named}
-use Rattle.wire.specs.Notes.{note_data, note_of}
-use Rattle.wire.specs.Numerals.{numeral_at, numeral_data}
-use Rattle.wire.specs.Objects.{list_data, number_data, object_data}
+use Rattle.wire.specs.Notes.{note_of}
+use Rattle.wire.specs.Numerals.{numeral_at}
 use Rattle.wire.specs.Refusals.{or_wrong}
-
--- a call is written as the step of a script, with the number of a term in place of an assigner, and a note in place of its number
-abbrev pub call_data : Numerals → TableCall → Data
-call_data numerals (JobTake assigner at) = object_data
-    ((codes "assigner", numeral_data numerals assigner) ∷ (codes "at", numeral_data numerals at) ∷ (codes "do", string (codes "take")) ∷ [])
-call_data numerals (JobRenew number at) = object_data
-    ((codes "at", numeral_data numerals at) ∷ (codes "do", string (codes "renew")) ∷ (codes "term", numeral_data numerals number) ∷ [])
-call_data numerals (Propose number slicing at) = object_data
-    ((codes "at", numeral_data numerals at) ∷ (codes "do", string (codes "propose")) ∷ (codes "generation", numeral_data numerals slicing.generation)
-    ∷ (codes "slices", list_data (slice_data numerals) slicing.slices) ∷ (codes "term", numeral_data numerals number) ∷ [])
-call_data numerals (Commit number at) = object_data
-    ((codes "at", numeral_data numerals at) ∷ (codes "do", string (codes "commit")) ∷ (codes "term", numeral_data numerals number) ∷ [])
-call_data numerals (Grant task life at) = object_data
-    ((codes "at", numeral_data numerals at) ∷ (codes "do", string (codes "grant")) ∷ (codes "life", number_data life) ∷ (codes "task", number_data task) ∷ [])
-call_data numerals (Free note at) = object_data
-    ((codes "at", numeral_data numerals at) ∷ (codes "do", string (codes "free")) ∷ (codes "note", note_data numerals note) ∷ [])
-call_data numerals Restart = object_data ((codes "do", string (codes "lose")) ∷ [])
 
 -- a `take` has an assigner and a reading
 unfoldable pub take_of : List (List ℕ) → Numerals → Data → Result TableCall DecodeRefusal
@@ -98,9 +79,3 @@ call_kinds beside numerals =
     (codes "grant", grant_call_of beside numerals) ∷
     (codes "free", free_of beside numerals) ∷
     (codes "lose", lose_of beside) ∷ []
-
--- a call, named by its member `do`
-unfoldable pub call_of : Numerals → Data → Result TableCall DecodeRefusal
-call_of numerals d = do
-  name ← or_wrong (text_at (codes "do") d)
-  read_named (call_kinds [] numerals) name d

@@ -1,17 +1,14 @@
--- Calls of a slicelet and their replies as JSON.
+-- Calls of a slicelet as JSON.
 use Rattle.std.specs.Prelude.{List, [], ◌∷◌, ◌++◌, codes, Result, Ok, ℕ}
 use Rattle.serde_json.specs.Data.{Data, string}
-use Rattle.slicelet.specs.declared.call.SliceletCall.{SliceletCall}
-use Rattle.slicelet.specs.declared.call.SliceletCall.TheVariants.{Start, Hear, Release, Resume}
-use Rattle.slicelet.specs.declared.call.SliceletReply.{SliceletReply}
-use Rattle.slicelet.specs.declared.call.SliceletReply.TheVariants.{Started, Heard, Released, Resumed}
+use Rattle.grants.specs.declared.slicelet_call.SliceletCall.{SliceletCall}
+use Rattle.grants.specs.declared.slicelet_call.SliceletCall.TheVariants.{Start, Hear, Release, Resume}
 use Rattle.program_io.specs.Reading.{◌>>=◌, ◌>>◌}
 use Rattle.program_io.specs.Members.{exactly, member_at, text_at}
 use Rattle.wire.specs.declared.fault.DecodeRefusal.{DecodeRefusal}
 use Rattle.wire.specs.declared.numerals.Numerals.{Numerals}
 use Rattle.wire.specs.Grants.{grant_data, grant_of}
 use Rattle.wire.specs.LeaseMembers.{kind_at, kind_data, life_at}
-use Rattle.wire.specs.Notes.{note_data, note_of}
 use Rattle.wire.specs.Numerals.{numeral_at, numeral_data}
 use Rattle.wire.specs.Objects.{number_data, object_data}
 use Rattle.wire.specs.Refusals.{or_wrong}
@@ -71,52 +68,3 @@ unfoldable pub task_call_of : Numerals → Data → Result SliceletCall DecodeRe
 task_call_of numerals d = do
   name ← or_wrong (text_at (codes "do") d)
   read_named (task_call_kinds [] numerals) name d
-
--- a reply is named by the first word of its line in a script
-abbrev pub task_reply_data : Numerals → SliceletReply → Data
-task_reply_data numerals Started = object_data ((codes "reply", string (codes "started")) ∷ [])
-task_reply_data numerals Heard = object_data ((codes "reply", string (codes "heard")) ∷ [])
-task_reply_data numerals (Released note) = object_data ((codes "note", note_data numerals note) ∷ (codes "reply", string (codes "released")) ∷ [])
-task_reply_data numerals (Resumed ended) = object_data
-    ((codes "bridge", note_data numerals ended.bridge) ∷ (codes "guard", note_data numerals ended.guard) ∷ (codes "reply", string (codes "resumed")) ∷ [])
-
--- a `started` has nothing more
-unfoldable pub started_of : Data → Result SliceletReply DecodeRefusal
-started_of d = do
-  or_wrong (exactly (codes "reply" ∷ []) d)
-  Ok Started
-
--- a `heard` has nothing more
-unfoldable pub heard_of : Data → Result SliceletReply DecodeRefusal
-heard_of d = do
-  or_wrong (exactly (codes "reply" ∷ []) d)
-  Ok Heard
-
--- a `released` has the note of the lease
-unfoldable pub released_of : Numerals → Data → Result SliceletReply DecodeRefusal
-released_of numerals d = do
-  or_wrong (exactly (codes "reply" ∷ codes "note" ∷ []) d)
-  note ← or_wrong (member_at (codes "note") d >>= note_of numerals)
-  Ok (Released note)
-
--- a `resumed` has the notes of the life that ended
-unfoldable pub resumed_of : Numerals → Data → Result SliceletReply DecodeRefusal
-resumed_of numerals d = do
-  or_wrong (exactly (codes "reply" ∷ codes "guard" ∷ codes "bridge" ∷ []) d)
-  guard ← or_wrong (member_at (codes "guard") d >>= note_of numerals)
-  bridge ← or_wrong (member_at (codes "bridge") d >>= note_of numerals)
-  Ok (Resumed (record { guard = guard; bridge = bridge }))
-
--- the replies of a slicelet, each by its name and its reader
-abbrev pub task_reply_kinds : Numerals → List (List ℕ × (Data → Result SliceletReply DecodeRefusal))
-task_reply_kinds numerals =
-    (codes "started", started_of) ∷
-    (codes "heard", heard_of) ∷
-    (codes "released", released_of numerals) ∷
-    (codes "resumed", resumed_of numerals) ∷ []
-
--- a reply, named by its member `reply`
-unfoldable pub task_reply_of : Numerals → Data → Result SliceletReply DecodeRefusal
-task_reply_of numerals d = do
-  name ← or_wrong (text_at (codes "reply") d)
-  read_named (task_reply_kinds numerals) name d

@@ -3,9 +3,10 @@
 ghost use Rattle.std.specs.Prelude.{◌≡◌};
 ghost use Rattle.wire.specs.declared.fault.DecodeError.TheVariants as failed;
 ghost use Rattle.wire.specs.declared.fault.DecodeRefusal.TheVariants as refusal;
-ghost use Rattle.wire.specs.Refusals.{failure_of};
+ghost use Rattle.wire.specs.Refusals.{Gives, failure_of, ranges_failure, slices_failure};
 
 use assignment::AssignmentError;
+use machines::Trouble;
 use program_io::{Unread, WrongForm};
 use slice_ranges::RangesError;
 use std::alloc::{AllocError, AllocFailed};
@@ -84,11 +85,40 @@ impl From<DecodeRefusal> for DecodeError {
     }
 }
 
+/// Returns what was read without memory, or why it is refused.
+pub fn decoded<T: Drop>(read: Result<T, DecodeRefusal>) -> Result<T, DecodeError>
+    ensures { Gives result read }
+{
+    Ok(read?)
+}
+
 impl From<WrongForm> for DecodeRefusal {
     ghost from_gives = { λ _ e. e ≡ refusal.WrongForm };
 
     fn from(_error: WrongForm) -> Self {
         DecodeRefusal::WrongForm
+    }
+}
+
+impl From<Trouble<RangesError>> for DecodeError {
+    ghost from_gives = { λ error e. e ≡ ranges_failure error };
+
+    fn from(error: Trouble<RangesError>) -> Self {
+        match error {
+            Trouble::Refused(why) => DecodeError::Refused(DecodeRefusal::Ranges(why)),
+            Trouble::NoMemory => DecodeError::NoMemory,
+        }
+    }
+}
+
+impl From<Trouble<AssignmentError>> for DecodeError {
+    ghost from_gives = { λ error e. e ≡ slices_failure error };
+
+    fn from(error: Trouble<AssignmentError>) -> Self {
+        match error {
+            Trouble::Refused(why) => DecodeError::Refused(DecodeRefusal::Slices(why)),
+            Trouble::NoMemory => DecodeError::NoMemory,
+        }
     }
 }
 

@@ -9,29 +9,35 @@ ghost use Rattle.wire.specs.Refusals.{Gives};
 use crate::fault::DecodeError;
 use crate::lease_members::{kind_at, kind_word, life_at, task_at};
 use crate::message::Wire;
-use crate::numerals::{Numerals, numeral_at, numeral_json};
-use crate::ranges::{ranges_json, ranges_of};
+use crate::numerals::{Numerals, numeral_at};
+use crate::object::{put_number, put_numeral, put_text};
+use crate::ranges::{put_ranges, ranges_of};
+use grants::Grant;
 use lease_rule::Lease;
-use lease_table::Grant;
 use program_io::{exactly, member_at};
-use serde_json::{Value, json};
+use serde_json::{Map, Value};
 use std::alloc::{AllocError, Global};
 
 /// Writes the grant as JSON.
 pub fn grant_json(alloc: Global, numerals: Numerals, grant: &Grant) -> Result<Value, AllocError>
     ensures { IfOk result (λ v. view v ≡ grant_data numerals grant.now) }
 {
-    let ranges = ranges_json(alloc, numerals, &grant.lease.ranges)?;
-    json!(in alloc; {
-        "ends": numeral_json(alloc, numerals, grant.lease.ends)?,
-        "generation": numeral_json(alloc, numerals, grant.lease.generation)?,
-        "kind": kind_word(grant.lease.kind),
-        "life": grant.life,
-        "number": numeral_json(alloc, numerals, grant.number)?,
-        "ranges": ranges,
-        "task": grant.task.number(),
-        "until": numeral_json(alloc, numerals, grant.table_ends)?
-    })
+    let mut map = Map::new(alloc);
+    put_numeral(&mut map, alloc, numerals, "ends", grant.lease.ends)?;
+    put_numeral(
+        &mut map,
+        alloc,
+        numerals,
+        "generation",
+        grant.lease.generation,
+    )?;
+    put_text(&mut map, alloc, "kind", kind_word(grant.lease.kind))?;
+    put_number(&mut map, alloc, "life", grant.life as u64)?;
+    put_numeral(&mut map, alloc, numerals, "number", grant.number)?;
+    put_ranges(&mut map, alloc, numerals, "ranges", &grant.lease.ranges)?;
+    put_number(&mut map, alloc, "task", grant.task.number())?;
+    put_numeral(&mut map, alloc, numerals, "until", grant.table_ends)?;
+    Ok(Value::Object(map))
 }
 
 /// Reads a grant from JSON.

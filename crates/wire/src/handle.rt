@@ -9,11 +9,12 @@ ghost use Rattle.wire.specs.Refusals.{or_wrong};
 use crate::fault::DecodeError;
 use crate::lease_members::{life_at, task_at};
 use crate::message::Wire;
-use crate::numerals::{Numerals, numeral_at, numeral_json};
+use crate::numerals::{Numerals, numeral_at};
+use crate::object::{put_number, put_numeral};
+use key_handle::KeyHandle;
 use program_io::{WrongForm, exactly};
-use serde_json::{Value, json};
+use serde_json::{Map, Value};
 use slice_ranges::SliceKey;
-use slicelet::KeyHandle;
 use std::alloc::{AllocError, Global};
 
 /// Writes the handle as JSON.
@@ -24,12 +25,12 @@ pub fn handle_json(
 ) -> Result<Value, AllocError>
     ensures { IfOk result (λ v. view v ≡ handle_data numerals handle.now) }
 {
-    json!(in alloc; {
-        "life": handle.life,
-        "position": numeral_json(alloc, numerals, handle.position)?,
-        "slice_key": numeral_json(alloc, numerals, handle.key.value())?,
-        "task": handle.task.number()
-    })
+    let mut map = Map::new(alloc);
+    put_number(&mut map, alloc, "life", handle.life as u64)?;
+    put_numeral(&mut map, alloc, numerals, "position", handle.position)?;
+    put_numeral(&mut map, alloc, numerals, "slice_key", handle.key.value())?;
+    put_number(&mut map, alloc, "task", handle.task.number())?;
+    Ok(Value::Object(map))
 }
 
 /// Returns the member with this name as a slice key, a number below 2^63.

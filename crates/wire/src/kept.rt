@@ -1,7 +1,8 @@
 //! The kept values of a table as bytes.
 
-ghost use Rattle.std.specs.Prelude.{◌≡◌, IfOk, Ok, codes, option_map};
-ghost use Rattle.serde_json.specs.View.{view};
+ghost use Rattle.std.specs.Prelude.{◌≡◌, ◌<◌, ◌^◌, IfOk, Ok, OnOk, codes, option_map};
+ghost use Rattle.serde_json.specs.Data.{put as with_member};
+ghost use Rattle.serde_json.specs.View.{members_view, view};
 ghost use Rattle.wire.specs.declared.numerals.Numerals.TheVariants as numeral;
 ghost use Rattle.wire.specs.Assignments.{assignment_data, assignment_of};
 ghost use Rattle.wire.specs.Kept.{job_term_data, job_term_of, kept_data, kept_of, or_null, policy_data, policy_of, term_or_null_at, unless_null};
@@ -9,13 +10,13 @@ ghost use Rattle.wire.specs.Refusals.{Gives};
 
 use crate::fault::DecodeError;
 use crate::message::Wire;
-use crate::numerals::{Numerals, numeral_at, numeral_json};
+use crate::numerals::{Numerals, numeral_at};
+use crate::object::put_numeral;
 use crate::slicing::{assignment_json, assignment_law, assignment_of};
-use crate::table_reply::term_bounds;
 use assignment::Assignment;
-use lease_table::{JobTerm, Kept, Policy, policy_law};
+use grants::{JobTerm, Kept, Policy, policy_law};
 use program_io::{WrongForm, exactly, member_at, number_at, two_numbers_of};
-use serde_json::{Value, json};
+use serde_json::{Map, Value, json, put};
 use std::alloc::{AllocError, Global};
 
 fn policy_json(alloc: Global, policy: Policy) -> Result<Value, AllocError>
@@ -54,10 +55,11 @@ fn policy_of(value: &Value) -> Result<Policy, WrongForm>
 fn job_term_json(alloc: Global, numerals: Numerals, term: JobTerm) -> Result<Value, AllocError>
     ensures { IfOk result (λ v. view v ≡ job_term_data numerals term) }
 {
-    let assigner = numeral_json(alloc, numerals, term.assigner)?;
-    let number = numeral_json(alloc, numerals, term.number)?;
-    let until = numeral_json(alloc, numerals, term.until)?;
-    json!(in alloc; {"assigner": assigner, "number": number, "until": until})
+    let mut map = Map::new(alloc);
+    put_numeral(&mut map, alloc, numerals, "assigner", term.assigner)?;
+    put_numeral(&mut map, alloc, numerals, "number", term.number)?;
+    put_numeral(&mut map, alloc, numerals, "until", term.until)?;
+    Ok(Value::Object(map))
 }
 
 fn term_or_null(
@@ -129,23 +131,55 @@ pub fn unless_null(
     Ok(Some(assignment))
 }
 
+// Puts an assignment, or null, under this name.
+fn put_assignment(
+    map: &mut Map<String, Value>,
+    alloc: Global,
+    numerals: Numerals,
+    name: &str,
+    assignment: &Option<Assignment>,
+) -> Result<(), AllocError>
+    ensures { OnOk result (members_view map.new.entries
+        ≡ with_member name.now (or_null (assignment_data numerals) assignment.now) (members_view map.old.entries)) }
+{
+    let value = assignment_or_null(alloc, numerals, assignment.as_ref())?;
+    put(map, alloc, name, value)
+}
+
+fn put_policy(map: &mut Map<String, Value>, alloc: Global, policy: Policy) -> Result<(), AllocError>
+    ensures { OnOk result (members_view map.new.entries
+        ≡ with_member (codes "policy") (policy_data policy) (members_view map.old.entries)) }
+{
+    let value = policy_json(alloc, policy)?;
+    put(map, alloc, "policy", value)
+}
+
+fn put_term(
+    map: &mut Map<String, Value>,
+    alloc: Global,
+    numerals: Numerals,
+    term: Option<JobTerm>,
+) -> Result<(), AllocError>
+    ensures { OnOk result (members_view map.new.entries
+        ≡ with_member (codes "term") (or_null (job_term_data numerals) term) (members_view map.old.entries)) }
+{
+    let value = term_or_null(alloc, numerals, term)?;
+    put(map, alloc, "term", value)
+}
+
 /// Writes the kept values as JSON.
 pub fn kept_json(alloc: Global, numerals: Numerals, kept: &Kept) -> Result<Value, AllocError>
     ensures { IfOk result (λ v. view v ≡ kept_data numerals kept.now) }
 {
-    let committed = assignment_or_null(alloc, numerals, kept.committed.as_ref())?;
-    let pending = assignment_or_null(alloc, numerals, kept.pending.as_ref())?;
-    let policy = policy_json(alloc, kept.policy)?;
-    let term = term_or_null(alloc, numerals, kept.term)?;
-    json!(in alloc; {
-        "committed": committed,
-        "deadline": numeral_json(alloc, numerals, kept.deadline)?,
-        "granted": numeral_json(alloc, numerals, kept.granted)?,
-        "last": numeral_json(alloc, numerals, kept.last)?,
-        "pending": pending,
-        "policy": policy,
-        "term": term
-    })
+    let mut map = Map::new(alloc);
+    put_assignment(&mut map, alloc, numerals, "committed", &kept.committed)?;
+    put_numeral(&mut map, alloc, numerals, "deadline", kept.deadline)?;
+    put_numeral(&mut map, alloc, numerals, "granted", kept.granted)?;
+    put_numeral(&mut map, alloc, numerals, "last", kept.last)?;
+    put_assignment(&mut map, alloc, numerals, "pending", &kept.pending)?;
+    put_policy(&mut map, alloc, kept.policy)?;
+    put_term(&mut map, alloc, numerals, kept.term)?;
+    Ok(Value::Object(map))
 }
 
 /// Reads kept values from JSON.
@@ -184,6 +218,17 @@ pub fn kept_of(alloc: Global, numerals: Numerals, value: &Value) -> Result<Kept,
         granted,
         deadline,
     })
+}
+
+// States that the numbers of a term are below 2^64.
+fn term_bounds(term: &JobTerm)
+    ensures number { term.now.number < 2 ^ 64 }
+    ensures assigner { term.now.assigner < 2 ^ 64 }
+    ensures until { term.now.until < 2 ^ 64 }
+{
+    let _number = term.number;
+    let _assigner = term.assigner;
+    let _until = term.until;
 }
 
 // States that reading what was written of an optional term gives the same.

@@ -18,11 +18,11 @@ mod lease_members;
 mod message;
 mod note;
 mod numerals;
+mod object;
 mod ranges;
 mod row;
 mod slicing;
 mod table_call;
-mod table_reply;
 mod task_call;
 
 pub use clerk_call::clerk_call_named;

@@ -6,16 +6,17 @@ ghost use Rattle.serde_json.specs.View.{view};
 ghost use Rattle.wire.specs.declared.fault.DecodeRefusal.{DecodeRefusal};
 ghost use Rattle.wire.specs.declared.numerals.Numerals.{Numerals};
 ghost use Rattle.wire.specs.declared.numerals.Numerals.TheVariants as numeral;
-ghost use Rattle.wire.specs.Refusals.{Gives, IsRead};
-ghost use Rattle.wire.specs.Messages.{IsDecodedAs, IsMessage, IsOfOtherJob, IsShort, IsUndecoded, IsWritten, content, content_of, first_content, message_data, message_text, named_content, value_in};
+ghost use Rattle.wire.specs.Refusals.{Gives, IsRead, OutOfMemory};
+ghost use Rattle.wire.specs.Messages.{IsDecodedAs, IsMessage, IsOfOtherJob, IsOurs, IsShort, IsUndecoded, IsWritten, content, content_of, first_content, message_data, message_of, message_text, named_content, value_in};
 
 use crate::fault::{DecodeError, DecodeRefusal};
 use crate::job_name::JobName;
 use crate::numerals::Numerals;
+use crate::object::{put_number, put_text};
 use program_io::{
     JsonError, MOST_LINE_BYTES, exactly, member_at, number_at, strict_value_of, text_at,
 };
-use serde_json::{Value, json};
+use serde_json::{Map, Value, put};
 use std::alloc::{AllocError, Global};
 
 /// The version of the messages that this crate writes. It reads these, and those of version 1.
@@ -56,7 +57,12 @@ pub trait Wire: Drop {
 fn message_json(alloc: Global, job: &JobName, name: &str, value: Value) -> Result<Value, AllocError>
     ensures { IfOk result (λ v. view v ≡ message_data job.now name.now (view value)) }
 {
-    json!(in alloc; {"job": job.as_str(), "type": name, "value": value, "version": VERSION})
+    let mut map = Map::new(alloc);
+    put_text(&mut map, alloc, "job", job.as_str())?;
+    put_text(&mut map, alloc, "type", name)?;
+    put(&mut map, alloc, "value", value)?;
+    put_number(&mut map, alloc, "version", VERSION)?;
+    Ok(Value::Object(map))
 }
 
 // What a message holds besides its version and its type.
@@ -130,6 +136,18 @@ pub fn encode<T: Wire>(alloc: Global, job: &JobName, value: &T) -> Result<Vec<u8
     message.to_vec(alloc)
 }
 
+// Reads the value that a message of the job says. Memory runs out only while the value is read.
+fn message_of<T: Wire>(alloc: Global, job: &JobName, message: &Value) -> Result<T, DecodeError>
+    ensures read { Gives result (message_of job.now T.name T.form (view message.now)) }
+    ensures memory { OutOfMemory (IsOurs job.now T.name (view message.now)) result }
+{
+    let content = content_of(T::name(), message)?;
+    if content.job != job.as_str() {
+        return Err(DecodeError::Refused(DecodeRefusal::OtherJob));
+    }
+    T::of_json(alloc, content.numerals, content.value)
+}
+
 /// Decodes the bytes of a message of the job and the type, or returns why they are not such a
 /// message.
 ///
@@ -157,9 +175,5 @@ pub fn decode<T: Wire>(alloc: Global, job: &JobName, bytes: &[u8]) -> Result<T, 
         )),
         Err(JsonError::Memory) => return Err(DecodeError::NoMemory),
     };
-    let content = content_of(T::name(), &message)?;
-    if content.job != job.as_str() {
-        return Err(DecodeError::Refused(DecodeRefusal::OtherJob));
-    }
-    T::of_json(alloc, content.numerals, content.value)
+    message_of(alloc, job, &message)
 }

@@ -9,22 +9,23 @@ ghost use Rattle.wire.specs.Refusals.{or_wrong};
 use crate::fault::DecodeError;
 use crate::lease_members::{kind_at, kind_word, life_at, task_at};
 use crate::message::Wire;
-use crate::numerals::{Numerals, numeral_at, numeral_json};
-use lease_table::ReleaseNote;
+use crate::numerals::{Numerals, numeral_at};
+use crate::object::{put_number, put_numeral, put_text};
+use grants::ReleaseNote;
 use program_io::{WrongForm, exactly};
-use serde_json::{Value, json};
+use serde_json::{Map, Value};
 use std::alloc::{AllocError, Global};
 
 /// Writes the note as JSON.
 pub fn note_json(alloc: Global, numerals: Numerals, note: &ReleaseNote) -> Result<Value, AllocError>
     ensures { IfOk result (λ v. view v ≡ note_data numerals note.now) }
 {
-    json!(in alloc; {
-        "kind": kind_word(note.kind),
-        "life": note.life,
-        "number": numeral_json(alloc, numerals, note.number)?,
-        "task": note.task.number()
-    })
+    let mut map = Map::new(alloc);
+    put_text(&mut map, alloc, "kind", kind_word(note.kind))?;
+    put_number(&mut map, alloc, "life", note.life as u64)?;
+    put_numeral(&mut map, alloc, numerals, "number", note.number)?;
+    put_number(&mut map, alloc, "task", note.task.number())?;
+    Ok(Value::Object(map))
 }
 
 /// Reads a note from JSON.
@@ -41,9 +42,9 @@ pub fn note_of(numerals: Numerals, value: &Value) -> Result<ReleaseNote, WrongFo
     })
 }
 
-/// States that reading what was written of a note gives the same note.
+// States that reading what was written of a note gives the same note.
 #[tactic(auto, using(crate::proofs::Notes::note_read))]
-pub fn note_law(note: &ReleaseNote)
+fn note_law(note: &ReleaseNote)
     ensures { note_of numeral.Quoted (note_data numeral.Quoted note.now) ≡ Ok note.now }
 {
     let _life = note.life;

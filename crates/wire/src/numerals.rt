@@ -19,7 +19,7 @@ use std::alloc::{AllocError, Global};
 /// digits. Smaller numbers, as those of tasks and lives, are JSON numbers always.
 #[derive(Clone, Copy, Debug, PartialEq, Eq)]
 pub enum Numerals {
-    /// As JSON numbers: in scripts, in sessions and in messages of version 1.
+    /// As JSON numbers: in scripts and in messages of version 1.
     Bare,
     /// As texts of decimal digits, without a leading zero: in messages of version 2.
     Quoted,

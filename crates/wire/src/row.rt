@@ -9,24 +9,25 @@ ghost use Rattle.wire.specs.Refusals.{or_wrong};
 use crate::fault::DecodeError;
 use crate::lease_members::{kind_at, kind_word, life_at, task_at};
 use crate::message::Wire;
-use crate::numerals::{Numerals, numeral_at, numeral_json};
-use lease_table::Row;
+use crate::numerals::{Numerals, numeral_at};
+use crate::object::{put_number, put_numeral, put_text};
+use grants::Row;
 use program_io::{WrongForm, exactly};
-use serde_json::{Value, json};
+use serde_json::{Map, Value};
 use std::alloc::{AllocError, Global};
 
 // Writes the row as JSON.
 fn row_json(alloc: Global, numerals: Numerals, row: &Row) -> Result<Value, AllocError>
     ensures { IfOk result (λ v. view v ≡ row_data numerals row.now) }
 {
-    json!(in alloc; {
-        "generation": numeral_json(alloc, numerals, row.generation)?,
-        "kind": kind_word(row.kind),
-        "life": row.life,
-        "number": numeral_json(alloc, numerals, row.number)?,
-        "task": row.task.number(),
-        "until": numeral_json(alloc, numerals, row.table_ends)?
-    })
+    let mut map = Map::new(alloc);
+    put_numeral(&mut map, alloc, numerals, "generation", row.generation)?;
+    put_text(&mut map, alloc, "kind", kind_word(row.kind))?;
+    put_number(&mut map, alloc, "life", row.life as u64)?;
+    put_numeral(&mut map, alloc, numerals, "number", row.number)?;
+    put_number(&mut map, alloc, "task", row.task.number())?;
+    put_numeral(&mut map, alloc, numerals, "until", row.table_ends)?;
+    Ok(Value::Object(map))
 }
 
 // Reads a row from JSON.

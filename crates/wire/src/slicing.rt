@@ -1,21 +1,25 @@
 //! Assignments as bytes.
 
-ghost use Rattle.std.specs.Prelude.{◌≡◌, IfOk, Ok, codes};
+ghost use Rattle.std.specs.Prelude.{◌≡◌, IfErr, IfOk, None, Ok, OnOk, codes};
 ghost use Rattle.serde_json.specs.View.{view};
 ghost use Rattle.program_io.specs.Members.{list_at};
 ghost use Rattle.program_io.specs.Reading as reading;
 ghost use Rattle.wire.specs.declared.numerals.Numerals.TheVariants as numeral;
 ghost use Rattle.wire.specs.Assignments.{assignment_data, assignment_of, slice_data, slice_of, slicing_in};
 ghost use Rattle.wire.specs.Objects.{list_data, number_data};
-ghost use Rattle.wire.specs.Refusals.{Gives};
+ghost use Rattle.assignment.specs.Owners.{built};
+ghost use Rattle.assignment.specs.Slices.{refusal_of};
+ghost use Rattle.machines.specs.Answers.{trouble_of};
+ghost use Rattle.wire.specs.Refusals.{Gives, slices_failure};
 
-use crate::fault::{DecodeError, DecodeRefusal};
+use crate::fault::DecodeError;
 use crate::message::Wire;
 use crate::numerals::{Numerals, numeral_at, numeral_json, numeral_of};
+use crate::object::put_numeral;
 use assignment::{Assignment, OwnedSlice, Slice, TaskId};
-use machines::{Listed, Trouble};
+use machines::Listed;
 use program_io::{Form, Number, Unread, exactly, list_at, list_of, pair_of};
-use serde_json::{Value, json};
+use serde_json::{Map, Value, push, put};
 use std::alloc::{AllocError, Global};
 
 fn owners_json(alloc: Global, owners: &[TaskId]) -> Result<Value, AllocError>
@@ -31,13 +35,17 @@ fn owners_json(alloc: Global, owners: &[TaskId]) -> Result<Value, AllocError>
 fn slice_json(alloc: Global, numerals: Numerals, slice: &OwnedSlice) -> Result<Value, AllocError>
     ensures { IfOk result (λ v. view v ≡ slice_data numerals slice.now) }
 {
-    let owners = owners_json(alloc, slice.owners())?;
-    let start = numeral_json(alloc, numerals, slice.start().value())?;
-    json!(in alloc; [start, owners])
+    let mut pair = Vec::new(alloc);
+    push(
+        &mut pair,
+        numeral_json(alloc, numerals, slice.start().value())?,
+    )?;
+    push(&mut pair, owners_json(alloc, slice.owners())?)?;
+    Ok(Value::Array(pair))
 }
 
-/// Writes the slices as JSON.
-pub fn slices_json(
+// Writes the slices as JSON.
+fn slices_json(
     alloc: Global,
     numerals: Numerals,
     slices: &[OwnedSlice],
@@ -59,9 +67,21 @@ pub fn assignment_json(
 ) -> Result<Value, AllocError>
     ensures { IfOk result (λ v. view v ≡ assignment_data numerals assignment.now) }
 {
-    let slices = slices_json(alloc, numerals, assignment.slices())?;
-    let generation = numeral_json(alloc, numerals, assignment.generation())?;
-    json!(in alloc; {"generation": generation, "slices": slices})
+    let mut map = Map::new(alloc);
+    put_numeral(
+        &mut map,
+        alloc,
+        numerals,
+        "generation",
+        assignment.generation(),
+    )?;
+    put(
+        &mut map,
+        alloc,
+        "slices",
+        slices_json(alloc, numerals, assignment.slices())?,
+    )?;
+    Ok(Value::Object(map))
 }
 
 // Reads a slice from `[start, [owner, ..]]`.
@@ -125,6 +145,15 @@ fn slices_in(alloc: Global, numerals: Numerals, value: &Value) -> Result<Listed<
     }
 }
 
+// Returns the assignment of these slices. Memory runs out only where no refusal applies.
+fn build(alloc: Global, generation: u64, slices: &[Slice]) -> Result<Assignment, DecodeError>
+    ensures built { IfOk result (λ a. a ≡ built generation slices.now) }
+    ensures accepted { OnOk result (refusal_of slices.now ≡ None) }
+    ensures refused { IfErr result (λ e. e ≡ slices_failure (trouble_of (refusal_of slices.now))) }
+{
+    Ok(Assignment::build(alloc, generation, slices)?)
+}
+
 /// Reads an assignment from the members `generation` and `slices` of an object.
 #[tactic(auto, unfolding(crate::specs::Assignments::slicing_in))]
 pub fn assignment_in(
@@ -136,11 +165,7 @@ pub fn assignment_in(
 {
     let generation = numeral_at(numerals, "generation", value)?;
     let slices = slices_in(alloc, numerals, value)?;
-    match Assignment::build(alloc, generation, slices.as_slice()) {
-        Ok(assignment) => Ok(assignment),
-        Err(Trouble::NoMemory) => Err(DecodeError::NoMemory),
-        Err(Trouble::Refused(why)) => Err(DecodeError::Refused(DecodeRefusal::Slices(why))),
-    }
+    build(alloc, generation, slices.as_slice())
 }
 
 /// Reads an assignment from JSON.

@@ -1,22 +1,65 @@
-//! Calls of a slicelet and their replies as bytes.
+//! Calls of a slicelet as bytes.
 
 ghost use Rattle.std.specs.Prelude.{◌≡◌, IfOk, Ok, codes, map};
 ghost use Rattle.serde_json.specs.View.{view};
+ghost use Rattle.grants.specs.declared.slicelet_call.SliceletCall.TheVariants as call;
 ghost use Rattle.wire.specs.declared.numerals.Numerals.TheVariants as numeral;
 ghost use Rattle.wire.specs.Named.{GivesBy, reader_of};
 ghost use Rattle.wire.specs.Refusals.{Gives};
-ghost use Rattle.wire.specs.TaskCalls.{hear_of, heard_of, release_of, released_of, resume_of, resumed_of, start_of, started_of, task_call_data, task_call_kinds, task_call_of, task_reply_data, task_reply_of};
+ghost use Rattle.wire.specs.TaskCalls.{hear_of, release_of, resume_of, start_of, task_call_data, task_call_kinds, task_call_of};
 
-use crate::fault::{DecodeError, DecodeRefusal};
+use crate::fault::{DecodeError, DecodeRefusal, decoded};
 use crate::grant::{grant_json, grant_law, grant_of};
 use crate::lease_members::{kind_at, kind_word, life_at};
 use crate::message::Wire;
-use crate::note::{note_json, note_law, note_of};
-use crate::numerals::{Numerals, numeral_at, numeral_json};
-use program_io::{exactly, exactly_beside, member_at, text_at};
-use serde_json::{Value, json};
-use slicelet::{EndedNotes, SliceletCall, SliceletReply};
+use crate::numerals::{Numerals, numeral_at};
+use crate::object::{put_number, put_numeral, put_text};
+use grants::{Grant, SliceletCall};
+use lease_rule::Kind;
+use program_io::{exactly_beside, member_at, text_at};
+use serde_json::{Map, Value, json, put};
 use std::alloc::{AllocError, Global};
+
+fn start_json(alloc: Global, numerals: Numerals, life: u32, at: u64) -> Result<Value, AllocError>
+    ensures { IfOk result (λ v. view v ≡ task_call_data numerals (call.Start life at)) }
+{
+    let mut map = Map::new(alloc);
+    put_numeral(&mut map, alloc, numerals, "at", at)?;
+    put_text(&mut map, alloc, "do", "start")?;
+    put_number(&mut map, alloc, "life", life as u64)?;
+    Ok(Value::Object(map))
+}
+
+fn hear_json(alloc: Global, numerals: Numerals, grant: &Grant, at: u64) -> Result<Value, AllocError>
+    ensures { IfOk result (λ v. view v ≡ task_call_data numerals (call.Hear grant.now at)) }
+{
+    let mut map = Map::new(alloc);
+    put_numeral(&mut map, alloc, numerals, "at", at)?;
+    put_text(&mut map, alloc, "do", "hear")?;
+    put(
+        &mut map,
+        alloc,
+        "grant",
+        grant_json(alloc, numerals, grant)?,
+    )?;
+    Ok(Value::Object(map))
+}
+
+fn release_json(alloc: Global, numerals: Numerals, kind: Kind, at: u64) -> Result<Value, AllocError>
+    ensures { IfOk result (λ v. view v ≡ task_call_data numerals (call.Release kind at)) }
+{
+    let mut map = Map::new(alloc);
+    put_numeral(&mut map, alloc, numerals, "at", at)?;
+    put_text(&mut map, alloc, "do", "release")?;
+    put_text(&mut map, alloc, "kind", kind_word(kind))?;
+    Ok(Value::Object(map))
+}
+
+fn resume_json(alloc: Global, numerals: Numerals, life: u32) -> Result<Value, AllocError>
+    ensures { IfOk result (λ v. view v ≡ task_call_data numerals (call.Resume life)) }
+{
+    json!(in alloc; {"do": "resume", "life": life})
+}
 
 // Writes the call as JSON.
 fn task_call_json(
@@ -27,26 +70,20 @@ fn task_call_json(
     ensures { IfOk result (λ v. view v ≡ task_call_data numerals call.now) }
 {
     match call {
-        SliceletCall::Start { life, at } => {
-            let at = numeral_json(alloc, numerals, *at)?;
-            json!(in alloc; {"at": at, "do": "start", "life": *life})
-        }
-        SliceletCall::Hear { grant, at } => {
-            let grant = grant_json(alloc, numerals, grant)?;
-            let at = numeral_json(alloc, numerals, *at)?;
-            json!(in alloc; {"at": at, "do": "hear", "grant": grant})
-        }
-        SliceletCall::Release { kind, at } => {
-            let at = numeral_json(alloc, numerals, *at)?;
-            json!(in alloc; {"at": at, "do": "release", "kind": kind_word(*kind)})
-        }
-        SliceletCall::Resume { life } => json!(in alloc; {"do": "resume", "life": *life}),
+        SliceletCall::Start { life, at } => start_json(alloc, numerals, *life, *at),
+        SliceletCall::Hear { grant, at } => hear_json(alloc, numerals, grant, *at),
+        SliceletCall::Release { kind, at } => release_json(alloc, numerals, *kind, *at),
+        SliceletCall::Resume { life } => resume_json(alloc, numerals, *life),
     }
 }
 
 #[tactic(auto, unfolding(crate::specs::TaskCalls::start_of))]
-fn start_of(beside: &[&str], numerals: Numerals, value: &Value) -> Result<SliceletCall, DecodeError>
-    ensures { Gives result (start_of (map (λ n. n.now) beside.now) numerals (view value.now)) }
+fn start_of(
+    beside: &[&str],
+    numerals: Numerals,
+    value: &Value,
+) -> Result<SliceletCall, DecodeRefusal>
+    ensures { result ≡ start_of (map (λ n. n.now) beside.now) numerals (view value.now) }
 {
     exactly_beside(beside, &["do", "life", "at"], value)?;
     Ok(SliceletCall::Start {
@@ -75,8 +112,8 @@ fn release_of(
     beside: &[&str],
     numerals: Numerals,
     value: &Value,
-) -> Result<SliceletCall, DecodeError>
-    ensures { Gives result (release_of (map (λ n. n.now) beside.now) numerals (view value.now)) }
+) -> Result<SliceletCall, DecodeRefusal>
+    ensures { result ≡ release_of (map (λ n. n.now) beside.now) numerals (view value.now) }
 {
     exactly_beside(beside, &["do", "kind", "at"], value)?;
     Ok(SliceletCall::Release {
@@ -86,8 +123,8 @@ fn release_of(
 }
 
 #[tactic(auto, unfolding(crate::specs::TaskCalls::resume_of))]
-fn resume_of(beside: &[&str], value: &Value) -> Result<SliceletCall, DecodeError>
-    ensures { Gives result (resume_of (map (λ n. n.now) beside.now) (view value.now)) }
+fn resume_of(beside: &[&str], value: &Value) -> Result<SliceletCall, DecodeRefusal>
+    ensures { result ≡ resume_of (map (λ n. n.now) beside.now) (view value.now) }
 {
     exactly_beside(beside, &["do", "life"], value)?;
     Ok(SliceletCall::Resume {
@@ -109,10 +146,10 @@ pub fn task_call_named(
     ensures { GivesBy (reader_of (task_call_kinds (map (λ n. n.now) beside.now) numerals) name.now) (view value.now) result }
 {
     Some(match name {
-        "start" => start_of(beside, numerals, value),
+        "start" => decoded(start_of(beside, numerals, value)),
         "hear" => hear_of(alloc, beside, numerals, value),
-        "release" => release_of(beside, numerals, value),
-        "resume" => resume_of(beside, value),
+        "release" => decoded(release_of(beside, numerals, value)),
+        "resume" => decoded(resume_of(beside, value)),
         _ => return None,
     })
 }
@@ -178,118 +215,5 @@ impl Wire for SliceletCall {
         value: &Value,
     ) -> Result<SliceletCall, DecodeError> {
         task_call_of(alloc, numerals, value)
-    }
-}
-
-// Writes the reply as JSON.
-fn task_reply_json(
-    alloc: Global,
-    numerals: Numerals,
-    reply: &SliceletReply,
-) -> Result<Value, AllocError>
-    ensures { IfOk result (λ v. view v ≡ task_reply_data numerals reply.now) }
-{
-    match reply {
-        SliceletReply::Started => json!(in alloc; {"reply": "started"}),
-        SliceletReply::Heard => json!(in alloc; {"reply": "heard"}),
-        SliceletReply::Released(note) => {
-            let note = note_json(alloc, numerals, note)?;
-            json!(in alloc; {"note": note, "reply": "released"})
-        }
-        SliceletReply::Resumed(ended) => {
-            let bridge = note_json(alloc, numerals, &ended.bridge)?;
-            let guard = note_json(alloc, numerals, &ended.guard)?;
-            json!(in alloc; {"bridge": bridge, "guard": guard, "reply": "resumed"})
-        }
-    }
-}
-
-#[tactic(auto, unfolding(crate::specs::TaskCalls::started_of))]
-fn started_of(value: &Value) -> Result<SliceletReply, DecodeRefusal>
-    ensures { result ≡ started_of (view value.now) }
-{
-    exactly(&["reply"], value)?;
-    Ok(SliceletReply::Started)
-}
-
-#[tactic(auto, unfolding(crate::specs::TaskCalls::heard_of))]
-fn heard_of(value: &Value) -> Result<SliceletReply, DecodeRefusal>
-    ensures { result ≡ heard_of (view value.now) }
-{
-    exactly(&["reply"], value)?;
-    Ok(SliceletReply::Heard)
-}
-
-#[tactic(auto, unfolding(crate::specs::TaskCalls::released_of))]
-fn released_of(numerals: Numerals, value: &Value) -> Result<SliceletReply, DecodeRefusal>
-    ensures { result ≡ released_of numerals (view value.now) }
-{
-    exactly(&["reply", "note"], value)?;
-    let note = note_of(numerals, member_at("note", value)?)?;
-    Ok(SliceletReply::Released(note))
-}
-
-#[tactic(auto, unfolding(crate::specs::TaskCalls::resumed_of))]
-fn resumed_of(numerals: Numerals, value: &Value) -> Result<SliceletReply, DecodeRefusal>
-    ensures { result ≡ resumed_of numerals (view value.now) }
-{
-    exactly(&["reply", "guard", "bridge"], value)?;
-    let guard = note_of(numerals, member_at("guard", value)?)?;
-    let bridge = note_of(numerals, member_at("bridge", value)?)?;
-    Ok(SliceletReply::Resumed(EndedNotes { guard, bridge }))
-}
-
-// Reads a reply from JSON.
-#[tactic(auto, unfolding(crate::specs::TaskCalls::task_reply_of))]
-fn task_reply_of(numerals: Numerals, value: &Value) -> Result<SliceletReply, DecodeRefusal>
-    ensures { result ≡ task_reply_of numerals (view value.now) }
-{
-    match text_at("reply", value)? {
-        "started" => started_of(value),
-        "heard" => heard_of(value),
-        "released" => released_of(numerals, value),
-        "resumed" => resumed_of(numerals, value),
-        _ => Err(DecodeRefusal::WrongForm),
-    }
-}
-
-// States that reading what was written of a reply gives the same reply.
-fn task_reply_law(reply: &SliceletReply)
-    ensures { task_reply_of numeral.Quoted (task_reply_data numeral.Quoted reply.now) ≡ Ok reply.now }
-{
-    match reply {
-        SliceletReply::Released(note) => note_law(note),
-        SliceletReply::Resumed(ended) => {
-            note_law(&ended.guard);
-            note_law(&ended.bridge);
-        }
-        SliceletReply::Started => {}
-        SliceletReply::Heard => {}
-    }
-}
-
-impl Wire for SliceletReply {
-    ghost name = { codes "task-reply" };
-
-    ghost data_of = { task_reply_data };
-
-    ghost form = { task_reply_of };
-
-    fn name() -> &'static str {
-        "task-reply"
-    }
-
-    #[tactic(auto, using(crate::proofs::TaskCalls::task_reply_written))]
-    fn to_json(&self, alloc: Global) -> Result<Value, AllocError> {
-        task_reply_law(self);
-        task_reply_json(alloc, Numerals::Quoted, self)
-    }
-
-    fn of_json(
-        _alloc: Global,
-        numerals: Numerals,
-        value: &Value,
-    ) -> Result<SliceletReply, DecodeError> {
-        Ok(task_reply_of(numerals, value)?)
     }
 }

@@ -10,10 +10,10 @@ use Rattle.weighted_move.specs.declared.slice_plan.Plan.{Plan}
 use Rattle.weighted_move.specs.declared.error.PlanError.{PlanError}
 use Rattle.weighted_move.specs.Plans.{plan_refusal}
 use Rattle.world.specs.declared.step.Step.{Step}
-use Rattle.world.specs.declared.reply.Refusal.{Refusal}
-use Rattle.world.specs.declared.reply.Refusal.TheVariants as refusal
-use Rattle.world.specs.declared.reply.Reply.{Reply}
-use Rattle.world.specs.declared.reply.Reply.TheVariants as reply
+use Rattle.replies.specs.declared.reply.Refusal.{Refusal}
+use Rattle.replies.specs.declared.reply.Refusal.TheVariants as refusal
+use Rattle.replies.specs.declared.reply.Reply.{Reply}
+use Rattle.replies.specs.declared.reply.Reply.TheVariants as reply
 use Rattle.world.specs.Pasts.{event, Past, is_accepted}
 use Rattle.world.specs.Calls.{call_of, calls_in}
 use Rattle.world.specs.Replies.{Outcome, Plain, by_actor, from_layer, if_built, planned, plan_reply, reply_to}

@@ -3,13 +3,13 @@ use Rattle.std.proofs.Common.{◌≡◌, ℕ, Bool, true, false, List, ◌∷◌
 use Rattle.std.specs.Prelude.{Option, Result, Ok, Err, IsTrue, is_err, if◌then◌else◌}
 use Rattle.std.specs.declared.alloc.AllocError.{AllocError}
 use Rattle.machines.specs.Numbers.{is_within}
-use Rattle.lease_table.specs.declared.values.JobTerm.{JobTerm}
+use Rattle.grants.specs.declared.values.JobTerm.{JobTerm}
 use Rattle.load_ledger.specs.Shares.{Share}
 use Rattle.load_ledger.specs.Books.{book_of}
 use Rattle.assignment.specs.Slices.{Slicing}
 use Rattle.assigner.specs.Terms.{Keeping}
-use Rattle.cluster.specs.declared.call.ClusterCall.{ClusterCall}
-use Rattle.cluster.specs.declared.reply.ClusterReply.{ClusterReply}
+use Rattle.job_calls.specs.declared.call.ClusterCall.{ClusterCall}
+use Rattle.job_calls.specs.declared.reply.ClusterReply.{ClusterReply}
 use Rattle.cluster.specs.Pasts.{event as cluster_event, Past as ClusterPast, is_accepted as is_accepted_call}
 use Rattle.cluster.specs.Memory.{takes_memory as call_takes_memory, needs_memory as call_needs_memory}
 use Rattle.cluster.specs.Runs.{IsOutcome as IsClusterOutcome, IsRun as IsClusterRun}
@@ -18,16 +18,17 @@ use Rattle.cluster.proofs.ActorLists.{actors_same}
 use Rattle.world.specs.Jobs.{Job}
 use Rattle.world.specs.declared.step.Step.{Step}
 use Rattle.world.specs.declared.step.Step.TheVariants as step
-use Rattle.world.specs.declared.reply.Reply.{Reply}
-use Rattle.world.specs.declared.reply.Reply.TheVariants as reply
-use Rattle.world.specs.declared.reply.Refusal.{Refusal}
-use Rattle.world.specs.declared.reply.Refusal.TheVariants as refusal
-use Rattle.world.specs.declared.told.NextNumbers.{NextNumbers}
+use Rattle.replies.specs.declared.reply.Reply.{Reply}
+use Rattle.replies.specs.declared.reply.Reply.TheVariants as reply
+use Rattle.replies.specs.declared.reply.Refusal.{Refusal}
+use Rattle.replies.specs.declared.reply.Refusal.TheVariants as refusal
+use Rattle.replies.specs.declared.told.NextNumbers.{NextNumbers}
 use Rattle.world.specs.declared.world.World.{World}
 use Rattle.world.specs.Pasts.{event, Past, is_accepted}
 use Rattle.world.specs.Front.{draft_after, draft_of, kept_with, kept_term, recorded_with, recorded_by, share_of, gathered_with, gathers_in}
 use Rattle.world.specs.Calls.{if_actor, call_of, with_call, calls_in}
-use Rattle.world.specs.Replies.{Outcome, Plain, Checked, is_continuous_in, named, next_numbers, told_as, reply_by_call, assigner_of, reply_to}
+use Rattle.world.specs.Replies.{Outcome, Plain, Checked, is_continuous_in, named, next_numbers, reply_by_call, assigner_of, reply_to}
+use Rattle.replies.specs.Told.{told_as}
 use Rattle.world.specs.Runs.{IsCallOutcome, IsOutcome, takes_memory, needs_memory, IsReply}
 use Rattle.world.specs.Worlds.{Keeps}
 use Rattle.world.specs.internals.Asking.{told_of, IsAsked}

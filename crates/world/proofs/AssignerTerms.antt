@@ -3,13 +3,13 @@ use Rattle.std.proofs.Common.{◌≡◌, ℕ, ◌+◌, ◌<◌, true, false, Boo
 use Rattle.std.specs.Prelude.{◌≢◌, ◌==◌, Option, if◌then◌else◌}
 use Rattle.std.proofs.Math.ListN.{set, get_or}
 use Rattle.std.proofs.lemmas.Bool.Decides.{nat_tests}
-use Rattle.lease_table.specs.declared.values.JobTerm.{JobTerm}
+use Rattle.grants.specs.declared.values.JobTerm.{JobTerm}
 use Rattle.machines.specs.Numbers.{is_within}
 use Rattle.assigner.specs.Terms.{Keeping}
 use Rattle.world.specs.Jobs.{Job}
 use Rattle.world.specs.declared.step.Step.{Step}
-use Rattle.world.specs.declared.reply.Reply.{Reply}
-use Rattle.world.specs.declared.reply.Reply.TheVariants as reply
+use Rattle.replies.specs.declared.reply.Reply.{Reply}
+use Rattle.replies.specs.declared.reply.Reply.TheVariants as reply
 use Rattle.world.specs.Pasts.{event, Past, is_accepted}
 use Rattle.world.specs.Front.{term_told, kept_with, kept_term}
 use Rattle.cluster.specs.Clusters.{AreActors}

@@ -10,13 +10,13 @@ use Rattle.machines.specs.Numbers.{is_within}
 use Rattle.slice_ranges.specs.Hash.{slice_key}
 use Rattle.lease_rule.specs.declared.answer.Verdict.{Verdict}
 use Rattle.lease_rule.specs.declared.answer.Verdict.TheVariants.{Allow, Deny}
-use Rattle.slicelet.specs.declared.handle.KeyHandle.{KeyHandle}
+use Rattle.key_handle.specs.declared.handle.KeyHandle.{KeyHandle}
 use Rattle.slicelet.specs.Continuity.{handle_on, held_by, is_strange, IsContinuous}
-use Rattle.cluster.specs.declared.call.ClusterCall.{ClusterCall}
-use Rattle.cluster.specs.declared.call.ClusterCall.TheVariants as call
-use Rattle.cluster.specs.declared.error.ClusterError.TheVariants as error
-use Rattle.cluster.specs.declared.reply.ClusterReply.{ClusterReply}
-use Rattle.cluster.specs.declared.reply.ClusterReply.TheVariants as machine
+use Rattle.job_calls.specs.declared.call.ClusterCall.{ClusterCall}
+use Rattle.job_calls.specs.declared.call.ClusterCall.TheVariants as call
+use Rattle.job_calls.specs.declared.error.ClusterError.TheVariants as error
+use Rattle.job_calls.specs.declared.reply.ClusterReply.{ClusterReply}
+use Rattle.job_calls.specs.declared.reply.ClusterReply.TheVariants as machine
 use Rattle.cluster.specs.Numbers.{with_number}
 use Rattle.cluster.specs.Pasts.{event as cluster_event, Past as ClusterPast, history, task_calls}
 use Rattle.cluster.specs.Deliveries.{same_handle, handle_told, with_handle, handles_made as handles_given, is_given}
@@ -27,14 +27,15 @@ use Rattle.cluster.proofs.Noting.{same_number}
 use Rattle.world.specs.Jobs.{Job}
 use Rattle.world.specs.declared.step.Step.{Step}
 use Rattle.world.specs.declared.step.Step.TheVariants as step
-use Rattle.world.specs.declared.reply.Reply.{Reply}
-use Rattle.world.specs.declared.reply.Reply.TheVariants as reply
-use Rattle.world.specs.declared.reply.Refusal.{Refusal}
-use Rattle.world.specs.declared.reply.Refusal.TheVariants as refusal
-use Rattle.world.specs.declared.told.NextNumbers.{NextNumbers}
+use Rattle.replies.specs.declared.reply.Reply.{Reply}
+use Rattle.replies.specs.declared.reply.Reply.TheVariants as reply
+use Rattle.replies.specs.declared.reply.Refusal.{Refusal}
+use Rattle.replies.specs.declared.reply.Refusal.TheVariants as refusal
+use Rattle.replies.specs.declared.told.NextNumbers.{NextNumbers}
 use Rattle.world.specs.Pasts.{event, Past}
 use Rattle.world.specs.Calls.{if_sent, call_of, with_call, calls_in, handles_made}
-use Rattle.world.specs.Replies.{is_continuous_in, named, next_numbers, told_as, reply_by_call}
+use Rattle.world.specs.Replies.{is_continuous_in, named, next_numbers, reply_by_call}
+use Rattle.replies.specs.Told.{told_as}
 use Rattle.world.specs.Runs.{IsReply}
 use Rattle.world.specs.Headline.{IsCheckedByHistory}
 use Rattle.world.proofs.Telling.{own_check_reply, calls_after}

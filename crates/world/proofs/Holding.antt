@@ -1,17 +1,17 @@
 -- Who may serve by the steps may serve by their calls, and a point between a `hold` and a `check` stands between their calls.
 use Rattle.std.proofs.Common.{◌≡◌, ℕ, List, ◌∷◌, ◌++◌, refl, sym, ◌∙◌, ap, subst}
 use Rattle.slice_ranges.specs.Hash.{slice_key}
-use Rattle.slicelet.specs.declared.handle.KeyHandle.{KeyHandle}
-use Rattle.cluster.specs.declared.call.ClusterCall.TheVariants as call
-use Rattle.cluster.specs.declared.reply.ClusterReply.TheVariants as machine
-use Rattle.cluster.specs.declared.timing.Reading.TheVariants.{TaskClock}
+use Rattle.key_handle.specs.declared.handle.KeyHandle.{KeyHandle}
+use Rattle.job_calls.specs.declared.call.ClusterCall.TheVariants as call
+use Rattle.job_calls.specs.declared.reply.ClusterReply.TheVariants as machine
+use Rattle.job_calls.specs.declared.timing.Reading.TheVariants.{TaskClock}
 use Rattle.cluster.specs.Timing.{IsNear}
 use Rattle.cluster.specs.Pasts.{Event as ClusterEvent, event as cluster_event, Past as ClusterPast}
 use Rattle.cluster.specs.Deliveries.{handles_made as handles_given}
 use Rattle.cluster.specs.Headline.{MayServe as MayServeKey, IsWhileHeld as IsWhileKept}
 use Rattle.world.specs.Jobs.{Job}
 use Rattle.world.specs.declared.step.Step.TheVariants as step
-use Rattle.world.specs.declared.reply.Reply.TheVariants as reply
+use Rattle.replies.specs.declared.reply.Reply.TheVariants as reply
 use Rattle.world.specs.Pasts.{Event, event, Past}
 use Rattle.world.specs.Calls.{calls_in}
 use Rattle.world.specs.Runs.{IsRun}

@@ -3,7 +3,7 @@ use Rattle.std.proofs.Common.{◌≡◌, ℕ, Bool, List, true, false, ◌&&◌,
 use Rattle.std.specs.Prelude.{Option, Some, None, Err, nat_le}
 use Rattle.std.proofs.lemmas.Bool.{and_parts}
 use Rattle.assignment.specs.declared.slice.TheConstants.{MOST_OWNERS}
-use Rattle.lease_table.specs.Policies.{Terms, is_policy}
+use Rattle.grants.specs.Policies.{Terms, is_policy}
 use Rattle.machines.specs.Numbers.{is_within}
 use Rattle.assignment.specs.Slices.{Slicing, refusal_of}
 use Rattle.weighted_move.specs.declared.error.PlanError.{PlanError}
@@ -13,8 +13,8 @@ use Rattle.weighted_move.specs.Plans.{CanPlan, IsPlan, plan_refusal}
 use Rattle.world.specs.Jobs.{Job}
 use Rattle.weighted_move.specs.Bounds.{Bounds, is_bounds}
 use Rattle.world.specs.declared.step.Step.TheVariants as step
-use Rattle.world.specs.declared.reply.Refusal.TheVariants as refusal
-use Rattle.world.specs.declared.reply.Reply.TheVariants as reply
+use Rattle.replies.specs.declared.reply.Refusal.TheVariants as refusal
+use Rattle.replies.specs.declared.reply.Reply.TheVariants as reply
 use Rattle.world.specs.Pasts.{event, Past}
 use Rattle.world.specs.Front.{draft_of}
 use Rattle.world.specs.Replies.{Plain, Planned, plan_in, planned, plan_reply}

@@ -2,27 +2,28 @@
 use Rattle.std.proofs.Common.{◌≡◌, ℕ, true, List, [], ◌∷◌, ◌++◌, length, refl, sym, ◌∙◌, ap, subst}
 use Rattle.std.specs.Prelude.{Option, Some, None, Result, Err, is_err, option_map}
 use Rattle.std.specs.declared.alloc.AllocError.{AllocError}
-use Rattle.lease_table.specs.declared.values.JobTerm.{JobTerm}
+use Rattle.grants.specs.declared.values.JobTerm.{JobTerm}
 use Rattle.load_ledger.specs.Shares.{Share}
 use Rattle.assigner.specs.Terms.{Keeping}
-use Rattle.cluster.specs.declared.call.ClusterCall.{ClusterCall}
-use Rattle.cluster.specs.declared.error.ClusterError.TheVariants as error
-use Rattle.cluster.specs.declared.reply.ClusterReply.{ClusterReply}
-use Rattle.cluster.specs.declared.reply.ClusterReply.TheVariants as machine
+use Rattle.job_calls.specs.declared.call.ClusterCall.{ClusterCall}
+use Rattle.job_calls.specs.declared.error.ClusterError.TheVariants as error
+use Rattle.job_calls.specs.declared.reply.ClusterReply.{ClusterReply}
+use Rattle.job_calls.specs.declared.reply.ClusterReply.TheVariants as machine
 use Rattle.cluster.specs.Pasts.{Past as ClusterPast}
 use Rattle.cluster.specs.Runs.{IsRun as IsClusterRun}
 use Rattle.cluster.specs.Clusters.{AreActors, LeadsTo as LeadsToCluster, IsPlayedOr}
 use Rattle.world.specs.Jobs.{Job}
 use Rattle.world.specs.declared.step.Step.{Step}
-use Rattle.world.specs.declared.reply.Refusal.{Refusal}
-use Rattle.world.specs.declared.reply.Refusal.TheVariants as refusal
-use Rattle.world.specs.declared.reply.Reply.{Reply}
-use Rattle.world.specs.declared.reply.Reply.TheVariants as reply
+use Rattle.replies.specs.declared.reply.Refusal.{Refusal}
+use Rattle.replies.specs.declared.reply.Refusal.TheVariants as refusal
+use Rattle.replies.specs.declared.reply.Reply.{Reply}
+use Rattle.replies.specs.declared.reply.Reply.TheVariants as reply
 use Rattle.world.specs.declared.world.World.{World}
 use Rattle.world.specs.Pasts.{event, Past}
 use Rattle.world.specs.Front.{kept_with, share_of}
 use Rattle.world.specs.Calls.{if_sent, call_of, calls_in}
-use Rattle.world.specs.Replies.{named, next_numbers, told_as, assigner_of}
+use Rattle.world.specs.Replies.{named, next_numbers, assigner_of}
+use Rattle.replies.specs.Told.{told_as}
 use Rattle.world.specs.Runs.{IsReply, past_after}
 use Rattle.world.specs.Worlds.{Keeps}
 use Rattle.world.specs.internals.Asking.{told_of}

@@ -7,16 +7,16 @@ use Rattle.assignment.specs.declared.slice.Slice.{Slice}
 use Rattle.assignment.specs.Slices.{Slicing, refusal_of}
 use Rattle.assignment.specs.Owners.{built}
 use Rattle.assignment.proofs.RisingOwners.{same_counts}
-use Rattle.lease_table.specs.declared.call.TableCall.TheVariants.{Propose}
-use Rattle.lease_table.specs.declared.call.TableReply.TheVariants.{Proposed}
-use Rattle.lease_table.specs.declared.error.TableError.{TableError}
+use Rattle.grants.specs.declared.table_call.TableCall.TheVariants.{Propose}
+use Rattle.grants.specs.declared.table_call.TableReply.TheVariants.{Proposed}
+use Rattle.grants.specs.declared.table_error.TableError.{TableError}
 use Rattle.lease_table.specs.Tables.{Standing}
 use Rattle.lease_table.specs.Steps.{proposal_checks, propose_checks}
-use Rattle.cluster.specs.declared.call.ClusterCall.{ClusterCall}
-use Rattle.cluster.specs.declared.call.ClusterCall.TheVariants as call
-use Rattle.cluster.specs.declared.error.ClusterError.{ClusterError}
-use Rattle.cluster.specs.declared.error.ClusterError.TheVariants as error
-use Rattle.cluster.specs.declared.reply.ClusterReply.TheVariants as machine
+use Rattle.job_calls.specs.declared.call.ClusterCall.{ClusterCall}
+use Rattle.job_calls.specs.declared.call.ClusterCall.TheVariants as call
+use Rattle.job_calls.specs.declared.error.ClusterError.{ClusterError}
+use Rattle.job_calls.specs.declared.error.ClusterError.TheVariants as error
+use Rattle.job_calls.specs.declared.reply.ClusterReply.TheVariants as machine
 use Rattle.cluster.specs.declared.cluster.Cluster.{Cluster}
 use Rattle.cluster.specs.Pasts.{event as cluster_event, Past as ClusterPast, is_accepted, standing}
 use Rattle.cluster.specs.Replies.{from_machine}
@@ -24,8 +24,8 @@ use Rattle.cluster.specs.Runs.{IsReply as IsClusterReply}
 use Rattle.cluster.specs.Clusters.{LeadsTo as LeadsToCluster}
 use Rattle.world.specs.Jobs.{Job}
 use Rattle.world.specs.declared.step.Step.{Step}
-use Rattle.world.specs.declared.reply.Refusal.TheVariants as refusal
-use Rattle.world.specs.declared.reply.Reply.TheVariants as reply
+use Rattle.replies.specs.declared.reply.Refusal.TheVariants as refusal
+use Rattle.replies.specs.declared.reply.Reply.TheVariants as reply
 use Rattle.world.specs.internals.Asking.{IsAsked}
 
 -- the table refuses the assignment that is built as it would the slices of which it is built

@@ -4,10 +4,10 @@ use Rattle.std.specs.Prelude.{IsTrue, ◌↔◌, if◌then◌else◌}
 use Rattle.machines.specs.Numbers.{is_within}
 use Rattle.slice_ranges.specs.Hash.{slice_key}
 use Rattle.lease_rule.specs.declared.answer.Verdict.{Verdict}
-use Rattle.slicelet.specs.declared.call.SliceletCall.{SliceletCall}
+use Rattle.grants.specs.declared.slicelet_call.SliceletCall.{SliceletCall}
 use Rattle.slicelet.specs.Rules.{is_allowed, rule_after}
-use Rattle.cluster.specs.declared.error.ClusterError.TheVariants as error
-use Rattle.cluster.specs.declared.reply.ClusterReply.TheVariants as machine
+use Rattle.job_calls.specs.declared.error.ClusterError.TheVariants as error
+use Rattle.job_calls.specs.declared.reply.ClusterReply.TheVariants as machine
 use Rattle.cluster.specs.Pasts.{Event as ClusterEvent, Past as ClusterPast, is_accepted as is_accepted_call, task_calls}
 use Rattle.cluster.specs.Replies.{covers, rule_in}
 use Rattle.cluster.specs.Runs.{IsReply as IsClusterReply, IsRun as IsClusterRun}
@@ -15,13 +15,14 @@ use Rattle.cluster.proofs.Adding.{adds_to_task}
 use Rattle.cluster.proofs.TaskTurns.{by_none}
 use Rattle.world.specs.Jobs.{Job}
 use Rattle.world.specs.declared.step.Step.TheVariants as step
-use Rattle.world.specs.declared.reply.Reply.{Reply}
-use Rattle.world.specs.declared.reply.Reply.TheVariants as reply
-use Rattle.world.specs.declared.told.Named.{Named}
-use Rattle.world.specs.declared.told.NextNumbers.{NextNumbers}
+use Rattle.replies.specs.declared.reply.Reply.{Reply}
+use Rattle.replies.specs.declared.reply.Reply.TheVariants as reply
+use Rattle.replies.specs.declared.told.Named.{Named}
+use Rattle.replies.specs.declared.told.NextNumbers.{NextNumbers}
 use Rattle.world.specs.Pasts.{event, Past, steps_of, IsTimely}
 use Rattle.world.specs.Calls.{calls_in}
-use Rattle.world.specs.Replies.{Plain, named, next_numbers, told_as, reply_to}
+use Rattle.world.specs.Replies.{Plain, named, next_numbers, reply_to}
+use Rattle.replies.specs.Told.{told_as}
 use Rattle.world.specs.Runs.{IsRun}
 use Rattle.world.specs.Headline.{is_served, IsServedByRule, MayServe}
 use Rattle.world.proofs.Running.{calls_run}

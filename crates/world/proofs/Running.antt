@@ -1,14 +1,14 @@
 -- The calls of a run of steps are a run of the machines, and a longer past makes more of them.
 use Rattle.std.proofs.Common.{◌≡◌, [], ◌∷◌, ◌++◌, refl, sym, ◌∙◌, ap, subst, inl, inr}
 use Rattle.std.specs.Prelude.{Result, Ok, Err}
-use Rattle.cluster.specs.declared.call.ClusterCall.{ClusterCall}
+use Rattle.job_calls.specs.declared.call.ClusterCall.{ClusterCall}
 use Rattle.cluster.specs.Pasts.{Event as ClusterEvent, Past as ClusterPast}
 use Rattle.cluster.specs.Replies.{reply_to as cluster_reply}
 use Rattle.cluster.specs.Runs.{IsRun as IsClusterRun}
 use Rattle.world.specs.Jobs.{Job}
-use Rattle.world.specs.declared.reply.Refusal.{Refusal}
-use Rattle.world.specs.declared.reply.Reply.{Reply}
-use Rattle.world.specs.declared.reply.Reply.TheVariants as reply
+use Rattle.replies.specs.declared.reply.Refusal.{Refusal}
+use Rattle.replies.specs.declared.reply.Reply.{Reply}
+use Rattle.replies.specs.declared.reply.Reply.TheVariants as reply
 use Rattle.world.specs.Pasts.{Event, Past}
 use Rattle.world.specs.Calls.{call_of, unless_out_of_memory, with_call, calls_in}
 use Rattle.world.specs.Replies.{is_continuous_in}

@@ -5,24 +5,24 @@ use Rattle.machines.specs.Numbers.{is_within}
 use Rattle.machines.specs.Answers.{with_named_reply}
 use Rattle.assignment.specs.declared.error.AssignmentError.{AssignmentError}
 use Rattle.assignment.specs.Slices.{refusal_of}
-use Rattle.lease_table.specs.declared.call.TableReply.TheVariants as table
-use Rattle.slicelet.specs.declared.call.SliceletCall.{SliceletCall}
-use Rattle.slicelet.specs.declared.call.SliceletCall.TheVariants.{Start, Hear, Release, Resume}
-use Rattle.slicelet.specs.declared.call.SliceletReply.{SliceletReply}
-use Rattle.slicelet.specs.declared.call.SliceletReply.TheVariants as slicelet
-use Rattle.slicelet.specs.declared.error.SliceletError.{SliceletError}
+use Rattle.grants.specs.declared.table_call.TableReply.TheVariants as table
+use Rattle.grants.specs.declared.slicelet_call.SliceletCall.{SliceletCall}
+use Rattle.grants.specs.declared.slicelet_call.SliceletCall.TheVariants.{Start, Hear, Release, Resume}
+use Rattle.grants.specs.declared.slicelet_call.SliceletReply.{SliceletReply}
+use Rattle.grants.specs.declared.slicelet_call.SliceletReply.TheVariants as slicelet
+use Rattle.grants.specs.declared.slicelet_error.SliceletError.{SliceletError}
 use Rattle.slicelet.specs.Continuity.{handle_on, held_by, is_strange}
 use Rattle.slicelet.specs.Steps.{slicelet_step, start_step, hear_step, release_step}
 use Rattle.clerk.specs.declared.call.ClerkReply.TheVariants as clerk
 use Rattle.clerk.specs.Calls.{clerk_step}
 use Rattle.clerk.specs.Steps.{look_at}
 use Rattle.lease_table.specs.Calls.{table_step}
-use Rattle.cluster.specs.declared.call.ClusterCall.{ClusterCall}
-use Rattle.cluster.specs.declared.call.ClusterCall.TheVariants as call
-use Rattle.cluster.specs.declared.error.ClusterError.{ClusterError}
-use Rattle.cluster.specs.declared.error.ClusterError.TheVariants as error
-use Rattle.cluster.specs.declared.reply.ClusterReply.{ClusterReply}
-use Rattle.cluster.specs.declared.reply.ClusterReply.TheVariants as machine
+use Rattle.job_calls.specs.declared.call.ClusterCall.{ClusterCall}
+use Rattle.job_calls.specs.declared.call.ClusterCall.TheVariants as call
+use Rattle.job_calls.specs.declared.error.ClusterError.{ClusterError}
+use Rattle.job_calls.specs.declared.error.ClusterError.TheVariants as error
+use Rattle.job_calls.specs.declared.reply.ClusterReply.{ClusterReply}
+use Rattle.job_calls.specs.declared.reply.ClusterReply.TheVariants as machine
 use Rattle.cluster.specs.Numbers.{with_number}
 use Rattle.cluster.specs.Pasts.{Event as ClusterEvent, event as cluster_event, Past as ClusterPast, is_accepted as is_accepted_call, grants, published, standing, history, newest_learnt}
 use Rattle.cluster.specs.Deliveries.{notes_made, handles_made as handles_given, is_given, table_refusal, task_refusal, clerk_refusal}
@@ -31,14 +31,15 @@ use Rattle.cluster.specs.Memory.{gives_handle as gives_handle_itself}
 use Rattle.world.specs.Jobs.{Job}
 use Rattle.world.specs.declared.step.Step.{Step}
 use Rattle.world.specs.declared.step.Step.TheVariants as step
-use Rattle.world.specs.declared.reply.Reply.{Reply}
-use Rattle.world.specs.declared.reply.Refusal.{Refusal}
-use Rattle.world.specs.declared.reply.Refusal.TheVariants as refusal
-use Rattle.world.specs.declared.told.Named.{Named}
-use Rattle.world.specs.declared.told.NextNumbers.{NextNumbers}
+use Rattle.replies.specs.declared.reply.Reply.{Reply}
+use Rattle.replies.specs.declared.reply.Refusal.{Refusal}
+use Rattle.replies.specs.declared.reply.Refusal.TheVariants as refusal
+use Rattle.replies.specs.declared.told.Named.{Named}
+use Rattle.replies.specs.declared.told.NextNumbers.{NextNumbers}
 use Rattle.world.specs.Pasts.{Past, is_accepted}
 use Rattle.world.specs.Calls.{if_actor, if_sent, if_built, call_of, resumes, refused_by, answered, unless_out_of_memory, with_call}
-use Rattle.world.specs.Replies.{refusal_by, named, next_numbers, term_reply, told_as}
+use Rattle.replies.specs.Told.{refusal_by, term_reply, told_as}
+use Rattle.world.specs.Replies.{named, next_numbers}
 use Rattle.world.specs.Runs.{gives_handle}
 
 -- WHAT IS TOLD OF A REPLY

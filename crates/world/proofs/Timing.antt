@@ -5,18 +5,19 @@ use Rattle.std.specs.List.{AllByRecursion}
 use Rattle.machines.specs.Numbers.{is_within}
 use Rattle.assignment.specs.declared.error.AssignmentError.{AssignmentError}
 use Rattle.assignment.specs.Slices.{refusal_of}
-use Rattle.cluster.specs.declared.call.ClusterCall.{ClusterCall}
-use Rattle.cluster.specs.declared.timing.Reading.{Reading}
+use Rattle.job_calls.specs.declared.call.ClusterCall.{ClusterCall}
+use Rattle.job_calls.specs.declared.timing.Reading.{Reading}
 use Rattle.cluster.specs.Numbers.{with_number}
 use Rattle.cluster.specs.Timing.{IsNear, IsTimely as AreTimely}
-use Rattle.cluster.specs.Pasts.{Event as ClusterEvent, Past as ClusterPast, reading, readings, grants, published}
+use Rattle.cluster.specs.Pasts.{Event as ClusterEvent, Past as ClusterPast, readings, grants, published}
+use Rattle.job_calls.specs.Readings.{reading}
 use Rattle.world.specs.Jobs.{Job}
 use Rattle.world.specs.declared.step.Step.{Step}
 use Rattle.world.specs.declared.step.Step.TheVariants as step
-use Rattle.world.specs.declared.reply.Reply.{Reply}
-use Rattle.world.specs.declared.reply.Reply.TheVariants as reply
-use Rattle.world.specs.declared.reply.Refusal.{Refusal}
-use Rattle.world.specs.declared.reply.Refusal.TheVariants as refusal
+use Rattle.replies.specs.declared.reply.Reply.{Reply}
+use Rattle.replies.specs.declared.reply.Reply.TheVariants as reply
+use Rattle.replies.specs.declared.reply.Refusal.{Refusal}
+use Rattle.replies.specs.declared.reply.Refusal.TheVariants as refusal
 use Rattle.world.specs.Pasts.{Past, steps_of, reading as step_reading, IsTimely}
 use Rattle.world.specs.Calls.{if_actor, if_sent, if_built, call_of, unless_out_of_memory, with_call, calls_in}
 

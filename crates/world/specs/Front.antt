@@ -4,15 +4,15 @@ use Rattle.std.specs.List.{range_with_len}
 use Rattle.slice_ranges.specs.Hash.{slice_key}
 use Rattle.assignment.specs.Slices.{Slicing}
 use Rattle.assignment.specs.Owners.{built}
-use Rattle.lease_table.specs.declared.values.JobTerm.{JobTerm}
-use Rattle.lease_table.specs.Tables.{last_number}
+use Rattle.grants.specs.declared.values.JobTerm.{JobTerm}
+use Rattle.grants.specs.JobTerms.{last_number}
 use Rattle.load_ledger.specs.declared.share.LoadRecord.{LoadRecord}
 use Rattle.load_ledger.specs.Shares.{Share}
 use Rattle.assigner.specs.Terms.{adopted_term}
 use Rattle.world.specs.declared.step.Step.{Step}
 use Rattle.world.specs.declared.step.Step.TheVariants as step
-use Rattle.world.specs.declared.reply.Reply.{Reply}
-use Rattle.world.specs.declared.reply.Reply.TheVariants as reply
+use Rattle.replies.specs.declared.reply.Reply.{Reply}
+use Rattle.replies.specs.declared.reply.Reply.TheVariants as reply
 use Rattle.world.specs.Pasts.{Past, is_accepted}
 
 -- THE DRAFT

@@ -3,7 +3,7 @@ use Rattle.std.specs.Prelude.{◌≡◌, ℕ, Bool, false, IsTrue, List, ◌∷�
 use Rattle.slice_ranges.specs.Hash.{slice_key}
 use Rattle.assignment.specs.Slices.{Slicing, refusal_of}
 use Rattle.machines.specs.Numbers.{is_within}
-use Rattle.slicelet.specs.declared.handle.KeyHandle.{KeyHandle}
+use Rattle.key_handle.specs.declared.handle.KeyHandle.{KeyHandle}
 use Rattle.slicelet.specs.Rules.{is_allowed}
 use Rattle.slicelet.specs.Continuity.{IsContinuous}
 use Rattle.cluster.specs.Pasts.{task_calls}
@@ -12,8 +12,8 @@ use Rattle.cluster.specs.Headline.{IsOwner as IsOwnerIn}
 use Rattle.weighted_move.specs.declared.slice_plan.Plan.{Plan}
 use Rattle.world.specs.Jobs.{Job}
 use Rattle.world.specs.declared.step.Step.TheVariants as step
-use Rattle.world.specs.declared.reply.Reply.{Reply}
-use Rattle.world.specs.declared.reply.Reply.TheVariants as reply
+use Rattle.replies.specs.declared.reply.Reply.{Reply}
+use Rattle.replies.specs.declared.reply.Reply.TheVariants as reply
 use Rattle.world.specs.Pasts.{Event, event, Past, steps_of, IsTimely}
 use Rattle.weighted_move.specs.Bounds.{Bounds}
 use Rattle.world.specs.Front.{draft_of}

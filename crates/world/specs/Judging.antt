@@ -6,15 +6,15 @@ use Rattle.lease_rule.specs.declared.lease.Kind.{Kind}
 use Rattle.lease_rule.specs.declared.lease.Kind.TheVariants.{Guard, Bridge}
 use Rattle.lease_rule.specs.Leases.{SeenLease, same_kind}
 use Rattle.lease_rule.specs.Rule.{SeenHolding, rule}
-use Rattle.world.specs.declared.judge.WrittenLease.{WrittenLease}
+use Rattle.replies.specs.declared.written_lease.WrittenLease.{WrittenLease}
 use Rattle.world.specs.declared.judge.Question.{Question}
 use Rattle.machines.specs.declared.machine.Trouble.{Trouble}
 use Rattle.machines.specs.Answers.{trouble_of}
 use Rattle.world.specs.Troubles.{of_layer}
-use Rattle.world.specs.declared.reply.Refusal.{Refusal}
-use Rattle.world.specs.declared.reply.Refusal.TheVariants.{Ranges}
-use Rattle.world.specs.declared.reply.Reply.{Reply}
-use Rattle.world.specs.declared.reply.Reply.TheVariants.{Verdict, Refused}
+use Rattle.replies.specs.declared.reply.Refusal.{Refusal}
+use Rattle.replies.specs.declared.reply.Refusal.TheVariants.{Ranges}
+use Rattle.replies.specs.declared.reply.Reply.{Reply}
+use Rattle.replies.specs.declared.reply.Reply.TheVariants.{Verdict, Refused}
 
 -- why the first lease whose pairs make no set is refused
 abbrev pub leases_refusal : List WrittenLease → Option RangesError

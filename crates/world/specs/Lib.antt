@@ -8,4 +8,4 @@ pub mod Runs
 pub mod Headline
 pub mod Worlds
 pub mod internals
-pub use Rattle.cluster.specs.Jobs
+pub use Rattle.job_calls.specs.Jobs

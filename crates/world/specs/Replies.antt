@@ -5,20 +5,9 @@ use Rattle.slice_ranges.specs.Hash.{slice_key}
 use Rattle.assignment.specs.declared.error.AssignmentError.{AssignmentError}
 use Rattle.assignment.specs.Slices.{Slicing, refusal_of}
 use Rattle.assignment.specs.Owners.{owners_of}
-use Rattle.lease_table.specs.declared.call.TableReply.{TableReply}
-use Rattle.lease_table.specs.declared.call.TableReply.TheVariants as table
-use Rattle.lease_table.specs.declared.values.JobTerm.{JobTerm}
 use Rattle.lease_table.specs.Tables.{phase_of}
 use Rattle.machines.specs.Numbers.{is_within}
-use Rattle.slicelet.specs.declared.call.SliceletReply.{SliceletReply}
-use Rattle.slicelet.specs.declared.call.SliceletReply.TheVariants as slicelet
-use Rattle.clerk.specs.declared.call.ClerkReply.{ClerkReply}
-use Rattle.clerk.specs.declared.call.ClerkReply.TheVariants as clerk
-use Rattle.cluster.specs.declared.call.ClusterCall.{ClusterCall}
-use Rattle.cluster.specs.declared.error.ClusterError.{ClusterError}
-use Rattle.cluster.specs.declared.error.ClusterError.TheVariants as error
-use Rattle.cluster.specs.declared.reply.ClusterReply.{ClusterReply}
-use Rattle.cluster.specs.declared.reply.ClusterReply.TheVariants as machine
+use Rattle.job_calls.specs.declared.call.ClusterCall.{ClusterCall}
 use Rattle.cluster.specs.Pasts.{Past as ClusterPast, standing}
 use Rattle.cluster.specs.Deliveries.{notes_made, handles_made}
 use Rattle.cluster.specs.Replies.{reply_to as cluster_reply}
@@ -32,12 +21,13 @@ use Rattle.assigner.specs.Actions.{next_action}
 use Rattle.world.specs.Jobs.{Job}
 use Rattle.world.specs.declared.step.Step.{Step}
 use Rattle.world.specs.declared.step.Step.TheVariants as step
-use Rattle.world.specs.declared.reply.Reply.{Reply}
-use Rattle.world.specs.declared.reply.Reply.TheVariants as reply
-use Rattle.world.specs.declared.reply.Refusal.{Refusal}
-use Rattle.world.specs.declared.reply.Refusal.TheVariants as refusal
-use Rattle.world.specs.declared.told.Named.{Named}
-use Rattle.world.specs.declared.told.NextNumbers.{NextNumbers}
+use Rattle.replies.specs.declared.reply.Reply.{Reply}
+use Rattle.replies.specs.declared.reply.Reply.TheVariants as reply
+use Rattle.replies.specs.declared.reply.Refusal.{Refusal}
+use Rattle.replies.specs.declared.reply.Refusal.TheVariants as refusal
+use Rattle.replies.specs.declared.told.Named.{Named}
+use Rattle.replies.specs.declared.told.NextNumbers.{NextNumbers}
+use Rattle.replies.specs.Told.{numbers_after, told_as}
 use Rattle.world.specs.Pasts.{Past}
 use Rattle.world.specs.Front.{draft_of, kept_term, share_of, shares_in, gathers_in}
 use Rattle.world.specs.Calls.{call_of, calls_in}
@@ -65,58 +55,11 @@ renews _ = false
 abbrev pub named : Step → Named
 named s = record { life = life_in s; number = number_in s; renews = renews s }
 
--- WHAT THE MACHINES ANSWER, AS IT IS TOLD
-
--- a job term is told as renewed or as taken
-abbrev pub term_reply : Bool → JobTerm → Reply
-term_reply true term = reply.Renewed term
-term_reply false term = reply.Term term
-
-abbrev pub table_reply : Named → TableReply → Reply
-table_reply n (table.Term term) = term_reply n.renews term
-table_reply n table.Proposed = reply.Proposed n.number
-table_reply n (table.Committed generation) = reply.Committed generation
-table_reply n (table.Granted grant) = reply.Granted grant
-table_reply n (table.Freed rows) = reply.Freed rows
-table_reply n (table.Lost rows) = reply.Lost rows
-
--- a note is told with its number; no step begins a new process, so that the last reply is never told
-abbrev pub task_reply : Named → ℕ → SliceletReply → Reply
-task_reply n number slicelet.Started = reply.Started n.life
-task_reply n number slicelet.Heard = reply.Heard n.number
-task_reply n number (slicelet.Released note) = reply.Released number note
-task_reply n number (slicelet.Resumed ended) = reply.Started n.life
-
-abbrev pub clerk_reply : Named → ClerkReply → Reply
-clerk_reply n clerk.Learnt = reply.Learnt n.number
-clerk_reply n clerk.Forgotten = reply.Forgotten
-
-abbrev pub refusal_by : ClusterError → Refusal
-refusal_by error.NoActor = refusal.NoActor
-refusal_by error.NotSent = refusal.NotSent
-refusal_by (error.Table why) = refusal.Table why
-refusal_by (error.Slicelet why) = refusal.Slicelet why
-refusal_by error.Stranger = refusal.Stranger
-refusal_by (error.Clerk why) = refusal.Clerk why
-refusal_by error.Unknown = refusal.Unknown
+-- WHAT THE MACHINES ANSWER
 
 -- the numbers that the next note and the next handle get
 abbrev pub next_numbers : ClusterPast → NextNumbers
-next_numbers calls = record { note = length (notes_made calls) + 1; handle = length (handles_made calls) + 1 }
-
--- a reply of the machines to a call that names this, as it is told
-abbrev pub told_as : Named → NextNumbers → ClusterReply → Reply
-told_as n next (machine.Table r) = table_reply n r
-told_as n next (machine.Task r) = task_reply n next.note r
-told_as n next (machine.Clerk r) = clerk_reply n r
-told_as n next (machine.Phase phase) = reply.Phase phase
-told_as n next (machine.Rows rows) = reply.Rows rows
-told_as n next (machine.Verdict verdict) = reply.Verdict verdict
-told_as n next (machine.Holding handle) = reply.Holding next.handle handle
-told_as n next machine.Continuous = reply.Continuous
-told_as n next machine.Broken = reply.Broken
-told_as n next (machine.Found found) = reply.Found found
-told_as n next (machine.Refused why) = reply.Refused (refusal_by why)
+next_numbers calls = numbers_after (length (notes_made calls)) (length (handles_made calls))
 
 -- a step that makes a call is told what the machines answer, and else why it makes none
 abbrev pub reply_by_call : Job → ClusterPast → Step → Bool → Result ClusterCall Refusal → Reply

@@ -3,15 +3,15 @@ use Rattle.std.specs.Prelude.{◌≡◌, ℕ, Bool, true, false, IsTrue, List, [
 use Rattle.assignment.specs.Slices.{Slicing}
 use Rattle.weighted_move.specs.declared.slice_plan.Plan.{Plan}
 use Rattle.weighted_move.specs.Plans.{CanPlan, IsPlan, plan_refusal}
-use Rattle.cluster.specs.declared.call.ClusterCall.{ClusterCall}
+use Rattle.job_calls.specs.declared.call.ClusterCall.{ClusterCall}
 use Rattle.cluster.specs.Pasts.{Past as ClusterPast}
 use Rattle.cluster.specs.Runs.{IsOutcome as IsClusterOutcome}
 use Rattle.world.specs.Jobs.{Job}
 use Rattle.world.specs.declared.step.Step.{Step}
 use Rattle.world.specs.declared.step.Step.TheVariants as step
-use Rattle.world.specs.declared.reply.Refusal.{Refusal}
-use Rattle.world.specs.declared.reply.Reply.{Reply}
-use Rattle.world.specs.declared.reply.Reply.TheVariants as reply
+use Rattle.replies.specs.declared.reply.Refusal.{Refusal}
+use Rattle.replies.specs.declared.reply.Reply.{Reply}
+use Rattle.replies.specs.declared.reply.Reply.TheVariants as reply
 use Rattle.world.specs.Pasts.{Event, event, Past, is_accepted}
 use Rattle.weighted_move.specs.Bounds.{Bounds}
 use Rattle.weighted_move.specs.Policies.{plan_terms_of}

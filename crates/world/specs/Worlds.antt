@@ -5,9 +5,9 @@ use Rattle.machines.specs.declared.machine.Trouble.TheVariants.{Refused, NoMemor
 use Rattle.cluster.specs.Clusters.{AreActors, LeadsTo as LeadsToCluster}
 use Rattle.world.specs.Jobs.{Job}
 use Rattle.world.specs.declared.step.Step.{Step}
-use Rattle.world.specs.declared.reply.Refusal.{Refusal}
-use Rattle.world.specs.declared.reply.Reply.{Reply}
-use Rattle.world.specs.declared.reply.Reply.TheVariants as reply
+use Rattle.replies.specs.declared.reply.Refusal.{Refusal}
+use Rattle.replies.specs.declared.reply.Reply.{Reply}
+use Rattle.replies.specs.declared.reply.Reply.TheVariants as reply
 use Rattle.world.specs.declared.world.World.{World}
 use Rattle.world.specs.Pasts.{event, Past}
 use Rattle.world.specs.Front.{draft_of, share_of}

@@ -3,13 +3,13 @@
 ghost use Rattle.std.specs.Prelude.{◌≡◌, ◌+◌, ◌<◌, true, false, length, MatchResult};
 ghost use Rattle.machines.specs.declared.machine.Trouble.TheVariants as trouble;
 ghost use Rattle.machines.specs.Numbers.{is_within};
-ghost use Rattle.world.specs.declared.reply.Refusal.TheVariants as refusal;
+ghost use Rattle.replies.specs.declared.reply.Refusal.TheVariants as refusal;
 ghost use Rattle.world.specs.Troubles.{of_layer};
 
-use crate::reply::Refusal;
 use assignment::AssignmentError;
 use load_ledger::LoadError;
 use machines::Trouble;
+use replies::Refusal;
 use weighted_move::PlanError;
 
 /// Returns the place of the actor with this number, or refuses with `NoActor`.

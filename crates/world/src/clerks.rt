@@ -7,13 +7,13 @@ ghost use Rattle.world.specs.Pasts.{Past};
 ghost use Rattle.world.specs.Worlds.{Keeps, Played};
 
 use crate::actors::check_actor;
-use crate::reply::{Refusal, Reply};
 use crate::step::Step;
-use crate::told::{NextNumbers, ask, told_of};
+use crate::told::{ask, next_numbers_of, told_of};
 use crate::world::World;
 use clerk::ClerkCall;
-use cluster::ClusterCall;
+use job_calls::ClusterCall;
 use machines::Trouble;
+use replies::{Refusal, Reply};
 use slice_ranges::slice_key;
 
 impl World {
@@ -22,7 +22,7 @@ impl World {
             → Played job past (step.Learn clerk generation) result self.new }
     {
         check_actor(clerk, self.job.clerks())?;
-        let next = NextNumbers::of(&self.cluster);
+        let next = next_numbers_of(&self.cluster);
         let answer = self.cluster.learn_published(clerk, generation);
         self.cluster.run_law();
         Ok(told_of(&Step::Learn { clerk, generation }, next, answer))

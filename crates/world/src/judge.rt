@@ -2,28 +2,15 @@
 
 ghost use Rattle.std.specs.Prelude.{◌≡◌};
 ghost use Rattle.machines.specs.Answers.{trouble_of};
-ghost use Rattle.world.specs.declared.reply.Refusal.TheVariants as refusal;
+ghost use Rattle.replies.specs.declared.reply.Refusal.TheVariants as refusal;
 ghost use Rattle.world.specs.Judging.{leases_refusal, judge_reply, IsJudged};
 ghost use Rattle.world.specs.Troubles.{of_layer};
 
-use crate::reply::{Refusal, Reply};
 use lease_rule::{Holding, Kind, Lease, verdict};
 use machines::{Listed, Trouble};
+use replies::{Refusal, Reply, WrittenLease};
 use slice_ranges::{Ranges, SliceKey, pairs_refusal};
 use std::alloc::Global;
-
-/// A lease as a script writes it, for the written rule to judge.
-#[derive(Debug, Drop)]
-pub struct WrittenLease {
-    /// The kind of the lease.
-    pub kind: Kind,
-    /// The generation that the lease was granted for.
-    pub generation: u64,
-    /// The slice keys that it covers, as pairs of a start and an end.
-    pub ranges: Listed<(u64, u64)>,
-    /// The first reading at which the lease is no longer live, in ticks.
-    pub ends: u64,
-}
 
 /// A question for the written rule: what a task holds, a key and a reading.
 #[derive(Debug, Drop)]

@@ -2,9 +2,9 @@
 
 ghost use Rattle.std.specs.Prelude.{◌≡◌, ℕ, List, ◌∷◌, true, false, Some, IsTrue, ◌↔◌};
 ghost use Rattle.machines.specs.Numbers.{is_within};
-ghost use Rattle.lease_table.specs.Policies.{is_policy};
+ghost use Rattle.grants.specs.Policies.{is_policy};
 ghost use Rattle.slicelet.specs.Continuity.{is_strange};
-ghost use Rattle.slicelet.specs.declared.handle.KeyHandle.{KeyHandle};
+ghost use Rattle.key_handle.specs.declared.handle.KeyHandle.{KeyHandle};
 ghost use Rattle.weighted_move.specs.declared.slice_plan.Plan.{Plan};
 ghost use Rattle.cluster.specs.Numbers.{with_number};
 ghost use Rattle.cluster.specs.Pasts.{readings};
@@ -12,8 +12,8 @@ ghost use Rattle.cluster.specs.Runs.{IsRun as IsClusterRun};
 ghost use Rattle.cluster.specs.Timing.{IsTimely as AreTimely};
 ghost use Rattle.world.specs.Jobs.{Job};
 ghost use Rattle.world.specs.declared.step.Step.TheVariants as step;
-ghost use Rattle.world.specs.declared.reply.Reply.{Reply};
-ghost use Rattle.world.specs.declared.reply.Reply.TheVariants as reply;
+ghost use Rattle.replies.specs.declared.reply.Reply.{Reply};
+ghost use Rattle.replies.specs.declared.reply.Reply.TheVariants as reply;
 ghost use Rattle.weighted_move.specs.Bounds.{Bounds};
 ghost use Rattle.world.specs.Pasts.{Past, event, steps_of, IsTimely};
 ghost use Rattle.world.specs.Calls.{calls_in, handles_made, history};

@@ -4,12 +4,12 @@
 
 mod actors;
 mod clerks;
+mod copies;
 mod judge;
 mod laws;
 mod loads;
 mod plans;
 mod readings;
-mod reply;
 mod step;
 mod table;
 mod tasks;
@@ -18,10 +18,9 @@ mod values;
 mod world;
 
 pub use crate::world::World;
-pub use cluster::{Job, MOST_ASSIGNERS, MOST_CLERKS};
-pub use judge::{Question, WrittenLease};
+pub use job_calls::{Job, MOST_ASSIGNERS, MOST_CLERKS};
+pub use judge::Question;
 pub use laws::{calls_law, handle_law, interval_law, owner_law, planned_law, rule_law};
 pub use readings::timely;
-pub use reply::{OwnerList, Refusal, Reply};
 pub use step::Step;
-pub use told::{Named, NextNumbers, refusal_by, table_reply, told_as};
+pub use told::next_numbers_of;

@@ -8,10 +8,10 @@ ghost use Rattle.world.specs.Pasts.{Past};
 ghost use Rattle.world.specs.Worlds.{Keeps, Played};
 
 use crate::actors::of_plan;
-use crate::reply::{Refusal, Reply};
 use crate::world::World;
-use lease_table::{Policy, policy_law};
+use grants::{Policy, policy_law};
 use machines::Trouble;
+use replies::{Refusal, Reply};
 use weighted_move::{PlanBounds, PlanPolicy, TaskSet};
 
 // Returns the policy for a plan with these bounds in a job of this policy.

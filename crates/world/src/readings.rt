@@ -4,7 +4,8 @@ ghost use Rattle.std.specs.Prelude.{◌≡◌, reverse, MatchBool};
 ghost use Rattle.world.specs.Pasts.{IsTimely, reading};
 
 use crate::step::Step;
-use cluster::{Reading, Timeliness};
+use cluster::Timeliness;
+use job_calls::Reading;
 
 impl Step {
     /// Returns the reading of the step: whose clock it reads, and the ticks read.

@@ -3,8 +3,8 @@
 ghost use Rattle.std.specs.Prelude.{◌≡◌, None};
 ghost use Rattle.assignment.specs.Slices.{refusal_of};
 ghost use Rattle.assignment.specs.Owners.{built};
-ghost use Rattle.lease_table.specs.declared.call.TableCall.TheVariants.{Propose};
-ghost use Rattle.cluster.specs.declared.call.ClusterCall.TheVariants as call;
+ghost use Rattle.grants.specs.declared.table_call.TableCall.TheVariants.{Propose};
+ghost use Rattle.job_calls.specs.declared.call.ClusterCall.TheVariants as call;
 ghost use Rattle.cluster.specs.Pasts.{Past as ClusterPast};
 ghost use Rattle.cluster.specs.Runs.{IsRun as IsClusterRun};
 ghost use Rattle.cluster.specs.Clusters.{LeadsTo as LeadsToCluster};
@@ -16,15 +16,16 @@ ghost use Rattle.world.specs.Worlds.{Keeps, Played};
 ghost use Rattle.world.specs.internals.Asking.{with_told, IsAsked};
 
 use crate::actors::{check_actor, place_of};
-use crate::reply::{Refusal, Reply};
 use crate::step::Step;
 use crate::told::ask;
 use crate::world::World;
 use assigner::{Assigner, View};
 use assignment::{Assignment, Slice, TaskId};
-use cluster::{Cluster, ClusterCall};
-use lease_table::TableCall;
+use cluster::Cluster;
+use grants::TableCall;
+use job_calls::ClusterCall;
 use machines::Trouble;
+use replies::{Refusal, Reply};
 
 // Offers an assigner the term in the reply, if there is one.
 fn adopt(assigner: &mut Assigner, reply: &Reply)

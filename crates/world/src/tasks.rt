@@ -7,15 +7,15 @@ ghost use Rattle.world.specs.Pasts.{Past};
 ghost use Rattle.world.specs.Worlds.{Keeps, Played};
 
 use crate::actors::check_actor;
-use crate::reply::{Refusal, Reply};
 use crate::step::Step;
-use crate::told::{NextNumbers, ask, told_of};
+use crate::told::{ask, next_numbers_of, told_of};
 use crate::world::World;
-use cluster::ClusterCall;
+use grants::SliceletCall;
+use job_calls::ClusterCall;
 use lease_rule::Kind;
 use machines::Trouble;
+use replies::{Refusal, Reply};
 use slice_ranges::slice_key;
-use slicelet::SliceletCall;
 
 impl World {
     pub(crate) fn start(&mut self, task: u64, life: u32, at: u64) -> Result<Reply, Trouble<Refusal>>
@@ -39,7 +39,7 @@ impl World {
             → Played job past (step.Hear task number at) result self.new }
     {
         check_actor(task, self.job.tasks())?;
-        let next = NextNumbers::of(&self.cluster);
+        let next = next_numbers_of(&self.cluster);
         let answer = self.cluster.hear_numbered(task, number, at);
         self.cluster.run_law();
         Ok(told_of(&Step::Hear { task, number, at }, next, answer))

@@ -8,10 +8,10 @@ ghost use Rattle.world.specs.Pasts.{Past};
 ghost use Rattle.world.specs.Worlds.{Keeps, Played};
 
 use crate::actors::of_slices;
-use crate::reply::{OwnerList, Refusal, Reply};
 use crate::world::World;
 use assignment::{Assignment, Slice};
 use machines::Trouble;
+use replies::{OwnerList, Refusal, Reply};
 use slice_ranges::slice_key;
 
 impl World {

@@ -1,17 +1,17 @@
 //! The step machine.
 
 ghost use Rattle.std.specs.Prelude.{◌≡◌, ℕ, List, ◌∷◌, ◌++◌, [], true, false, IsTrue, None, Some, length, IfOk, OnErr};
-ghost use Rattle.lease_table.specs.Policies.{is_policy};
+ghost use Rattle.grants.specs.Policies.{is_policy};
 ghost use Rattle.machines.specs.Numbers.{is_within};
 ghost use Rattle.slicelet.specs.Continuity.{is_strange};
-ghost use Rattle.slicelet.specs.declared.handle.KeyHandle.{KeyHandle};
+ghost use Rattle.key_handle.specs.declared.handle.KeyHandle.{KeyHandle};
 ghost use Rattle.assigner.specs.Terms.{Keeping};
 ghost use Rattle.cluster.specs.Clusters.{AreActors, LeadsTo as LeadsToCluster};
 ghost use Rattle.cluster.specs.Numbers.{with_number};
 ghost use Rattle.world.specs.Jobs.{Job};
 ghost use Rattle.world.specs.declared.step.Step.{Step};
 ghost use Rattle.world.specs.declared.step.Step.TheVariants as step;
-ghost use Rattle.world.specs.declared.reply.Reply.{Reply};
+ghost use Rattle.replies.specs.declared.reply.Reply.{Reply};
 ghost use Rattle.world.specs.Pasts.{Past, event, steps_of, IsTimely};
 ghost use Rattle.world.specs.Calls.{calls_in, handles_made, history};
 ghost use Rattle.world.specs.Runs.{IsRun, past_after};
@@ -21,13 +21,14 @@ ghost use Rattle.world.specs.Worlds.{Keeps, LeadsTo, Played};
 use crate::judge::judge;
 use crate::laws::{handle_law, interval_law, owner_law, rule_law};
 use crate::loads::shares_of;
-use crate::reply::{Refusal, Reply};
 use crate::step::Step;
 use assigner::Assigner;
 use assignment::Assignment;
-use cluster::{Cluster, Job};
+use cluster::Cluster;
+use job_calls::Job;
 use load_ledger::{LoadBook, LoadShare};
 use machines::Trouble;
+use replies::{Refusal, Reply};
 use slice_ranges::slice_key;
 use std::alloc::{AllocError, Global};
 

@@ -1,7 +1,7 @@
 -- What the calls of a slicelet leave and answer.
 use Rattle.std.specs.Prelude.{◌≡◌, ℕ, List, codes, Option, Some, None, Result, if◌then◌else◌}
 use Rattle.assignment.specs.Slices.{is_task}
-use Rattle.lease_table.specs.declared.values.Grant.{Grant}
+use Rattle.grants.specs.declared.values.Grant.{Grant}
 use Rattle.slicelet.specs.States.{SliceletState, opening}
 use Rattle.slicelet.specs.Steps.{start_step, hear_step}
 use Rattle.wire.specs.Grants.{grant_of}

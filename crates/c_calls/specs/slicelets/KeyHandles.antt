@@ -3,14 +3,14 @@ use Rattle.std.specs.Prelude.{◌≡◌, ℕ, ◌&&◌, nat_lt, Bool, true, fals
 use Rattle.assignment.specs.Slices.{is_task}
 use Rattle.slice_ranges.specs.declared.key.TheConstants.{KEYS}
 use Rattle.lease_rule.specs.declared.answer.Ground.{Ground}
-use Rattle.slicelet.specs.declared.call.SliceletCall.{SliceletCall}
-use Rattle.slicelet.specs.declared.error.Stranger.{Stranger}
-use Rattle.slicelet.specs.declared.handle.KeyHandle.{KeyHandle}
+use Rattle.grants.specs.declared.slicelet_call.SliceletCall.{SliceletCall}
+use Rattle.grants.specs.declared.slicelet_error.Stranger.{Stranger}
+use Rattle.key_handle.specs.declared.handle.KeyHandle.{KeyHandle}
 use Rattle.slicelet.specs.Continuity.{checked_in, IsChecked}
 use Rattle.slicelet.specs.States.{SliceletState}
 use Rattle.c_calls.specs.declared.answer.Answer.{Answer}
 use Rattle.c_calls.specs.declared.answer.Answer.TheVariants as answer
-use Rattle.c_calls.specs.declared.slicelets.key_handle.HandleNumbers.{HandleNumbers}
+use Rattle.c_calls.specs.declared.slicelets.handle_numbers.HandleNumbers.{HandleNumbers}
 
 -- the numbers of a handle
 abbrev pub handle_numbers : KeyHandle → HandleNumbers
@@ -21,11 +21,6 @@ abbrev pub handle_of : HandleNumbers → Option KeyHandle
 handle_of n = if is_task n.task && nat_lt n.slice_key KEYS
     then Some (record { task = n.task; life = n.life; key = n.slice_key; position = n.position })
     else None
-
--- what is answered where a handle was asked for
-abbrev pub hold_answer : Result KeyHandle Ground → Answer
-hold_answer (Ok handle) = answer.Done
-hold_answer (Err why) = answer.Denied why
 
 -- what is written of a handle that was taken, and nothing where it was denied
 abbrev pub hold_numbers : Result KeyHandle Ground → HandleNumbers → HandleNumbers

@@ -3,8 +3,8 @@ use Rattle.std.specs.Prelude.{ℕ, List, Result}
 use Rattle.slice_ranges.specs.Hash.{slice_key}
 use Rattle.lease_rule.specs.declared.answer.Ground.{Ground}
 use Rattle.lease_rule.specs.declared.answer.Verdict.{Verdict}
-use Rattle.slicelet.specs.declared.call.SliceletCall.{SliceletCall}
-use Rattle.slicelet.specs.declared.handle.KeyHandle.{KeyHandle}
+use Rattle.grants.specs.declared.slicelet_call.SliceletCall.{SliceletCall}
+use Rattle.key_handle.specs.declared.handle.KeyHandle.{KeyHandle}
 use Rattle.slicelet.specs.Continuity.{handle_on, held_by}
 use Rattle.slicelet.specs.Rules.{covers_key, rule_after}
 use Rattle.slicelet.specs.States.{SliceletState, rule_in_state}

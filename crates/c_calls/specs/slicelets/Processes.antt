@@ -3,14 +3,14 @@ use Rattle.std.specs.Prelude.{◌≡◌, ℕ, List, Option, Some, None, if◌the
 use Rattle.lease_rule.specs.declared.lease.Kind.{Kind}
 use Rattle.lease_rule.specs.declared.lease.Kind.TheVariants.{Guard, Bridge}
 use Rattle.assignment.specs.Slices.{is_task}
-use Rattle.lease_table.specs.declared.values.Grant.{Grant}
-use Rattle.lease_table.specs.declared.values.Phase.{Phase}
-use Rattle.lease_table.specs.declared.values.ReleaseNote.{ReleaseNote}
-use Rattle.slicelet.specs.declared.error.SliceletError.TheVariants.{NothingHeld}
+use Rattle.grants.specs.declared.values.Grant.{Grant}
+use Rattle.grants.specs.declared.values.Phase.{Phase}
+use Rattle.grants.specs.declared.values.ReleaseNote.{ReleaseNote}
+use Rattle.grants.specs.declared.slicelet_error.SliceletError.TheVariants.{NothingHeld}
 use Rattle.slicelet.specs.declared.next_action.TaskAction.{TaskAction}
 use Rattle.slicelet.specs.declared.next_action.TaskAction.TheVariants.{Start, Ask, GiveUp, Rest}
 use Rattle.slicelet.specs.States.{SliceletState, held_in, resumed}
-use Rattle.slicelet.specs.Steps.{ended_note}
+use Rattle.grants.specs.SliceletCalls.{ended_note}
 use Rattle.slicelet.specs.NextActions.{next_action}
 use Rattle.c_calls.specs.declared.answer.Answer.{Answer}
 use Rattle.c_calls.specs.declared.answer.Answer.TheVariants.{Done, Slicelet}

@@ -1,11 +1,13 @@
 -- Calls by slice key: the same as by a key that has it. A number that is no slice key is refused, and nothing is written.
 use Rattle.std.specs.Prelude.{◌≡◌, ℕ, List, Option, Some, None}
-use Rattle.slicelet.specs.declared.call.SliceletCall.{SliceletCall}
-use Rattle.slicelet.specs.States.{SliceletState}
+use Rattle.grants.specs.declared.slicelet_call.SliceletCall.{SliceletCall}
+use Rattle.slicelet.specs.States.{SliceletState, newest_covering}
 use Rattle.c_calls.specs.declared.answer.Answer.{Answer}
 use Rattle.c_calls.specs.declared.answer.Answer.TheVariants.{WrongForm}
-use Rattle.c_calls.specs.declared.slicelets.key_handle.HandleNumbers.{HandleNumbers}
-use Rattle.c_calls.specs.slicelets.KeyHandles.{hold_answer, hold_numbers}
+use Rattle.c_calls.specs.declared.details.AnswerDetails.{AnswerDetails}
+use Rattle.c_calls.specs.Details.{covering_details, covering_number}
+use Rattle.c_calls.specs.declared.slicelets.handle_numbers.HandleNumbers.{HandleNumbers}
+use Rattle.c_calls.specs.slicelets.KeyHandles.{hold_numbers}
 use Rattle.c_calls.specs.slicelets.Keys.{rule_at, rule_at_after, taken_at}
 use Rattle.c_calls.specs.slicelets.Leases.{IsServed}
 
@@ -18,15 +20,17 @@ abbrev pub IsServedAfter : Option ℕ → List SliceletCall → SliceletState �
 IsServedAfter None calls s at answer = answer ≡ WrongForm
 IsServedAfter (Some key) calls s at answer = IsServed (rule_at_after key calls at) s answer
 
--- what is answered where a handle on the key was asked for, and what is written of the handle
-abbrev pub hold_answer_at : Option ℕ → SliceletState → ℕ → Answer
-hold_answer_at None s at = WrongForm
-hold_answer_at (Some key) s at = hold_answer (taken_at (rule_at key s at) key s)
-
-abbrev pub hold_answer_after : Option ℕ → List SliceletCall → SliceletState → ℕ → Answer
-hold_answer_after None calls s at = WrongForm
-hold_answer_after (Some key) calls s at = hold_answer (taken_at (rule_at_after key calls at) key s)
-
+-- what is written of a handle on the key
 abbrev pub hold_numbers_at : Option ℕ → SliceletState → ℕ → HandleNumbers → HandleNumbers
 hold_numbers_at None s at was = was
 hold_numbers_at (Some key) s at was = hold_numbers (taken_at (rule_at key s at) key s) was
+
+-- what is written of the greatest generation that covers the key
+abbrev pub covering_at : Option ℕ → SliceletState → ℕ → ℕ
+covering_at None s was = was
+covering_at (Some key) s was = covering_number (newest_covering s key)
+
+-- the same among the details of an answer
+abbrev pub covering_told : Option ℕ → SliceletState → AnswerDetails → AnswerDetails
+covering_told None s was = was
+covering_told (Some key) s was = covering_details (newest_covering s key) was

@@ -1,10 +1,11 @@
 -- A table that is restored from the message of kept values.
 use Rattle.std.specs.Prelude.{◌≡◌, ℕ, List, codes, Bool, true, false, Option, Some, None, Result, Ok, Err}
 use Rattle.machines.specs.Refusals.{first_of}
-use Rattle.lease_table.specs.declared.kept.Kept.{Kept}
-use Rattle.lease_table.specs.declared.kept.KeptFault.{KeptFault}
-use Rattle.lease_table.specs.KeptValues.{kept_checks, restored_from}
-use Rattle.lease_table.specs.Policies.{Terms, is_policy}
+use Rattle.grants.specs.declared.kept.Kept.{Kept}
+use Rattle.grants.specs.declared.kept.KeptFault.{KeptFault}
+use Rattle.grants.specs.KeptValues.{kept_checks}
+use Rattle.lease_table.specs.KeptValues.{restored_from}
+use Rattle.grants.specs.Policies.{Terms, is_policy}
 use Rattle.lease_table.specs.Tables.{Standing}
 use Rattle.wire.specs.Kept.{kept_of}
 use Rattle.wire.specs.declared.fault.DecodeError.{DecodeError}

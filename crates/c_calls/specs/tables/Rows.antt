@@ -1,5 +1,5 @@
 -- Rows of grants as numbers.
-use Rattle.lease_table.specs.declared.values.Row.{Row}
+use Rattle.grants.specs.declared.values.Row.{Row}
 use Rattle.c_calls.specs.Details.{kind_number}
 use Rattle.c_calls.specs.declared.tables.row_numbers.RowNumbers.{RowNumbers}
 

@@ -1,10 +1,10 @@
 -- What a table saves in place of what is saved, and where that covers it.
 use Rattle.std.specs.Prelude.{◌≡◌, ◌⊎◌, ℕ, ◌+◌, ◌-◌, ◌&&◌, min, max, nat_lt, List, [], ◌∷◌, codes, Option, Some, None, Result, if◌then◌else◌}
 use Rattle.machines.specs.Refusals.{first_of}
-use Rattle.lease_table.specs.declared.kept.Kept.{Kept}
-use Rattle.lease_table.specs.declared.kept.KeptFault.{KeptFault}
-use Rattle.lease_table.specs.declared.table.TheConstants.{READINGS}
-use Rattle.lease_table.specs.KeptValues.{can_grant, kept_checks, lease_term, Covers}
+use Rattle.grants.specs.declared.kept.Kept.{Kept}
+use Rattle.grants.specs.declared.kept.KeptFault.{KeptFault}
+use Rattle.grants.specs.declared.policy.TheConstants.{READINGS}
+use Rattle.grants.specs.KeptValues.{can_grant, kept_checks, lease_term, Covers}
 use Rattle.wire.specs.Kept.{kept_of}
 use Rattle.wire.specs.declared.fault.DecodeError.{DecodeError}
 use Rattle.c_calls.specs.declared.answer.Answer.{Answer}
@@ -39,16 +39,15 @@ IsSavedOver job ahead table saved was now answer =
     (Covers table saved × IsNothingGiven was now answer)
     ⊎ ((Covers table saved → ⊥) × IsKeptGiven job (ahead_of ahead table) was now answer)
 
--- saved values of no table of the policy are refused for their first fault
+-- saved values of no table of the policy are refused for their first fault; where they have none, memory may run out
 abbrev pub IsSavedUnless : Option KeptFault → List ℕ → Ahead → Kept → Kept → Output ℕ → Output ℕ → Answer → Type 0
-IsSavedUnless None job ahead table saved was now answer = IsSavedOver job ahead table saved was now answer
+IsSavedUnless None job ahead table saved was now answer = IsSavedOver job ahead table saved was now answer ⊎ IsOutOfMemory was now answer
 IsSavedUnless (Some why) job ahead table saved was now answer = (answer ≡ answers.Kept why) × (now ≡ was)
 
--- what is done about saved values; or memory ran out
+-- what is done about saved values
 abbrev pub IsSavedAfter : List ℕ → Ahead → Kept → Kept → Output ℕ → Output ℕ → Answer → Type 0
 IsSavedAfter job ahead table saved was now answer =
     IsSavedUnless (first_of (kept_checks table.policy saved)) job ahead table saved was now answer
-    ⊎ IsOutOfMemory was now answer
 
 -- the same where the saved values were read
 abbrev pub IsSavedFrom : List ℕ → Ahead → Kept → Output ℕ → Output ℕ → Answer → Result Kept DecodeError → Type 0

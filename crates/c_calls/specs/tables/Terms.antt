@@ -1,9 +1,9 @@
 -- Terms of the job lease, and where a table stands, as numbers.
 use Rattle.std.specs.Prelude.{◌==◌, ◌+◌, Option, Some, None, Result, Ok, Err, if◌then◌else◌}
-use Rattle.lease_table.specs.declared.values.JobTerm.{JobTerm}
-use Rattle.lease_table.specs.declared.values.Phase.{Phase}
-use Rattle.lease_table.specs.declared.values.Phase.TheVariants.{Steady, Bridging}
-use Rattle.lease_table.specs.declared.error.TableError.{TableError}
+use Rattle.grants.specs.declared.values.JobTerm.{JobTerm}
+use Rattle.grants.specs.declared.values.Phase.{Phase}
+use Rattle.grants.specs.declared.values.Phase.TheVariants.{Steady, Bridging}
+use Rattle.grants.specs.declared.table_error.TableError.{TableError}
 use Rattle.lease_table.specs.Tables.{Standing}
 use Rattle.c_calls.specs.declared.tables.terms.TermNumbers.{TermNumbers}
 use Rattle.c_calls.specs.declared.tables.terms.PhaseNumbers.{PhaseNumbers}

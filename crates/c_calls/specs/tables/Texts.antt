@@ -1,10 +1,10 @@
 -- What a table gives by its message: the next grant, the committed assignment, and the values that outlast its process.
 use Rattle.std.specs.Prelude.{◌≡◌, ℕ, List, Option, Some, None, Result}
 use Rattle.assignment.specs.Slices.{Slicing}
-use Rattle.lease_table.specs.declared.values.Grant.{Grant}
-use Rattle.lease_table.specs.declared.error.TableError.{TableError}
-use Rattle.lease_table.specs.declared.error.TableError.TheVariants.{NoAssignment}
-use Rattle.lease_table.specs.declared.kept.Kept.{Kept}
+use Rattle.grants.specs.declared.values.Grant.{Grant}
+use Rattle.grants.specs.declared.table_error.TableError.{TableError}
+use Rattle.grants.specs.declared.table_error.TableError.TheVariants.{NoAssignment}
+use Rattle.grants.specs.declared.kept.Kept.{Kept}
 use Rattle.lease_table.specs.Tables.{Standing}
 use Rattle.lease_table.specs.Steps.{grant_step}
 use Rattle.c_calls.specs.declared.answer.Answer.{Answer}

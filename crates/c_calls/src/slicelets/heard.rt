@@ -6,9 +6,8 @@ ghost use Rattle.c_calls.specs.slicelets.Leases.{details_of};
 
 use crate::answer::Answer;
 use crate::details::LeaseDetails;
-use lease_table::Grant;
+use grants::{Grant, SliceletError};
 use machines::Trouble;
-use slicelet::SliceletError;
 
 /// Returns the lease of a grant, as an answer tells it.
 fn details_of(grant: &Grant) -> LeaseDetails

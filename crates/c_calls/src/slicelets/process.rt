@@ -2,7 +2,7 @@
 
 ghost use Rattle.std.specs.Prelude.{◌≡◌, ◌-◌};
 ghost use Rattle.slicelet.specs.declared.slicelet.TheConstants.{CALLS};
-ghost use Rattle.slicelet.specs.Steps.{ended_note as note_of};
+ghost use Rattle.grants.specs.SliceletCalls.{ended_note as note_of};
 ghost use Rattle.c_calls.specs.Arguments.{kind_of};
 ghost use Rattle.c_calls.specs.Jobs.{job_of};
 ghost use Rattle.c_calls.specs.Outputs.{output};
@@ -11,11 +11,11 @@ ghost use Rattle.c_calls.specs.slicelets.Processes.{IsHeldTold, IsNextTold, IsNo
 use crate::answer::Answer;
 use crate::arguments::{kind_of, task_of};
 use crate::job::job_of;
-use crate::output::give;
+use crate::output::give_made;
 use assignment::TaskId;
+use grants::{EndedNotes, Phase, ReleaseNote, SliceletError};
 use lease_rule::Kind;
-use lease_table::{Phase, ReleaseNote};
-use slicelet::{EndedNotes, Slicelet, SliceletError, TaskAction};
+use slicelet::{Slicelet, TaskAction};
 use std::alloc::Global;
 use wire::encode;
 
@@ -77,10 +77,11 @@ pub fn ended_note(
     let Some(task) = task_of(task) else {
         return Answer::WrongForm;
     };
-    match encode(alloc, &job, &note_of_kind(task, life, kind)) {
-        Ok(message) => give(&message, out, needed),
-        Err(_) => Answer::NoMemory,
-    }
+    give_made(
+        encode(alloc, &job, &note_of_kind(task, life, kind)),
+        out,
+        needed,
+    )
 }
 
 /// Writes how many more calls the slicelet accepts.

@@ -11,10 +11,10 @@ ghost use Rattle.c_calls.specs.slicelets.Releases.{IsFailure, IsReleased};
 use crate::answer::Answer;
 use crate::arguments::kind_of;
 use crate::output::give;
+use grants::{ReleaseNote, SliceletError};
 use lease_rule::Kind;
-use lease_table::ReleaseNote;
 use machines::Trouble;
-use slicelet::{Slicelet, SliceletError};
+use slicelet::Slicelet;
 use std::alloc::Global;
 use wire::{JobName, encode};
 

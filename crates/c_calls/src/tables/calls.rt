@@ -1,7 +1,7 @@
 //! What a table gives by numbers.
 
 ghost use Rattle.std.specs.Prelude.{◌≡◌, List, Some, codes, length};
-ghost use Rattle.lease_table.specs.Policies.{Terms};
+ghost use Rattle.grants.specs.Policies.{Terms};
 ghost use Rattle.lease_table.specs.Calls.{AnsweredTableCall, LeadsTo};
 ghost use Rattle.lease_table.specs.Runs.{IsRun};
 ghost use Rattle.lease_table.specs.Tables.{phase_of};
@@ -22,7 +22,8 @@ use crate::arguments::assigner_of;
 use crate::policy_numbers::PolicyNumbers;
 use crate::unread::unread_answer;
 use assignment::Assignment;
-use lease_table::{LeaseTable, ReleaseNote, generations_law};
+use grants::ReleaseNote;
+use lease_table::{LeaseTable, generations_law};
 use machines::Trouble;
 use std::alloc::Global;
 use wire::{JobName, decode};

@@ -2,17 +2,19 @@
 
 ghost use Rattle.std.specs.Prelude.{◌≡◌, IfOk};
 ghost use Rattle.machines.specs.Refusals.{first_of};
-ghost use Rattle.lease_table.specs.KeptValues.{kept_checks, kept_of};
+ghost use Rattle.grants.specs.KeptValues.{kept_checks};
+ghost use Rattle.lease_table.specs.KeptValues.{kept_of};
 ghost use Rattle.c_calls.specs.Messages.{IsKeptText};
 ghost use Rattle.c_calls.specs.Outputs.{output};
 ghost use Rattle.c_calls.specs.tables.Keeping.{IsRestored, IsRestoredBy, restored_unless};
 ghost use Rattle.c_calls.specs.tables.Texts.{IsKeptGiven};
 
 use crate::answer::Answer;
-use crate::output::give;
+use crate::output::give_made;
 use crate::policy_numbers::PolicyNumbers;
 use crate::unread::unread_answer;
-use lease_table::{Kept, LeaseTable, Policy};
+use grants::{Kept, Policy};
+use lease_table::LeaseTable;
 use std::alloc::{AllocError, Global};
 use wire::{JobName, decode, encode};
 
@@ -32,10 +34,7 @@ pub fn kept(
 ) -> Answer
     ensures { IsKeptGiven job.now (kept_of table.now) (output out.old needed.old) (output out.new needed.new) result }
 {
-    match kept_text(alloc, job, table) {
-        Ok(text) => give(&text, out, needed),
-        Err(_) => Answer::NoMemory,
-    }
+    give_made(kept_text(alloc, job, table), out, needed)
 }
 
 fn restored(alloc: Global, policy: Policy, kept: Kept) -> Result<LeaseTable, Answer>

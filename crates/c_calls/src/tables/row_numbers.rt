@@ -4,7 +4,7 @@ ghost use Rattle.std.specs.Prelude.{◌≡◌, IfOk, map};
 ghost use Rattle.c_calls.specs.tables.Rows.{row_numbers};
 
 use crate::details::kind_number;
-use lease_table::Row;
+use grants::Row;
 use std::alloc::{AllocError, Global};
 
 /// A row: what a table keeps of a grant until the grant ends or is freed.

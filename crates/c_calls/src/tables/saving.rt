@@ -2,7 +2,8 @@
 
 ghost use Rattle.std.specs.Prelude.{◌≡◌, ◌↔◌, IfOk, codes};
 ghost use Rattle.std.specs.Bool.{IsTrue};
-ghost use Rattle.lease_table.specs.KeptValues.{Covers, kept_of};
+ghost use Rattle.grants.specs.KeptValues.{Covers};
+ghost use Rattle.lease_table.specs.KeptValues.{kept_of};
 ghost use Rattle.wire.specs.Kept.{kept_of as read_kept};
 ghost use Rattle.c_calls.specs.Messages.{IsKeptText};
 ghost use Rattle.c_calls.specs.Outputs.{output};
@@ -11,10 +12,11 @@ ghost use Rattle.c_calls.specs.tables.Saving.{IsSaved, IsSavedAfter, IsSavedFrom
 ghost use Rattle.c_calls.specs.tables.Texts.{IsKeptGiven};
 
 use crate::answer::Answer;
-use crate::output::give;
+use crate::output::give_made;
 use crate::unread::unread_answer;
 use assignment::Assignment;
-use lease_table::{JobTerm, Kept, LeaseTable, Policy};
+use grants::{JobTerm, Kept, Policy};
+use lease_table::LeaseTable;
 use std::alloc::{AllocError, Global};
 use wire::{JobName, decode, encode};
 
@@ -114,10 +116,7 @@ fn give_ahead(
 ) -> Answer
     ensures { IsKeptGiven job.now (ahead_of ahead (kept_of table.now)) (output out.old needed.old) (output out.new needed.new) result }
 {
-    match text_ahead(alloc, job, table, ahead) {
-        Ok(text) => give(&text, out, needed),
-        Err(_) => Answer::NoMemory,
-    }
+    give_made(text_ahead(alloc, job, table, ahead), out, needed)
 }
 
 // Writes what is to be saved in place of saved values, if they do not cover the table.
@@ -132,12 +131,12 @@ fn save_over(
 ) -> Answer
     ensures { IsSavedAfter job.now ahead (kept_of table.now) saved.now (output out.old needed.old) (output out.new needed.new) result }
 {
+    if let Some(why) = saved.fault(table.policy()) {
+        return Answer::Kept(why);
+    }
     let Ok(kept) = table.kept() else {
         return Answer::NoMemory;
     };
-    if let Some(why) = saved.fault(kept.policy) {
-        return Answer::Kept(why);
-    }
     if are_covered(kept, saved) {
         *needed = 0;
         return Answer::Done;

@@ -3,7 +3,7 @@
 ghost use Rattle.std.specs.Prelude.{◌≡◌};
 ghost use Rattle.c_calls.specs.tables.Terms.{phase_numbers, phase_of, term_numbers, term_of};
 
-use lease_table::{JobTerm, Phase};
+use grants::{JobTerm, Phase};
 
 /// A term of the job lease.
 #[repr(C)]

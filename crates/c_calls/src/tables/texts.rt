@@ -14,29 +14,39 @@ ghost use Rattle.c_calls.specs.tables.Texts.{IsCommittedGiven, IsGrantStep, IsGr
 use super::row_numbers::{RowNumbers, numbers_of};
 use crate::answer::Answer;
 use crate::arguments::{life_of, task_of};
-use crate::output::give;
+use crate::output::{give, give_made};
 use assignment::TaskId;
-use lease_table::{LeaseTable, TableError};
+use grants::{Grant, TableError};
+use lease_table::LeaseTable;
 use machines::Trouble;
 use std::alloc::{AllocError, Global};
 use wire::{JobName, encode};
 
-// Returns the message of the grant that would be made next. The table is unchanged.
-fn next_text(
+// The grant that would be made next, and its message.
+#[derive(Drop)]
+struct Prepared {
+    grant: Grant,
+    text: Vec<u8>,
+}
+
+// Returns the grant that would be made next, and its message. The table is unchanged.
+fn prepare(
     alloc: Global,
     job: &JobName,
     table: &mut LeaseTable,
     task: TaskId,
     life: u32,
     at: u64,
-) -> Result<Vec<u8>, Trouble<TableError>>
-    ensures text { IfOk result (λ text. IsGrantText job.now (grant_with table.old table.old.pending task life at) text.items) }
+) -> Result<Prepared, Trouble<TableError>>
+    ensures grant { IfOk result (λ next. next.grant ≡ grant_with table.old table.old.pending task life at) }
+    ensures text { IfOk result (λ next. IsGrantText job.now next.grant next.text.items) }
     ensures accepted { OnOk result (first_of (grant_checks table.old at) ≡ None) }
     ensures refused { IfErr result (λ trouble. trouble ≡ trouble_of (first_of (grant_checks table.old at))) }
     ensures same { table.new ≡ table.old }
 {
     let grant = table.next_grant(task, life, at)?;
-    Ok(encode(alloc, job, &grant)?)
+    let text = encode(alloc, job, &grant)?;
+    Ok(Prepared { grant, text })
 }
 
 // Returns the answer if no grant is made.
@@ -51,19 +61,19 @@ fn refused(trouble: Trouble<TableError>) -> Answer
 
 // Makes the next grant, which has this message, if the message fits in `out`. The message is made, so
 // a buffer that is too short is `NoRoom`, and memory is taken for no row.
-fn grant_as(
+fn make(
     job: &JobName,
     table: &mut LeaseTable,
-    task: TaskId,
-    life: u32,
+    grant: &Grant,
     at: u64,
     text: &[u8],
     out: &mut [u8],
     needed: &mut usize,
 ) -> Answer
-    requires text { IsGrantText job.now (grant_with table.old table.old.pending task life at) text.now }
+    requires text { IsGrantText job.now grant.now text.now }
+    requires next { grant.now ≡ grant_with table.old table.old.pending grant.now.task grant.now.life at }
     requires accepted { first_of (grant_checks table.old at) ≡ None }
-    ensures step { IsGrantStep job.now (grant_step table.old task life at) table.old table.new
+    ensures step { IsGrantStep job.now (grant_step table.old grant.now.task grant.now.life at) table.old table.new
         (output out.old needed.old) (output out.new needed.new) result }
     ensures short { length out.old < length text.now → (result ≡ Answer.NoRoom) × (needed.new ≡ length text.now) }
 {
@@ -71,9 +81,9 @@ fn grant_as(
     if out.len() < text.len() {
         return give(text, out, needed);
     }
-    match table.grant(task, life, at) {
-        Ok(_grant) => give(text, out, needed),
-        Err(trouble) => refused(trouble),
+    match table.make(grant, at) {
+        Ok(()) => give(text, out, needed),
+        Err(_) => Answer::NoMemory,
     }
 }
 
@@ -100,8 +110,8 @@ pub fn grant(
     let Some(life) = life_of(life) else {
         return Answer::WrongForm;
     };
-    match next_text(alloc, job, table, task, life, at) {
-        Ok(text) => grant_as(job, table, task, life, at, &text, out, needed),
+    match prepare(alloc, job, table, task, life, at) {
+        Ok(next) => make(job, table, &next.grant, at, &next.text, out, needed),
         Err(trouble) => refused(trouble),
     }
 }
@@ -111,10 +121,7 @@ pub fn rows(alloc: Global, table: &LeaseTable, out: &mut [RowNumbers], needed: &
     ensures { IsGivenUnlessMemory (map row_numbers table.now.rows)
         (output out.old needed.old) (output out.new needed.new) result }
 {
-    match written_rows(alloc, table) {
-        Ok(rows) => give(&rows, out, needed),
-        Err(_) => Answer::NoMemory,
-    }
+    give_made(written_rows(alloc, table), out, needed)
 }
 
 fn written_rows(alloc: Global, table: &LeaseTable) -> Result<Vec<RowNumbers>, AllocError>
@@ -137,8 +144,5 @@ pub fn committed(
     let Some(assignment) = table.committed() else {
         return Answer::Table(TableError::NoAssignment);
     };
-    match encode(alloc, job, assignment) {
-        Ok(text) => give(&text, out, needed),
-        Err(_) => Answer::NoMemory,
-    }
+    give_made(encode(alloc, job, assignment), out, needed)
 }

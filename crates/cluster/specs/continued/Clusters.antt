@@ -3,12 +3,12 @@ use Rattle.std.specs.Prelude.{◌≡◌, ℕ, ◌||◌, true, List, [], ◌∷�
 use Rattle.std.specs.List.{list_any}
 use Rattle.std.specs.declared.alloc.AllocError.{AllocError}
 use Rattle.machines.specs.Numbers.{is_within}
-use Rattle.lease_table.specs.Policies.{is_policy}
+use Rattle.grants.specs.Policies.{is_policy}
 use Rattle.indexmap.specs.IndexSet.{contains}
-use Rattle.lease_table.specs.declared.values.ReleaseNote.{ReleaseNote}
-use Rattle.slicelet.specs.declared.handle.KeyHandle.{KeyHandle}
-use Rattle.cluster.specs.declared.call.ClusterCall.{ClusterCall}
-use Rattle.cluster.specs.declared.reply.ClusterReply.{ClusterReply}
+use Rattle.grants.specs.declared.values.ReleaseNote.{ReleaseNote}
+use Rattle.key_handle.specs.declared.handle.KeyHandle.{KeyHandle}
+use Rattle.job_calls.specs.declared.call.ClusterCall.{ClusterCall}
+use Rattle.job_calls.specs.declared.reply.ClusterReply.{ClusterReply}
 use Rattle.cluster.specs.declared.cluster.Cluster.{Cluster}
 use Rattle.cluster.specs.Pasts.{Event, event, Past, table_calls, standing, grants, history, newest_learnt}
 use Rattle.cluster.specs.Made.{with_note, with_handle, notes_made, handles_made, same_note, same_handle}

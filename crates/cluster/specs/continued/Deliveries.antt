@@ -3,17 +3,17 @@ use Rattle.std.specs.Prelude.{ℕ, Bool, false, not, Option, None, if◌then◌e
 use Rattle.machines.specs.Refusals.{when}
 use Rattle.machines.specs.Numbers.{is_within}
 use Rattle.assignment.specs.Slices.{Slicing}
-use Rattle.lease_table.specs.declared.call.TableCall.{TableCall}
-use Rattle.lease_table.specs.declared.call.TableCall.TheVariants.{JobTake, Grant as Ask, Free}
-use Rattle.lease_table.specs.declared.values.Grant.{Grant}
-use Rattle.lease_table.specs.declared.values.ReleaseNote.{ReleaseNote}
-use Rattle.slicelet.specs.declared.handle.KeyHandle.{KeyHandle}
-use Rattle.slicelet.specs.declared.call.SliceletCall.{SliceletCall}
-use Rattle.slicelet.specs.declared.call.SliceletCall.TheVariants.{Hear}
+use Rattle.grants.specs.declared.table_call.TableCall.{TableCall}
+use Rattle.grants.specs.declared.table_call.TableCall.TheVariants.{JobTake, Grant as Ask, Free}
+use Rattle.grants.specs.declared.values.Grant.{Grant}
+use Rattle.grants.specs.declared.values.ReleaseNote.{ReleaseNote}
+use Rattle.key_handle.specs.declared.handle.KeyHandle.{KeyHandle}
+use Rattle.grants.specs.declared.slicelet_call.SliceletCall.{SliceletCall}
+use Rattle.grants.specs.declared.slicelet_call.SliceletCall.TheVariants.{Hear}
 use Rattle.clerk.specs.declared.call.ClerkCall.{ClerkCall}
 use Rattle.clerk.specs.declared.call.ClerkCall.TheVariants.{Learn}
-use Rattle.cluster.specs.declared.error.ClusterError.{ClusterError}
-use Rattle.cluster.specs.declared.error.ClusterError.TheVariants.{NoActor, NotSent}
+use Rattle.job_calls.specs.declared.error.ClusterError.{ClusterError}
+use Rattle.job_calls.specs.declared.error.ClusterError.TheVariants.{NoActor, NotSent}
 use Rattle.cluster.specs.Numbers.{with_number}
 use Rattle.cluster.specs.Pasts.{Past, grants, published}
 use Rattle.cluster.specs.Made.{is_sent, is_made, is_given, is_published}

@@ -1,9 +1,9 @@
 -- Jobs whose machines go on from earlier calls, and may have forgotten some of what was made in these.
 use Rattle.std.specs.Prelude.{ℕ, Bool, false, []}
-use Rattle.lease_table.specs.Policies.{Terms}
-use Rattle.lease_table.specs.declared.values.ReleaseNote.{ReleaseNote}
-use Rattle.slicelet.specs.declared.handle.KeyHandle.{KeyHandle}
-use Rattle.cluster.specs.Jobs.{Job}
+use Rattle.grants.specs.Policies.{Terms}
+use Rattle.grants.specs.declared.values.ReleaseNote.{ReleaseNote}
+use Rattle.key_handle.specs.declared.handle.KeyHandle.{KeyHandle}
+use Rattle.job_calls.specs.Jobs.{Job}
 use Rattle.cluster.specs.Pasts.{Past}
 
 -- what the machines no longer know after a past: the grant of a number, a note, a handle, the assignment of a generation

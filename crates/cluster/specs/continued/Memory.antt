@@ -1,6 +1,6 @@
 -- When a call of a job that goes on may be out of memory.
 use Rattle.std.specs.Prelude.{◌≡◌, Bool, true}
-use Rattle.cluster.specs.declared.call.ClusterCall.{ClusterCall}
+use Rattle.job_calls.specs.declared.call.ClusterCall.{ClusterCall}
 use Rattle.cluster.specs.Pasts.{Past}
 use Rattle.cluster.specs.TakingMemory.{takes_memory, needs_memory}
 use Rattle.cluster.specs.continued.Jobs.{Continued}

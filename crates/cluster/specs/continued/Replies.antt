@@ -6,11 +6,11 @@ use Rattle.slicelet.specs.Steps.{slicelet_step}
 use Rattle.slicelet.specs.Continuity.{handle_on, held_by, is_strange}
 use Rattle.clerk.specs.Calls.{clerk_step}
 use Rattle.clerk.specs.Steps.{look_at}
-use Rattle.cluster.specs.declared.error.ClusterError.TheVariants as error
-use Rattle.cluster.specs.declared.call.ClusterCall.{ClusterCall}
-use Rattle.cluster.specs.declared.call.ClusterCall.TheVariants as call
-use Rattle.cluster.specs.declared.reply.ClusterReply.{ClusterReply}
-use Rattle.cluster.specs.declared.reply.ClusterReply.TheVariants as reply
+use Rattle.job_calls.specs.declared.error.ClusterError.TheVariants as error
+use Rattle.job_calls.specs.declared.call.ClusterCall.{ClusterCall}
+use Rattle.job_calls.specs.declared.call.ClusterCall.TheVariants as call
+use Rattle.job_calls.specs.declared.reply.ClusterReply.{ClusterReply}
+use Rattle.job_calls.specs.declared.reply.ClusterReply.TheVariants as reply
 use Rattle.cluster.specs.Pasts.{Past, standing, history, newest_learnt}
 use Rattle.cluster.specs.Answers.{by_actor, unless, from_machine, rule_in, hold_reply, check_reply, look_reply}
 use Rattle.cluster.specs.continued.Jobs.{Continued}

@@ -3,8 +3,8 @@ use Rattle.std.specs.Prelude.{◌≡◌, Bool, true, false, IsTrue, [], ◌∷�
 use Rattle.machines.specs.Numbers.{is_within}
 use Rattle.slicelet.specs.Continuity.{IsContinuous, is_strange}
 use Rattle.cluster.specs.continued.Jobs.{Continued}
-use Rattle.cluster.specs.declared.call.ClusterCall.{ClusterCall}
-use Rattle.cluster.specs.declared.call.ClusterCall.TheVariants as call
+use Rattle.job_calls.specs.declared.call.ClusterCall.{ClusterCall}
+use Rattle.job_calls.specs.declared.call.ClusterCall.TheVariants as call
 use Rattle.cluster.specs.Pasts.{Event, Past, task_calls, history}
 use Rattle.cluster.specs.continued.Deliveries.{knows_handle}
 use Rattle.cluster.specs.Answers.{covers}

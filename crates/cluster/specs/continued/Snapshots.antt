@@ -5,20 +5,22 @@ use Rattle.machines.specs.Numbers.{is_within}
 use Rattle.machines.specs.Refusals.{when, first_of}
 use Rattle.machines.specs.declared.machine.Trouble.{Trouble}
 use Rattle.machines.specs.declared.machine.Trouble.TheVariants.{Refused, NoMemory}
-use Rattle.lease_table.specs.declared.values.ReleaseNote.{ReleaseNote}
-use Rattle.lease_table.specs.Snapshots.{IsSnapshotOf as IsTableSnapshotOf, snapshot_checks, newest_in}
-use Rattle.slicelet.specs.declared.handle.KeyHandle.{KeyHandle}
-use Rattle.slicelet.specs.declared.call.SliceletCall.{SliceletCall}
-use Rattle.slicelet.specs.declared.call.SliceletCall.TheVariants.{Resume}
+use Rattle.grants.specs.declared.values.ReleaseNote.{ReleaseNote}
+use Rattle.lease_table.specs.Snapshots.{IsSnapshotOf as IsTableSnapshotOf}
+use Rattle.grants.specs.Snapshots.{snapshot_checks, newest_in}
+use Rattle.key_handle.specs.declared.handle.KeyHandle.{KeyHandle}
+use Rattle.grants.specs.declared.slicelet_call.SliceletCall.{SliceletCall}
+use Rattle.grants.specs.declared.slicelet_call.SliceletCall.TheVariants.{Resume}
 use Rattle.slicelet.specs.Accepted.{AreAccepted}
 use Rattle.slicelet.specs.States.{state_after}
-use Rattle.cluster.specs.Jobs.{Job}
-use Rattle.cluster.specs.declared.error.ClusterError.TheVariants as error
-use Rattle.cluster.specs.declared.reply.ClusterReply.TheVariants as reply
-use Rattle.cluster.specs.declared.snapshot.TaskSnapshot.{TaskSnapshot}
-use Rattle.cluster.specs.declared.snapshot.ClusterSnapshot.{ClusterSnapshot}
-use Rattle.cluster.specs.declared.snapshot.ResumeFault.{ResumeFault}
-use Rattle.cluster.specs.declared.snapshot.ResumeFault.TheVariants as fault
+use Rattle.job_calls.specs.Jobs.{Job}
+use Rattle.job_calls.specs.Snapshots.{resume_checks}
+use Rattle.job_calls.specs.declared.error.ClusterError.TheVariants as error
+use Rattle.job_calls.specs.declared.reply.ClusterReply.TheVariants as reply
+use Rattle.job_calls.specs.declared.snapshot.TaskSnapshot.{TaskSnapshot}
+use Rattle.job_calls.specs.declared.snapshot.ClusterSnapshot.{ClusterSnapshot}
+use Rattle.job_calls.specs.declared.snapshot.ResumeFault.{ResumeFault}
+use Rattle.job_calls.specs.declared.snapshot.ResumeFault.TheVariants as fault
 use Rattle.cluster.specs.ActorLists.{AreActors}
 use Rattle.cluster.specs.Made.{with_note, with_handle, notes_made, handles_made, same_note, same_handle, is_made, is_given}
 use Rattle.cluster.specs.Pasts.{Past, table_calls, standing, grants, history, newest_learnt, readings}
@@ -109,15 +111,6 @@ pub record IsSnapshotOf (job : Job) (past : Past) (s : ClusterSnapshot) : Type 0
   pub reading : s.table_reading ≡ greatest_reading (readings past)
 
 -- THE CHECKS
-
-abbrev pub resume_checks : Job → ClusterSnapshot → List (Option ResumeFault)
-resume_checks job s =
-    option_map fault.Table (first_of (snapshot_checks job.policy s.table)) ∷
-    when (not (nat_eq (length s.tasks.items) job.tasks)) fault.Tasks ∷
-    when (not (nat_eq (length s.clerks.items) job.clerks)) fault.Clerks ∷
-    when (nat_lt s.table.kept.granted (length s.grants.items)) fault.Grants ∷
-    when (nat_lt (newest_in s.table.kept) (length s.assignments.items)) fault.Assignments ∷
-    when (nat_lt (2 ^ 62) s.notes_made || nat_lt (2 ^ 62) s.handles_made) fault.Counts ∷ []
 
 -- the calls of some task are none that a slicelet accepts
 pub record HasRefusedTask (tasks : List TaskSnapshot) : Type 0 where

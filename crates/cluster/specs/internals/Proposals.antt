@@ -1,9 +1,10 @@
 -- The proposals of a table.
 use Rattle.std.specs.Prelude.{ℕ, nat_le, Option, None, Bool, List, [], ◌∷◌, ◌++◌, is_ok, if◌then◌else◌}
 use Rattle.assignment.specs.Slices.{Slicing}
-use Rattle.lease_table.specs.declared.call.TableCall.{TableCall}
-use Rattle.lease_table.specs.declared.call.TableCall.TheVariants as call
-use Rattle.lease_table.specs.Tables.{Standing, generation_of}
+use Rattle.grants.specs.declared.table_call.TableCall.{TableCall}
+use Rattle.grants.specs.declared.table_call.TableCall.TheVariants as call
+use Rattle.lease_table.specs.Tables.{Standing}
+use Rattle.grants.specs.Assignments.{generation_of}
 use Rattle.lease_table.specs.Calls.{AnsweredTableCall}
 use Rattle.cluster.specs.Numbers.{kept_with_number}
 

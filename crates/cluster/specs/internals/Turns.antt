@@ -4,19 +4,19 @@ use Rattle.std.specs.declared.alloc.AllocError.{AllocError}
 use Rattle.machines.specs.declared.machine.Trouble.{Trouble}
 use Rattle.machines.specs.declared.machine.Trouble.TheVariants.{Refused, NoMemory}
 use Rattle.assignment.specs.Slices.{Slicing}
-use Rattle.lease_table.specs.declared.call.TableCall.{TableCall}
-use Rattle.lease_table.specs.declared.call.TableCall.TheVariants as asked
-use Rattle.lease_table.specs.declared.call.TableReply.{TableReply}
-use Rattle.lease_table.specs.declared.values.Grant.{Grant}
-use Rattle.lease_table.specs.declared.values.ReleaseNote.{ReleaseNote}
+use Rattle.grants.specs.declared.table_call.TableCall.{TableCall}
+use Rattle.grants.specs.declared.table_call.TableCall.TheVariants as asked
+use Rattle.grants.specs.declared.table_call.TableReply.{TableReply}
+use Rattle.grants.specs.declared.values.Grant.{Grant}
+use Rattle.grants.specs.declared.values.ReleaseNote.{ReleaseNote}
 use Rattle.lease_table.specs.Calls.{grants_after}
 use Rattle.lease_table.specs.Memory.{takes_memory}
-use Rattle.lease_table.specs.declared.error.TableError.{TableError}
-use Rattle.slicelet.specs.declared.call.SliceletReply.{SliceletReply}
-use Rattle.slicelet.specs.declared.call.SliceletReply.TheVariants.{Released, Resumed}
-use Rattle.cluster.specs.declared.error.ClusterError.{ClusterError}
-use Rattle.cluster.specs.declared.reply.ClusterReply.{ClusterReply}
-use Rattle.cluster.specs.declared.reply.ClusterReply.TheVariants as reply
+use Rattle.grants.specs.declared.table_error.TableError.{TableError}
+use Rattle.grants.specs.declared.slicelet_call.SliceletReply.{SliceletReply}
+use Rattle.grants.specs.declared.slicelet_call.SliceletReply.TheVariants.{Released, Resumed}
+use Rattle.job_calls.specs.declared.error.ClusterError.{ClusterError}
+use Rattle.job_calls.specs.declared.reply.ClusterReply.{ClusterReply}
+use Rattle.job_calls.specs.declared.reply.ClusterReply.TheVariants as reply
 use Rattle.cluster.specs.declared.cluster.Cluster.{Cluster}
 use Rattle.cluster.specs.Made.{note_told, same_note}
 use Rattle.cluster.specs.internals.Proposals.{proposals_with}

@@ -1,7 +1,7 @@
 -- The first reading of the table that is too far ahead of a task's.
 use Rattle.std.specs.Prelude.{◌≡◌, ℕ, ◌+◌, ◌<◌, nat_lt, List, Option, Some, None, if◌then◌else◌}
-use Rattle.cluster.specs.declared.timing.Reading.{Reading}
-use Rattle.cluster.specs.declared.timing.Reading.TheVariants.{TableClock, TaskClock}
+use Rattle.job_calls.specs.declared.timing.Reading.{Reading}
+use Rattle.job_calls.specs.declared.timing.Reading.TheVariants.{TableClock, TaskClock}
 use Rattle.world.specs.declared.step.Step.{Step}
 use Rattle.explain.specs.declared.untimely.Untimely.{Untimely}
 use Rattle.explain.specs.Untimely.{Reads, AreNear}

@@ -2,27 +2,27 @@
 use Rattle.std.specs.Prelude.{◌≡◌, ℕ, Bool, true, false, reverse, is_some, Some, ⊤}
 use Rattle.machines.specs.Numbers.{is_within}
 use Rattle.lease_rule.specs.declared.answer.Verdict.{Verdict}
-use Rattle.lease_table.specs.declared.values.Grant.{Grant}
-use Rattle.lease_table.specs.declared.error.TableError.{TableError}
-use Rattle.lease_table.specs.declared.error.TableError.TheVariants.{Held}
+use Rattle.grants.specs.declared.values.Grant.{Grant}
+use Rattle.grants.specs.declared.table_error.TableError.{TableError}
+use Rattle.grants.specs.declared.table_error.TableError.TheVariants.{Held}
 use Rattle.lease_table.specs.Steps.{held_up}
 use Rattle.lease_table.specs.Tables.{Standing}
-use Rattle.slicelet.specs.declared.handle.KeyHandle.{KeyHandle}
-use Rattle.slicelet.specs.declared.error.SliceletError.{SliceletError}
-use Rattle.slicelet.specs.declared.error.SliceletError.TheVariants.{Old}
+use Rattle.key_handle.specs.declared.handle.KeyHandle.{KeyHandle}
+use Rattle.grants.specs.declared.slicelet_error.SliceletError.{SliceletError}
+use Rattle.grants.specs.declared.slicelet_error.SliceletError.TheVariants.{Old}
 use Rattle.slicelet.specs.Continuity.{is_strange, IsContinuous}
 use Rattle.slicelet.specs.States.{greatest_in}
-use Rattle.cluster.specs.Jobs.{Job}
+use Rattle.job_calls.specs.Jobs.{Job}
 use Rattle.cluster.specs.Numbers.{with_number}
 use Rattle.cluster.specs.Pasts.{Past as Calls, standing, grants, history, task_calls}
 use Rattle.cluster.specs.Deliveries.{handles_made}
 use Rattle.cluster.specs.Replies.{covers, rule_in}
 use Rattle.world.specs.declared.step.Step.{Step}
 use Rattle.world.specs.declared.step.Step.TheVariants.{Hear, Check, Commit}
-use Rattle.world.specs.declared.reply.Reply.{Reply}
-use Rattle.world.specs.declared.reply.Reply.TheVariants as reply
-use Rattle.world.specs.declared.reply.Refusal.{Refusal}
-use Rattle.world.specs.declared.reply.Refusal.TheVariants as refusal
+use Rattle.replies.specs.declared.reply.Reply.{Reply}
+use Rattle.replies.specs.declared.reply.Reply.TheVariants as reply
+use Rattle.replies.specs.declared.reply.Refusal.{Refusal}
+use Rattle.replies.specs.declared.reply.Refusal.TheVariants as refusal
 use Rattle.explain.specs.declared.verdicts.KeyQuestion.{KeyQuestion}
 use Rattle.explain.specs.Verdicts.{asked_by}
 use Rattle.explain.specs.Reasons.{is_check, task_of}

@@ -6,9 +6,9 @@ use Rattle.indexmap.specs.IndexMap.{get}
 use Rattle.lease_table.specs.contracts.holders.HolderPartialEq.TheImpl as holder_equality
 use Rattle.lease_table.specs.declared.holders.Holder.{Holder}
 use Rattle.lease_table.specs.declared.holders.Holders.{Holders}
-use Rattle.lease_table.specs.declared.values.ReleaseNote.{ReleaseNote}
-use Rattle.lease_table.specs.declared.values.Row.{Row}
-use Rattle.lease_table.specs.Rows.{closes, running_rows}
+use Rattle.grants.specs.declared.values.ReleaseNote.{ReleaseNote}
+use Rattle.grants.specs.declared.values.Row.{Row}
+use Rattle.grants.specs.Rows.{closes, running_rows}
 
 -- the holder of a row, and the one that a note is of
 abbrev pub holder_of : Row → Holder

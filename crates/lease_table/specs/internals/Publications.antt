@@ -2,7 +2,7 @@
 use Rattle.std.specs.Prelude.{ℕ, ◌&&◌, Bool, Option}
 use Rattle.assignment.specs.Slices.{Slicing}
 use Rattle.assignment.specs.Owners.{owns}
-use Rattle.lease_table.specs.Tables.{slices_of}
+use Rattle.grants.specs.Assignments.{slices_of}
 
 -- the committed assignment and the proposed one
 pub record Assignments : Type 0 where

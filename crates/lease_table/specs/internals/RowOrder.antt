@@ -2,7 +2,7 @@
 use Rattle.std.specs.Prelude.{ℕ, zero, suc, ◌<◌, ◌≤◌, nat_le, List, [], ◌∷◌, Option, Some, None, if◌then◌else◌, ⊤}
 use Rattle.std.specs.List.{AllByRecursion}
 use Rattle.std.specs.Map.{values_of}
-use Rattle.lease_table.specs.declared.values.Row.{Row}
+use Rattle.grants.specs.declared.values.Row.{Row}
 use Rattle.lease_table.specs.declared.holders.Holders.{Holders}
 use Rattle.lease_table.specs.internals.Holders.{AreListed}
 use Rattle.lease_table.specs.internals.RowKeys.{IsKeyed}

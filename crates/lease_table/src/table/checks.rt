@@ -4,15 +4,13 @@ ghost use Rattle.std.specs.Prelude.{◌≡◌, ◌≤◌, ◌<◌, ◌∷◌, []
 ghost use Rattle.std.specs.List.{list_any};
 ghost use Rattle.std.specs.Result.{result_err};
 ghost use Rattle.machines.specs.Refusals.{first_of};
-ghost use Rattle.lease_table.specs.Rows.{first_up_to, running_rows, closes};
-ghost use Rattle.lease_table.specs.Tables.{generation_of};
+ghost use Rattle.grants.specs.Rows.{first_up_to, running_rows, closes};
+ghost use Rattle.grants.specs.Assignments.{generation_of};
 ghost use Rattle.lease_table.specs.Steps.{out_of_range, clock_back, take_checks, renew_checks, proposal_checks, propose_checks, commit_checks, grant_checks, free_checks};
 
-use super::{LeaseTable, READINGS};
-use crate::error::TableError;
-use crate::policy::MOST_GRANTS;
-use crate::values::{JobTerm, ReleaseNote, Row};
-use assignment::{Assignment, OwnedSlice, Slice};
+use super::LeaseTable;
+use assignment::{Assignment, Slice};
+use grants::{JobTerm, MOST_GRANTS, READINGS, ReleaseNote, Row, TableError};
 
 impl LeaseTable {
     // Checks the reading of a call.
@@ -92,7 +90,7 @@ impl LeaseTable {
         ensures refusal { result_err result ≡ first_of (propose_checks self.now number assignment.now at) }
         ensures reading { OnOk result ((self.now.last ≤ at) × (at < READINGS)) }
     {
-        let too_many = any_has_more_owners(assignment.slices(), self.policy.high());
+        let too_many = assignment.has_more_owners(self.policy.high());
         self.check_proposal(number, assignment.generation(), too_many, at)
     }
 
@@ -168,15 +166,6 @@ impl LeaseTable {
         }
         Ok(())
     }
-}
-
-// Returns whether a slice has more owners than `most`.
-pub(crate) fn any_has_more_owners(slices: &[OwnedSlice], most: u64) -> bool
-    ensures { result ≡ list_any (λ s. nat_lt most (length s.owners)) slices.now }
-{
-    slices
-        .iter()
-        .any(|slice| slice.owners().len() as u64 > most)
 }
 
 // Returns whether a slice of a proposal that is not built has more owners than `most`.

@@ -5,14 +5,14 @@ ghost use Rattle.std.specs.Result.{result_err};
 ghost use Rattle.machines.specs.Refusals.{first_of};
 ghost use Rattle.lease_table.specs.Calls.{AnsweredTableCall, standing_after, LeadsTo};
 ghost use Rattle.lease_table.specs.Runs.{IsRun};
-ghost use Rattle.lease_table.specs.KeptValues.{kept_of, kept_checks, restored_from, crashed};
+ghost use Rattle.lease_table.specs.KeptValues.{kept_of, restored_from, crashed};
+ghost use Rattle.grants.specs.KeptValues.{kept_checks};
 
 use super::LeaseTable;
-use crate::kept::{Kept, KeptFault, copy_of};
-use crate::laws::policy_law;
-use crate::policy::Policy;
 use crate::publication::Publication;
 use crate::rows::Rows;
+use assignment::copy_of;
+use grants::{Kept, KeptFault, Policy, policy_law};
 use std::alloc::{AllocError, Global};
 
 impl LeaseTable {

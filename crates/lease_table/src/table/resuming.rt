@@ -6,14 +6,13 @@ ghost use Rattle.machines.specs.Answers.{trouble_of};
 ghost use Rattle.machines.specs.declared.machine.Trouble.TheVariants.{NoMemory};
 ghost use Rattle.lease_table.specs.Calls.{AnsweredTableCall, standing_after, LeadsTo};
 ghost use Rattle.lease_table.specs.Runs.{IsRun};
-ghost use Rattle.lease_table.specs.Snapshots.{IsSnapshotOf, resumed_from, snapshot_checks};
+ghost use Rattle.lease_table.specs.Snapshots.{IsSnapshotOf, resumed_from};
+ghost use Rattle.grants.specs.Snapshots.{snapshot_checks};
 
 use super::LeaseTable;
-use crate::laws::policy_law;
-use crate::policy::Policy;
 use crate::publication::Publication;
 use crate::rows::Rows;
-use crate::snapshot::{SnapshotFault, TableSnapshot};
+use grants::{Policy, SnapshotFault, TableSnapshot, policy_law};
 use machines::Trouble;
 use std::alloc::{AllocError, Global};
 

@@ -12,21 +12,21 @@ use Rattle.live_run.specs.declared.table_caller.TableCaller.{TableCaller}
 use Rattle.live_run.specs.declared.task_caller.TaskCaller.{TaskCaller}
 use Rattle.live_run.specs.declared.clerk_caller.ClerkCaller.{ClerkCaller}
 use Rattle.lease_table.specs.Calls.{event_step as table_step}
-use Rattle.lease_table.specs.declared.call.TableCall.{TableCall}
-use Rattle.lease_table.specs.declared.call.TableCall.TheVariants.{Free}
-use Rattle.lease_table.specs.declared.call.TableReply.{TableReply}
-use Rattle.lease_table.specs.declared.call.TableReply.TheVariants.{Freed}
-use Rattle.lease_table.specs.declared.values.ReleaseNote.{ReleaseNote}
+use Rattle.grants.specs.declared.table_call.TableCall.{TableCall}
+use Rattle.grants.specs.declared.table_call.TableCall.TheVariants.{Free}
+use Rattle.grants.specs.declared.table_call.TableReply.{TableReply}
+use Rattle.grants.specs.declared.table_call.TableReply.TheVariants.{Freed}
+use Rattle.grants.specs.declared.values.ReleaseNote.{ReleaseNote}
 use Rattle.lease_rule.specs.declared.lease.Kind.{Kind}
 use Rattle.slicelet.specs.Steps.{event_step as slicelet_step}
-use Rattle.slicelet.specs.declared.call.SliceletCall.{SliceletCall}
-use Rattle.slicelet.specs.declared.call.SliceletCall.TheVariants.{Release}
-use Rattle.slicelet.specs.declared.call.SliceletReply.{SliceletReply}
-use Rattle.slicelet.specs.declared.call.SliceletReply.TheVariants.{Released}
+use Rattle.grants.specs.declared.slicelet_call.SliceletCall.{SliceletCall}
+use Rattle.grants.specs.declared.slicelet_call.SliceletCall.TheVariants.{Release}
+use Rattle.grants.specs.declared.slicelet_call.SliceletReply.{SliceletReply}
+use Rattle.grants.specs.declared.slicelet_call.SliceletReply.TheVariants.{Released}
 use Rattle.clerk.specs.Calls.{event_step as clerk_step}
 use Rattle.clerk.specs.declared.call.ClerkCall.{ClerkCall}
 use Rattle.clerk.specs.declared.call.ClerkReply.{ClerkReply}
-use Rattle.cluster.specs.declared.call.ClusterCall.TheVariants.{Clerk, Table, Task}
+use Rattle.job_calls.specs.declared.call.ClusterCall.TheVariants.{Clerk, Table, Task}
 use Rattle.shared_objects.specs.Calls.{Writes}
 use Rattle.shared_objects.specs.Actors.{clerk_told, slicelet_call_at, slicelet_told, table_call_at, table_told}
 use Rattle.shared_objects.specs.Objects.{SharedObject}

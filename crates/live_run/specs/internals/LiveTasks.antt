@@ -5,14 +5,13 @@ use Rattle.history_lock.specs.Histories.{IsLegal}
 use Rattle.history_lock.specs.Passes.{PassView, IsPassOf, ArePassesOf}
 use Rattle.lease_table.specs.Tables.{Standing}
 use Rattle.slicelet.specs.Steps.{event_step}
-use Rattle.slicelet.specs.States.{SliceletState, opening}
+use Rattle.slicelet.specs.States.{SliceletState, opening, rule_in_state}
 use Rattle.machines.specs.declared.event.Event.{Event}
 use Rattle.slicelet.specs.Rules.{covers_key}
-use Rattle.slicelet.specs.States.{rule_in_state}
-use Rattle.slicelet.specs.declared.call.SliceletCall.{SliceletCall}
+use Rattle.grants.specs.declared.slicelet_call.SliceletCall.{SliceletCall}
 use Rattle.tickets.specs.Tickets.{TicketView, TicketPassView, DrawsFrom, new_ticket_pass}
-use Rattle.cluster.specs.declared.record.CallRecord.{CallRecord}
-use Rattle.cluster.specs.declared.reply.ClusterReply.TheVariants as told
+use Rattle.job_calls.specs.declared.record.CallRecord.{CallRecord}
+use Rattle.job_calls.specs.declared.reply.ClusterReply.TheVariants as told
 use Rattle.lease_rule.specs.declared.answer.Verdict.{Verdict}
 use Rattle.shared_objects.specs.Calls.{Asks}
 use Rattle.shared_objects.specs.Objects.{SharedObject}

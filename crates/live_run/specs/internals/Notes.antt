@@ -3,9 +3,9 @@ use Rattle.std.specs.Prelude.{◌≡◌, ℕ, [], ◌∷◌, ◌++◌, Result, O
 use Rattle.machines.specs.declared.event.Event.{Event}
 use Rattle.history_lock.specs.Passes.{Lock, PassView}
 use Rattle.tickets.specs.Tickets.{TicketPassView}
-use Rattle.cluster.specs.declared.record.CallRecord.{CallRecord}
-use Rattle.cluster.specs.declared.call.ClusterCall.{ClusterCall}
-use Rattle.cluster.specs.declared.reply.ClusterReply.{ClusterReply}
+use Rattle.job_calls.specs.declared.record.CallRecord.{CallRecord}
+use Rattle.job_calls.specs.declared.call.ClusterCall.{ClusterCall}
+use Rattle.job_calls.specs.declared.reply.ClusterReply.{ClusterReply}
 use Rattle.shared_objects.specs.declared.error.CallError.{CallError}
 use Rattle.shared_objects.specs.declared.error.CallError.TheVariants.{Spent, HistoryFull, Refused, NoMemory}
 use Rattle.live_run.specs.declared.notes.Halt.{Halt}

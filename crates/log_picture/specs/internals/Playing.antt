@@ -1,15 +1,15 @@
 -- The machines after some entries of a log, and what is kept of them.
 use Rattle.std.specs.Prelude.{◌≡◌, ℕ, Bool, true, false, List}
-use Rattle.cluster.specs.Jobs.{Job}
+use Rattle.job_calls.specs.Jobs.{Job}
 use Rattle.cluster.specs.Pasts.{Past}
 use Rattle.cluster.specs.continued.Jobs.{from_start}
-use Rattle.cluster.specs.declared.call.ClusterCall.TheVariants as call
-use Rattle.call_log.specs.declared.entry.LogEntry.{LogEntry}
-use Rattle.call_log.specs.declared.line.LoggedCall.{LoggedCall}
-use Rattle.call_log.specs.declared.line.LoggedCall.TheVariants.{Whole, HearBare}
-use Rattle.call_log.specs.declared.log_machines.LogMachines.{LogMachines}
-use Rattle.call_log.specs.Played.{AreCallsOf}
-use Rattle.call_log.specs.internals.Machines.{HavePlayed}
+use Rattle.job_calls.specs.declared.call.ClusterCall.TheVariants as call
+use Rattle.log_line.specs.declared.entry.LogEntry.{LogEntry}
+use Rattle.log_line.specs.declared.line.LoggedCall.{LoggedCall}
+use Rattle.log_line.specs.declared.line.LoggedCall.TheVariants.{Whole, HearBare}
+use Rattle.log_run.specs.declared.log_machines.LogMachines.{LogMachines}
+use Rattle.log_run.specs.Played.{AreCallsOf}
+use Rattle.log_run.specs.internals.Machines.{HavePlayed}
 use Rattle.timeline.specs.declared.stretch.KeyStretches.{KeyStretches}
 use Rattle.timeline.specs.Alarms.{greatest_of_table}
 use Rattle.timeline.specs.Tasks.{Each, IsKeptOf}

@@ -1,20 +1,20 @@
 -- What the calls of entries make of the machines.
 use Rattle.std.specs.Prelude.{◌≡◌, ℕ, Bool, true, false, List, get_or, reverse, Option, Some, None}
-use Rattle.cluster.specs.Jobs.{Job}
+use Rattle.job_calls.specs.Jobs.{Job}
 use Rattle.cluster.specs.Pasts.{Past}
 use Rattle.cluster.specs.Runs.{IsRun}
 use Rattle.cluster.specs.continued.Jobs.{from_start}
-use Rattle.call_log.specs.declared.cause.Cause.{Cause}
-use Rattle.call_log.specs.declared.entry.LogEntry.{LogEntry}
-use Rattle.call_log.specs.declared.line.LoggedCall.{LoggedCall}
-use Rattle.call_log.specs.declared.log_machines.LogMachines.{LogMachines}
-use Rattle.call_log.specs.declared.told.CallerReply.{CallerReply}
-use Rattle.call_log.specs.Calls.{held_by_asked}
-use Rattle.call_log.specs.Played.{AreCallsOf}
-use Rattle.call_log.specs.Questions.{IsCauseOf}
-use Rattle.call_log.specs.Reports.{cause_text, standing_at}
-use Rattle.call_log.specs.internals.Answers.{IsPlayed}
-use Rattle.call_log.specs.internals.Machines.{HavePlayed}
+use Rattle.log_words.specs.declared.cause.Cause.{Cause}
+use Rattle.log_line.specs.declared.entry.LogEntry.{LogEntry}
+use Rattle.log_line.specs.declared.line.LoggedCall.{LoggedCall}
+use Rattle.log_run.specs.declared.log_machines.LogMachines.{LogMachines}
+use Rattle.log_line.specs.declared.told.CallerReply.{CallerReply}
+use Rattle.log_run.specs.Calls.{held_by_asked}
+use Rattle.log_run.specs.Played.{AreCallsOf}
+use Rattle.log_words.specs.Questions.{IsCauseOf}
+use Rattle.log_words.specs.Reports.{cause_text, standing_at}
+use Rattle.log_run.specs.internals.Answers.{IsPlayed}
+use Rattle.log_run.specs.internals.Machines.{HavePlayed}
 use Rattle.log_view.specs.Lines.{call_line}
 use Rattle.log_view.specs.Windows.{is_shown}
 

@@ -5,16 +5,16 @@ use Rattle.assignment.specs.Slices.{Slicing}
 use Rattle.lease_table.specs.Calls.{table_step}
 use Rattle.lease_table.specs.Steps.{restart_step}
 use Rattle.lease_table.specs.Tables.{Standing}
-use Rattle.lease_table.specs.declared.call.TableCall.{TableCall}
-use Rattle.lease_table.specs.declared.call.TableCall.TheVariants as table_call
-use Rattle.lease_table.specs.declared.call.TableReply.{TableReply}
-use Rattle.lease_table.specs.declared.call.TableReply.TheVariants as table_reply
-use Rattle.lease_table.specs.declared.error.TableError.{TableError}
+use Rattle.grants.specs.declared.table_call.TableCall.{TableCall}
+use Rattle.grants.specs.declared.table_call.TableCall.TheVariants as table_call
+use Rattle.grants.specs.declared.table_call.TableReply.{TableReply}
+use Rattle.grants.specs.declared.table_call.TableReply.TheVariants as table_reply
+use Rattle.grants.specs.declared.table_error.TableError.{TableError}
 use Rattle.slicelet.specs.States.{SliceletState}
 use Rattle.slicelet.specs.Steps.{slicelet_step}
-use Rattle.slicelet.specs.declared.call.SliceletCall.{SliceletCall}
-use Rattle.slicelet.specs.declared.call.SliceletCall.TheVariants as slicelet_call
-use Rattle.slicelet.specs.declared.call.SliceletReply.{SliceletReply}
+use Rattle.grants.specs.declared.slicelet_call.SliceletCall.{SliceletCall}
+use Rattle.grants.specs.declared.slicelet_call.SliceletCall.TheVariants as slicelet_call
+use Rattle.grants.specs.declared.slicelet_call.SliceletReply.{SliceletReply}
 use Rattle.clerk.specs.Calls.{clerk_step}
 use Rattle.clerk.specs.declared.call.ClerkCall.{ClerkCall}
 use Rattle.clerk.specs.declared.call.ClerkCall.TheVariants as clerk_call

@@ -5,7 +5,7 @@ use Rattle.lease_rule.specs.declared.holding.Holding.{Holding}
 use Rattle.lease_rule.specs.declared.lease.Lease.{Lease}
 use Rattle.lease_rule.specs.Leases.{seen_from}
 use Rattle.lease_rule.specs.Rule.{is_serving}
-use Rattle.slicelet.specs.Stamps.{Stamps, since, stamp_after_change}
+use Rattle.key_handle.specs.Stamps.{Stamps, since, stamp_after_change}
 use Rattle.slicelet.specs.States.{SliceletState, stamp_in, permits}
 
 -- a held lease is live at the reading and covers the key

@@ -4,8 +4,8 @@ use Rattle.lease_rule.specs.declared.lease.Kind.{Kind}
 use Rattle.lease_rule.specs.declared.lease.Kind.TheVariants.{Guard, Bridge}
 use Rattle.lease_rule.specs.declared.lease.Lease.{Lease}
 use Rattle.lease_rule.specs.declared.holding.Holding.{Holding}
-use Rattle.lease_table.specs.declared.values.Grant.{Grant}
-use Rattle.slicelet.specs.Stamps.{Stamps, since}
+use Rattle.grants.specs.declared.values.Grant.{Grant}
+use Rattle.key_handle.specs.Stamps.{Stamps, since}
 use Rattle.slicelet.specs.declared.heard.HeardGrant.{HeardGrant}
 use Rattle.slicelet.specs.declared.heard.HeardGrants.{HeardGrants}
 use Rattle.slicelet.specs.Stamping.{stamps_where}

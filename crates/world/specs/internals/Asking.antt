@@ -2,18 +2,19 @@
 use Rattle.std.specs.Prelude.{◌≡◌, Result, Ok, Err}
 use Rattle.std.specs.declared.alloc.AllocError.{AllocError}
 use Rattle.assigner.specs.Terms.{Keeping}
-use Rattle.cluster.specs.declared.call.ClusterCall.{ClusterCall}
-use Rattle.cluster.specs.declared.reply.ClusterReply.{ClusterReply}
+use Rattle.job_calls.specs.declared.call.ClusterCall.{ClusterCall}
+use Rattle.job_calls.specs.declared.reply.ClusterReply.{ClusterReply}
 use Rattle.cluster.specs.declared.cluster.Cluster.{Cluster}
 use Rattle.cluster.specs.Pasts.{Past as ClusterPast}
 use Rattle.cluster.specs.Clusters.{IsPlayed}
 use Rattle.world.specs.Jobs.{Job}
 use Rattle.world.specs.declared.step.Step.{Step}
-use Rattle.world.specs.declared.reply.Reply.{Reply}
-use Rattle.world.specs.declared.reply.Reply.TheVariants as reply
-use Rattle.world.specs.declared.told.NextNumbers.{NextNumbers}
+use Rattle.replies.specs.declared.reply.Reply.{Reply}
+use Rattle.replies.specs.declared.reply.Reply.TheVariants as reply
+use Rattle.replies.specs.declared.told.NextNumbers.{NextNumbers}
 use Rattle.world.specs.Front.{term_told}
-use Rattle.world.specs.Replies.{named, next_numbers, told_as}
+use Rattle.world.specs.Replies.{named, next_numbers}
+use Rattle.replies.specs.Told.{told_as}
 
 -- a reply of the machines, as it is told, or that they are out of memory
 abbrev pub told_of : Step → NextNumbers → Result ClusterReply AllocError → Reply

@@ -1,7 +1,7 @@
 use Rattle.std.proofs.Common.{ℕ, List, [], ◌∷◌, map, subst, ◌∙◌, ap, arith}
 use Rattle.std.proofs.lemmas.List.{take_all, length-map}
-use Rattle.lease_table.specs.Policies.{Terms}
-use Rattle.cluster.specs.declared.timing.Reading.{Reading}
+use Rattle.grants.specs.Policies.{Terms}
+use Rattle.job_calls.specs.declared.timing.Reading.{Reading}
 use Rattle.cluster.specs.Pasts.{readings}
 use Rattle.cluster.specs.Timeliness.{IsTimelinessOf}
 use Rattle.cluster.specs.continued.Jobs.{from_start}

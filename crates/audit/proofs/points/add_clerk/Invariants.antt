@@ -1,5 +1,5 @@
 use Rattle.std.proofs.Common.{◌≡◌, ◌++◌, map, take}
-use Rattle.cluster.specs.declared.call.ClusterCall.TheVariants as call
+use Rattle.job_calls.specs.declared.call.ClusterCall.TheVariants as call
 use Rattle.audit.specs.OneRun.{entry_turn}
 use Rattle.audit.specs.Shown.{turn_of}
 use Rattle.audit.proofs.points.add_clerk.Given as goal

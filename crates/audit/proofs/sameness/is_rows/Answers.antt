@@ -1,6 +1,6 @@
 use Rattle.std.proofs.Common.{rules, ◌≡◌, Bool, Decides, subst, sym}
 use Rattle.std.specs.Cmp.Lexicographic.{pointwise_decides}
-use Rattle.lease_table.specs.declared.values.Row.{Row}
+use Rattle.grants.specs.declared.values.Row.{Row}
 use Rattle.audit.proofs.Comparing.{same_rows}
 use Rattle.audit.proofs.sameness.is_rows.Goals as goal
 

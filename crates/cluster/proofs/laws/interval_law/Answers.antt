@@ -1,6 +1,6 @@
 use Rattle.std.proofs.Common.{◌≡◌, true}
-use Rattle.lease_table.specs.Policies.{is_policy}
-use Rattle.cluster.specs.Jobs.{Job}
+use Rattle.grants.specs.Policies.{is_policy}
+use Rattle.job_calls.specs.Jobs.{Job}
 use Rattle.cluster.specs.continued.Jobs.{from_start}
 use Rattle.cluster.specs.Pasts.{table_calls}
 use Rattle.cluster.proofs.TableRuns.{table_run}

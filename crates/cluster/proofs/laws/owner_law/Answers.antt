@@ -1,4 +1,4 @@
-use Rattle.lease_table.specs.Tables.{slices_of}
+use Rattle.grants.specs.Assignments.{slices_of}
 use Rattle.lease_table.specs.Calls.{committed_in}
 use Rattle.lease_table.specs.Runs.{commits_in}
 use Rattle.lease_table.specs.Generations.{assignment_in}

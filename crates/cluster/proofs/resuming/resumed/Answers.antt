@@ -1,5 +1,5 @@
 use Rattle.std.proofs.lemmas.Result.{err_from_is_err_and}
-use Rattle.slicelet.specs.declared.call.SliceletCall.TheVariants.{Resume}
+use Rattle.grants.specs.declared.slicelet_call.SliceletCall.TheVariants.{Resume}
 use Rattle.cluster.proofs.Rebuilding.{plays_on, plays_no_further}
 use Rattle.cluster.proofs.resuming.resumed.Goals as goal
 

@@ -1,6 +1,6 @@
 use Rattle.std.proofs.Common.{[], ◌∷◌, ◌++◌, take}
 use Rattle.std.specs.Prelude.{reverse}
-use Rattle.slicelet.specs.declared.call.SliceletCall.TheVariants.{Resume}
+use Rattle.grants.specs.declared.slicelet_call.SliceletCall.TheVariants.{Resume}
 use Rattle.cluster.specs.internals.Resuming.{IsPlayedTo}
 use Rattle.cluster.proofs.resuming.resumed.Given as goal
 

@@ -1,8 +1,8 @@
 use Rattle.std.proofs.Common.{◌≡◌, refl, sym, ◌∙◌, subst}
 use Rattle.std.specs.Prelude.{None}
 use Rattle.machines.specs.Refusals.{first_of}
-use Rattle.lease_table.specs.Policies.{Terms}
-use Rattle.lease_table.specs.Snapshots.{snapshot_checks}
+use Rattle.grants.specs.Policies.{Terms}
+use Rattle.grants.specs.Snapshots.{snapshot_checks}
 use Rattle.cluster.proofs.SnapshotChecks.{without_fault}
 use Rattle.cluster.proofs.resuming.resumed_with.Goals as goal
 

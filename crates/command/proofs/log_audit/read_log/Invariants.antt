@@ -1,6 +1,6 @@
 use Rattle.std.proofs.Common.{◌≤◌, ◌+◌, [], ℕ, List}
 use Rattle.program_io.specs.declared.line.TheConstants.{MOST_LINE_BYTES}
-use Rattle.call_log.specs.Readers.{IsReading}
+use Rattle.log_line.specs.Readers.{IsReading}
 use Rattle.command.proofs.Logs.{IsTakenSoFar}
 use Rattle.command.proofs.log_audit.read_log.Given as goal
 

@@ -1,5 +1,5 @@
 use Rattle.std.proofs.Common.{[], ℕ, List, map, take}
-use Rattle.call_log.specs.Readers.{IsReading}
+use Rattle.log_line.specs.Readers.{IsReading}
 use Rattle.command.specs.Audits.{AreLogsTaken}
 use Rattle.command.proofs.log_audit.read_logs.Given as goal
 

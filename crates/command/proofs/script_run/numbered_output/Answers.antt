@@ -1,5 +1,5 @@
 use Rattle.std.proofs.Common.{◌≡◌, true, string_bytes, subst}
-use Rattle.lease_table.specs.Policies.{Terms, is_policy}
+use Rattle.grants.specs.Policies.{Terms, is_policy}
 use Rattle.command.proofs.Outputs.{is_output}
 use Rattle.command.proofs.script_run.numbered_output.Goals as goal
 

@@ -1,5 +1,5 @@
 use Rattle.std.proofs.Common.{refl}
-use Rattle.diagnosis.specs.Faults.{fault_words}
+use Rattle.faults.specs.Faults.{fault_words}
 use Rattle.diagnosis.specs.Sayings.{line_about}
 use Rattle.diagnosis.proofs.Lines.{says_more}
 use Rattle.diagnosis.proofs.saying.say_refusals.Goals.{in-Err, in_default}

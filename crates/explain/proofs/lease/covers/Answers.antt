@@ -1,6 +1,6 @@
 use Rattle.std.proofs.Common.{◌≡◌, Bool}
 use Rattle.std.specs.Prelude.{Option, Some, None}
-use Rattle.lease_table.specs.declared.values.Grant.{Grant}
+use Rattle.grants.specs.declared.values.Grant.{Grant}
 use Rattle.slicelet.specs.Rules.{covers_key}
 use Rattle.cluster.specs.Pasts.{table_calls, grants}
 use Rattle.cluster.specs.continued.Jobs.{from_start}

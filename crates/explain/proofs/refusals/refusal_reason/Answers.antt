@@ -1,7 +1,7 @@
 use Rattle.std.proofs.Common.{sym, subst}
 use Rattle.std.specs.Prelude.{IfOk}
-use Rattle.world.specs.declared.reply.Refusal.{Refusal}
-use Rattle.world.specs.declared.reply.Reply.TheVariants as reply
+use Rattle.replies.specs.declared.reply.Refusal.{Refusal}
+use Rattle.replies.specs.declared.reply.Reply.TheVariants as reply
 use Rattle.explain.specs.Hearing.{past_of}
 use Rattle.explain.specs.Reasons.{IsReasonOrNone}
 use Rattle.explain.specs.internals.Told.{IsRefusal}

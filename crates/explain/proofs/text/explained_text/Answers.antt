@@ -1,7 +1,7 @@
 use Rattle.std.proofs.Common.{◌≡◌, ◌∙◌, ℕ, ap, ap₂, true, List, ◌++◌, length, IfOk, rules, string_bytes, subst}
 use Rattle.std.specs.Prelude.{MatchOption}
 use Rattle.world.specs.declared.step.Step.{Step}
-use Rattle.lease_table.specs.Policies.{Terms, is_policy}
+use Rattle.grants.specs.Policies.{Terms, is_policy}
 use Rattle.explain.specs.declared.explanation.Explanation.{Explanation}
 use Rattle.std.specs.List.{list_all}
 use Rattle.service.specs.Output.{is_answer}

@@ -1,9 +1,9 @@
 use Rattle.std.proofs.Common.{ℕ, ◌∷◌}
 use Rattle.clocks.specs.declared.drift.Drift.{Drift}
-use Rattle.cluster.specs.Jobs.{Job}
+use Rattle.job_calls.specs.Jobs.{Job}
 use Rattle.cluster.specs.Pasts.{Past, readings}
 use Rattle.cluster.specs.Headline.{MayServe}
-use Rattle.cluster.specs.declared.timing.Reading.TheVariants.{TaskClock}
+use Rattle.job_calls.specs.declared.timing.Reading.TheVariants.{TaskClock}
 use Rattle.job_clocks.specs.Serving.{MayServeByDrift}
 use Rattle.job_clocks.proofs.laws.drift_law.Goals as goal
 

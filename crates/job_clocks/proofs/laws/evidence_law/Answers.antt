@@ -1,5 +1,5 @@
 use Rattle.std.proofs.Common.{◌∷◌}
-use Rattle.cluster.specs.declared.timing.Reading.TheVariants.{TaskClock}
+use Rattle.job_calls.specs.declared.timing.Reading.TheVariants.{TaskClock}
 use Rattle.cluster.specs.Pasts.{readings}
 use Rattle.job_clocks.proofs.Telling.{sent_was_read, ahead, silent}
 use Rattle.job_clocks.proofs.laws.evidence_law.Goals as goal

@@ -1,6 +1,6 @@
 use Rattle.std.proofs.Common.{rules}
 use Rattle.std.proofs.lemmas.Fn.{filter_same}
-use Rattle.lease_table.specs.Rows.{runs_at}
+use Rattle.grants.specs.Rows.{runs_at}
 use Rattle.lease_table.proofs.holders.has_running.Goals as goal
 
 pub returns-clause-left : goal.returns-clause-left

@@ -4,7 +4,7 @@ use Rattle.std.proofs.lemmas.Iterator.{YieldsList-from_slice}
 use Rattle.std.proofs.lemmas.Iterator.Consumers.{count_from_yields_List}
 use Rattle.std.proofs.lemmas.Iterator.Search.{YieldsList-from_take_while}
 use Rattle.std.proofs.lemmas.List.Folds.{length-prefix_len}
-use Rattle.lease_table.specs.declared.values.Row.{Row}
+use Rattle.grants.specs.declared.values.Row.{Row}
 use Rattle.lease_table.proofs.FreedRows.{first_up_to_number}
 use Rattle.lease_table.proofs.holders.rows_up_to.Goals as goal
 

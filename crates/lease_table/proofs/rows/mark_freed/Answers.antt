@@ -2,7 +2,7 @@ use Rattle.std.proofs.Common.{◌≡◌, ◌∙◌, ℕ, ◌+◌, List, ◌∷�
 use Rattle.std.specs.Prelude.{Some, None}
 use Rattle.std.specs.Map.{lookup}
 use Rattle.std.proofs.lemmas.List.{at_drop_more}
-use Rattle.lease_table.specs.declared.values.Row.{Row}
+use Rattle.grants.specs.declared.values.Row.{Row}
 use Rattle.lease_table.specs.internals.Holders.{entry_freed, entries_freed}
 use Rattle.lease_table.proofs.FreedRows.{entry_set, entry_absent}
 use Rattle.lease_table.proofs.rows.mark_freed.Goals as goal

@@ -1,5 +1,5 @@
 use Rattle.std.proofs.Common.{◌≡◌, ◌≤◌, ℕ, suc, ◌+◌, length, subst, ap, arith}
-use Rattle.lease_table.specs.declared.values.Row.{Row}
+use Rattle.grants.specs.declared.values.Row.{Row}
 use Rattle.lease_table.specs.internals.RowOrder.{HaveEnded}
 use Rattle.lease_table.proofs.RowOrder.{ended_next, ended_within, first_running_at, none_running}
 use Rattle.lease_table.proofs.rows.next_running.Goals as goal

@@ -3,7 +3,7 @@ use Rattle.std.proofs.lemmas.Iterator.{YieldsList-from_slice}
 use Rattle.std.proofs.lemmas.Iterator.Consumers.{count_from_yields_List, YieldsList-from_filter}
 use Rattle.std.proofs.lemmas.List.Sums.{length-filter}
 use Rattle.history_lock.specs.declared.entry.Entry.{Entry}
-use Rattle.lease_table.specs.declared.call.TableCall.{TableCall}
+use Rattle.grants.specs.declared.table_call.TableCall.{TableCall}
 use Rattle.machines.specs.declared.event.Event.{Event}
 use Rattle.live_run.specs.Reports.{is_commit}
 use Rattle.live_run.proofs.report.count_commits.Goals as goal

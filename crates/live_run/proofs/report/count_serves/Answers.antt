@@ -2,7 +2,7 @@ use Rattle.std.proofs.Common.{◌∙◌, rules, tests}
 use Rattle.std.proofs.lemmas.Iterator.{YieldsList-from_slice}
 use Rattle.std.proofs.lemmas.Iterator.Consumers.{count_from_yields_List, YieldsList-from_filter}
 use Rattle.std.proofs.lemmas.List.Sums.{length-filter}
-use Rattle.cluster.specs.declared.record.CallRecord.{CallRecord}
+use Rattle.job_calls.specs.declared.record.CallRecord.{CallRecord}
 use Rattle.live_run.specs.Reports.{is_serve}
 use Rattle.live_run.proofs.report.count_serves.Goals as goal
 

@@ -1,8 +1,8 @@
 use Rattle.std.proofs.Common.{◌≡◌, ◌∙◌, ℕ, ◌+◌, List, length, decimal, sym, ap, subst, arith}
 use Rattle.slicelet.specs.States.{SliceletState}
 use Rattle.slice_ranges.specs.Hash.{slice_key}
-use Rattle.cluster.specs.declared.record.CallRecord.{CallRecord}
-use Rattle.cluster.specs.declared.call.ClusterCall.TheVariants.{Serve}
+use Rattle.job_calls.specs.declared.record.CallRecord.{CallRecord}
+use Rattle.job_calls.specs.declared.call.ClusterCall.TheVariants.{Serve}
 use Rattle.shared_objects.specs.Objects.{SharedObject}
 use Rattle.live_run.specs.Reports.{AreServesFrom}
 use Rattle.live_run.proofs.Asked.{serves_push}

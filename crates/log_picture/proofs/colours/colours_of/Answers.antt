@@ -2,8 +2,8 @@ use Rattle.std.proofs.Common.{◌≡◌, ◌<◌, List, [], length, take, refl, 
 use Rattle.std.specs.Prelude.{reverse}
 use Rattle.std.proofs.lemmas.List.{take_all}
 use Rattle.std.proofs.lemmas.Result.{IfOk-weaker}
-use Rattle.call_log.specs.declared.entry.LogEntry.{LogEntry}
-use Rattle.call_log.specs.Played.{AreCallsOf}
+use Rattle.log_line.specs.declared.entry.LogEntry.{LogEntry}
+use Rattle.log_run.specs.Played.{AreCallsOf}
 use Rattle.timeline.specs.declared.stretch.KeyStretches.{KeyStretches}
 use Rattle.timeline.specs.declared.stretch.Stretch.{Stretch}
 use Rattle.timeline.specs.Tasks.{AreTaskStretches, Each, IsKeptOf}

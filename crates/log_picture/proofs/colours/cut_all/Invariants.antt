@@ -1,5 +1,5 @@
 use Rattle.std.proofs.Common.{ℕ}
-use Rattle.cluster.specs.Jobs.{Job}
+use Rattle.job_calls.specs.Jobs.{Job}
 use Rattle.cluster.specs.Pasts.{Past, task_calls}
 use Rattle.timeline.specs.Tasks.{AreTaskStretches, Each}
 use Rattle.log_picture.specs.Colours.{AreCut}

@@ -1,8 +1,8 @@
 use Rattle.std.proofs.Common.{ℕ, List, take, ◌∙◌, ap, sym}
 use Rattle.std.specs.Prelude.{reverse, if◌then◌else◌}
-use Rattle.cluster.specs.declared.timing.Reading.{Reading}
-use Rattle.call_log.specs.declared.entry.LogEntry.{LogEntry}
-use Rattle.call_log.specs.Calls.{reading_in}
+use Rattle.job_calls.specs.declared.timing.Reading.{Reading}
+use Rattle.log_line.specs.declared.entry.LogEntry.{LogEntry}
+use Rattle.log_line.specs.Calls.{reading_in}
 use Rattle.timeline.specs.declared.stretch.Stretch.{Stretch}
 use Rattle.log_picture.specs.Shots.{is_in_window, span_of, with_reading}
 use Rattle.log_picture.proofs.Playing.{many_before, one_more}

@@ -1,6 +1,6 @@
 use Rattle.std.proofs.Common.{List, ◌∷◌, get_or, take, ◌∙◌, ap, subst, sym}
 use Rattle.std.specs.Prelude.{Result, Ok, Err, OnOk, reverse}
-use Rattle.call_log.specs.declared.entry.LogEntry.{LogEntry}
+use Rattle.log_line.specs.declared.entry.LogEntry.{LogEntry}
 use Rattle.log_picture.specs.Shots.{shot_of}
 use Rattle.log_picture.specs.internals.Playing.{AreWatched}
 use Rattle.log_picture.proofs.Playing.{many_before, one_more, watched_more}

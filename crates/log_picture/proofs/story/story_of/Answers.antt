@@ -1,7 +1,7 @@
 use Rattle.std.proofs.Common.{◌≡◌, List, [], take, refl, subst, arith}
 use Rattle.std.specs.Prelude.{reverse}
 use Rattle.std.proofs.lemmas.List.{take_all}
-use Rattle.call_log.specs.declared.entry.LogEntry.{LogEntry}
+use Rattle.log_line.specs.declared.entry.LogEntry.{LogEntry}
 use Rattle.log_picture.specs.Shots.{shot_of}
 use Rattle.log_picture.specs.Warnings.{AreWarned}
 use Rattle.cluster.specs.continued.Jobs.{from_start}

@@ -1,7 +1,7 @@
 use Rattle.std.proofs.Common.{List, refl, subst}
 use Rattle.std.proofs.lemmas.List.{take_all}
 use Rattle.cluster.specs.continued.Jobs.{from_start}
-use Rattle.call_log.specs.declared.entry.LogEntry.{LogEntry}
+use Rattle.log_line.specs.declared.entry.LogEntry.{LogEntry}
 use Rattle.log_view.specs.internals.Playing.{IsPlayedTo}
 use Rattle.log_view.proofs.Playing.{none_played, played_more}
 use Rattle.log_view.proofs.lines.played.Goals as goal

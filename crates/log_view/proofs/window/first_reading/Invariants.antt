@@ -1,4 +1,4 @@
-use Rattle.call_log.specs.Sent.{NonePasses}
+use Rattle.log_line.specs.Sent.{NonePasses}
 use Rattle.log_view.specs.Windows.{reads_within}
 use Rattle.log_view.proofs.window.first_reading.Given as goal
 

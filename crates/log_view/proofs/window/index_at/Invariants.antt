@@ -1,4 +1,4 @@
-use Rattle.call_log.specs.Sent.{NonePasses}
+use Rattle.log_line.specs.Sent.{NonePasses}
 use Rattle.log_view.specs.Windows.{stands_at}
 use Rattle.log_view.proofs.window.index_at.Given as goal
 

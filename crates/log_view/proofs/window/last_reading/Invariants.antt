@@ -1,5 +1,5 @@
 use Rattle.std.proofs.Common.{length}
-use Rattle.call_log.specs.Sent.{NonePasses}
+use Rattle.log_line.specs.Sent.{NonePasses}
 use Rattle.log_view.specs.Windows.{reads_within}
 use Rattle.log_view.proofs.window.last_reading.Given as goal
 

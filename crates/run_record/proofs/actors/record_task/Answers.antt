@@ -1,5 +1,5 @@
 use Rattle.std.proofs.Common.{◌<◌, List, length, subst}
-use Rattle.cluster.specs.declared.snapshot.TaskSnapshot.{TaskSnapshot}
+use Rattle.job_calls.specs.declared.snapshot.TaskSnapshot.{TaskSnapshot}
 use Rattle.run_record.proofs.Making.{on_ok}
 use Rattle.run_record.proofs.Tasks.{not_of_task, not_answered, answered_now}
 use Rattle.run_record.proofs.actors.record_task.Goals as goal

@@ -1,6 +1,6 @@
 use Rattle.std.proofs.Common.{◌≡◌, true, take, string_bytes}
 use Rattle.std.specs.List.{flat_map, list_all}
-use Rattle.service.specs.Lines.{line_of}
+use Rattle.replies.specs.Lines.{line_of}
 use Rattle.service.specs.Output.{is_answer}
 use Rattle.service.proofs.output.lines_of.Given as goal
 

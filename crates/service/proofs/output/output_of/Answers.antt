@@ -1,5 +1,5 @@
 use Rattle.std.proofs.Common.{◌≡◌, true, string_bytes, subst}
-use Rattle.lease_table.specs.Policies.{Terms, is_policy}
+use Rattle.grants.specs.Policies.{Terms, is_policy}
 use Rattle.service.proofs.Outputs.{is_output}
 use Rattle.service.proofs.output.output_of.Goals as goal
 

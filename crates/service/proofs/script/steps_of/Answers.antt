@@ -1,6 +1,6 @@
 use Rattle.std.proofs.Common.{◌≡◌, ◌+◌, ◌∙◌, ℕ, map, ap, Err, Ok, add_comm}
 use Rattle.serde_json.specs.View.{view}
-use Rattle.service.specs.declared.fault.ScriptError.TheVariants.{BadStep}
+use Rattle.faults.specs.declared.script_error.ScriptError.TheVariants.{BadStep}
 use Rattle.service.specs.Scripts.{step_at, steps_of}
 use Rattle.program_io.proofs.Turns.{starts, goes_on, ends, is_done}
 use Rattle.service.proofs.script.steps_of.Goals as goal

@@ -1,5 +1,5 @@
 use Rattle.std.proofs.Common.{ℕ}
-use Rattle.cluster.specs.Jobs.{Job}
+use Rattle.job_calls.specs.Jobs.{Job}
 use Rattle.cluster.specs.Pasts.{Past}
 use Rattle.cluster.specs.Clusters.{LeadsTo}
 use Rattle.timeline.specs.Tasks.{Each, IsKeptOf, IsNextPast}

@@ -1,7 +1,7 @@
 use Rattle.std.proofs.Common.{◌≡◌, ◌∙◌, ℕ, Some, ap, refl, sym}
 use Rattle.std.specs.Prelude.{option_map}
 use Rattle.lease_rule.specs.declared.lease.Kind.{Kind}
-use Rattle.lease_table.specs.declared.values.Grant.{Grant}
+use Rattle.grants.specs.declared.values.Grant.{Grant}
 use Rattle.slicelet.specs.declared.heard.HeldLease.{HeldLease}
 use Rattle.slicelet.specs.States.{held_lease}
 use Rattle.c_calls.specs.slicelets.Leases.{details_of}

@@ -1,5 +1,5 @@
 use Rattle.std.proofs.Common.{◌≤◌, ℕ, List, [], ◌∷◌, length, codes, arith}
-use Rattle.lease_table.specs.declared.kept.Kept.{Kept}
+use Rattle.grants.specs.declared.kept.Kept.{Kept}
 use Rattle.wire.specs.Kept.{kept_of}
 use Rattle.c_calls.specs.declared.answer.Answer.{Answer}
 use Rattle.c_calls.specs.Outputs.{Output}

@@ -1,12 +1,12 @@
 use Rattle.std.proofs.Common.{◌≡◌, ℕ, ◌<◌, ◌^◌, Bool, List, length, subst, refl, sym, ap, ◌∙◌}
 use Rattle.std.specs.Prelude.{Result, false, Ok, Err}
 use Rattle.machines.specs.Numbers.{is_within}
-use Rattle.slicelet.specs.declared.error.Stranger.{Stranger}
+use Rattle.grants.specs.declared.slicelet_error.Stranger.{Stranger}
 use Rattle.slicelet.specs.Rules.{covers_key}
 use Rattle.slicelet.specs.States.{SliceletState}
-use Rattle.cluster.specs.declared.call.ClusterCall.TheVariants as call
-use Rattle.cluster.specs.declared.error.ClusterError.TheVariants as error
-use Rattle.cluster.specs.declared.reply.ClusterReply.TheVariants as reply
+use Rattle.job_calls.specs.declared.call.ClusterCall.TheVariants as call
+use Rattle.job_calls.specs.declared.error.ClusterError.TheVariants as error
+use Rattle.job_calls.specs.declared.reply.ClusterReply.TheVariants as reply
 use Rattle.cluster.specs.Pasts.{task_calls}
 use Rattle.cluster.specs.Answers.{covers}
 use Rattle.cluster.specs.continued.Clusters.{LeadsTo}

@@ -1,5 +1,5 @@
 use Rattle.std.proofs.Common.{◌≡◌, ℕ, List, ◌∙◌, ap}
-use Rattle.slicelet.specs.declared.handle.KeyHandle.{KeyHandle}
+use Rattle.key_handle.specs.declared.handle.KeyHandle.{KeyHandle}
 use Rattle.cluster.specs.Numbers.{with_number, kept_with_number}
 use Rattle.cluster.specs.Made.{handles_made}
 use Rattle.cluster.specs.continued.Clusters.{LeadsTo}

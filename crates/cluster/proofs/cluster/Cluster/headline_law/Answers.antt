@@ -1,6 +1,6 @@
 use Rattle.std.proofs.Common.{◌∷◌}
 use Rattle.cluster.specs.continued.Jobs.{from_start}
-use Rattle.cluster.specs.declared.call.ClusterCall.TheVariants as call
+use Rattle.job_calls.specs.declared.call.ClusterCall.TheVariants as call
 use Rattle.cluster.specs.Pasts.{event}
 use Rattle.cluster.proofs.Ruling.{run_before}
 use Rattle.cluster.proofs.cluster.Cluster.headline_law.Goals as goal

@@ -2,10 +2,10 @@ use Rattle.std.proofs.Common.{◌≡◌, ℕ, ◌<◌, List, length, refl, sym, 
 use Rattle.std.specs.Prelude.{false}
 use Rattle.indexmap.specs.IndexSet.{contains}
 use Rattle.machines.specs.Numbers.{is_within}
-use Rattle.slicelet.specs.declared.call.SliceletCall.TheVariants.{Hear}
+use Rattle.grants.specs.declared.slicelet_call.SliceletCall.TheVariants.{Hear}
 use Rattle.slicelet.specs.States.{SliceletState}
-use Rattle.cluster.specs.declared.error.ClusterError.TheVariants as error
-use Rattle.cluster.specs.declared.reply.ClusterReply.TheVariants as reply
+use Rattle.job_calls.specs.declared.error.ClusterError.TheVariants as error
+use Rattle.job_calls.specs.declared.reply.ClusterReply.TheVariants as reply
 use Rattle.cluster.specs.Pasts.{table_calls, grants}
 use Rattle.cluster.specs.continued.Deliveries.{known_grant}
 use Rattle.cluster.specs.Answers.{by_actor}

@@ -3,8 +3,8 @@ use Rattle.std.specs.Prelude.{Option, false}
 use Rattle.machines.specs.Numbers.{is_within}
 use Rattle.assignment.specs.Slices.{Slicing}
 use Rattle.clerk.specs.declared.call.ClerkCall.TheVariants.{Learn}
-use Rattle.cluster.specs.declared.error.ClusterError.TheVariants as error
-use Rattle.cluster.specs.declared.reply.ClusterReply.TheVariants as reply
+use Rattle.job_calls.specs.declared.error.ClusterError.TheVariants as error
+use Rattle.job_calls.specs.declared.reply.ClusterReply.TheVariants as reply
 use Rattle.cluster.specs.Pasts.{table_calls}
 use Rattle.cluster.specs.continued.Deliveries.{known_slicing}
 use Rattle.cluster.specs.Answers.{by_actor}

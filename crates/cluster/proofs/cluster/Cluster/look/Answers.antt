@@ -2,8 +2,8 @@ use Rattle.std.proofs.Common.{◌≡◌, ◌<◌, List, length, subst, ap}
 use Rattle.std.specs.Prelude.{Option, false}
 use Rattle.machines.specs.Numbers.{is_within}
 use Rattle.assignment.specs.Slices.{Slicing}
-use Rattle.cluster.specs.declared.error.ClusterError.TheVariants as error
-use Rattle.cluster.specs.declared.reply.ClusterReply.TheVariants as reply
+use Rattle.job_calls.specs.declared.error.ClusterError.TheVariants as error
+use Rattle.job_calls.specs.declared.reply.ClusterReply.TheVariants as reply
 use Rattle.cluster.specs.Answers.{look_reply}
 use Rattle.cluster.proofs.ClerkTurns.{look_played}
 use Rattle.cluster.proofs.Stopping.{look_of_none}

@@ -1,5 +1,5 @@
 use Rattle.std.proofs.Common.{◌≡◌, true, [], rules, refl, sym, ap, ◌∙◌, subst}
-use Rattle.lease_table.specs.Policies.{Terms, is_policy}
+use Rattle.grants.specs.Policies.{Terms, is_policy}
 use Rattle.lease_table.specs.Tables.{opening}
 use Rattle.cluster.specs.continued.Jobs.{Counts}
 use Rattle.cluster.specs.continued.Clusters.{LeadsTo}

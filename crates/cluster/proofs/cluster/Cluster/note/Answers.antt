@@ -1,5 +1,5 @@
 use Rattle.std.proofs.Common.{◌≡◌, ℕ, List, ◌∙◌, ap}
-use Rattle.lease_table.specs.declared.values.ReleaseNote.{ReleaseNote}
+use Rattle.grants.specs.declared.values.ReleaseNote.{ReleaseNote}
 use Rattle.cluster.specs.Numbers.{with_number, kept_with_number}
 use Rattle.cluster.specs.Made.{notes_made}
 use Rattle.cluster.specs.continued.Clusters.{LeadsTo}

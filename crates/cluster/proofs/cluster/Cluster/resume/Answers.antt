@@ -2,8 +2,8 @@ use Rattle.std.proofs.Common.{◌≡◌, true, sym, subst}
 use Rattle.std.specs.Prelude.{None}
 use Rattle.std.proofs.lemmas.Result.{err_from_is_err_and}
 use Rattle.machines.specs.Refusals.{first_of}
-use Rattle.lease_table.specs.Policies.{Terms, is_policy}
-use Rattle.cluster.specs.continued.Snapshots.{resume_checks}
+use Rattle.grants.specs.Policies.{Terms, is_policy}
+use Rattle.job_calls.specs.Snapshots.{resume_checks}
 use Rattle.cluster.proofs.SnapshotChecks.{without_fault, fault_told, run_unrefused, tasks_unrefused}
 use Rattle.cluster.proofs.Rebuilding.{stands_leads}
 use Rattle.cluster.proofs.cluster.Cluster.resume.Goals as goal

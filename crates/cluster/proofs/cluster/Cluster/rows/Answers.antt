@@ -1,7 +1,7 @@
 use Rattle.std.proofs.Common.{true, refl, ◌∙◌, ap}
 use Rattle.lease_table.specs.Tables.{Standing}
-use Rattle.cluster.specs.declared.call.ClusterCall.TheVariants as call
-use Rattle.cluster.specs.declared.reply.ClusterReply.TheVariants as reply
+use Rattle.job_calls.specs.declared.call.ClusterCall.TheVariants as call
+use Rattle.job_calls.specs.declared.reply.ClusterReply.TheVariants as reply
 use Rattle.cluster.specs.continued.Clusters.{LeadsTo}
 use Rattle.cluster.proofs.Playing.{only_told}
 use Rattle.cluster.proofs.cluster.Cluster.rows.Goals as goal

@@ -1,10 +1,10 @@
 use Rattle.std.proofs.Common.{◌≡◌, ℕ, Bool, not, sym, ◌∙◌, ap, subst}
 use Rattle.machines.specs.Numbers.{is_within}
 use Rattle.machines.specs.Refusals.{when}
-use Rattle.lease_table.specs.declared.call.TableCall.{TableCall}
-use Rattle.cluster.specs.declared.error.ClusterError.TheVariants as error
+use Rattle.grants.specs.declared.table_call.TableCall.{TableCall}
+use Rattle.job_calls.specs.declared.error.ClusterError.TheVariants as error
 use Rattle.cluster.specs.continued.Deliveries.{table_refusal}
-use Rattle.cluster.specs.Jobs.{Job}
+use Rattle.job_calls.specs.Jobs.{Job}
 use Rattle.cluster.specs.continued.Clusters.{LeadsTo}
 use Rattle.cluster.proofs.cluster.Cluster.table_refusal.Goals as goal
 

@@ -1,7 +1,7 @@
 use Rattle.std.proofs.Common.{take}
 use Rattle.std.specs.Fmt.{HasWritten, IsPlainFormatter}
 use Rattle.std.specs.List.{flat_map}
-use Rattle.service.specs.Lines.{next_owner}
+use Rattle.replies.specs.Lines.{next_owner}
 use Rattle.explain.proofs.sentence.TasksDisplay.fmt.Given as goal
 
 abbrev pub invariant-loop-task : goal.invariant-loop-task

@@ -3,7 +3,7 @@ use Rattle.std.specs.List.{AllZip}
 use Rattle.std.specs.Vec.{vec_len}
 use Rattle.std.proofs.lemmas.List.Elements.{same_from_all_zip}
 use Rattle.std.proofs.lemmas.Map.Entries.{lookup_clone}
-use Rattle.lease_table.specs.declared.values.Row.{Row}
+use Rattle.grants.specs.declared.values.Row.{Row}
 use Rattle.lease_table.specs.internals.Holders.{same_holder}
 use Rattle.lease_table.proofs.HeldRows.{held_again}
 use Rattle.lease_table.proofs.holders.Holders.copy.Goals as goal

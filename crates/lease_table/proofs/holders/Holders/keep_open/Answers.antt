@@ -3,7 +3,7 @@ use Rattle.std.specs.Prelude.{nat_lt, if◌then◌else◌, IsSome}
 use Rattle.std.proofs.lemmas.Fn.{filter_same}
 use Rattle.indexmap.specs.IndexMap.{get}
 use Rattle.lease_table.specs.declared.holders.Holder.{Holder}
-use Rattle.lease_table.specs.declared.values.Row.{Row}
+use Rattle.grants.specs.declared.values.Row.{Row}
 use Rattle.lease_table.specs.internals.Holders.{same_holder, rows_held}
 use Rattle.lease_table.proofs.HeldRows.{changed, held}
 use Rattle.lease_table.proofs.holders.Holders.keep_open.Goals as goal

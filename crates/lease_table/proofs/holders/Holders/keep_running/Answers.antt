@@ -1,5 +1,5 @@
 use Rattle.std.proofs.Common.{rules}
-use Rattle.lease_table.specs.Rows.{runs_at}
+use Rattle.grants.specs.Rows.{runs_at}
 use Rattle.lease_table.proofs.HeldRows.{filtered_lists}
 use Rattle.lease_table.proofs.holders.Holders.keep_running.Goals as goal
 

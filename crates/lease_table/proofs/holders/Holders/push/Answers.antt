@@ -2,7 +2,7 @@ use Rattle.std.proofs.Common.{◌≡◌, ◌∙◌, List, [], ◌∷◌, ◌++�
 use Rattle.std.specs.Prelude.{if◌then◌else◌, IsSome, Some}
 use Rattle.indexmap.specs.IndexMap.{IndexMap, get}
 use Rattle.lease_table.specs.declared.holders.Holder.{Holder}
-use Rattle.lease_table.specs.declared.values.Row.{Row}
+use Rattle.grants.specs.declared.values.Row.{Row}
 use Rattle.lease_table.specs.internals.Holders.{same_holder, rows_held}
 use Rattle.lease_table.proofs.HeldRows.{changed, held, on_error, either_way}
 use Rattle.lease_table.proofs.holders.Holders.push.Goals as goal

@@ -3,8 +3,8 @@ use Rattle.std.proofs.lemmas.Bool.Decides.{nat_tests}
 use Rattle.std.proofs.lemmas.Option.{slice_get_past, slice_get_read}
 use Rattle.std.specs.Prelude.{Option, Some, None, IfSome, is_some, find, slice_get, nat_lt}
 use Rattle.std.specs.Option.{option_copied}
-use Rattle.lease_table.specs.declared.values.Row.{Row}
-use Rattle.lease_table.specs.Rows.{runs_at}
+use Rattle.grants.specs.declared.values.Row.{Row}
+use Rattle.grants.specs.Rows.{runs_at}
 use Rattle.lease_table.specs.internals.RowOrder.{if_up_to}
 use Rattle.lease_table.proofs.RowOrder.{ended_later, first_decides}
 use Rattle.lease_table.proofs.rows.Rows.first_up_to.Goals as goal

@@ -1,8 +1,8 @@
 use Rattle.std.proofs.Common.{◌≡◌, ◌∙◌, ◌<◌, List, filter, ap}
 use Rattle.std.specs.Prelude.{nat_le}
 use Rattle.std.specs.Map.{values_of}
-use Rattle.lease_table.specs.declared.values.Row.{Row}
-use Rattle.lease_table.specs.Rows.{runs_at, closes}
+use Rattle.grants.specs.declared.values.Row.{Row}
+use Rattle.grants.specs.Rows.{runs_at, closes}
 use Rattle.lease_table.specs.internals.Holders.{holder_in, holds, rows_freed, unfreed, entries_freed}
 use Rattle.lease_table.proofs.FreedRows.{closed_of, freed_values, keyed_freed, listed_freed}
 use Rattle.lease_table.proofs.RowOrder.{rise_filter, numbers_freed, generations_freed, ended_freed}

@@ -1,6 +1,6 @@
 use Rattle.std.proofs.Common.{◌<◌, ◌≤◌, List, sym, subst, arith}
 use Rattle.std.specs.List.{AllByRecursion}
-use Rattle.lease_table.specs.declared.values.Row.{Row}
+use Rattle.grants.specs.declared.values.Row.{Row}
 use Rattle.lease_table.proofs.RowChecks.{all_before}
 use Rattle.lease_table.proofs.rows.Rows.of.Goals as goal
 

@@ -3,7 +3,7 @@ use Rattle.std.specs.Prelude.{Option, None, Result, Ok, Err, is_ok}
 use Rattle.std.specs.Result.{result_err}
 use Rattle.machines.proofs.Every.{all_weaker}
 use Rattle.machines.specs.Refusals.{first_of}
-use Rattle.lease_table.specs.declared.error.TableError.{TableError}
+use Rattle.grants.specs.declared.table_error.TableError.{TableError}
 use Rattle.lease_table.specs.Tables.{Standing}
 use Rattle.lease_table.specs.Steps.{propose_checks}
 use Rattle.lease_table.specs.internals.Numbers.{newest_of}

@@ -1,8 +1,8 @@
 use Rattle.std.proofs.Common.{◌≡◌, sym, subst}
 use Rattle.std.specs.Prelude.{None}
 use Rattle.machines.specs.Refusals.{first_of}
-use Rattle.lease_table.specs.declared.kept.Kept.{Kept}
-use Rattle.lease_table.specs.KeptValues.{kept_checks}
+use Rattle.grants.specs.declared.kept.Kept.{Kept}
+use Rattle.grants.specs.KeptValues.{kept_checks}
 use Rattle.lease_table.proofs.KeptValues.{in_range, taken}
 use Rattle.lease_table.proofs.table.LeaseTable.restore.Goals as goal
 

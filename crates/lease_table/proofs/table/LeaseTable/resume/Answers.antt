@@ -1,9 +1,10 @@
 use Rattle.std.proofs.Common.{◌≡◌, ◌∙◌, List, sym, ap}
 use Rattle.std.specs.Prelude.{None}
 use Rattle.machines.specs.Refusals.{first_of}
-use Rattle.lease_table.specs.declared.values.Row.{Row}
+use Rattle.grants.specs.declared.values.Row.{Row}
 use Rattle.lease_table.specs.Tables.{Standing}
-use Rattle.lease_table.specs.Snapshots.{snapshot_checks, resumed_from}
+use Rattle.grants.specs.Snapshots.{snapshot_checks}
+use Rattle.lease_table.specs.Snapshots.{resumed_from}
 use Rattle.lease_table.specs.contracts.table.LeaseTable.{the_view}
 use Rattle.lease_table.proofs.RowChecks.{passed, rows_in_range, all_running, ends_run}
 use Rattle.lease_table.proofs.Snapshots.{snapshot_taken, resumed_is}

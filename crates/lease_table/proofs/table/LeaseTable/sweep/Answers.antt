@@ -1,6 +1,6 @@
 use Rattle.std.proofs.Common.{◌∙◌, List, ap, arith}
-use Rattle.lease_table.specs.declared.values.Row.{Row}
-use Rattle.lease_table.specs.Rows.{runs_at}
+use Rattle.grants.specs.declared.values.Row.{Row}
+use Rattle.grants.specs.Rows.{runs_at}
 use Rattle.lease_table.specs.Tables.{Standing}
 use Rattle.lease_table.proofs.Running.{running-running, all_of_filter}
 use Rattle.lease_table.proofs.table.LeaseTable.sweep.Goals as goal

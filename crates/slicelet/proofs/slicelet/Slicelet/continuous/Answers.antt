@@ -1,6 +1,6 @@
 use Rattle.std.proofs.Common.{◌≡◌, ◌∙◌, Bool, false, Ok, refl, sym, subst}
 use Rattle.std.specs.Prelude.{Result}
-use Rattle.slicelet.specs.declared.error.Stranger.{Stranger}
+use Rattle.grants.specs.declared.slicelet_error.Stranger.{Stranger}
 use Rattle.slicelet.specs.Continuity.{is_strange, checked_in, IsChecked}
 use Rattle.slicelet.proofs.Standing.{checks_after}
 use Rattle.slicelet.proofs.slicelet.Slicelet.continuous.Goals as goal

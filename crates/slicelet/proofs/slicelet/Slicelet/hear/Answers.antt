@@ -1,6 +1,6 @@
 use Rattle.std.proofs.Common.{◌≡◌, ◌∙◌, ◌+◌, ◌∷◌, None, Some, Ok, sym, subst, rules, arith}
 use Rattle.machines.specs.Refusals.{first_of}
-use Rattle.slicelet.specs.declared.call.SliceletCall.TheVariants.{Hear}
+use Rattle.grants.specs.declared.slicelet_call.SliceletCall.TheVariants.{Hear}
 use Rattle.slicelet.specs.States.{SliceletState}
 use Rattle.slicelet.specs.Steps.{hear_checks, hear_step}
 use Rattle.slicelet.specs.internals.State.{state_of, stamps_in}

@@ -1,6 +1,6 @@
 use Rattle.std.proofs.Common.{◌≡◌, ◌∙◌, sym, refl, false}
 use Rattle.std.specs.Prelude.{Option, Some, None, is_some, option_map}
-use Rattle.lease_table.specs.declared.values.Grant.{Grant}
+use Rattle.grants.specs.declared.values.Grant.{Grant}
 use Rattle.slicelet.specs.internals.State.{stamps_in}
 use Rattle.slicelet.proofs.Keeping.{holds_kept}
 use Rattle.slicelet.proofs.Standing.{number_held}

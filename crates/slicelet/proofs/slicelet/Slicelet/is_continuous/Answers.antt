@@ -1,7 +1,7 @@
 use Rattle.std.proofs.Common.{◌∙◌, ℕ, sym, ap}
 use Rattle.std.specs.Prelude.{Option, ◌==◌, ◌&&◌}
-use Rattle.slicelet.specs.Stamps.{since}
-use Rattle.slicelet.specs.Handles.{is_up_to}
+use Rattle.key_handle.specs.Stamps.{since}
+use Rattle.key_handle.specs.Handles.{is_up_to}
 use Rattle.slicelet.specs.internals.State.{stamps_in}
 use Rattle.slicelet.proofs.States.{stamp_among_where}
 use Rattle.slicelet.proofs.slicelet.Slicelet.is_continuous.Goals as goal

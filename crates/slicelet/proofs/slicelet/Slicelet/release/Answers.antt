@@ -1,6 +1,6 @@
 use Rattle.std.proofs.Common.{◌≡◌, ◌∙◌, ◌+◌, ◌∷◌, None, Ok, sym, subst, rules, arith}
 use Rattle.machines.specs.Refusals.{first_of}
-use Rattle.slicelet.specs.declared.call.SliceletCall.TheVariants.{Release}
+use Rattle.grants.specs.declared.slicelet_call.SliceletCall.TheVariants.{Release}
 use Rattle.slicelet.specs.States.{SliceletState, held_in}
 use Rattle.slicelet.specs.Steps.{release_checks, release_step, number_of}
 use Rattle.slicelet.specs.internals.State.{state_of, stamps_in}

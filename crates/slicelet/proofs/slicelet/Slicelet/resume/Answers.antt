@@ -1,5 +1,5 @@
 use Rattle.std.proofs.Common.{[], ◌∷◌, arith}
-use Rattle.slicelet.specs.declared.call.SliceletCall.TheVariants.{Resume}
+use Rattle.grants.specs.declared.slicelet_call.SliceletCall.TheVariants.{Resume}
 use Rattle.slicelet.proofs.Standing.{resumes}
 use Rattle.slicelet.proofs.slicelet.Slicelet.resume.Goals as goal
 

@@ -1,7 +1,7 @@
 use Rattle.std.proofs.Common.{◌≡◌, ◌∷◌, None, Ok, Result, ap, sym, subst, rules}
 use Rattle.machines.specs.Refusals.{first_of}
-use Rattle.slicelet.specs.declared.call.SliceletCall.TheVariants.{Start}
-use Rattle.slicelet.specs.declared.error.SliceletError.{SliceletError}
+use Rattle.grants.specs.declared.slicelet_call.SliceletCall.TheVariants.{Start}
+use Rattle.grants.specs.declared.slicelet_error.SliceletError.{SliceletError}
 use Rattle.slicelet.specs.States.{SliceletState}
 use Rattle.slicelet.specs.Steps.{start_checks}
 use Rattle.slicelet.specs.Accepted.{StandsAfter}

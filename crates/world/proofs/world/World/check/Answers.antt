@@ -1,8 +1,8 @@
 use Rattle.std.proofs.Common.{◌≡◌, ℕ, true, refl, sym, ◌∙◌, ap, subst}
 use Rattle.std.specs.Prelude.{Option, Some, reverse}
 use Rattle.machines.specs.Numbers.{is_within}
-use Rattle.slicelet.specs.declared.handle.KeyHandle.{KeyHandle}
-use Rattle.cluster.specs.declared.call.ClusterCall.TheVariants as call
+use Rattle.key_handle.specs.declared.handle.KeyHandle.{KeyHandle}
+use Rattle.job_calls.specs.declared.call.ClusterCall.TheVariants as call
 use Rattle.cluster.specs.Numbers.{with_number}
 use Rattle.cluster.specs.Deliveries.{handles_made}
 use Rattle.world.specs.Jobs.{Job}

@@ -1,7 +1,7 @@
 use Rattle.std.proofs.Common.{◌<◌, List, length, subst}
 use Rattle.std.specs.Prelude.{None}
 use Rattle.assigner.specs.Terms.{Keeping}
-use Rattle.world.specs.declared.reply.Reply.TheVariants as reply
+use Rattle.replies.specs.declared.reply.Reply.TheVariants as reply
 use Rattle.world.specs.declared.step.Step.TheVariants as step
 use Rattle.world.proofs.Answering.{by_own, replied_as}
 use Rattle.world.proofs.AssignerTerms.{own_assigner}

@@ -1,8 +1,8 @@
 use Rattle.std.proofs.Common.{◌≡◌, refl, sym, ap}
 use Rattle.std.specs.Prelude.{Option, Some, reverse}
-use Rattle.lease_table.specs.declared.call.TableCall.TheVariants as asked
-use Rattle.lease_table.specs.declared.values.ReleaseNote.{ReleaseNote}
-use Rattle.cluster.specs.declared.call.ClusterCall.TheVariants as call
+use Rattle.grants.specs.declared.table_call.TableCall.TheVariants as asked
+use Rattle.grants.specs.declared.values.ReleaseNote.{ReleaseNote}
+use Rattle.job_calls.specs.declared.call.ClusterCall.TheVariants as call
 use Rattle.cluster.specs.Numbers.{with_number}
 use Rattle.cluster.specs.Deliveries.{notes_made}
 use Rattle.world.specs.declared.step.Step.TheVariants as step

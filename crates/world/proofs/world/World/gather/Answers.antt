@@ -5,14 +5,14 @@ use Rattle.machines.specs.Refusals.{first_of}
 use Rattle.assignment.specs.Slices.{Slicing}
 use Rattle.load_ledger.specs.Shares.{Share}
 use Rattle.load_ledger.specs.Books.{book_with, gather_checks, gather_step}
-use Rattle.world.specs.declared.reply.Refusal.TheVariants as refusal
-use Rattle.world.specs.declared.reply.Reply.TheVariants as reply
+use Rattle.replies.specs.declared.reply.Refusal.TheVariants as refusal
+use Rattle.replies.specs.declared.reply.Reply.TheVariants as reply
 use Rattle.world.specs.declared.step.Step.TheVariants as step
 use Rattle.world.specs.Front.{draft_of, share_of, shares_in, gathers_in}
 use Rattle.world.specs.Replies.{book_in, totals_in, gather_reply}
 use Rattle.world.specs.Jobs.{Job}
 use Rattle.world.specs.Pasts.{event}
-use Rattle.world.specs.declared.reply.Reply.{Reply}
+use Rattle.replies.specs.declared.reply.Reply.{Reply}
 use Rattle.world.specs.Runs.{IsReply}
 use Rattle.cluster.specs.Clusters.{AreActors}
 use Rattle.world.proofs.Answering.{answer_is, answers, troubled, unmade}

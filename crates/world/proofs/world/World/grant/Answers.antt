@@ -1,11 +1,11 @@
 use Rattle.std.proofs.Common.{◌≡◌, ℕ, true, refl, sym, ◌∙◌, ap, subst}
 use Rattle.std.specs.Prelude.{Option, IfSome, Result, Ok}
 use Rattle.machines.specs.Numbers.{is_within}
-use Rattle.lease_table.specs.declared.call.TableCall.TheVariants as asked
-use Rattle.cluster.specs.declared.call.ClusterCall.{ClusterCall}
-use Rattle.cluster.specs.declared.call.ClusterCall.TheVariants as call
+use Rattle.grants.specs.declared.table_call.TableCall.TheVariants as asked
+use Rattle.job_calls.specs.declared.call.ClusterCall.{ClusterCall}
+use Rattle.job_calls.specs.declared.call.ClusterCall.TheVariants as call
 use Rattle.world.specs.Jobs.{Job}
-use Rattle.world.specs.declared.reply.Refusal.{Refusal}
+use Rattle.replies.specs.declared.reply.Refusal.{Refusal}
 use Rattle.world.specs.declared.step.Step.TheVariants as step
 use Rattle.world.specs.Calls.{calls_in}
 use Rattle.world.proofs.Asking.{fits, actor_call, asked_on}

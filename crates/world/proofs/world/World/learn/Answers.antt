@@ -2,15 +2,15 @@ use Rattle.std.proofs.Common.{◌≡◌, ℕ, true, refl, ◌∙◌, ap, subst}
 use Rattle.machines.specs.Numbers.{is_within}
 use Rattle.clerk.specs.declared.call.ClerkCall.TheVariants.{Learn}
 use Rattle.cluster.specs.Pasts.{published}
-use Rattle.cluster.specs.declared.call.ClusterCall.TheVariants as call
-use Rattle.cluster.specs.declared.error.ClusterError.TheVariants as error
-use Rattle.cluster.specs.declared.reply.ClusterReply.TheVariants as machine
+use Rattle.job_calls.specs.declared.call.ClusterCall.TheVariants as call
+use Rattle.job_calls.specs.declared.error.ClusterError.TheVariants as error
+use Rattle.job_calls.specs.declared.reply.ClusterReply.TheVariants as machine
 use Rattle.cluster.specs.Replies.{by_actor}
 use Rattle.cluster.specs.continued.Jobs.{from_start}
 use Rattle.cluster.proofs.TaskTurns.{by_own}
 use Rattle.world.specs.Jobs.{Job}
 use Rattle.world.specs.declared.step.Step.TheVariants as step
-use Rattle.world.specs.declared.told.NextNumbers.{NextNumbers}
+use Rattle.replies.specs.declared.told.NextNumbers.{NextNumbers}
 use Rattle.world.specs.Calls.{calls_in}
 use Rattle.world.specs.internals.Asking.{told_of}
 use Rattle.world.proofs.Asking.{fits, actor_call, unsent_reply}

@@ -4,8 +4,8 @@ use Rattle.machines.specs.Answers.{Takes}
 use Rattle.machines.specs.Refusals.{first_of}
 use Rattle.slice_ranges.specs.Hash.{slice_key}
 use Rattle.load_ledger.specs.Shares.{Share, add_checks, add_step, with_record}
-use Rattle.world.specs.declared.reply.Refusal.TheVariants as refusal
-use Rattle.world.specs.declared.reply.Reply.TheVariants as reply
+use Rattle.replies.specs.declared.reply.Refusal.TheVariants as refusal
+use Rattle.replies.specs.declared.reply.Reply.TheVariants as reply
 use Rattle.world.specs.declared.step.Step.TheVariants as step
 use Rattle.world.specs.Front.{share_of}
 use Rattle.world.proofs.Answering.{answer_is, by_own, answers, troubled}

@@ -1,6 +1,6 @@
 use Rattle.std.proofs.Common.{refl}
-use Rattle.lease_table.specs.declared.call.TableCall.TheVariants as asked
-use Rattle.cluster.specs.declared.call.ClusterCall.TheVariants as call
+use Rattle.grants.specs.declared.table_call.TableCall.TheVariants as asked
+use Rattle.job_calls.specs.declared.call.ClusterCall.TheVariants as call
 use Rattle.world.specs.declared.step.Step.TheVariants as step
 use Rattle.world.specs.Calls.{calls_in}
 use Rattle.world.proofs.Asking.{fits, asked_on}

@@ -1,10 +1,10 @@
 use Rattle.std.proofs.Common.{◌≡◌, ◌<◌, List, length, sym, ◌∙◌, ap, subst}
-use Rattle.lease_table.specs.declared.values.Phase.{Phase}
+use Rattle.grants.specs.declared.values.Phase.{Phase}
 use Rattle.lease_table.specs.Tables.{phase_of}
 use Rattle.assigner.specs.Terms.{Keeping}
 use Rattle.assigner.specs.Actions.{next_action}
 use Rattle.assigner.specs.declared.action.View.{View}
-use Rattle.world.specs.declared.reply.Reply.TheVariants as reply
+use Rattle.replies.specs.declared.reply.Reply.TheVariants as reply
 use Rattle.world.specs.declared.step.Step.TheVariants as step
 use Rattle.cluster.specs.Pasts.{standing}
 use Rattle.cluster.specs.continued.Jobs.{from_start}

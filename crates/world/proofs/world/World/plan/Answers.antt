@@ -1,6 +1,6 @@
 use Rattle.std.proofs.Common.{◌≡◌, ◌∙◌, sym, ap, subst, refl}
 use Rattle.std.specs.Prelude.{Some}
-use Rattle.lease_table.specs.Policies.{Terms}
+use Rattle.grants.specs.Policies.{Terms}
 use Rattle.weighted_move.specs.Policies.{PlanTerms, plan_terms_of}
 use Rattle.weighted_move.specs.Plans.{CanPlan, IsPlan, plan_refusal}
 use Rattle.world.specs.Jobs.{Job}

@@ -1,11 +1,11 @@
 use Rattle.std.proofs.Common.{◌≡◌, ℕ, ◌<◌, List, length, refl, sym, ◌∙◌, ap, subst}
 use Rattle.std.specs.Prelude.{Result, Ok}
-use Rattle.lease_table.specs.declared.call.TableCall.TheVariants as asked
-use Rattle.lease_table.specs.Tables.{last_number}
+use Rattle.grants.specs.declared.table_call.TableCall.TheVariants as asked
+use Rattle.grants.specs.JobTerms.{last_number}
 use Rattle.assigner.specs.Terms.{Keeping}
-use Rattle.cluster.specs.declared.call.ClusterCall.{ClusterCall}
-use Rattle.cluster.specs.declared.call.ClusterCall.TheVariants as call
-use Rattle.world.specs.declared.reply.Refusal.{Refusal}
+use Rattle.job_calls.specs.declared.call.ClusterCall.{ClusterCall}
+use Rattle.job_calls.specs.declared.call.ClusterCall.TheVariants as call
+use Rattle.replies.specs.declared.reply.Refusal.{Refusal}
 use Rattle.world.specs.declared.step.Step.TheVariants as step
 use Rattle.world.specs.Front.{term_told, kept_number}
 use Rattle.world.specs.Calls.{calls_in}

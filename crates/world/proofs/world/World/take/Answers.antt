@@ -1,7 +1,7 @@
 use Rattle.std.proofs.Common.{◌<◌, List, length, refl, subst}
-use Rattle.lease_table.specs.declared.call.TableCall.TheVariants as asked
+use Rattle.grants.specs.declared.table_call.TableCall.TheVariants as asked
 use Rattle.assigner.specs.Terms.{Keeping}
-use Rattle.cluster.specs.declared.call.ClusterCall.TheVariants as call
+use Rattle.job_calls.specs.declared.call.ClusterCall.TheVariants as call
 use Rattle.world.specs.declared.step.Step.TheVariants as step
 use Rattle.world.specs.Front.{term_told}
 use Rattle.world.specs.Calls.{calls_in}

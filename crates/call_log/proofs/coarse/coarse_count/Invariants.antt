@@ -1,8 +1,0 @@
-use Rattle.std.proofs.Common.{◌≡◌, take}
-use Rattle.std.specs.List.{count_by}
-use Rattle.call_log.specs.Coarse.{is_coarse_entry}
-use Rattle.call_log.proofs.coarse.coarse_count.Given as goal
-
--- the replies so far of which the log keeps one word
-abbrev pub invariant-loop-entry : goal.invariant-loop-entry
-invariant-loop-entry l = l.count ≡ count_by is_coarse_entry (take l.entry-index l.entries)

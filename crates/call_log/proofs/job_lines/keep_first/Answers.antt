@@ -1,9 +1,0 @@
-use Rattle.std.proofs.Common.{rules, ◌≡◌, false}
-use Rattle.std.specs.Prelude.{is_none}
-use Rattle.call_log.proofs.LineTaking.{first_stays_so}
-use Rattle.call_log.proofs.job_lines.keep_first.Goals as goal
-
-pub returns-else-is_none : goal.returns-else-is_none
-returns-else-is_none c = λ lines known.
-    let some : is_none c.args.first.now ≡ false = search rules in
-    first_stays_so lines _ c.args.first.now some known

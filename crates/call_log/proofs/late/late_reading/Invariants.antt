@@ -1,6 +1,0 @@
-use Rattle.call_log.proofs.Watching.{IsWatched}
-use Rattle.call_log.proofs.late.late_reading.Given as goal
-
--- the readings so far are timely
-abbrev pub invariant-loop-index : goal.invariant-loop-index
-invariant-loop-index l = IsWatched l.skew l.earlier l.entries l.index l.greatest

@@ -1,5 +1,0 @@
-use Rattle.call_log.proofs.Starting.{none_unsent}
-use Rattle.call_log.proofs.log_machines.LogMachines.new.Goals as goal
-
-pub returns : goal.returns
-returns c = λ job begins. record { leads = c.in_ok-cluster.ensures job begins; recorded = c.in_ok-run.ensures job begins; sent = λ all. none_unsent job }

@@ -1,0 +1,8 @@
+use Rattle.std.proofs.Common.{take}
+use Rattle.std.specs.Fmt.{HasWritten, IsPlainFormatter}
+use Rattle.std.specs.List.{flat_map}
+use Rattle.faults.specs.Quoted.{escape}
+use Rattle.faults.proofs.quoted.EscapedBytesDisplay.fmt.Given as goal
+
+abbrev pub invariant-loop-byte : goal.invariant-loop-byte
+invariant-loop-byte g l = IsPlainFormatter l.initial.f → HasWritten g.W.Write.write_str_gives l.initial.f (flat_map escape (take l.byte-index l.self.0.now)) l.f

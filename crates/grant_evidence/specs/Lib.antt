@@ -1,0 +1,2 @@
+pub mod Evidence
+pub use Rattle.grants.specs.Policies

@@ -1,0 +1,6 @@
+//! What a grant tells of the clocks of the table and of its task.
+#![tactic(auto)]
+
+mod evidence;
+
+pub use evidence::{clock_evidence, sent_at};

@@ -1,0 +1,14 @@
+pub mod Policies
+pub mod Rows
+pub mod JobTerms
+pub mod Equality
+pub mod Assignments
+pub mod KeptValues
+pub mod Snapshots
+pub mod TableCalls
+pub mod SliceletCalls
+pub use Rattle.machines.specs.Refusals
+pub use Rattle.slice_ranges.specs.Sets
+pub use Rattle.lease_rule.specs.Leases
+pub use Rattle.assignment.specs.Slices
+pub use Rattle.assignment.specs.Owners

@@ -1,0 +1,3 @@
+mod Searching
+mod Restamping
+mod StampWriting

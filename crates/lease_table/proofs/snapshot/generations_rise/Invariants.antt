@@ -1,6 +1,0 @@
-use Rattle.std.proofs.Common.{◌≡◌, drop}
-use Rattle.lease_table.specs.Snapshots.{generations_rise}
-use Rattle.lease_table.proofs.snapshot.generations_rise.Given as goal
-
-abbrev pub invariant-loop-row : goal.invariant-loop-row
-invariant-loop-row l = generations_rise l.before l.newest (drop l.row-index l.rows) ≡ generations_rise 0 l.newest l.rows

@@ -1,0 +1,6 @@
+pub mod LineSplitting
+pub mod Saying
+pub mod Parting
+pub mod Naming
+pub mod Extending
+pub mod LineTaking

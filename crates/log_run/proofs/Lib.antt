@@ -1,0 +1,11 @@
+pub mod Replaying
+pub mod Watching
+pub mod Doubling
+pub mod Places
+pub mod Restoring
+pub mod Unknown
+pub mod Drifting
+pub mod Contradicting
+pub mod Days
+pub mod Starting
+pub mod Leaving

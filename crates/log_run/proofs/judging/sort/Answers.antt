@@ -1,0 +1,17 @@
+use Rattle.std.proofs.Common.{rules}
+use Rattle.std.specs.Prelude.{Result, Ok, Err, OnOk, ⊤}
+use Rattle.std.specs.declared.alloc.AllocError.{AllocError}
+use Rattle.std.proofs.lemmas.List.Sorted.{IsNonDecreasingBy-from_sort_by_key, answers_always}
+use Rattle.log_line.specs.declared.entry.LogEntry.{LogEntry}
+use Rattle.log_run.proofs.judging.sort.Goals as goal
+
+where_ok : {P Q : Type 0} (r : Result ⊤ AllocError) → (P → Q) → OnOk r P → OnOk r Q
+where_ok (Ok done) f h = f h
+where_ok (Err e) f h = tt
+
+pub returns-clause-order : goal.returns-clause-order
+returns-clause-order c =
+    where_ok c.sort_by_key.result (λ h. IsNonDecreasingBy-from_sort_by_key (λ (e : LogEntry). e.line.ticket) c.sort_by_key.new.self.items h (λ a r q k. search rules)) c.sort_by_key.ensures.sorted
+
+pub returns-clause-stable : goal.returns-clause-stable
+returns-clause-stable c = c.sort_by_key.ensures.stable (λ (e : LogEntry). e.line.ticket) (answers_always _ _ _ (λ f a r q k. search rules))

@@ -1,0 +1,4 @@
+pub mod Machines
+pub mod Answers
+pub mod Watching
+pub mod Clocks

@@ -1,0 +1,9 @@
+pub mod Judging
+pub mod Reporting
+pub mod Opening
+pub mod Hinting
+pub mod Counting
+pub mod Compared
+pub mod Breaking
+pub mod Telling
+pub mod Passing

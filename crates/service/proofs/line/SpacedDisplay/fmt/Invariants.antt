@@ -1,8 +1,0 @@
-use Rattle.std.proofs.Common.{take}
-use Rattle.std.specs.Fmt.{HasWritten, IsPlainFormatter}
-use Rattle.std.specs.List.{flat_map}
-use Rattle.service.specs.Lines.{next_number}
-use Rattle.service.proofs.line.SpacedDisplay.fmt.Given as goal
-
-abbrev pub invariant-loop-number : goal.invariant-loop-number
-invariant-loop-number g l = IsPlainFormatter l.initial.f → HasWritten g.W.Write.write_str_gives l.initial.f (flat_map next_number (take l.number-index l.self.0.now)) l.f
