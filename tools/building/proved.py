@@ -135,7 +135,7 @@ class Build:
         """Begins what can be begun, and returns whether anything runs."""
         self.plan.chains = {}
         for crate in list(self.ready()):
-            if len(self.running) == self.lanes or self.failed:
+            if len(self.running) == self.lanes:
                 break
             self.left.remove(crate)
             # The processors that no other crate is ready for.

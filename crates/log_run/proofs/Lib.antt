@@ -2,7 +2,7 @@ pub mod Replaying
 pub mod Watching
 pub mod Doubling
 pub mod Places
-pub mod Restoring
+pub mod Restored
 pub mod Unknown
 pub mod Drifting
 pub mod Contradicting

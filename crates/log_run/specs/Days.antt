@@ -1,5 +1,5 @@
 -- Logs that are audited day by day.
-use Rattle.std.specs.Prelude.{◌≡◌, Bool, true, false, List, ◌++◌, reverse, Option, ⊥}
+use Rattle.std.specs.Prelude.{◌≡◌, Bool, true, false, List, ◌++◌, reverse, Option}
 use Rattle.job_calls.specs.Jobs.{Job}
 use Rattle.cluster.specs.Pasts.{Past}
 use Rattle.cluster.specs.Runs.{IsRun}

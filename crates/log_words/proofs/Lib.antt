@@ -1,4 +1,4 @@
-pub mod Judging
+pub mod Judged
 pub mod Reporting
 pub mod Opening
 pub mod Hinting

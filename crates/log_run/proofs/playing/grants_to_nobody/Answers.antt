@@ -1,4 +1,4 @@
-use Rattle.log_run.proofs.Restoring.{granted_more}
+use Rattle.log_run.proofs.Restored.{granted_more}
 use Rattle.log_run.proofs.playing.grants_to_nobody.Goals as goal
 
 pub loop-preserved : goal.loop-preserved

@@ -4,7 +4,7 @@ use Rattle.lease_table.specs.KeptValues.{kept_of}
 use Rattle.cluster.specs.Pasts.{standing}
 use Rattle.log_line.specs.declared.told.CallerReply.TheVariants.{NotRestored, Restored}
 use Rattle.log_run.specs.Restores.{IsChecked}
-use Rattle.log_run.proofs.Restoring.{not_restored, restored, not_fewer}
+use Rattle.log_run.proofs.Restored.{not_restored, restored, not_fewer}
 use Rattle.log_run.proofs.playing.restore.Goals as goal
 
 pub returns-in-Some : goal.returns-in-Some

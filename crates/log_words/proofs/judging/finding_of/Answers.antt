@@ -1,5 +1,5 @@
 use Rattle.std.proofs.Common.{arith}
-use Rattle.log_words.proofs.Judging.{caused_here}
+use Rattle.log_words.proofs.Judged.{caused_here}
 use Rattle.log_words.proofs.judging.finding_of.Goals as goal
 
 pub returns-in_ok-cause-in-Other-clause-found : goal.returns-in_ok-cause-in-Other-clause-found

@@ -24,7 +24,7 @@ returns c = λ job past k.
     let s = step.Hear c.args.task c.args.number c.args.at in
     let most : c.tasks.result ≡ job.tasks = c.tasks.ensures.value ∙ ap (λ (j : Job). j.tasks) k.same_job in
     let inside : is_within c.args.task job.tasks ≡ true = subst (λ (n : ℕ). is_within c.args.task n ≡ true) most c.in_ok-check_actor.ensures in
-    let told = c.told_of.ensures ∙ ap (λ (next : NextNumbers). told_of s next c.hear_numbered-answer.result) (c.of-next.ensures job calls k.cluster) in
+    let told = c.told_of.ensures ∙ ap (λ (next : NextNumbers). told_of s next c.hear_numbered-answer.result) (c.next_numbers_of-next.ensures job calls k.cluster) in
     delivered_on job past s c.args.self.now _ k (record { job = refl; draft = refl; shares = refl; book = refl }) refl (λ job. c.run_law.ensures.run (from_start job)) (λ none. unsent_reply job past s none refl (λ h. h)) (with_number c.args.number (grants calls)) (λ grant. call.Task c.args.task (Hear grant c.args.at))
     (actor_call c.args.task job.tasks _ inside) (λ x. fits s _ (λ t. refl) (λ r. refl) (λ r. refl))
     (by_actor c.args.task job.tasks (machine.Refused error.NotSent)) (by_own c.args.task job.tasks _ inside) c.hear_numbered-answer.result (c.hear_numbered-answer.ensures (from_start job) calls k.cluster) c.told_of.result told (λ n before. refl)
