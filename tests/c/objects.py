@@ -157,8 +157,8 @@ def check_leases() -> None:
         holds(task.covering() == 3, "a key is denied, and the older lease alone covers it")
 
 
-# Steps of a task that was started at 5 and may serve the lower half until 130, by a clock that is 6 ahead of the local
-# one once it has its sample: the call, its local reading, its key, and how its line ends, if there is one.
+# Steps of a task that was started at 5 and may serve the lower half until 130, by a clock that is 6 ahead of the
+# local one once it has its sample: the call, its local reading, its key, and how its line ends, if there is one.
 BLOCK_STEPS: list[tuple[str, int, bytes, str | None]] = [
     ("enter", 0, b"hello", None),  # the clock has no sample
     ("sample", 0, b"", None),
