@@ -158,7 +158,8 @@ static uint8_t *begin_block(JNIEnv *env, struct block_call *call, jlongArray clo
 
 /* Gives back the arrays of a call of a block. The number after those of the block is how many bytes its line has or needs,
  * and -1 if no call was made. */
-static jint end_block(JNIEnv *env, struct block_call *call, jlongArray clock, jlongArray block, jbyteArray line, jint code) {
+static jint end_block(JNIEnv *env, struct block_call *call, jlongArray clock, jlongArray block, jbyteArray line,
+                      jint code) {
     jlong length = call->needed == SIZE_MAX ? -1 : (jlong)call->needed;
     if (code >= 0 && length > 0)
         (*env)->SetByteArrayRegion(env, line, 0, (jsize)length, (const jbyte *)call->line);
@@ -195,8 +196,8 @@ NATIVE(jint, sliceletLeave)(JNIEnv *env, jclass self, jlong place, jlongArray cl
     struct block_call call;
     if (!begin_block(env, &call, clock, block, line))
         return HS_NO_MEMORY;
-    jint code = hs_slicelet_leave(PLACE(place), &call.clock, (uint64_t)now, &call.block, call.line, call.length,
-                                  &call.needed);
+    jint code =
+        hs_slicelet_leave(PLACE(place), &call.clock, (uint64_t)now, &call.block, call.line, call.length, &call.needed);
     return end_block(env, &call, clock, block, line, code);
 }
 
