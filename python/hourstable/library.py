@@ -516,7 +516,7 @@ def unchecked(name: str) -> Callable[..., int]:
 
 ENTER, ENTER_AT, LEAVE = map(unchecked, ("slicelet_enter", "slicelet_enter_at", "slicelet_leave"))
 LINE = 512  # bytes, in which a line of a block fits
-NO_CALL = (1 << 64) - 1  # how many bytes a line has of a call that was not made
+NO_CALL = MOST = (1 << 64) - 1  # NO_CALL is how long a line is of a call that was not made
 
 
 def done(code: int, told: Told | None = None) -> None:
@@ -812,10 +812,9 @@ class Slicelet(Standing):
     ) -> None:
         """Makes a call of a block, whose clock and local reading are given first. If its line does not
         fit, makes the call again, which has changed nothing, with a longer buffer."""
-        for number in (ticket, given[1]):
-            if type(number) is not int or number >> 64:
-                fitting(ctypes.c_uint64, number)
-        place, line, needed = self.standing(), self._line, self._needed
+        if not (0 <= ticket <= MOST and 0 <= given[1] <= MOST):
+            raise ValueError(f"{ticket!r} or {given[1]!r} does not fit 64 bits")
+        place, line, needed = self.place or self.standing(), self._line, self._needed
         block.ticket, needed.value = ticket, NO_CALL
         code = call(place, *given, block, line, len(line) if logged else 0, needed)
         if code == -2:
@@ -823,7 +822,7 @@ class Slicelet(Standing):
             code = call(place, *given, block, line, len(line), needed)
         length = needed.value
         block.is_called = code >= 0 and length != NO_CALL
-        block.line = line[: length - 1].decode() if block.is_called and length else ""
+        block.line = line[: length - 1].decode() if length and block.is_called else ""
         if code != 0:
             done(code, block.told)
 

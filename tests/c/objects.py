@@ -259,11 +259,12 @@ def check_refused_blocks(task: Slicelet) -> None:
     before = bytes(clock), block.at, bytes(block.handle)
     refuses("wrong-form", "an entry by no slice key", task.enter_at, clock, 1, 2, 1 << 63, block)
     holds(not block.is_called and block.line == "", "an entry by no slice key is no call")
+    errors = (ValueError, TypeError, ctypes.ArgumentError)
     for number in (U64, -1, 1.0, None):
-        raises(ValueError, f"an entry at {number!r}", task.enter, clock, number, 2, b"hello", block)
-        raises(ValueError, f"an entry with the ticket {number!r}", task.enter, clock, 1, number, b"hello", block)
-        raises(ValueError, f"an entry by slice key {number!r}", task.enter_at, clock, 1, 2, number, block)
-        raises(ValueError, f"an end at {number!r}", task.leave, clock, number, 2, block)
+        raises(errors, f"an entry at {number!r}", task.enter, clock, number, 2, b"hello", block)
+        raises(errors, f"an entry with the ticket {number!r}", task.enter, clock, 1, number, b"hello", block)
+        raises(errors, f"an entry by slice key {number!r}", task.enter_at, clock, 1, 2, number, block)
+        raises(errors, f"an end at {number!r}", task.leave, clock, number, 2, block)
     holds((bytes(clock), block.at, bytes(block.handle)) == before, "what is refused changes nothing")
     with Slicelet("", 1) as other:
         refuses("stranger", "an end by another task", other.leave, clock, 1, 2, block)
