@@ -812,6 +812,7 @@ class Slicelet(Standing):
     ) -> None:
         """Makes a call of a block, whose clock and local reading are given first. If its line does not
         fit, makes the call again, which has changed nothing, with a longer buffer."""
+        block.is_called, block.line = False, ""
         if not (0 <= ticket <= MOST and 0 <= given[1] <= MOST):
             raise ValueError(f"{ticket!r} or {given[1]!r} does not fit 64 bits")
         place, line, needed = self.place or self.standing(), self._line, self._needed
@@ -821,8 +822,10 @@ class Slicelet(Standing):
             line = self._line = ctypes.create_string_buffer(needed.value)
             code = call(place, *given, block, line, len(line), needed)
         length = needed.value
-        block.is_called = code >= 0 and length != NO_CALL
-        block.line = line[: length - 1].decode() if length and block.is_called else ""
+        if code >= 0 and length != NO_CALL:
+            block.is_called = True
+            if length:
+                block.line = line[: length - 1].decode()
         if code != 0:
             done(code, block.told)
 

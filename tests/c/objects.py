@@ -265,6 +265,7 @@ def check_refused_blocks(task: Slicelet) -> None:
         raises(errors, f"an entry with the ticket {number!r}", task.enter, clock, 1, number, b"hello", block)
         raises(errors, f"an entry by slice key {number!r}", task.enter_at, clock, 1, 2, number, block)
         raises(errors, f"an end at {number!r}", task.leave, clock, number, 2, block)
+    holds(not block.is_called and block.line == "", "what is refused has no line")
     holds((bytes(clock), block.at, bytes(block.handle)) == before, "what is refused changes nothing")
     with Slicelet("", 1) as other:
         refuses("stranger", "an end by another task", other.leave, clock, 1, 2, block)
