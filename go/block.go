@@ -55,9 +55,9 @@ type Block struct {
 
 // Enter enters a block of work on a key: it reads the local clock and then clock, takes
 // a handle at that reading as Hold does, and writes the line of that call, in one call
-// of the library. It allocates nothing if the line has room. The codes of
-// TaskClock.Read, with which no call is made, then those of Hold, which have a line.
-// After any other error the clock is as before.
+// of the library. It allocates nothing if the line has room. local must not use clock.
+// The codes of TaskClock.Read, with which no call is made, then those of Hold, which
+// have a line. After any other error the clock is as before.
 func (s *Slicelet) Enter(clock *TaskClock, local func() (uint64, error), key []byte, block *Block) error {
 	it, err := s.call(clock, local, block, func(now C.uint64_t, out *C.uint8_t, length C.size_t) C.struct_made {
 		return C.enter(&s.c, &clock.c, now, first(key), C.size_t(len(key)), C.uint64_t(block.Ticket), out, length)

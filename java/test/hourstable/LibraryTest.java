@@ -223,6 +223,12 @@ public final class LibraryTest {
             task.enter(clock, () -> 1, 1, HELLO, block);
             refuses("a stranger", "HS_STRANGER", "stranger", () -> other.leave(clock, () -> 2, 3, block));
             is("the line of a stranger", new String(block.line(), UTF_8).endsWith("\"task\":1,\"ticket\":3}\n"), true);
+            try {
+                task.leave(clock, () -> Long.parseLong("no clock"), 4, block);
+                is("a local clock that fails", "done", "thrown");
+            } catch (NumberFormatException why) {
+                is("a local clock that fails", block.isCalled() + " " + block.line().length, "false 0");
+            }
             long ticks = TaskClock.boottimeTicks();
             is("the boot time goes on", ticks > 0 && ticks <= TaskClock.boottimeTicks(), true);
         }
