@@ -127,6 +127,7 @@ impl Parts<'_> {
 /// What a fused call returned, and the line of its block.
 fn played(made: Result<String, Refused>, block: &Block) -> Played {
     let line = String::from_utf8(block.line().to_vec()).unwrap();
+    assert!(block.is_called() || line.is_empty(), "a line of no call: {line}");
     (made, block.is_called().then_some(line))
 }
 
