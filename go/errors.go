@@ -151,6 +151,10 @@ type Refused struct {
 	Kind       Kind   // of a lease
 	Task       uint64
 	Until      uint64 // a reading, in ticks
+
+	// Covering is set where a key is denied: the greatest generation of the held
+	// leases that cover it, live or ended; 0 if none does.
+	Covering uint64
 }
 
 // Unwrap returns the code, for errors.Is.
@@ -189,6 +193,7 @@ func done(code C.int32_t, told *C.struct_hs_told) error {
 		refused.Kind = Kind(told.kind)
 		refused.Task = uint64(told.task)
 		refused.Until = uint64(told.until)
+		refused.Covering = uint64(told.covering)
 	}
 	return refused
 }

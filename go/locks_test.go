@@ -56,13 +56,22 @@ func TestLocks(t *testing.T) {
 	if err != nil {
 		t.Fatal(err)
 	}
+	clock, err := NewTaskClock(Drift{Per: 1}, 9)
+	if err != nil {
+		t.Fatal(err)
+	}
 	checkLocks(t, &slicelet.mutex, []call{
 		{"Serve", func() { slicelet.Serve(nil, 1) }},
 		{"ServeAt", func() { slicelet.ServeAt(0, 1) }},
 		{"Serving", func() { slicelet.Serving(nil, 1, nil) }},
 		{"Hold", func() { slicelet.Hold(nil, 1) }},
 		{"HoldAt", func() { slicelet.HoldAt(0, 1) }},
+		{"HoldServed", func() { slicelet.HoldServed(nil, 1) }},
+		{"HoldServedAt", func() { slicelet.HoldServedAt(0, 1) }},
 		{"Check", func() { slicelet.Check(Handle{}, 1) }},
+		{"Enter", func() { slicelet.Enter(clock, BoottimeTicks, nil, new(Block)) }},
+		{"EnterAt", func() { slicelet.EnterAt(clock, BoottimeTicks, 0, new(Block)) }},
+		{"Leave", func() { slicelet.Leave(clock, BoottimeTicks, new(Block)) }},
 		{"Held", func() { slicelet.Held(Guard) }},
 		{"Next", func() { slicelet.Next(Phase{}, 1) }},
 		{"CallsLeft", func() { slicelet.CallsLeft() }},

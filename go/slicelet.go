@@ -21,6 +21,28 @@ static struct served serve_at(const struct hs_place *place, uint64_t slice_key, 
     it.code = hs_slicelet_serve_at(place, slice_key, at, &it.told);
     return it;
 }
+
+struct held {
+    int32_t code;
+    struct hs_told told;
+    struct hs_key_handle handle;
+};
+
+static struct held hold(const struct hs_place *place, const uint8_t *key, size_t key_len, uint64_t at) {
+    struct held it = {0};
+    it.code = hs_slicelet_hold(place, key, key_len, at, &it.handle, &it.told);
+    return it;
+}
+
+static struct held hold_at(const struct hs_place *place, uint64_t slice_key, uint64_t at) {
+    struct held it = {0};
+    it.code = hs_slicelet_hold_at(place, slice_key, at, &it.handle, &it.told);
+    return it;
+}
+
+static int32_t check(const struct hs_place *place, struct hs_key_handle handle, uint64_t at) {
+    return hs_slicelet_check(place, &handle, at);
+}
 */
 import "C"
 
@@ -34,6 +56,10 @@ type Served struct {
 	Generation uint64 // that it was granted for
 	Number     uint64 // of its grant
 	Until      uint64 // the first reading of the task's clock at which it has ended
+
+	// Covering is the greatest generation of the held leases that cover the key, live
+	// or ended. It may be above Generation.
+	Covering uint64
 }
 
 // Handle is a key that the task held when it took the handle.
@@ -216,32 +242,56 @@ func servedBy(it C.struct_served) (Served, error) {
 		told := it.told
 		return Served{}, done(it.code, &told)
 	}
-	return Served{Kind(it.told.kind), uint64(it.told.generation), uint64(it.told.number), uint64(it.told.until)}, nil
+	return leaseOf(it.told), nil
+}
+
+func leaseOf(told C.struct_hs_told) Served {
+	return Served{Kind(told.kind), uint64(told.generation), uint64(told.number), uint64(told.until),
+		uint64(told.covering)}
 }
 
 // Hold takes a handle on a key if the task may serve it, and otherwise returns the
 // code of Serve.
 func (s *Slicelet) Hold(key []byte, at uint64) (Handle, error) {
-	return s.hold(func(out *C.struct_hs_key_handle, told *C.struct_hs_told) C.int32_t {
-		return C.hs_slicelet_hold(&s.c, first(key), C.size_t(len(key)), C.uint64_t(at), out, told)
-	})
+	handle, _, err := s.HoldServed(key, at)
+	return handle, err
 }
 
 // HoldAt is Hold by slice key, without the hash of the key.
 func (s *Slicelet) HoldAt(sliceKey, at uint64) (Handle, error) {
-	return s.hold(func(out *C.struct_hs_key_handle, told *C.struct_hs_told) C.int32_t {
-		return C.hs_slicelet_hold_at(&s.c, C.uint64_t(sliceKey), C.uint64_t(at), out, told)
-	})
+	handle, _, err := s.HoldServedAt(sliceKey, at)
+	return handle, err
 }
 
-// hold makes a call that writes a handle.
-func (s *Slicelet) hold(call func(*C.struct_hs_key_handle, *C.struct_hs_told) C.int32_t) (Handle, error) {
+// HoldServed is Hold, and returns the lease too, as Serve does.
+func (s *Slicelet) HoldServed(key []byte, at uint64) (Handle, Served, error) {
 	s.mutex.RLock()
 	defer s.mutex.RUnlock()
-	var out C.struct_hs_key_handle
-	var told C.struct_hs_told
-	err := done(call(&out, &told), &told)
-	return Handle{uint64(out.task), uint64(out.slice_key), uint64(out.position), uint32(out.life)}, err
+	return heldBy(C.hold(&s.c, first(key), C.size_t(len(key)), C.uint64_t(at)))
+}
+
+// HoldServedAt is HoldServed by slice key, without the hash of the key.
+func (s *Slicelet) HoldServedAt(sliceKey, at uint64) (Handle, Served, error) {
+	s.mutex.RLock()
+	defer s.mutex.RUnlock()
+	return heldBy(C.hold_at(&s.c, C.uint64_t(sliceKey), C.uint64_t(at)))
+}
+
+func heldBy(it C.struct_held) (Handle, Served, error) {
+	if it.code != C.HS_DONE {
+		told := it.told
+		return Handle{}, Served{}, done(it.code, &told)
+	}
+	return handleOf(it.handle), leaseOf(it.told), nil
+}
+
+func handleOf(it C.struct_hs_key_handle) Handle {
+	return Handle{uint64(it.task), uint64(it.slice_key), uint64(it.position), uint32(it.life)}
+}
+
+func (h Handle) c() C.struct_hs_key_handle {
+	return C.struct_hs_key_handle{task: C.uint64_t(h.Task), slice_key: C.uint64_t(h.SliceKey),
+		position: C.uint64_t(h.Position), life: C.uint32_t(h.Life)}
 }
 
 // Check returns nil if the task has held the key of a handle without a break since
@@ -249,11 +299,7 @@ func (s *Slicelet) hold(call func(*C.struct_hs_key_handle, *C.struct_hs_told) C.
 func (s *Slicelet) Check(handle Handle, at uint64) error {
 	s.mutex.RLock()
 	defer s.mutex.RUnlock()
-	it := C.struct_hs_key_handle{
-		task: C.uint64_t(handle.Task), slice_key: C.uint64_t(handle.SliceKey),
-		position: C.uint64_t(handle.Position), life: C.uint32_t(handle.Life),
-	}
-	return done(C.hs_slicelet_check(&s.c, &it, C.uint64_t(at)), nil)
+	return done(C.check(&s.c, handle.c(), C.uint64_t(at)), nil)
 }
 
 // Held returns the lease of a kind that the task holds, which may have ended.

@@ -1,10 +1,12 @@
 /* The natives of hourstable.Native. A place is passed as the address of its struct, and `out` takes the numbers that a
- * call writes: the five of hs_told, or as said. A native that returns an array tells its code as the sixth number of
- * `out`; each other one but the first four returns it. */
+ * call writes: the first five of hs_told, or as said. A native that returns an array tells its code as the sixth number
+ * of `out`; each other one but the first four and boottimeTicks returns it. */
+#define _POSIX_C_SOURCE 200809L /* for clock_gettime */
 #include "hourstable.h"
 
 #include <jni.h>
 #include <stdlib.h>
+#include <time.h>
 
 #define NATIVE(type, name) JNIEXPORT type JNICALL Java_hourstable_Native_##name
 #define PLACE(address) ((struct hs_place *)(intptr_t)(address))
@@ -102,6 +104,7 @@ NATIVE(jint, sliceletRelease)(JNIEnv *env, jclass self, jlong place, jint kind, 
     return tell(env, out, &(jlong){(jlong)needed}, 1, code);
 }
 
+/* `out` is all six numbers of hs_told. */
 NATIVE(jint, sliceletServe)(JNIEnv *env, jclass self, jlong place, jbyteArray key, jlong at, jlongArray out) {
     (void)self;
     struct bytes it;
@@ -109,10 +112,10 @@ NATIVE(jint, sliceletServe)(JNIEnv *env, jclass self, jlong place, jbyteArray ke
     if (!take(env, key, &it))
         return HS_NO_MEMORY;
     jint code = drop(&it, hs_slicelet_serve(PLACE(place), it.at, it.length, (uint64_t)at, &told));
-    return tell(env, out, &told, 5, code);
+    return tell(env, out, &told, 6, code);
 }
 
-/* If it is done, `out` is the task, slice key, position and life of the handle; otherwise it is what is told. */
+/* `out` is the six numbers of hs_told, and the task, slice key, position and life of the handle. */
 NATIVE(jint, sliceletHold)(JNIEnv *env, jclass self, jlong place, jbyteArray key, jlong at, jlongArray out) {
     (void)self;
     struct bytes it;
@@ -122,7 +125,8 @@ NATIVE(jint, sliceletHold)(JNIEnv *env, jclass self, jlong place, jbyteArray key
         return HS_NO_MEMORY;
     jint code = drop(&it, hs_slicelet_hold(PLACE(place), it.at, it.length, (uint64_t)at, &handle, &told));
     jlong numbers[] = {(jlong)handle.task, (jlong)handle.slice_key, (jlong)handle.position, (jlong)handle.life};
-    return code == HS_DONE ? tell(env, out, numbers, 4, code) : tell(env, out, &told, 5, code);
+    (*env)->SetLongArrayRegion(env, out, 6, 4, numbers);
+    return tell(env, out, &told, 6, code);
 }
 
 NATIVE(jint, sliceletCheck)(JNIEnv *env, jclass self, jlong place, jlong task, jlong slice_key, jlong position,
@@ -130,6 +134,108 @@ NATIVE(jint, sliceletCheck)(JNIEnv *env, jclass self, jlong place, jlong task, j
     (void)env, (void)self;
     struct hs_key_handle handle = {(uint64_t)task, (uint64_t)slice_key, (uint64_t)position, (uint32_t)life};
     return hs_slicelet_check(PLACE(place), &handle, (uint64_t)at);
+}
+
+/* A call of a block: its clock, what it passes and writes, and its line. */
+struct block_call {
+    struct hs_task_clock clock;
+    struct hs_block block;
+    uint8_t *line;
+    size_t length;
+    size_t needed;
+    uint8_t room[512];
+};
+
+/* Takes the arrays of a call of a block, and returns the room for its line, null if there is no memory. */
+static uint8_t *begin_block(JNIEnv *env, struct block_call *call, jlongArray clock, jlongArray block, jbyteArray line) {
+    (*env)->GetLongArrayRegion(env, clock, 0, sizeof call->clock / 8, (jlong *)&call->clock);
+    (*env)->GetLongArrayRegion(env, block, 0, sizeof call->block / 8, (jlong *)&call->block);
+    call->length = (size_t)(*env)->GetArrayLength(env, line);
+    call->needed = SIZE_MAX;
+    call->line = call->length <= sizeof call->room ? call->room : malloc(call->length);
+    return call->line;
+}
+
+/* Gives back the arrays of a call of a block. The number after those of the block is how many bytes its line has or needs,
+ * and -1 if no call was made. */
+static jint end_block(JNIEnv *env, struct block_call *call, jlongArray clock, jlongArray block, jbyteArray line,
+                      jint code) {
+    jlong length = call->needed == SIZE_MAX ? -1 : (jlong)call->needed;
+    if (code >= 0 && length > 0)
+        (*env)->SetByteArrayRegion(env, line, 0, (jsize)length, (const jbyte *)call->line);
+    if (code < 0 && code != HS_NO_ROOM)
+        length = -1;
+    (*env)->SetLongArrayRegion(env, clock, 0, sizeof call->clock / 8, (const jlong *)&call->clock);
+    (*env)->SetLongArrayRegion(env, block, 0, sizeof call->block / 8, (const jlong *)&call->block);
+    (*env)->SetLongArrayRegion(env, block, sizeof call->block / 8, 1, &length);
+    if (call->line != call->room)
+        free(call->line);
+    return code;
+}
+
+NATIVE(jint, sliceletEnter)(JNIEnv *env, jclass self, jlong place, jlongArray clock, jlong now, jbyteArray key,
+                            jlongArray block, jbyteArray line) {
+    (void)self;
+    struct bytes it;
+    struct block_call call;
+    jint code = HS_NO_MEMORY;
+    if (!take(env, key, &it))
+        return HS_NO_MEMORY;
+    if (begin_block(env, &call, clock, block, line)) {
+        call.block.told = (struct hs_told){0};
+        code = hs_slicelet_enter(PLACE(place), &call.clock, (uint64_t)now, it.at, it.length, &call.block, call.line,
+                                 call.length, &call.needed);
+        end_block(env, &call, clock, block, line, code);
+    }
+    return drop(&it, code);
+}
+
+NATIVE(jint, sliceletLeave)(JNIEnv *env, jclass self, jlong place, jlongArray clock, jlong now, jlongArray block,
+                            jbyteArray line) {
+    (void)self;
+    struct block_call call;
+    if (!begin_block(env, &call, clock, block, line))
+        return HS_NO_MEMORY;
+    jint code =
+        hs_slicelet_leave(PLACE(place), &call.clock, (uint64_t)now, &call.block, call.line, call.length, &call.needed);
+    return end_block(env, &call, clock, block, line, code);
+}
+
+NATIVE(jlong, boottimeTicks)(JNIEnv *env, jclass self) {
+    (void)env, (void)self;
+    struct timespec now = {0};
+    clock_gettime(CLOCK_BOOTTIME, &now);
+    return (jlong)now.tv_sec * 1000 + now.tv_nsec / 1000000;
+}
+
+static struct hs_task_clock clock_of(JNIEnv *env, jlongArray numbers) {
+    struct hs_task_clock clock;
+    (*env)->GetLongArrayRegion(env, numbers, 0, sizeof clock / 8, (jlong *)&clock);
+    return clock;
+}
+
+NATIVE(jint, taskClockNew)(JNIEnv *env, jclass self, jlongArray clock, jlong extra, jlong per, jlong grain,
+                           jlong oldest) {
+    (void)self;
+    struct hs_task_clock made = {0};
+    jint code = hs_task_clock_new(&made, (uint64_t)extra, (uint64_t)per, (uint64_t)grain, (uint64_t)oldest);
+    return tell(env, clock, &made, sizeof made / 8, code);
+}
+
+NATIVE(jint, taskClockSample)(JNIEnv *env, jclass self, jlongArray clock, jlong sent, jlong reading, jlong now) {
+    (void)self;
+    struct hs_task_clock read = clock_of(env, clock);
+    jint code = hs_task_clock_sample(&read, (uint64_t)sent, (uint64_t)reading, (uint64_t)now);
+    return tell(env, clock, &read, sizeof read / 8, code);
+}
+
+NATIVE(jint, taskClockRead)(JNIEnv *env, jclass self, jlongArray clock, jlong now, jlongArray out) {
+    (void)self;
+    struct hs_task_clock read = clock_of(env, clock);
+    uint64_t value = 0;
+    jint code = hs_task_clock_read(&read, (uint64_t)now, &value);
+    tell(env, clock, &read, sizeof read / 8, code);
+    return tell(env, out, &value, 1, code);
 }
 
 /* The text that a call writes: in `room` if it fits, else in a block of its own. */

@@ -131,12 +131,13 @@ class Place(ctypes.Structure):
 
 
 class Told(Numbers):
-    _fields_ = fields("number generation kind task until")
+    _fields_ = fields("number generation kind task until covering")
     number: int
     generation: int
     kind: int
     task: int
     until: int
+    covering: int
 
 
 class KeyHandle(Numbers):
@@ -145,6 +146,29 @@ class KeyHandle(Numbers):
     slice_key: int
     position: int
     life: int
+
+
+class Block(ctypes.Structure):
+    """A block of work on a key. enter() and leave() of a slicelet write it, and it may be used again
+    for the next block.
+
+    `at` is the task's reading at which the last call was made, `handle` what enter() took and leave()
+    checks, and `told` what enter() told. `is_called` is whether the last call was made: if not, the
+    clock refused, and there is no line. `line` is the line of the last call, as log_line() returns
+    it, and empty if none was wanted.
+    """
+
+    _fields_ = [*fields("ticket at"), ("handle", KeyHandle), ("told", Told)]
+    ticket: int
+    at: int
+    handle: KeyHandle
+    told: Told
+    is_called = False
+    line = ""
+
+    def served(self) -> Served:
+        """Returns the lease under which enter() allowed the key."""
+        return lease_of(self.told)
 
 
 class HeldLease(Numbers):
@@ -343,10 +367,18 @@ class Found(NamedTuple):
 
 
 class Served(NamedTuple):
+    """The lease under which a key is served: its kind, its generation, the number of its grant, and
+    the first reading of the task's clock at which it has ended.
+
+    `covering` is the greatest generation of the held leases that cover the key, live or ended. It may
+    be above `generation`. A lease that is heard is of no key, and `covering` is then 0.
+    """
+
     kind: str
     generation: int
     number: int
     until: int
+    covering: int
 
 
 class Held(NamedTuple):
@@ -369,6 +401,12 @@ class GrantRead(NamedTuple):
     ends: int
     table_ends: int
     ranges: list[tuple[int, int]]
+
+
+def lease_of(told: Told) -> Served:
+    """Returns the lease that a call told."""
+    kind = KIND_WORDS[told.kind]
+    return Served(kind, told.generation, told.number, told.until, told.covering)
 
 
 U32, U64, SIZE = whole(ctypes.c_uint32), whole(ctypes.c_uint64), whole(ctypes.c_size_t)
@@ -395,6 +433,9 @@ DECLARED: dict[str, list[CType]] = {
     "slicelet_serve_at": [P(Place), U64, U64, P(Told)],
     "slicelet_hold_at": [P(Place), U64, U64, P(KeyHandle), P(Told)],
     "slicelet_check": [P(Place), P(KeyHandle), U64],
+    "slicelet_enter": [P(Place), P(TaskClock), U64, *BYTES, P(Block), *OUT],
+    "slicelet_enter_at": [P(Place), P(TaskClock), U64, U64, P(Block), *OUT],
+    "slicelet_leave": [P(Place), P(TaskClock), U64, P(Block), *OUT],
     "clerk_open": [P(Place), *BYTES],
     "clerk_learn": [P(Place), *BYTES, P(Told)],
     "clerk_look": [P(Place), *BYTES, P(Owners)],
@@ -461,6 +502,21 @@ def load(path: str) -> ctypes.CDLL:
 
 
 library = load(find())
+
+
+def unchecked(name: str) -> Callable[..., int]:
+    """Returns a function whose caller sees that numbers fit, since U64 and SIZE take longer than the
+    call."""
+    plain = {U64: ctypes.c_uint64, SIZE: ctypes.c_size_t}
+    function = library[f"hs_{name}"]  # not the one that `library` keeps
+    function.argtypes = [plain.get(it, it) for it in DECLARED[name]]
+    function.restype = ctypes.c_int32
+    return function
+
+
+ENTER, ENTER_AT, LEAVE = map(unchecked, ("slicelet_enter", "slicelet_enter_at", "slicelet_leave"))
+LINE = 512  # bytes, in which a line of a block fits
+NO_CALL = MOST = (1 << 64) - 1  # NO_CALL is how long a line is of a call that was not made
 
 
 def done(code: int, told: Told | None = None) -> None:
@@ -666,6 +722,8 @@ class Slicelet(Standing):
 
     def __init__(self, job: str, task: int) -> None:
         super().__init__("slicelet", *named(job), task)
+        self._line: CType = ctypes.create_string_buffer(LINE)
+        self._needed = ctypes.c_size_t()
 
     @classmethod
     def resume(cls, job: str, task: int, life: int) -> Slicelet:
@@ -679,12 +737,17 @@ class Slicelet(Standing):
         self.do("start", life, at)
 
     def served(self) -> Served:
-        """Returns the lease that the last call told."""
-        told = self.told
-        return Served(KIND_WORDS[told.kind], told.generation, told.number, told.until)
+        """Returns the lease that the last call told, such as hold()."""
+        return lease_of(self.told)
+
+    def covering(self) -> int:
+        """Returns the greatest generation of the held leases that cover the key of the last serve()
+        or hold(), live or ended, also where it was denied; 0 if none does."""
+        return self.told.covering
 
     def hear(self, grant: bytes, at: int) -> Served:
         """Hears a grant, and returns its lease, under which keys are served until `until`."""
+        self.told.covering = 0
         self.do("hear", grant, len(grant), at, self.told_by())
         return self.served()
 
@@ -697,6 +760,8 @@ class Slicelet(Standing):
         return self.served()
 
     def hold(self, key: bytes, at: int) -> KeyHandle:
+        """Takes a handle on a key; served() then returns the lease under which the task may serve
+        it."""
         handle = KeyHandle()
         self.do("hold", key, len(key), at, ctypes.byref(handle), self.told_by())
         return handle
@@ -714,6 +779,55 @@ class Slicelet(Standing):
 
     def check(self, handle: KeyHandle, at: int) -> None:
         self.do("check", ctypes.byref(handle), at)
+
+    def enter(
+        self, clock: TaskClock, now: int, ticket: int, key: bytes, block: Block, logged: bool = True
+    ) -> None:
+        """Enters a block of work on a key: reads the clock at the local reading `now`, takes a handle
+        at its value as hold() does, and writes the line of that call, as log_line() does. `ticket` is
+        its place among all calls of the job, and is drawn before. With `logged` false it writes no
+        line.
+
+        Raises Refused if the clock refuses, or if the key is denied: then there is a line. Any other
+        error leaves the clock as it was."""
+        self._block(ENTER, block, ticket, logged, clock, now, key, len(key))
+
+    def enter_at(
+        self, clock: TaskClock, now: int, ticket: int, slice_key: int, block: Block, logged: bool = True
+    ) -> None:
+        """Enters a block of work on a key by its slice key."""
+        fitting(ctypes.c_uint64, slice_key)
+        self._block(ENTER_AT, block, ticket, logged, clock, now, slice_key)
+
+    def leave(
+        self, clock: TaskClock, now: int, ticket: int, block: Block, logged: bool = True
+    ) -> None:
+        """Leaves a block of work: reads the clock, and checks the handle that enter() took as check()
+        does. Raises Refused if the clock refuses, or if the task did not hold the key all along.
+        Otherwise as enter()."""
+        self._block(LEAVE, block, ticket, logged, clock, now)
+
+    def _block(
+        self, call: Callable[..., int], block: Block, ticket: int, logged: bool, *given: CType
+    ) -> None:
+        """Makes a call of a block, whose clock and local reading are given first. If its line does not
+        fit, makes the call again, which has changed nothing, with a longer buffer."""
+        block.is_called, block.line = False, ""
+        if not (0 <= ticket <= MOST and 0 <= given[1] <= MOST):
+            raise ValueError(f"{ticket!r} or {given[1]!r} does not fit 64 bits")
+        place, line, needed = self.place or self.standing(), self._line, self._needed
+        block.ticket, needed.value = ticket, NO_CALL
+        code = call(place, *given, block, line, len(line) if logged else 0, needed)
+        if code == -2:
+            line = self._line = ctypes.create_string_buffer(needed.value)
+            code = call(place, *given, block, line, len(line), needed)
+        length = needed.value
+        if code >= 0 and length != NO_CALL:
+            block.is_called = True
+            if length:
+                block.line = line[: length - 1].decode()
+        if code != 0:
+            done(code, block.told)
 
     def held(self, kind: str) -> Held:
         """Returns the lease of a kind that the task holds, which may have ended."""

@@ -162,8 +162,8 @@ int32_t guarded_slicelet_check(const struct hs_place *place, const struct hs_key
 }
 
 int32_t guarded_slicelet_enter(const struct hs_place *place, struct hs_task_clock *clock, uint64_t now,
-                               const uint8_t *key, size_t key_len, struct hs_block *block, uint8_t *out,
-                               size_t out_len, size_t *needed) {
+                               const uint8_t *key, size_t key_len, struct hs_block *block, uint8_t *out, size_t out_len,
+                               size_t *needed) {
     return returned(hs_slicelet_enter(READ_PLACE, WRITTEN(clock), now, KEY, WRITTEN(block), OUT));
 }
 

@@ -40,8 +40,8 @@ int32_t guarded_slicelet_hold_at(const struct hs_place *place, uint64_t slice_ke
                                  struct hs_key_handle *out, struct hs_told *told);
 int32_t guarded_slicelet_check(const struct hs_place *place, const struct hs_key_handle *handle, uint64_t at);
 int32_t guarded_slicelet_enter(const struct hs_place *place, struct hs_task_clock *clock, uint64_t now,
-                               const uint8_t *key, size_t key_len, struct hs_block *block, uint8_t *out,
-                               size_t out_len, size_t *needed);
+                               const uint8_t *key, size_t key_len, struct hs_block *block, uint8_t *out, size_t out_len,
+                               size_t *needed);
 int32_t guarded_slicelet_enter_at(const struct hs_place *place, struct hs_task_clock *clock, uint64_t now,
                                   uint64_t slice_key, struct hs_block *block, uint8_t *out, size_t out_len,
                                   size_t *needed);

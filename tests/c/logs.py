@@ -1,6 +1,6 @@
 """Plays random calls of a table, three tasks and two clerks through the library, writes each call's line by
-hs_log_line, and has an audit judge the log: it is one run. Then one reply of each kind is changed, and the audit
-names its line.
+hs_log_line, or by hs_slicelet_enter_at and _leave, and has an audit judge the log: it is one run. Then one reply of
+each kind is changed, and the audit names its line.
 
 Usage: logs.py PROGRAM FOLDER [--calls N] [--seed N]
 PROGRAM is a built `hourstable`. Run at the top of the repository, with HOURSTABLE_LIBRARY set. The status is 0 if all
@@ -18,7 +18,7 @@ from pathlib import Path
 
 sys.path.insert(0, "python")
 from hourstable import library as hourstable  # noqa: E402
-from hourstable.library import CALLS, KINDS, LoggedCall, Place, Policy  # noqa: E402
+from hourstable.library import CALLS, KINDS, Block, LoggedCall, Place, Policy, TaskClock  # noqa: E402
 
 JOB = b"shop"
 NAME = (JOB, len(JOB))
@@ -229,6 +229,33 @@ class Job:
         code = library.hs_slicelet_check(ref(self.tasks[task]), ref(call.handle), at)
         self.log("check", code, call=call, task=task, at=at)
 
+    def block(self, name: str, task: int, block: Block, *given: object) -> int:
+        """Makes a call of a block, by a task's clock that shows a reading of this job."""
+        clock, room, needed = TaskClock(0, 1, 0, oldest=0), ctypes.create_string_buffer(512), ctypes.c_size_t()
+        clock.sample(0, self.at(), 0)
+        self.ticket += self.draw.randrange(1, 4)
+        block.ticket = self.ticket
+        call, out = getattr(library, f"hs_slicelet_{name}"), (room, len(room), ref(needed))
+        code: int = call(ref(self.tasks[task]), ref(clock), 0, *given, ref(block), *out)
+        if code >= 0:
+            self.lines.append(room.raw[: needed.value].decode())
+        return code
+
+    def enter(self) -> None:
+        block = Block()
+        code = self.block("enter_at", self.draw.choice((1, 2, 3)), block, self.key())
+        if code == 0:
+            self.handles.append(bytes(block.handle))
+        self.seen.add(("enter", hourstable.name_of(code)))
+
+    def leave(self) -> None:
+        if not self.handles:
+            return
+        block, kept = Block(), self.draw.choice(self.handles[-6:])
+        ctypes.memmove(ref(block, Block.handle.offset), kept, len(kept))
+        code = self.block("leave", block.handle.task if self.draw.randrange(10) else 1, block)
+        self.seen.add(("leave", hourstable.name_of(code)))
+
     # CLERKS
 
     def learn(self) -> None:
@@ -253,7 +280,10 @@ class Job:
 
     def play(self, calls: int) -> None:
         often = [self.serve, self.hear, self.grant, self.start, self.commit, self.propose, self.renew]
-        some = [self.hold, self.check, self.release, self.free, self.learn, self.look, self.take, self.phase]
+        some = [
+            self.hold, self.check, self.enter, self.leave, self.release, self.free, self.learn, self.look, self.take,
+            self.phase,
+        ]
         seldom = [self.lose, self.restore, self.open, self.forget]
         for _ in range(calls):
             self.draw.choice(often * 6 + some * 3 + seldom)()
@@ -297,7 +327,7 @@ def main() -> int:
     given.folder.mkdir(parents=True, exist_ok=True)
     log, job = given.folder / "log.jsonl", Job(given.seed)
     job.play(given.calls)
-    faults = [f"no {do} was played" for do in CALLS if do not in {do for do, _ in job.seen}]
+    faults = [f"no {do} was played" for do in (*CALLS, "enter", "leave") if do not in {do for do, _ in job.seen}]
     log.write_text("".join(job.lines))
     status, said = audit(program, log)
     if status or not said.startswith("audit one\n"):

@@ -18,9 +18,9 @@ sys.path[:0] = ["python", "examples/python"]
 import handover  # noqa: E402
 from hourstable import library as hourstable  # noqa: E402
 from hourstable.library import (  # noqa: E402
-    Clerk, HeldLease, JobTerm, KeyHandle, LoadBook, LoadRecord, Phase, PlanPolicy, Policy, Refused, Slicelet, Table,
-    TableClock, TaskClock, Told, boottime_ticks, clock_evidence, new_assignment, read_assignment, read_grant,
-    slice_of,
+    CALLS, Block, Clerk, HeldLease, JobTerm, KeyHandle, LoadBook, LoadRecord, LoggedCall, Phase, PlanPolicy, Policy,
+    Refused, Slicelet, Table, TableClock, TaskClock, Told, boottime_ticks, clock_evidence, log_line, new_assignment,
+    read_assignment, read_grant, slice_key, slice_of,
 )
 
 U32, U64 = 1 << 32, 1 << 64
@@ -130,17 +130,146 @@ def check_places() -> None:
 FIRST = b'{"job":"shop","type":"assignment","value":{"generation":"1","slices":[["0",[1]]]},"version":2}'
 GRANT = (b'{"type":"grant","value":{"ends":130,"generation":3,"kind":"guard","life":1,"number":7,'
          b'"ranges":[[0,9223372036854775808]],"task":2,"until":140},"version":1}')
+HALF = 1 << 62
+BRIDGE = (b'{"type":"grant","value":{"ends":200,"generation":4,"kind":"bridge","life":1,"number":8,'
+          b'"ranges":[[0,4611686018427387904]],"task":2,"until":210},"version":1}')
 
 
 def check_leases() -> None:
-    """GRANT is of guard lease 7 of generation 3, on all keys until 130."""
+    """GRANT is of guard lease 7 of generation 3, on all keys until 130, and BRIDGE of bridge lease 8 of generation 4,
+    on the lower half."""
     lease = ("guard", 3, 7, 130)
     with Slicelet("", 2) as task:
         task.start(1, 5)
         holds(task.permitted(5) == [], "a task that heard no grant may serve no key")
-        holds(task.hear(GRANT, 6) == lease, "a grant that is heard tells its lease")
-        holds(task.serve(b"apples", 7) == lease and task.serve_at(5, 7) == lease, "a key is served under the lease")
+        holds(task.hear(GRANT, 6) == (*lease, 0), "a grant that is heard tells its lease")
+        holds(task.serve(b"apples", 7) == task.serve_at(5, 7) == (*lease, 3), "a key is served")
+        task.hold(b"apples", 7)
+        holds(task.served() == (*lease, 3), "a key is held under the lease")
         holds(task.permitted(129) == [(0, 1 << 63)] and task.permitted(130) == [], "what the task may serve")
+        holds(task.hear(BRIDGE, 7) == ("bridge", 4, 8, 200, 0), "a bridge that is heard tells its lease")
+        holds(task.serve_at(5, 8) == (*lease, 4), "a key that a newer lease covers too")
+        task.hold_at(HALF, 8)
+        holds(task.served() == (*lease, 3), "a key that the newer lease does not cover")
+        refuses("ended", "a key whose leases have ended", task.hold_at, 5, 200)
+        holds(task.covering() == 4, "a key is denied, and the newer lease covers it")
+        refuses("ended", "a key whose only lease has ended", task.serve_at, HALF, 200)
+        holds(task.covering() == 3, "a key is denied, and the older lease alone covers it")
+
+
+# Steps of a task that was started at 5 and may serve the lower half until 130, by a clock that is 6 ahead of the
+# local one once it has its sample: the call, its local reading, its key, and how its line ends, if there is one.
+BLOCK_STEPS: list[tuple[str, int, bytes, str | None]] = [
+    ("enter", 0, b"hello", None),  # the clock has no sample
+    ("sample", 0, b"", None),
+    ("enter", 0, b"hello", '"handle life 1 position 2","slice_key":1619368272448737671,"task":2'),
+    ("leave", 9, b"", '"continuous","task":2'),
+    ("leave", 8, b"", None),  # the local clock went back
+    ("enter", 10, b"abc", '"denied not-owned 3","slice_key":6718257250126850037,"task":2'),
+    ("leave", 123, b"", '"continuous","task":2'),
+    ("leave", 124, b"", '"broken","task":2'),
+    ("enter", 125, b"hello", '"denied ended","slice_key":1619368272448737671,"task":2'),
+    ("sample", 126, b"", None),
+    ("enter", 627, b"hello", None),  # the sample is too old
+]
+
+
+class Parts:
+    """What the steps of a block are made of: a clock, and the handle that was taken last."""
+
+    def __init__(self, task: Slicelet, clock: TaskClock) -> None:
+        self.task, self.clock, self.handle = task, clock, KeyHandle()
+
+    def play(self, do: str, now: int, ticket: int, key: bytes) -> tuple[str, str | None]:
+        """Returns why the step is refused, and its line, if it has one."""
+        try:
+            at = self.clock.read(now)
+        except Refused as refusal:
+            return str(refusal), None
+        call, why = LoggedCall(ticket, CALLS["hold" if do == "enter" else "check"], task=2, at=at), ""
+        try:
+            if do == "enter":
+                call.slice_key = slice_key(key)
+                self.handle = self.task.hold(key, at)
+            else:
+                self.task.check(self.handle, at)
+        except Refused as refusal:
+            why, call.code = str(refusal), refusal.code
+        call.told, call.handle = self.task.told, self.handle
+        return why, log_line("", call)
+
+
+def play_block(
+    task: Slicelet, clock: TaskClock, block: Block, do: str, now: int, ticket: int, key: bytes, logged: bool
+) -> tuple[str, str | None]:
+    """Returns what Parts.play returns; a line that is not wanted is empty."""
+    why = ""
+    try:
+        if do == "leave":
+            task.leave(clock, now, ticket, block, logged)
+        elif ticket % 2:
+            task.enter(clock, now, ticket, key, block, logged)
+        else:
+            task.enter_at(clock, now, ticket, slice_key(key), block, logged)
+    except Refused as refusal:
+        why = str(refusal)
+    return why, block.line if block.is_called else None
+
+
+def check_block(task: Slicelet, logged: bool, tickets: range) -> None:
+    """A block is entered and left as by its parts, by clocks of the same numbers."""
+    clock, block = TaskClock(0, 1, 0, oldest=500), Block()
+    parts = Parts(task, copy.copy(clock))
+    for ticket, (do, now, key, end) in zip(tickets, BLOCK_STEPS):
+        if do == "sample":
+            clock.sample(now, now + 6, now)
+            parts.clock.sample(now, now + 6, now)
+            continue
+        what = f"{do} at {now}{'' if logged else ' with no line'}"
+        why, line = parts.play(do, now, ticket, key)
+        holds((line or "").endswith(f'{end},"ticket":{ticket}}}') if end else line is None, f"{what} ends so: {line}")
+        made = play_block(task, clock, block, do, now, ticket, key, logged)
+        holds(made == (why, line if logged or line is None else ""), f"{what} is {why} {line}: {made}")
+        holds(numbers_of(clock) == numbers_of(parts.clock), f"{what} leaves the clock as its parts do")
+        holds(numbers_of(block.handle) == numbers_of(parts.handle), f"{what} has the handle")
+        if block.is_called:
+            holds((block.at, block.ticket) == (clock.given, ticket), f"{what} has its reading and its ticket")
+        if block.is_called and do == "enter":
+            holds(block.told.covering == task.covering(), f"{what} tells what covers the key")
+            holds(why != "" or block.served() == task.served(), f"{what} tells the lease")
+
+
+def check_blocks() -> None:
+    with Slicelet("", 2) as task:
+        task.start(1, 5)
+        task.hear(GRANT.replace(b"9223372036854775808", b"4611686018427387904"), 6)
+        for logged in (True, False):
+            check_block(task, logged, range(20, 40))
+            check_block(task, logged, range(U64 - 20, U64))
+        task._line = ctypes.create_string_buffer(1)
+        check_block(task, True, range(41, 60))
+        check_refused_blocks(task)
+
+
+def check_refused_blocks(task: Slicelet) -> None:
+    """What is no call of a block leaves the clock and the block as they were."""
+    clock, block = TaskClock(0, 1, 0, oldest=500), Block()
+    clock.sample(0, 6, 0)
+    task.enter(clock, 0, 1, b"hello", block)
+    before = bytes(clock), block.at, bytes(block.handle)
+    refuses("wrong-form", "an entry by no slice key", task.enter_at, clock, 1, 2, 1 << 63, block)
+    holds(not block.is_called and block.line == "", "an entry by no slice key is no call")
+    errors = (ValueError, TypeError, ctypes.ArgumentError)
+    for number in (U64, -1, 1.0, None):
+        raises(errors, f"an entry at {number!r}", task.enter, clock, number, 2, b"hello", block)
+        raises(errors, f"an entry with the ticket {number!r}", task.enter, clock, 1, number, b"hello", block)
+        raises(errors, f"an entry by slice key {number!r}", task.enter_at, clock, 1, 2, number, block)
+        raises(errors, f"an end at {number!r}", task.leave, clock, number, 2, block)
+    holds(not block.is_called and block.line == "", "what is refused has no line")
+    holds((bytes(clock), block.at, bytes(block.handle)) == before, "what is refused changes nothing")
+    with Slicelet("", 1) as other:
+        refuses("stranger", "an end by another task", other.leave, clock, 1, 2, block)
+        holds(block.line.endswith('"reply":"refused stranger","task":1,"ticket":2}'), f"a stranger: {block.line}")
 
 
 def check_assignments() -> None:
@@ -287,6 +416,7 @@ check_refusals()
 check_replies()
 check_places()
 check_leases()
+check_blocks()
 check_assignments()
 check_task_clocks()
 check_table_clocks()

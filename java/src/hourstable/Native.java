@@ -30,6 +30,18 @@ final class Native {
 
     static native int sliceletCheck(long place, long task, long sliceKey, long position, int life, long at);
 
+    static native int sliceletEnter(long place, long[] clock, long now, byte[] key, long[] block, byte[] line);
+
+    static native int sliceletLeave(long place, long[] clock, long now, long[] block, byte[] line);
+
+    static native long boottimeTicks();
+
+    static native int taskClockNew(long[] clock, long extra, long per, long grain, long oldest);
+
+    static native int taskClockSample(long[] clock, long sent, long reading, long now);
+
+    static native int taskClockRead(long[] clock, long now, long[] out);
+
     static native long[] grantRead(byte[] job, byte[] grant, long[] out);
 
     static native int tableOpen(long place, byte[] job, long[] policy);

@@ -82,4 +82,9 @@ public final class Refused extends Exception {
     public long until() {
         return told[4];
     }
+
+    /** Where a key is denied, the greatest generation of the held leases that cover it, live or ended; 0 if none does. */
+    public long covering() {
+        return told.length > 5 ? told[5] : 0;
+    }
 }

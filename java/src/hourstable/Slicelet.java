@@ -2,6 +2,7 @@ package hourstable;
 
 import java.nio.charset.StandardCharsets;
 import java.util.Arrays;
+import java.util.function.LongSupplier;
 
 /**
  * Knows the leases of a server task, and decides whether the task may serve a key: each decision is a call of the library.
@@ -10,12 +11,28 @@ import java.util.Arrays;
 public final class Slicelet extends Place {
     /**
      * The lease under which a key is served: its generation, the number of its grant, and the first reading of the task's
-     * clock at which it has ended.
+     * clock at which it has ended. {@code covering} is the greatest generation of the held leases that cover the key, live or
+     * ended, which may be above that of the lease.
      */
-    public record Served(Kind kind, long generation, long number, long until) {}
+    public record Served(Kind kind, long generation, long number, long until, long covering) {
+        static final int NUMBERS = 6;
+
+        static Served of(long[] told) {
+            return new Served(Kind.of(told[2]), told[1], told[0], told[4], told[5]);
+        }
+    }
 
     /** A key that the task held when it took the handle. */
-    public record Handle(long task, long sliceKey, long position, int life) {}
+    public record Handle(long task, long sliceKey, long position, int life) {
+        static final int NUMBERS = 4;
+
+        static Handle of(long[] numbers, int at) {
+            return new Handle(numbers[at], numbers[at + 1], numbers[at + 2], (int) numbers[at + 3]);
+        }
+    }
+
+    /** A handle, and the lease under which the task may serve its key. */
+    public record Held(Handle handle, Served lease) {}
 
     /** What is done while the lease cannot be released. */
     @FunctionalInterface
@@ -91,14 +108,14 @@ public final class Slicelet extends Place {
      * it has returned, another thread may release the lease: answer within {@link #serving} if one may.
      */
     public Served serve(byte[] key, long at) throws Refused {
-        long[] out = new long[5];
+        long[] out = new long[Served.NUMBERS];
         lock.readLock().lock();
         try {
             Refused.check(Native.sliceletServe(address(), key, at, out), out);
         } finally {
             lock.readLock().unlock();
         }
-        return new Served(Kind.of(out[2]), out[1], out[0], out[4]);
+        return Served.of(out);
     }
 
     /**
@@ -116,14 +133,19 @@ public final class Slicelet extends Place {
 
     /** Takes a handle on a key if the task may serve it, and otherwise throws as serve does. */
     public Handle hold(byte[] key, long at) throws Refused {
-        long[] out = new long[5];
+        return holdServed(key, at).handle();
+    }
+
+    /** Takes a handle on a key as hold does, and returns the lease too, as serve does. */
+    public Held holdServed(byte[] key, long at) throws Refused {
+        long[] out = new long[Served.NUMBERS + Handle.NUMBERS];
         lock.readLock().lock();
         try {
             Refused.check(Native.sliceletHold(address(), key, at, out), out);
         } finally {
             lock.readLock().unlock();
         }
-        return new Handle(out[0], out[1], out[2], (int) out[3]);
+        return new Held(Handle.of(out, Served.NUMBERS), Served.of(out));
     }
 
     /** Returns if the task has held the key of a handle without a break, and may serve it now: HS_STRANGER, HS_BROKEN. */
@@ -132,6 +154,39 @@ public final class Slicelet extends Place {
         try {
             int code = Native.sliceletCheck(
                 address(), handle.task(), handle.sliceKey(), handle.position(), handle.life(), at);
+            Refused.check(code, new long[5]);
+        } finally {
+            lock.readLock().unlock();
+        }
+    }
+
+    /**
+     * Enters a block of work on a key: reads the local clock and then {@code clock}, while no other call of it runs, takes a
+     * handle at that reading as hold does, and writes the line of that call. {@code ticket} is its place among all calls of
+     * the job, and is drawn before. The codes of {@link TaskClock#read}, with which no call is made, then those of hold, which
+     * have a line. After any other one the clock is as before.
+     */
+    public Served enter(TaskClock clock, LongSupplier local, long ticket, byte[] key, Block block) throws Refused {
+        lock.readLock().lock();
+        try {
+            int code = block.call(clock, local, ticket,
+                now -> Native.sliceletEnter(address(), clock.numbers, now, key, block.numbers, block.room));
+            Refused.check(code, block.told());
+        } finally {
+            lock.readLock().unlock();
+        }
+        return Served.of(block.told());
+    }
+
+    /**
+     * Leaves a block of work: reads the clocks as enter does, checks the handle that enter took as check does, and writes the
+     * line of that call. The codes of {@link TaskClock#read}, with which no call is made, then those of check.
+     */
+    public void leave(TaskClock clock, LongSupplier local, long ticket, Block block) throws Refused {
+        lock.readLock().lock();
+        try {
+            int code = block.call(clock, local, ticket,
+                now -> Native.sliceletLeave(address(), clock.numbers, now, block.numbers, block.room));
             Refused.check(code, new long[5]);
         } finally {
             lock.readLock().unlock();

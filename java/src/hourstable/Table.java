@@ -134,7 +134,7 @@ public final class Table extends Place {
         } finally {
             lock.readLock().unlock();
         }
-        Refused.check((int) out[5], out);
+        Refused.check((int) out[5], new long[5]);
         List<Row> rows = new ArrayList<>();
         for (int at = 0; at < found.length; at += Row.NUMBERS) {
             rows.add(new Row(found[at], found[at + 1], found[at + 2], Kind.of(found[at + 3]), found[at + 4], found[at + 5]));
@@ -184,7 +184,7 @@ public final class Table extends Place {
     private static byte[] text(Text call) throws Refused {
         long[] out = new long[6];
         byte[] message = call.write(out);
-        Refused.check((int) out[5], out);
+        Refused.check((int) out[5], new long[5]);
         return message;
     }
 }

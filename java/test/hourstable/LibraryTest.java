@@ -59,8 +59,8 @@ public final class LibraryTest {
             refuses("a version", "HS_VERSION", "version 3", () -> task.hear("{\"version\":3}".getBytes(UTF_8), 4));
             task.hear(grant(7, 8), 5);
             refuses("hear again", "HS_OLD", "old 7", () -> task.hear(grant(7, 9), 5));
-            is("serve", task.serve(HELLO, 7), new Slicelet.Served(Kind.GUARD, 3, 7, 8));
-            is("serve a key of 300 bytes", task.serve(new byte[300], 7), new Slicelet.Served(Kind.GUARD, 3, 7, 8));
+            is("serve", task.serve(HELLO, 7), new Slicelet.Served(Kind.GUARD, 3, 7, 8, 3));
+            is("serve a key of 300 bytes", task.serve(new byte[300], 7), new Slicelet.Served(Kind.GUARD, 3, 7, 8, 3));
             refuses("serve at the end", "HS_ENDED", "ended", () -> task.serve(HELLO, 8));
             refuses("no bridge", "HS_NOTHING_HELD", "nothing-held", () -> task.release(Kind.BRIDGE, 8));
             is("the note", new String(task.release(Kind.GUARD, 8), UTF_8),
@@ -84,6 +84,153 @@ public final class LibraryTest {
             String half = new String(grant(9, 30), UTF_8).replace("[[\"0\"", "[[\"4611686018427387904\"");
             task.hear(half.getBytes(UTF_8), 7);
             refuses("the other half", "HS_NOT_OWNED", "not-owned 3", () -> task.hold(HELLO, 7));
+        }
+    }
+
+    /** A bridge of generation 4 covers the lower half beside a guard of generation 3. */
+    private static void covers() throws Exception {
+        try (Slicelet task = new Slicelet("shop", 2)) {
+            task.start(1, 5);
+            task.hear(grant(7, 130), 6);
+            String bridge = new String(grant(8, 200), UTF_8).replace("guard", "bridge")
+                .replace("\"generation\":\"3\"", "\"generation\":\"4\"").replace("9223372036854775808", LOWER);
+            task.hear(bridge.getBytes(UTF_8), 7);
+            Slicelet.Served lease = new Slicelet.Served(Kind.GUARD, 3, 7, 130, 4);
+            is("serve a key that a newer lease covers too", task.serve(HELLO, 8), lease);
+            is("hold it", task.holdServed(HELLO, 8), new Slicelet.Held(task.hold(HELLO, 8), lease));
+            try {
+                task.hold(HELLO, 200);
+                is("hold a key that has ended", "done", "HS_ENDED");
+            } catch (Refused refused) {
+                is("what covers a key that has ended", refused.name() + " " + refused.covering(), "HS_ENDED 4");
+            }
+        }
+    }
+
+    private static final String LOWER = "4611686018427387904";
+    private static final String HELLO_KEY = "\"slice_key\":1619368272448737671,\"task\":2";
+
+    /** A step of a block: its local reading, its key, and how its line ends before its ticket, empty if there is none. */
+    private record Step(String what, long now, String key, String end) {}
+
+    /** Those of a task that may serve the lower half until 130, by a clock that a sample puts 6 ahead of the local one. */
+    private static final List<Step> STEPS = List.of(
+        new Step("enter", 0, "hello", ""), // the clock has no sample
+        new Step("sample", 0, "", ""),
+        new Step("enter", 0, "hello", "\"reply\":\"handle life 1 position 2\"," + HELLO_KEY),
+        new Step("leave", 9, "", checked("continuous")),
+        new Step("leave", 8, "", ""), // the local clock went back
+        new Step("enter", 10, "abc", "\"reply\":\"denied not-owned 3\",\"slice_key\":6718257250126850037,\"task\":2"),
+        new Step("enter", 11, "hello", "\"reply\":\"handle life 1 position 2\"," + HELLO_KEY),
+        new Step("leave", 123, "", checked("continuous")),
+        new Step("leave", 124, "", checked("broken")),
+        new Step("enter", 125, "hello", "\"reply\":\"denied ended\"," + HELLO_KEY),
+        new Step("enter", 600, "hello", "")); // the sample is too old
+
+    private static String checked(String reply) {
+        return "\"handle\":{\"life\":1,\"position\":2," + HELLO_KEY + "},\"reply\":\"" + reply + "\",\"task\":2";
+    }
+
+    /** What a call returns or why it is refused, as text. */
+    private interface Play {
+        Object play() throws Refused;
+    }
+
+    private static String told(Play call) {
+        try {
+            return String.valueOf(call.play());
+        } catch (Refused refused) {
+            return refused.name() + " " + refused.getMessage() + " " + refused.covering();
+        }
+    }
+
+    /** What the steps of a block are made of: a clock, and the handle that was taken last. */
+    private static final class Parts {
+        private final Slicelet task;
+        private final TaskClock clock;
+        private Slicelet.Handle handle = new Slicelet.Handle(0, 0, 0, 0);
+        private long at = -1; // -1 if the clock refused
+
+        Parts(Slicelet task, TaskClock clock) {
+            this.task = task;
+            this.clock = clock;
+        }
+
+        Object play(Step step) throws Refused {
+            at = -1;
+            at = clock.read(step.now());
+            if (step.what().equals("leave")) {
+                task.check(handle, at);
+                return "left";
+            }
+            Slicelet.Held held = task.holdServed(step.key().getBytes(UTF_8), at);
+            handle = held.handle();
+            return held.lease();
+        }
+    }
+
+    private static Object play(Slicelet task, TaskClock clock, Step step, long ticket, Block block) throws Refused {
+        if (step.what().equals("enter")) {
+            return task.enter(clock, step::now, ticket, step.key().getBytes(UTF_8), block);
+        }
+        task.leave(clock, step::now, ticket, block);
+        return "left";
+    }
+
+    /** Compares the steps of a block with their parts, by clocks of the same numbers. */
+    private static void compare(Slicelet task, Block block, boolean hasLines, long first) throws Exception {
+        TaskClock clock = new TaskClock(new TaskClock.Drift(0, 1, 0), 500);
+        Parts parts = new Parts(task, new TaskClock(new TaskClock.Drift(0, 1, 0), 500));
+        for (int at = 0; at < STEPS.size(); at++) {
+            Step step = STEPS.get(at);
+            long ticket = first + at;
+            if (step.what().equals("sample")) {
+                clock.sample(step.now(), step.now() + 6, step.now());
+                parts.clock.sample(step.now(), step.now() + 6, step.now());
+                continue;
+            }
+            is(step + " is told", told(() -> play(task, clock, step, ticket, block)), told(() -> parts.play(step)));
+            is(step + " is called", block.isCalled(), parts.at >= 0);
+            is(step + " has a line", parts.at >= 0, !step.end().isEmpty());
+            is(step + " leaves the clock", Arrays.toString(clock.numbers), Arrays.toString(parts.clock.numbers));
+            String line = String.format("{\"at\":%d,\"do\":\"%s\",%s,\"ticket\":%s}\n", parts.at,
+                step.what().equals("enter") ? "hold" : "check", step.end(), Long.toUnsignedString(ticket));
+            is(step + " has the line", new String(block.line(), UTF_8), hasLines && parts.at >= 0 ? line : "");
+            if (parts.at >= 0) {
+                is(step + " has the reading", block.at(), parts.at);
+                is(step + " has the handle", block.handle(), parts.handle);
+            }
+        }
+    }
+
+    private static void blocks() throws Exception {
+        try (Slicelet task = new Slicelet("shop", 2); Slicelet other = new Slicelet("shop", 1)) {
+            task.start(1, 5);
+            task.hear(new String(grant(7, 130), UTF_8).replace("9223372036854775808", LOWER).getBytes(UTF_8), 6);
+            compare(task, new Block(true), true, 20);
+            compare(task, new Block(true), true, -20);
+            compare(task, new Block(false), false, 20);
+            Block small = new Block(true);
+            small.room = new byte[1];
+            compare(task, small, true, 20);
+            TaskClock clock = new TaskClock(new TaskClock.Drift(0, 1, 0), 500);
+            clock.sample(0, 6, 0);
+            is("a reading", clock.readNow(() -> 0), 6L);
+            refuses("a sample that was sent ahead", "HS_SENT_AHEAD", "sent-ahead", () -> clock.sample(2, 6, 1));
+            refuses("a drift in 0 ticks", "HS_WRONG_FORM", "wrong-form",
+                () -> new TaskClock(new TaskClock.Drift(1, 0, 0), 9));
+            Block block = new Block(true);
+            task.enter(clock, () -> 1, 1, HELLO, block);
+            refuses("a stranger", "HS_STRANGER", "stranger", () -> other.leave(clock, () -> 2, 3, block));
+            is("the line of a stranger", new String(block.line(), UTF_8).endsWith("\"task\":1,\"ticket\":3}\n"), true);
+            try {
+                task.leave(clock, () -> Long.parseLong("no clock"), 4, block);
+                is("a local clock that fails", "done", "thrown");
+            } catch (NumberFormatException why) {
+                is("a local clock that fails", block.isCalled() + " " + block.line().length, "false 0");
+            }
+            long ticks = TaskClock.boottimeTicks();
+            is("the boot time goes on", ticks > 0 && ticks <= TaskClock.boottimeTicks(), true);
         }
     }
 
@@ -170,6 +317,10 @@ public final class LibraryTest {
             is("serve waits", waits(task, () -> task.serve(HELLO, 1)), false);
             is("serving waits", waits(task, () -> task.serving(HELLO, 1, lease -> null)), false);
             is("hold waits", waits(task, () -> task.hold(HELLO, 1)), false);
+            TaskClock clock = new TaskClock(new TaskClock.Drift(0, 1, 0), 9);
+            Block block = new Block(false);
+            is("enter waits", waits(task, () -> task.enter(clock, () -> 1, 1, HELLO, block)), false);
+            is("leave waits", waits(task, () -> task.leave(clock, () -> 1, 1, block)), false);
             is("check waits", waits(task, () -> task.check(new Slicelet.Handle(2, 0, 0, 1), 1)), false);
             is("release waits", waits(task, () -> task.release(Kind.GUARD, 1)), true);
             is("close waits", waits(task, task::close), true);
@@ -324,6 +475,8 @@ public final class LibraryTest {
         reads();
         grows();
         handles();
+        covers();
+        blocks();
         resumes();
         looks();
         threads();

@@ -209,7 +209,8 @@ pub const HS_CALL_LOOK: u32 = 18;
 pub const HS_CALL_FORGET: u32 = 19;
 
 /// Numbers that a code comes with. A call sets just the fields that its code names, unless its comment
-/// says otherwise: hs_slicelet_hear, _serve and _serve_at tell a lease where they are done.
+/// says otherwise: hs_slicelet_hear, _serve, _serve_at, _hold and _hold_at tell a lease where they are
+/// done, and the last four tell `covering` of each key.
 #[repr(C)]
 #[derive(Clone, Copy, Debug, Default, PartialEq, Eq)]
 pub struct hs_told {
@@ -224,6 +225,9 @@ pub struct hs_told {
     /// a reading, in ticks; of a lease, the first of the task's clock at which it
     /// has ended
     pub until: u64,
+    /// the greatest generation of the held leases that cover the key, live or
+    /// ended; 0 if none does
+    pub covering: u64,
 }
 
 /// A key handle: a key that the task held when it took the handle.
@@ -234,6 +238,21 @@ pub struct hs_key_handle {
     pub slice_key: u64,
     pub position: u64,
     pub life: u32,
+}
+
+/// A block of work on a key: what its entry or its end passed and wrote. The caller sets `ticket` before
+/// each call, and keeps the other members from hs_slicelet_enter until hs_slicelet_leave.
+#[repr(C)]
+#[derive(Clone, Copy, Debug, Default, PartialEq, Eq)]
+pub struct hs_block {
+    /// the place of the call among all calls of the job (docs/AUDIT.md)
+    pub ticket: u64,
+    /// the task's reading at which the call was made
+    pub at: u64,
+    /// what hs_slicelet_enter wrote, and hs_slicelet_leave checks
+    pub handle: hs_key_handle,
+    /// what hs_slicelet_enter told
+    pub told: hs_told,
 }
 
 /// A lease that a task holds.
@@ -521,19 +540,38 @@ extern "C" {
     pub fn hs_slicelet_release(place: *mut hs_place, kind: u32, at: u64, out: *mut u8, out_len: usize, needed: *mut usize) -> i32;
     /// Whether the task may serve a key now: HS_DONE, with told.kind, told.number, told.generation and
     /// told.until of the lease under which it may, or HS_DOWN, HS_CLOCK_BACK, HS_ENDED, HS_NOT_OWNED,
-    /// HS_NO_LEASE. Takes no memory.
+    /// HS_NO_LEASE. With each of these codes told.covering is the greatest generation of the held leases
+    /// that cover the key, live or ended, and 0 if none does; it may be above told.generation. Takes no
+    /// memory.
     pub fn hs_slicelet_serve(place: *const hs_place, key: *const u8, key_len: usize, at: u64, told: *mut hs_told) -> i32;
     /// The same by slice key, for a caller that keeps the slice keys of its keys: most of hs_slicelet_serve
     /// is the hash of the key. HS_WRONG_FORM if no key has this slice key, which is 2^63 or more.
     pub fn hs_slicelet_serve_at(place: *const hs_place, slice_key: u64, at: u64, told: *mut hs_told) -> i32;
-    /// Takes a handle on a key if the task may serve it, and leaves `told` unchanged; otherwise returns
-    /// the code of hs_slicelet_serve. Takes no memory.
+    /// Takes a handle on a key if the task may serve it. Returns the code of hs_slicelet_serve, and tells
+    /// what it tells. Takes no memory.
     pub fn hs_slicelet_hold(place: *const hs_place, key: *const u8, key_len: usize, at: u64, out: *mut hs_key_handle, told: *mut hs_told) -> i32;
     /// The same by slice key, as hs_slicelet_serve_at. HS_WRONG_FORM, also if no key has this slice key.
     pub fn hs_slicelet_hold_at(place: *const hs_place, slice_key: u64, at: u64, out: *mut hs_key_handle, told: *mut hs_told) -> i32;
     /// Whether the task has held the key of a handle without a break since it took the handle, and may
     /// serve it now. HS_WRONG_FORM, HS_STRANGER, HS_BROKEN. Takes no memory.
     pub fn hs_slicelet_check(place: *const hs_place, handle: *const hs_key_handle, at: u64) -> i32;
+    /// Enters a block of work on a key: hs_task_clock_read at the local reading `now`, hs_slicelet_hold at
+    /// the value, and the line of that call, as hs_log_line writes it for HS_CALL_HOLD with block->ticket,
+    /// in one call. Returns the code of hs_slicelet_hold, also if it is not 0, and writes block->at, ->handle
+    /// and ->told. If `out_len` is 0, no line is written, *needed is 0, and no memory is taken. Draw the
+    /// ticket before the call, and write the line before the reply of the block leaves the process.
+    /// HS_WRONG_FORM if `per` of the clock is 0, then the codes of hs_task_clock_read, with which no call
+    /// was made and there is no line, then those of hs_slicelet_hold; but HS_NO_ROOM or HS_NO_MEMORY comes
+    /// in place of the last ones, and the clock and the block are then unchanged. The clock is called
+    /// alone, as in every call of a clock; the place is only read.
+    pub fn hs_slicelet_enter(place: *const hs_place, clock: *mut hs_task_clock, now: u64, key: *const u8, key_len: usize, block: *mut hs_block, out: *mut u8, out_len: usize, needed: *mut usize) -> i32;
+    /// The same by slice key, as hs_slicelet_serve_at. HS_WRONG_FORM, also if no key has this slice key.
+    pub fn hs_slicelet_enter_at(place: *const hs_place, clock: *mut hs_task_clock, now: u64, slice_key: u64, block: *mut hs_block, out: *mut u8, out_len: usize, needed: *mut usize) -> i32;
+    /// Leaves a block of work: hs_task_clock_read at the local reading `now`, hs_slicelet_check of
+    /// block->handle at the value, and the line of that call for HS_CALL_CHECK with block->ticket, in one
+    /// call. Returns the code of hs_slicelet_check, also if it is not 0, and writes block->at. Otherwise as
+    /// hs_slicelet_enter.
+    pub fn hs_slicelet_leave(place: *const hs_place, clock: *mut hs_task_clock, now: u64, block: *mut hs_block, out: *mut u8, out_len: usize, needed: *mut usize) -> i32;
     /// Writes the lease of a kind that the task holds, which may have ended. HS_WRONG_FORM,
     /// HS_NOTHING_HELD. Takes no memory.
     pub fn hs_slicelet_held(place: *const hs_place, kind: u32, out: *mut hs_held_lease) -> i32;
@@ -622,8 +660,8 @@ extern "C" {
     /// hs_table_propose. The first slice starts at 0, and each starts above the one before it; owners may
     /// stand in any order. HS_WRONG_FORM if `job` is not the name of a job, HS_NO_SLICES,
     /// HS_FIRST_NOT_ZERO, HS_NOT_RISING, HS_PAST_END, HS_NO_OWNER, HS_TOO_MANY_OWNERS, HS_OWNER_TWICE,
-    /// HS_BAD_TASK, HS_TOO_MANY_SLICES, then HS_NO_ROOM. Each code is looked for in all slices before the
-    /// next one. HS_NO_MEMORY may come in place of any code but the first.
+    /// HS_BAD_TASK, HS_TOO_MANY_SLICES, then HS_NO_ROOM or HS_NO_MEMORY. Each code is looked for in all
+    /// slices before the next one.
     pub fn hs_assignment_new(job: *const u8, job_len: usize, generation: u64, slices: *const hs_slice, slices_len: usize, out: *mut u8, out_len: usize, needed: *mut usize) -> i32;
     /// Reads an assignment of a job, given as its message: writes its generation, and its slices in the
     /// order of their starts, each with its owners in rising order, then zeros. *needed is how many slices
@@ -644,8 +682,7 @@ extern "C" {
     /// assignment, slice by slice. Gather each record once. The totals of a book never add up to more than
     /// 2^40. Message codes, HS_WRONG_FORM if `task` is not 1 to 64 or no key has a slice key,
     /// HS_WEIGHT_RANGE, HS_TOTAL_RANGE, HS_NO_ROOM. Each code is looked for in all records before the next
-    /// one. HS_NO_MEMORY may come in place of HS_TOTAL_RANGE and HS_NO_ROOM. Nothing is counted unless the
-    /// call is done.
+    /// one, and HS_NO_MEMORY comes last. Nothing is counted unless the call is done.
     pub fn hs_load_book_gather(place: *mut hs_place, assignment: *const u8, assignment_len: usize, task: u64, records: *const hs_load_record, records_len: usize, loads: *mut u64, loads_len: usize, needed: *mut usize) -> i32;
     /// Writes the sum of the weights of all records of a task that were gathered. HS_WRONG_FORM if `task` is
     /// not 1 to 64.

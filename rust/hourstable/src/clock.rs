@@ -17,7 +17,7 @@ pub struct Drift {
 /// Gives the readings of a task, from answers of the table and a local clock that counts while the machine is suspended,
 /// such as [`boottime_ticks`]. A new life of a task has a new clock.
 #[derive(Clone, Debug)]
-pub struct TaskClock(hs_task_clock);
+pub struct TaskClock(pub(crate) hs_task_clock);
 
 impl TaskClock {
     /// A clock with no sample. `oldest` is how many ticks the task goes on without an answer of the table. `WRONG_FORM` if

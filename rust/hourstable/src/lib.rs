@@ -19,6 +19,7 @@
 //! ```
 //!
 //! Threads share one in a `std::sync::RwLock`: the read guard then lives as long as the [`Serving`].
+mod block;
 mod clerk;
 mod clock;
 mod control;
@@ -27,6 +28,7 @@ mod place;
 mod refused;
 mod slicelet;
 
+pub use block::Block;
 pub use clerk::{Clerk, Owners};
 pub use clock::{boottime_ticks, clock_evidence, Drift, TableClock, TaskClock};
 pub use control::{plan, Action, Assigner, PlanPolicy, Policy, Row, Table, Term};

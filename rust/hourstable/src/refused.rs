@@ -133,6 +133,11 @@ impl Refused {
     pub fn until(&self) -> u64 {
         self.told.until
     }
+
+    /// Where a key is denied, the greatest generation of the held leases that cover it, live or ended; 0 if none does.
+    pub fn covering(&self) -> u64 {
+        self.told.covering
+    }
 }
 
 impl fmt::Display for Refused {
@@ -183,7 +188,7 @@ mod tests {
 
     #[test]
     fn texts_are_those_of_scripts() {
-        let told = hs_told { number: 9, generation: 4, kind: 2, task: 3, until: 1001 };
+        let told = hs_told { number: 9, generation: 4, kind: 2, task: 3, until: 1001, covering: 5 };
         assert_eq!(text_of(Code::NOT_OWNED, told), "not-owned 4");
         assert_eq!(text_of(Code::OLD, told), "old 9");
         assert_eq!(text_of(Code::OLD_GENERATION, told), "old 4");

@@ -8,7 +8,7 @@ use crate::{Code, Kind, Phase, Refused};
 
 /// Knows the leases of a server task, and decides whether the task may serve a key. Readings are those of the task's clock.
 #[derive(Debug)]
-pub struct Slicelet(Place);
+pub struct Slicelet(pub(crate) Place);
 
 /// The lease under which a key is served. While it lives, the slicelet is borrowed, and so the lease is not released.
 #[derive(Clone, Copy, Debug, PartialEq, Eq)]
@@ -17,6 +17,7 @@ pub struct Serving<'slicelet> {
     generation: u64,
     number: u64,
     until: u64,
+    covering: u64,
     slicelet: PhantomData<&'slicelet Slicelet>,
 }
 
@@ -37,6 +38,18 @@ impl Serving<'_> {
     /// The first reading of the task's clock at which it has ended.
     pub fn until(&self) -> u64 {
         self.until
+    }
+
+    /// The greatest generation of the held leases that cover the key, live or ended. It may be above `generation`.
+    pub fn covering(&self) -> u64 {
+        self.covering
+    }
+
+    // The lease that a call told, while its slicelet is borrowed.
+    pub(crate) fn of(it: hs_told) -> Serving<'static> {
+        let kind = Kind::from_number(it.kind).expect("a key is served under a lease of a kind");
+        let hs_told { generation, number, until, covering, .. } = it;
+        Serving { kind, generation, number, until, covering, slicelet: PhantomData }
     }
 }
 
@@ -119,36 +132,46 @@ impl Slicelet {
     pub fn serve(&self, key: &[u8], at: u64) -> Result<Serving<'_>, Refused> {
         let ask =
             |it| unsafe { sys::hs_slicelet_serve(self.0.read(), key.as_ptr(), key.len(), at, it) };
-        told(ask).map(|it| self.serving(it))
+        told(ask).map(Serving::of)
     }
 
     /// `serve` by slice key, without the hash of the key. `WRONG_FORM` if no key has this slice key, which is 2^63 or more.
     pub fn serve_at(&self, slice_key: u64, at: u64) -> Result<Serving<'_>, Refused> {
         let ask = |it| unsafe { sys::hs_slicelet_serve_at(self.0.read(), slice_key, at, it) };
-        told(ask).map(|it| self.serving(it))
-    }
-
-    fn serving(&self, it: hs_told) -> Serving<'_> {
-        let kind = Kind::from_number(it.kind).expect("a key is served under a lease of a kind");
-        let hs_told { generation, number, until, .. } = it;
-        Serving { kind, generation, number, until, slicelet: PhantomData }
+        told(ask).map(Serving::of)
     }
 
     /// Takes a handle on a key if the task may serve it, and otherwise returns the code of `serve`.
     pub fn hold(&self, key: &[u8], at: u64) -> Result<Handle, Refused> {
-        let mut out = hs_key_handle::default();
-        let place = self.0.read();
-        told(|it| unsafe {
-            sys::hs_slicelet_hold(place, key.as_ptr(), key.len(), at, &mut out, it)
-        })?;
-        Ok(Handle::of(out))
+        self.hold_served(key, at).map(|(handle, _)| handle)
     }
 
     /// `hold` by slice key, without the hash of the key.
     pub fn hold_at(&self, slice_key: u64, at: u64) -> Result<Handle, Refused> {
+        self.hold_served_at(slice_key, at).map(|(handle, _)| handle)
+    }
+
+    /// `hold`, with the lease under which the task may serve the key.
+    pub fn hold_served(&self, key: &[u8], at: u64) -> Result<(Handle, Serving<'_>), Refused> {
         let mut out = hs_key_handle::default();
-        told(|it| unsafe { sys::hs_slicelet_hold_at(self.0.read(), slice_key, at, &mut out, it) })?;
-        Ok(Handle::of(out))
+        let place = self.0.read();
+        let told = told(|it| unsafe {
+            sys::hs_slicelet_hold(place, key.as_ptr(), key.len(), at, &mut out, it)
+        })?;
+        Ok((Handle::of(out), Serving::of(told)))
+    }
+
+    /// `hold_served` by slice key, without the hash of the key.
+    pub fn hold_served_at(
+        &self,
+        slice_key: u64,
+        at: u64,
+    ) -> Result<(Handle, Serving<'_>), Refused> {
+        let mut out = hs_key_handle::default();
+        let place = self.0.read();
+        let told =
+            told(|it| unsafe { sys::hs_slicelet_hold_at(place, slice_key, at, &mut out, it) })?;
+        Ok((Handle::of(out), Serving::of(told)))
     }
 
     /// Whether the task has held the key of a handle without a break since it took the handle, and may serve it now.
@@ -205,7 +228,7 @@ impl Slicelet {
 }
 
 impl Handle {
-    fn of(raw: hs_key_handle) -> Handle {
+    pub(crate) fn of(raw: hs_key_handle) -> Handle {
         Handle { task: raw.task, slice_key: raw.slice_key, position: raw.position, life: raw.life }
     }
 }
