@@ -16,8 +16,8 @@ from pathlib import Path
 from hourstable import installed, logs
 from hourstable.assigner import AssignerOfJobs
 from hourstable.clock import local_clock
-from hourstable.control import Limits
 from hourstable.desk import HttpDesk, Unreachable
+from hourstable.limits import Limits
 from hourstable.plans import Hysteresis, slices_in
 from hourstable.service import ControlPlane, Options, process_number
 from hourstable.store import DEADLINE, StoreFailed

@@ -8,7 +8,6 @@ import asyncio
 import hmac
 import json
 import logging
-import math
 import ssl
 from collections.abc import Awaitable, Callable
 from dataclasses import dataclass, field
@@ -17,74 +16,38 @@ from typing import Any, TypeVar
 
 from aiohttp import web
 
-from hourstable import logs, page
+from hourstable import page
 from hourstable import tickets as ticketing
-from hourstable.jobs import (
-    Call, Commit, Free, Grant, Job, Made, Malformed, Propose, Renew, Replaced, Settings, Take,
-    is_number, policy_of, term_of,
+from hourstable.answers import (
+    TASKS, answer_of, asker_in, failure, job_in, json_of, member, message_of, name_in, number_in, refused, told,
 )
+from hourstable.connections import Turned
+from hourstable.jobs import Job, Made, Replaced, Settings, policy_of
 from hourstable.keys import KeyTold
 from hourstable.lanes import Lanes
 from hourstable.library import Refused, Table
+from hourstable.limits import Bucket, Limited
+from hourstable.limits import Limits as Limits
 from hourstable.loads import Denials, Loads
-from hourstable.metrics import CONTENT_TYPE, Metrics, Shown, word_of
+from hourstable.metrics import CONTENT_TYPE, Metrics, Shown
 from hourstable.store import Conflict, LivesSpent, NoSuchJob, Store, StoreFailed
+from hourstable.table_calls import Call, Commit, Free, Grant, Malformed, Propose, Renew, Take, term_of
 from hourstable.tickets import Tickets
 
 T = TypeVar("T")
 Handler = Callable[[web.Request], Awaitable[web.StreamResponse]]
-READING = "Hourstable-Reading"
-TASKS, LIVES = range(1, 65), range(1, 1 << 32)
-JSON = {"Content-Type": "application/json"}
 LONGEST_WAIT = 30.0  # seconds of a waiting GET
 MOST_KEY = 4096  # characters of a key that is asked about
-MIB = 1 << 20
 MOST_GRANTS = 1024  # of one request
 PUBLIC = {"/healthz", *page.FILES}  # what is answered without a secret
 
 log = logging.getLogger("hourstable.control")
 
 
-@dataclass
-class Limits:
-    """What a control plane takes. Beyond a limit it answers 413 or 429 and says which."""
-
-    body: int = MIB
-    jobs: int = 64
-    connections: int = 1024
-    grants: float = 20.0  # a second, of each task of each job
-    burst: float = 40.0  # grants of a task that may come at once
-    patience: float = 10.0  # seconds in which a call is answered
-
-
-class Limited(Exception):
-    """A request is beyond a limit; it may be made again after some seconds."""
-
-    def __init__(self, limit: str, after: float) -> None:
-        super().__init__(f"limit of {limit}")
-        self.limit, self.after = limit, after
-
-
 ANSWERED = (
     Malformed, NoSuchJob, Conflict, LivesSpent, Limited, Replaced, StoreFailed, MemoryError,
     web.HTTPException,
 )
-
-
-class Bucket:
-    """A rate: `burst` at once, and then `rate` a second."""
-
-    def __init__(self, rate: float, burst: float, now: float) -> None:
-        self._rate, self._burst, self._left, self._at = rate, burst, burst, now
-
-    def take(self, now: float) -> float:
-        """Takes one, and returns 0; or the seconds until there is one again."""
-        self._left = min(self._burst, self._left + (now - self._at) * self._rate)
-        self._at = now
-        if self._left >= 1:
-            self._left -= 1
-            return 0.0
-        return (1 - self._left) / self._rate
 
 
 @dataclass
@@ -573,26 +536,6 @@ class Plane:
         return told(made, lambda committed: answer_of({"generation": committed}))
 
 
-class Turned(asyncio.Protocol):
-    """A connection beyond the limit: its request is answered 429, and it is closed."""
-
-    BODY = b'{"error":"limit of connections","limit":"connections"}'
-
-    def connection_made(self, transport: asyncio.BaseTransport) -> None:
-        assert isinstance(transport, asyncio.Transport)
-        self._transport = transport
-        asyncio.get_running_loop().call_later(5, transport.close)
-
-    def data_received(self, data: bytes) -> None:
-        if not self._transport.is_closing():
-            self._transport.write(
-                b"HTTP/1.1 429 Too Many Requests\r\nContent-Type: application/json\r\n"
-                b"Retry-After: 1\r\nConnection: close\r\nContent-Length: %d\r\n\r\n%s"
-                % (len(self.BODY), self.BODY)
-            )
-            self._transport.close()
-
-
 def _give_up(answer: "asyncio.Future[Any]") -> None:
     if not answer.done():
         answer.set_exception(StoreFailed("the store did not answer in time"))
@@ -616,79 +559,3 @@ def _numbers_of(followed: Followed, now: float) -> dict[str, float]:
         numbers["grants_made"] = granted
         numbers["numbers_left_ratio"] = 1 - granted / job.policy.numbers
     return numbers
-
-
-def job_in(request: web.Request) -> str:
-    return name_in(request.match_info["job"])
-
-
-def name_in(given: object) -> str:
-    """Returns the name of a job. Raises Malformed."""
-    if not isinstance(given, str) or not logs.NAME.fullmatch(given):
-        raise Malformed("the name of a job is that of a folder: 1 to 64 letters, digits, . _ and -")
-    return given
-
-
-def number_in(request: web.Request, name: str, default: int) -> int:
-    text = request.query.get(name, str(default))
-    if not (text.isascii() and text.isdigit() and len(text) <= 20 and int(text) < 1 << 64):
-        raise Malformed(f"{name} is no number of 64 bits")
-    return int(text)
-
-
-async def json_of(request: web.Request) -> dict[str, Any]:
-    try:
-        given = json.loads(await request.read())
-    except (ValueError, RecursionError) as error:
-        raise Malformed("the body is not a JSON text") from error
-    if not isinstance(given, dict):
-        raise Malformed("the body is not an object")
-    return given
-
-
-def member(given: dict[str, Any], name: str, limits: range) -> int:
-    value = given.get(name)
-    if not is_number(value) or value not in limits:
-        raise Malformed(f"{name} is no number from {limits.start} to {limits.stop - 1}")
-    assert isinstance(value, int)
-    return value
-
-
-def asker_in(given: dict[str, Any]) -> tuple[int, int]:
-    """Returns the task and the life that ask for a grant."""
-    return member(given, "task", TASKS), member(given, "life", LIVES)
-
-
-def answer_of(value: object, status: int = 200) -> web.Response:
-    return message_of(logs.COMPACT.encode(value).encode(), status)
-
-
-def message_of(message: bytes, status: int = 200) -> web.Response:
-    return web.Response(body=message, status=status, headers=JSON)
-
-
-def failure(status: int, error: str, after: float | None = None, **members: str) -> web.Response:
-    """Returns the answer of a request that is not done, with the seconds after which to retry."""
-    made = answer_of({"error": error, **members}, status)
-    if after is not None:
-        made.headers["Retry-After"] = str(max(1, math.ceil(after)))
-    return made
-
-
-def refused(made: Made[Any]) -> bytes:
-    """Returns the body of the answer of a call that a table refused."""
-    assert made.refusal is not None
-    why = {"refused": word_of(made.refusal.name), "told": made.refusal.carried}
-    return logs.COMPACT.encode(why).encode()
-
-
-def told(made: Made[T], answer: Callable[[T], web.Response]) -> web.Response:
-    """Returns the answer of a call of a table."""
-    if made.refusal is not None:
-        response = message_of(refused(made), 409)
-    else:
-        assert made.result is not None
-        response = answer(made.result)
-    if made.at is not None:
-        response.headers[READING] = str(made.at)
-    return response

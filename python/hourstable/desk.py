@@ -9,10 +9,12 @@ from urllib.parse import urlencode
 
 import aiohttp
 
-from hourstable.control import READING, Plane
-from hourstable.jobs import Call, Commit, Malformed, Propose, Renew, Replaced, Take, term_of
+from hourstable.answers import READING
+from hourstable.control import Plane
+from hourstable.jobs import Replaced
 from hourstable.metrics import word_of
 from hourstable.store import Conflict, NoSuchJob, StoreFailed
+from hourstable.table_calls import Call, Commit, Malformed, Propose, Renew, Take, term_of
 from hourstable.tickets import HEADER, Tickets
 from hourstable.transport import Http, Transport
 

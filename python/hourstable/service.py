@@ -15,9 +15,10 @@ from pathlib import Path
 
 from hourstable.assigner import AssignerOfJobs
 from hourstable.clock import local_clock as local_clock_of
-from hourstable.control import Limits, Plane
+from hourstable.control import Plane
 from hourstable.desk import LocalDesk
 from hourstable.jobs import Settings
+from hourstable.limits import Limits
 from hourstable.plans import Hysteresis
 from hourstable.store import DEADLINE, Store, open_store
 from hourstable.system import SYSTEM, System
