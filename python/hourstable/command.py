@@ -3,18 +3,16 @@
 import argparse
 import asyncio
 import logging
-import os
 import resource
 import signal
 import ssl
-import subprocess
 import sys
-import tempfile
 from collections.abc import Sequence
 from pathlib import Path
 
 from hourstable import installed, logs
 from hourstable.assigner import AssignerOfJobs
+from hourstable.auditing import Audit
 from hourstable.clock import local_clock
 from hourstable.desk import HttpDesk, Unreachable
 from hourstable.limits import Limits
@@ -147,6 +145,9 @@ def _audit_words(words: argparse.ArgumentParser) -> None:
                        help="go on from the state that earlier logs of the job left")
     words.add_argument("--until", type=Path, metavar="STATE",
                        help="save the state that the logs of the job leave, if they are one run")
+    words.add_argument("--keep", type=int, metavar="DAYS",
+                       help="if the logs are one run, keep those of today and so many days before, and the state that"
+                       " older ones leave, from which the next audit goes on; remove the older ones")
 
 
 def _demo_words(words: argparse.ArgumentParser) -> None:
@@ -330,8 +331,10 @@ def _audit(chosen: argparse.Namespace) -> int:
         raise ValueError(f"{chosen.folder} has no logs")
     if len(folders) > 1 and (chosen.begins or chosen.until):
         raise ValueError("a state is one of a job: name the folder of its logs")
+    if chosen.keep is not None and (chosen.begins or chosen.until or chosen.keep < 0):
+        raise ValueError("--keep takes a number of days, and finds and saves states by itself")
     options = _audit_options(chosen)
-    return max(audit(folder, program, options, len(folders) > 1) for folder in folders)
+    return max(audit(folder, program, options, len(folders) > 1, chosen.keep) for folder in folders)
 
 
 def _audit_options(chosen: argparse.Namespace) -> list[str]:
@@ -344,14 +347,13 @@ def _audit_options(chosen: argparse.Namespace) -> list[str]:
     return options
 
 
-def audit(folder: Path, program: str, options: Sequence[str], tell: bool) -> int:
-    """Hands the logs of a job to the program, with its options, and returns its status."""
-    with tempfile.TemporaryDirectory(prefix="hourstable-audit.") as laid:
-        paths = logs.lay_out(folder, laid)
-        if tell:
-            print(f"{folder.name}:", flush=True)
-        names = [path.name for path in paths]
-        return subprocess.run([os.path.abspath(program), "audit", *options, *names], cwd=laid).returncode
+def audit(
+    folder: Path, program: str, options: Sequence[str], tell: bool, keep: int | None = None
+) -> int:
+    """Hands the logs of a job to the program, with its options, and returns its status; 1 if the logs lack calls."""
+    if tell:
+        print(f"{folder.name}:", flush=True)
+    return Audit(folder, program, options).run(keep)
 
 
 if __name__ == "__main__":

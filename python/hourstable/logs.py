@@ -3,26 +3,37 @@
 A log has the files NAME.YYYY-MM-DD.jsonl of a folder, which is that of the job. Each begins with
 the job line. A line has left the process when `append` returns: a process that is killed later
 loses none.
+
+Lines that begin with `{"gap":` are no calls. They say which calls a log lacks, since its disk took none or its old
+files were removed; `hourstable-service audit` reads them, and `hourstable audit` refuses a log that has one.
 """
 
+import datetime
 import hashlib
 import json
-import mmap
+import logging
 import os
 import re
 import time
 from collections.abc import Callable, Iterator, Mapping, Sequence
+from dataclasses import dataclass
 from functools import partial
 from pathlib import Path
 from typing import Any
 
+from hourstable.segments import SPARE, GrowingFile
 from hourstable.system import SYSTEM, System
 
 ASSIGNERS, TASKS = 8, 64  # the most that a job may have
 CLERKS = 128  # as many as have a ticket process of their own
 ENDING = ".jsonl"
+GAP = b'{"gap":'  # the beginning of a line that is no call
+PIECE = 1 << 20  # bytes of a file that are looked through at a time
 COMPACT = json.JSONEncoder(separators=(",", ":"))
 NAME = re.compile(r"[A-Za-z0-9_-][A-Za-z0-9._-]{0,63}")
+TICKET = re.compile(rb'\n\{"ticket":(\d{1,20}),')
+DAY = re.compile(r"\.(\d{4}-\d\d-\d\d)\.jsonl$")
+log = logging.getLogger("hourstable.logs")
 
 
 def job_line(policy: Mapping[str, object]) -> str:
@@ -80,13 +91,35 @@ def utc_day(system: System = SYSTEM) -> str:
     return time.strftime("%Y-%m-%d", time.gmtime(system.real_nanoseconds() // 1_000_000_000))
 
 
+def days_before(day: str, days: int) -> str:
+    """Returns the day that is so many days before one."""
+    return (datetime.date.fromisoformat(day) - datetime.timedelta(days)).isoformat()
+
+
+def day_of(path: Path) -> str:
+    """Returns the day of a file of a log, as YYYY-MM-DD; one that never comes if its name has none."""
+    found = DAY.search(path.name)
+    return found[1] if found else "9999-12-31"
+
+
 class Log:
     """The log of a process for a job.
 
-    Raises ValueError if the file of today begins with another job line. A file whose last line was
-    torn, as by a kill while it was written, is mended: the line is ended if it is a call, and else
-    left out.
+    A file whose last line was torn, as by a kill while it was written, is mended: the line is ended
+    if it is a call, and else left out. With `keep`, files that are more than so many days old are
+    removed at the start and each day.
+
+    A disk that takes no more stops the log and not its process. From then on there is a gap: `append`
+    loses its lines, and `lost` counts them. What the process has in memory is then not what its log
+    shows, so the log goes on only with `begin`, by which the process says that what follows stands
+    for itself: a task begins a new life, a plane restores its tables, a clerk forgets. `can_begin`
+    says when the disk takes lines again. Two lines of the log name the gap for an audit: one at the
+    end of what was written, and one where the log goes on.
+
+    Raises OSError if the file of today cannot be opened, and ValueError if it begins with another job line.
     """
+
+    is_kept = True  # whether lines that are appended are of use to anybody
 
     def __init__(
         self,
@@ -95,90 +128,216 @@ class Log:
         job: str,
         *,
         today: Callable[[], str] | None = None,
+        keep: int | None = None,
         system: System = SYSTEM,
     ) -> None:
         self.folder, self.name, self.job = Path(folder), name, job
-        self._system = system
-        self._today, self._day, self._file = today or partial(utc_day, system), "", -1
-        self.folder.mkdir(parents=True, exist_ok=True)
+        self.lost = 0  # lines, since the start
+        self.gaps = 0  # since the start, with one that lasts
+        self._system, self._keep = system, keep
+        self._today, self._day = today or partial(utc_day, system), ""
+        self._file: GrowingFile | None = None
+        self._gap: _Gap | None = None
+        self._looked = 0.0
+        self.folder.mkdir(mode=0o700, parents=True, exist_ok=True)
         self._turn_to(self._today())
 
+    @property
+    def is_broken(self) -> bool:
+        """Whether lines are being lost."""
+        return self._gap is not None
+
     def append(self, *lines: str) -> None:
-        """Writes lines, which the system has when this returns."""
-        day = self._today()
-        if day != self._day:
-            self._turn_to(day)
-        _write_all(self._system, self._file, "".join(f"{line}\n" for line in lines).encode())
+        """Writes lines, which the system has when this returns; in a gap they are lost."""
+        if self._gap is None:
+            try:
+                self._write(*lines)
+                return
+            except OSError as error:
+                self._break(error)
+        assert self._gap is not None
+        self._gap.lines += len(lines)
+        self.lost += len(lines)
+
+    def begin(self, *lines: str) -> None:
+        """Writes lines with which what the process logs begins anew; they end a gap, if the disk takes them."""
+        gap = self._gap
+        if gap is not None:
+            told = {} if gap.is_told else {"why": gap.why}
+            ends = COMPACT.encode({"gap": "ends", "lines": gap.lines, **told})
+            try:
+                self._write(ends, *lines)
+                self._gap = None
+                log.warning("%s: %s goes on, without %d lines", self.folder.name, self.name, gap.lines)
+                return
+            except OSError:
+                pass
+        self.append(*lines)
+
+    def can_begin(self) -> bool:
+        """Whether the log has a gap that `begin` would end, as the disk takes lines again. It is asked at most once a
+        second."""
+        now = self._system.monotonic()
+        if self._gap is None or now - self._looked < 1.0:
+            return False
+        self._looked = now
+        try:
+            self._opened().reserve(SPARE)
+            return True
+        except OSError:
+            return False
 
     def lacking(self, lines: Sequence[str]) -> list[str]:
         """Returns those of the lines that are not in the two newest files. The lines are of line_of
-        and were appended together, so if the first one is missing, all are."""
-        files = sorted(self.folder.glob(f"{self.name}.*{ENDING}"))[-2:]
+        and were appended together, so if the first one is missing, all are. It reads the files, which may take a
+        while."""
+        files = self._files()[-2:]
         found = {line for path in files for line in _lines_from(path, lines[0].encode())}
         return [line for line in lines if line.encode() not in found]
 
     def close(self) -> None:
         """Closes the file. Nothing is written later."""
-        if self._file >= 0:
-            self._system.close(self._file)
-        self._file, self._day = -1, ""
+        if self._file is not None:
+            self._file.close()
+        self._file, self._day = None, ""
+
+    def _write(self, *lines: str) -> None:
+        self._opened().append("".join(f"{line}\n" for line in lines).encode())
+
+    def _opened(self) -> GrowingFile:
+        """Returns the file of today. Raises OSError."""
+        day = self._today()
+        if day != self._day or self._file is None:
+            self._turn_to(day)
+        assert self._file is not None
+        return self._file
+
+    def _break(self, error: OSError) -> None:
+        """Begins a gap, and says so in the log, for which there is room where space is allocated ahead."""
+        self._gap = _Gap(f"{type(error).__name__} {error.strerror or error}")
+        self._looked = self._system.monotonic()
+        self.gaps += 1
+        log.error("%s: %s stops, and what follows is not logged: %s", self.folder.name, self.name, error)
+        line = COMPACT.encode({"gap": "begins", "why": self._gap.why})
+        try:
+            if self._file is not None:
+                self._file.append_spare(f"{line}\n".encode())
+                self._gap.is_told = True
+        except OSError:
+            pass  # it is told where the log goes on
 
     def _turn_to(self, day: str) -> None:
         path = self.folder / f"{self.name}.{day}{ENDING}"
-        flags = os.O_RDWR | os.O_CREAT | os.O_APPEND | os.O_CLOEXEC
-        file = self._system.open(path, flags, 0o644)
+        file = GrowingFile(self._system, path)
         try:
-            _mend(self._system, file)
-            self._begin(file, path)
+            _mend(file)
+            self._head(file, path)
         except BaseException:
-            self._system.close(file)
+            file.close()
             raise
         self.close()
         self._file, self._day = file, day
+        if self._keep is not None:
+            self._remove_before(days_before(day, self._keep), file)
 
-    def _begin(self, file: int, path: Path) -> None:
+    def _head(self, file: GrowingFile, path: Path) -> None:
         first = self.job.encode() + b"\n"
-        found = os.pread(file, len(first), 0)
+        found = file.read(0, len(first))
         if not found:
-            _write_all(self._system, file, first)
+            file.append(first)
         elif found != first:
             raise ValueError(f"{path} begins with another job line")
 
+    def _files(self) -> list[Path]:
+        return sorted(self.folder.glob(f"{self.name}.*{ENDING}"))
 
-def _write_all(system: System, file: int, data: bytes) -> None:
-    while data:
-        data = data[system.write(file, data):]
+    def _remove_before(self, day: str, file: GrowingFile) -> None:
+        """Removes the files of days before this one, and says so in the file of today."""
+        for path in self._files():
+            if day_of(path) < day:
+                try:
+                    ticket = last_ticket(path)
+                    if ticket:
+                        told = {"gap": "removed", "file": path.name, "ticket": ticket}
+                        file.append(f"{COMPACT.encode(told)}\n".encode())
+                    path.unlink()
+                except OSError as error:
+                    log.warning("%s was not removed: %s", path, error)
 
 
-def _mend(system: System, file: int) -> None:
+class NoLog:
+    """In place of a log that is left out: what is appended is lost, and there is no gap, as there is nothing to
+    audit."""
+
+    is_kept = is_broken = False
+    lost = gaps = 0
+
+    def append(self, *lines: str) -> None:
+        """Does nothing."""
+
+    begin = append
+
+    def can_begin(self) -> bool:
+        return False
+
+    def lacking(self, lines: Sequence[str]) -> list[str]:
+        return []
+
+    def close(self) -> None:
+        """Does nothing."""
+
+
+@dataclass
+class _Gap:
+    """Lines that are being lost, and why."""
+
+    why: str
+    lines: int = 0
+    is_told: bool = False  # whether the log says where it begins
+
+
+def _mend(file: GrowingFile) -> None:
     """Ends the last line of a file if it lacks its end and is a JSON text, and leaves it out if it
     is none."""
-    size = os.fstat(file).st_size
-    start, tail = size, b""
+    start, tail = file.size, b""
     while start and b"\n" not in tail:
         step = min(start, 65_536)
         start -= step
-        tail = os.pread(file, step, start) + tail
+        tail = file.read(start, step) + tail
     torn = tail[tail.rfind(b"\n") + 1:]
     if not torn:
         return
     try:
         json.loads(torn)
     except ValueError:
-        os.ftruncate(file, size - len(torn))
+        file.cut(file.size - len(torn))
     else:
-        _write_all(system, file, b"\n")
+        file.append(b"\n")
 
 
 def _lines_from(path: Path, line: bytes) -> list[bytes]:
     """Returns the last occurrence of a line in a file and all lines after it, none if the file does
-    not have it."""
+    not have it. It is read in pieces from its end, so that other threads run meanwhile."""
+    wanted, overlap = b"\n" + line + b"\n", b""
     with open(path, "rb") as file:
-        if not os.fstat(file.fileno()).st_size:
-            return []
-        with mmap.mmap(file.fileno(), 0, access=mmap.ACCESS_READ) as text:
-            at = text.rfind(b"\n" + line + b"\n")
-            return text[at + 1:].split(b"\n") if at >= 0 else []
+        end = os.fstat(file.fileno()).st_size
+        while end:
+            start = max(0, end - PIECE)
+            piece = os.pread(file.fileno(), end - start, start) + overlap
+            at = piece.rfind(wanted)
+            if at >= 0:
+                file.seek(start + at + 1)
+                return file.read().split(b"\n")
+            overlap, end = piece[: len(wanted)], start
+    return []
+
+
+def last_ticket(path: Path) -> int:
+    """Returns the ticket of the last call of a file, 0 if it has none."""
+    with open(path, "rb") as file:
+        file.seek(max(0, os.fstat(file.fileno()).st_size - PIECE))
+        found = TICKET.findall(file.read())
+    return int(found[-1]) if found else max((call["ticket"] for call in calls_of(path)), default=0)
 
 
 def files_of(folder: str | os.PathLike[str]) -> list[Path]:
@@ -186,17 +345,21 @@ def files_of(folder: str | os.PathLike[str]) -> list[Path]:
     return sorted(Path(folder).glob(f"*{ENDING}"))
 
 
-def lay_out(folder: str | os.PathLike[str], into: str | os.PathLike[str]) -> list[Path]:
+def lay_out(
+    folder: str | os.PathLike[str], into: str | os.PathLike[str], above: int = 0, below: int = 1 << 64
+) -> list[Path]:
     """Copies the logs of a job into another folder so that `hourstable audit` takes them together,
     and returns them.
 
     Each file keeps its name, and each line its number. Only the first file keeps its job line. A
     line that another one repeats exactly is blank: two control planes may both append the line of a
-    call that the store has. Raises ValueError if two job lines differ.
+    call that the store has. So are the lines of gaps, and calls whose tickets are not from `above`
+    on and below `below`. Raises ValueError if two job lines differ.
     """
     made = []
     job: bytes | None = None
     known: set[bytes] = set()
+    cuts = above > 0 or below < 1 << 64
     Path(into).mkdir(parents=True, exist_ok=True)
     for path in files_of(folder):
         copy = Path(into) / path.name
@@ -209,14 +372,28 @@ def lay_out(folder: str | os.PathLike[str], into: str | os.PathLike[str]) -> lis
                     job = line.strip()
                     continue
                 mark = hashlib.blake2b(line.strip(), digest_size=16).digest()
-                out.write(b"\n" if mark in known else line)
+                is_left = mark in known or line.startswith(GAP)
+                is_left = is_left or cuts and not above <= ticket_of(line, above) < below
+                out.write(b"\n" if is_left else line)
                 known.add(mark)
         made.append(copy)
     return made
 
 
+def ticket_of(line: bytes, default: int) -> int:
+    """Returns the ticket of the line of a call, the default if it is none, as a blank or a torn line."""
+    found = TICKET.match(b"\n" + line[:64])
+    if found is not None:
+        return int(found[1])
+    try:
+        ticket = json.loads(line)["ticket"]
+    except (ValueError, KeyError, TypeError):
+        return default
+    return ticket if isinstance(ticket, int) else default
+
+
 def calls_of(path: Path) -> Iterator[dict[str, Any]]:
-    """Returns the calls of a file in the order of its lines, without the job line and a torn last
+    """Returns the calls of a file in the order of its lines, without the job line, lines of gaps and a torn last
     line."""
     with open(path, "rb") as lines:
         for line in lines:
@@ -228,7 +405,7 @@ def calls_of(path: Path) -> Iterator[dict[str, Any]]:
                 if line.endswith(b"\n"):
                     raise
                 return
-            if "job" not in call:
+            if "job" not in call and "gap" not in call:
                 yield call
 
 

@@ -4,12 +4,15 @@ Planes, tasks, routers, logs and tickets take a `System`, by default the one tha
 passes one of its own, whose clocks run wrong, whose chance is seeded or whose disk is full.
 """
 
+import ctypes
 import mmap
 import os
 import random
 import time
 from pathlib import Path
 
+LIBC = ctypes.CDLL(None, use_errno=True)
+KEEP_SIZE = 1  # of fallocate(2): what is allocated beyond the end of a file does not make it longer
 BOOT_ID = Path("/proc/sys/kernel/random/boot_id")
 
 
@@ -42,6 +45,13 @@ class System:
     def write(self, file: int, data: bytes) -> int:
         """Writes bytes to an open file, and returns how many it took. Raises OSError."""
         return os.write(file, data)
+
+    def allocate(self, file: int, start: int, length: int) -> None:
+        """Allocates space for bytes of an open file, whose length stays. Raises OSError, with EOPNOTSUPP if its
+        filesystem does not do that."""
+        if LIBC.fallocate(file, KEEP_SIZE, ctypes.c_int64(start), ctypes.c_int64(length)) != 0:
+            code = ctypes.get_errno()
+            raise OSError(code, os.strerror(code))
 
     def close(self, file: int) -> None:
         """Closes an open file, which ends its lock."""

@@ -26,7 +26,7 @@ from .calls import TIMEOUT, WAIT, Answer, Control, Rejected, Unreachable
 from .clock import local_clock as local_clock_of
 from .leases import KINDS, ClockBehind, Leases, policy_of
 from .library import KeyHandle, Phase, Policy, Refused, TaskClock, slice_key
-from .logs import Log, folder_of, job_line
+from .logs import Log, NoLog, folder_of, job_line
 from .ranges import KEYS, Ranges, holds, minus
 from .system import SYSTEM, System
 from .tickets import Tickets, follow
@@ -79,9 +79,11 @@ class Renewed(NamedTuple):
 class Lease:
     """The right to a key, from the entry of a block of `Task.serving` on."""
 
-    def __init__(self, task: "Task", key: str, slice_key: int, generation: int) -> None:
+    def __init__(
+        self, task: "Task", key: str, slice_key: int, generation: int, is_logged: bool = True
+    ) -> None:
         self.key, self.slice_key, self.generation = key, slice_key, generation
-        self._hold = task._hold(key, slice_key)
+        self._hold = task._hold(key, slice_key, is_logged)
 
     def check(self) -> None:
         """Raises LeaseLost unless the task has held the key since the entry, and still does. Call
@@ -93,17 +95,20 @@ class Lease:
 class Hold:
     """A handle on a key, for work that takes a while."""
 
-    def __init__(self, task: "Task", key: str, leases: Leases, handle: KeyHandle) -> None:
+    def __init__(
+        self, task: "Task", key: str, leases: Leases, handle: KeyHandle, is_logged: bool = True
+    ) -> None:
         self.key = key
         self._task, self._leases, self._handle = task, leases, handle
+        self._is_logged = is_logged
 
     def continuous(self) -> bool:
         """Whether the task has held the key without a break since it took the handle, and may
-        serve it now. The call is logged as a `check`."""
+        serve it now. The call is logged as a `check`, if the task logs the block of the handle."""
         if self._task._leases is not self._leases:
             return False  # another life, whose slicelet did not give the handle
         try:
-            self._leases.check(self._handle)
+            self._leases.check(self._handle, self._is_logged)
         except (Refused, ClockBehind):
             return False
         return True
@@ -121,6 +126,7 @@ class Metrics:
         self.behind = self._counter("clock_behind", "Times that the clock stopped the task.")
         self.lives = self._counter("lives", "Lives that were begun.")
         self.unreachable = self._counter("control_unreachable", "Calls that no plane answered.")
+        self.lost_lines = self._gauge("log_lines_lost", "Lines that its log lacks.")
         self.left = self._gauge("calls_left", "Calls that the slicelet still accepts.")
         self.keys = self._gauge("served_share", "The part of all slice keys that it may serve.")
         self._denied = Counter(
@@ -155,7 +161,9 @@ class Task:
     """A task of a job. It runs from `start`, or from the entry of an `async with`, to `stop`.
 
     `control` is the URL of a control plane, or of several. `logs` is the folder of logs, which has
-    one for each job; the tickets of the task are kept there too. `policy` creates the job if it is
+    one for each job; the tickets of the task are kept there too. With None the task keeps neither.
+    `sample` is the part of blocks that are logged, each with all of its calls or with none; other
+    calls are always logged. `keep_logs` is for how many days its files are kept. `policy` creates the job if it is
     not there, and is compared if it is. `oldest` is for how many ticks the task goes on without an
     answer of the table, by default nine tenths of a guard lease. `timeout` is for how many seconds
     it waits for an answer, at most a fifth of a guard lease.
@@ -176,7 +184,9 @@ class Task:
         job: str,
         task: int,
         *,
-        logs: str | os.PathLike[str],
+        logs: str | os.PathLike[str] | None,
+        sample: float = 1.0,
+        keep_logs: int | None = None,
         policy: Mapping[str, Any] | None = None,
         on_gain: OnGain | None = None,
         on_lose: OnLose | None = None,
@@ -198,8 +208,8 @@ class Task:
         self.clock_behind_total = 0  # how often its clock stopped the task
         self.renewed = Renewed(0, None)
         self._system = system
-        self._folder = folder_of(logs, job)
-        self._folder.mkdir(parents=True, exist_ok=True)
+        self._folder = None if logs is None else folder_of(logs, job)
+        self._sample, self._keep_logs = sample, keep_logs
         self._tickets = tickets or self._tickets_of(process)
         self._local_clock = local_clock or local_clock_of(system=system)
         self._control = Control(
@@ -213,7 +223,7 @@ class Task:
         self._random = system.random()
         self._policy: Policy | None = None
         self._most = TIMEOUT  # seconds of a call, and between two that fail
-        self._log: Log | None = None
+        self._log: Log | NoLog | None = None
         self._leases: Leases | None = None
         self._phase: Phase | None = None
         self._renew_at = 0
@@ -228,6 +238,9 @@ class Task:
 
     def _tickets_of(self, process: int | None) -> Tickets:
         number = FIRST_PROCESS + self.task - 1 if process is None else process
+        if self._folder is None:
+            return Tickets(number, None, now=follow, system=self._system)
+        self._folder.mkdir(mode=0o700, parents=True, exist_ok=True)
         path = self._folder / f"task-{self.task}.ticket"
         return Tickets(number, path, now=follow, system=self._system)
 
@@ -240,10 +253,14 @@ class Task:
         # A lease that is renewed at half of it leaves time for two calls that are lost.
         self._most = min(TIMEOUT, self._policy.guard / 5000)
         self._control.timeout = min(self._control.timeout, self._most)
-        name = f"task-{self.task}"
-        self._log = Log(self._folder, name, job_line(members), system=self._system)
+        self._log = self._log_of(job_line(members))
         loops = (self._watch(), self._act(), self._report())
         self._running = [asyncio.create_task(loop) for loop in loops]
+
+    def _log_of(self, job: str) -> Log | NoLog:
+        if self._folder is None:
+            return NoLog()
+        return Log(self._folder, f"task-{self.task}", job, keep=self._keep_logs, system=self._system)
 
     async def wait(self) -> None:
         """Waits until the task ends by itself, and raises why: ClockBroken, Rejected, OSError."""
@@ -350,20 +367,21 @@ class Task:
             raise self._denied(key, "moving")
         if self._leases is None:
             raise self._denied(key, "down")
+        is_logged = self._sample >= 1 or self._random.random() < self._sample
         try:
-            served = self._leases.serve(slice_key_)
+            served = self._leases.serve(slice_key_, is_logged)
         except Refused as refused:
             raise self._denied(key, str(refused)) from refused
         except ClockBehind as behind:
             raise self._denied(key, "clock-behind") from behind
         self._loads[slice_key_ >> (63 - LOAD_BITS)] += 1
-        return Lease(self, key, slice_key_, served.generation)
+        return Lease(self, key, slice_key_, served.generation, is_logged)
 
-    def _hold(self, key: str, slice_key_: int) -> Hold:
+    def _hold(self, key: str, slice_key_: int, is_logged: bool = True) -> Hold:
         if self._leases is None:
             raise self._denied(key, "down")
         try:
-            return Hold(self, key, self._leases, self._leases.hold(slice_key_))
+            return Hold(self, key, self._leases, self._leases.hold(slice_key_, is_logged), is_logged)
         except Refused as refused:
             raise self._denied(key, str(refused)) from refused
         except ClockBehind as behind:
@@ -439,6 +457,9 @@ class Task:
         """Does one thing, and returns for how many seconds nothing is to be done."""
         if self._leases is not None and self._leases.calls_left() < LAST_CALLS:
             await self._end_life()
+        if self._leases is not None and self._log is not None and self._log.can_begin():
+            self._leases.close()  # what it did in a gap of the log is not known: a new life begins
+            self._leases = None
         if self._leases is None:
             self._leases = await self._begin_life()
         leases, phase = self._leases, self._phase
@@ -521,6 +542,7 @@ class Task:
         self.metrics.heard(kind)
         self.renewed = Renewed(self.renewed.times + 1, self._system.monotonic())
         self.metrics.left.set(leases.calls_left())
+        self.metrics.lost_lines.set(0 if self._log is None else self._log.lost)
         at = leases.read()
         half = max(0, leases.held[kind].until - at) / 2
         self._renew_at = at + int(half * (1 + JITTER * (2 * self._random.random() - 1)))

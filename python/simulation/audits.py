@@ -4,6 +4,7 @@ import subprocess
 from pathlib import Path
 
 from hourstable import logs
+from hourstable.auditing import gaps_of
 
 SECONDS = 600  # that it may take
 
@@ -19,7 +20,7 @@ def gather(folder: Path, job: str) -> Path:
 
 def audit(folder: Path, job: str, program: str, must_be_timely: bool) -> str:
     """Audits the logs of a job, and returns what is wrong: nothing, if all its calls are one run and
-    its clocks were timely, where they must be."""
+    its clocks were timely, where they must be, or if the logs say that they lack calls."""
     gathered = gather(folder, job)
     files = logs.lay_out(gathered, folder / "audit" / job)
     if not files:
@@ -32,6 +33,8 @@ def audit(folder: Path, job: str, program: str, must_be_timely: bool) -> str:
     is_one = made.returncode == 0 and any(line.startswith("audit one") for line in said)
     is_timely = "timely yes" in said
     if is_one and (is_timely or not must_be_timely):
+        return ""
+    if gaps_of(gathered):  # what is missing is named, and what follows from it is no fault
         return ""
     told = (made.stdout + made.stderr).replace(f"{folder}/", "").strip().splitlines()
     return f"{job}: status {made.returncode}: " + "; ".join(told)[-500:]
