@@ -14,6 +14,7 @@ from hourstable.desk import Desk, Told, Unreachable
 from hourstable.library import JobTerm, Phase, Refused
 from hourstable.plans import Hysteresis, Planner
 
+THINK = 2.0  # seconds after which loads are looked at again, if nothing else changed
 log = logging.getLogger("hourstable.assigner")
 
 
@@ -30,6 +31,9 @@ class JobAssigner:
         self._lease: library.Assigner | None = None
         self._first_seen: int | None = None  # when a task was alive first
         self._asked_commit = 0
+        self._thought_of: object = None  # what the last thought was about
+        self._think_at = 0
+        self._wanted: bytes | None = None
 
     async def step(self) -> float:
         """Does what is next, and returns after how many seconds to look again. Raises
@@ -55,22 +59,31 @@ class JobAssigner:
         return 0.25
 
     async def _plan(self, status: dict[str, Any]) -> bytes | None:
+        """Returns the assignment that is wanted, None if the committed one is good enough. It thinks about it, in a
+        thread, when something changed, and else every few seconds, for the loads."""
         tasks = sorted(set(status["alive"]) - set(status["draining"]))
+        now = self._local()
         if not tasks:
             self._first_seen = None
             return None
-        now = self._local()
         if self._first_seen is None:
             self._first_seen = now
         if not status["committed"] and now - self._first_seen < self._rules.settle * 1000:
             return None  # others may begin at the same time
+        since = status["since_commit"]
+        known = status["committed"], tasks, since >= self._rules.settle, since >= self._rules.rest
+        if known != self._thought_of or now >= self._think_at:
+            self._wanted = await self._think(status, tasks)
+            self._thought_of, self._think_at = known, now + int(THINK * 1000)
+        return self._wanted
+
+    async def _think(self, status: dict[str, Any], tasks: list[int]) -> bytes | None:
         assignment = await self._desk.assignment(self.job) if status["committed"] else None
         if status["committed"] and assignment is None:
             return None
-        reported = [(int(low), int(high), load) for low, high, load in
-                    await self._desk.loads(self.job)]
+        reported = await self._desk.loads(self.job)
         policy, since = status["policy"], status["since_commit"]
-        return self._planner.wanted(assignment, policy, tasks, reported, since)
+        return await asyncio.to_thread(self._planner.wanted, assignment, policy, tasks, reported, since)
 
     async def _take(self, status: dict[str, Any]) -> float:
         """Takes the job lease; if its last term is of this assigner, renews it first, so that a

@@ -10,9 +10,9 @@ import os
 import re
 import subprocess
 import tempfile
-from collections.abc import Iterable, Iterator, Sequence
+from collections.abc import Iterator, Sequence
 from pathlib import Path
-from typing import Any, NamedTuple
+from typing import NamedTuple
 
 from hourstable import logs
 
@@ -21,16 +21,20 @@ LAST = 1 << 64  # above all tickets
 
 
 class Gap(NamedTuple):
-    """Calls that a log lacks: from a line of a file on, or all of a file that was removed."""
+    """Calls that the logs lack, and the line that says so."""
 
-    place: str  # the file and its line
-    lines: int | None  # None if nobody counted them
-    ticket: int  # of the last call before them, or of the last of them if a file was removed
-    why: str
+    file: str
+    line: int
+    missing: int
+    first: int  # the tickets of the first and the last of them
+    last: int
+    removed: str = ""  # the file that had them, if that was removed
 
     def __str__(self) -> str:
-        count = "lines" if self.lines is None else "1 line" if self.lines == 1 else f"{self.lines} lines"
-        return f"gap {self.place}: {count} after ticket {self.ticket} missing: {self.why}"
+        what = f"{self.missing} lines are missing"
+        if self.removed:
+            what = f"{self.removed} was removed and not audited"
+        return f"{self.file}:{self.line}: {what}, tickets {self.first} to {self.last}"
 
 
 class Verdict(NamedTuple):
@@ -45,46 +49,28 @@ class Verdict(NamedTuple):
 
 
 def gaps_of(folder: Path, above: int = 0) -> list[Gap]:
-    """Returns what the logs of a job lack. What was removed from them and is below a ticket was audited."""
-    by_log: dict[str, list[Path]] = {}
+    """Returns what the logs of a job lack, but for what was removed and is below a ticket, up to which an earlier
+    audit saw all.
+
+    Of two gaps that begin with one call the later one counts: the disk had not taken what came then. A gap whose
+    first call is in a log is none: a control plane has logged what its store had.
+    """
+    found = {gap.first: gap for gap in _gaps_in(folder) if not (gap.removed and gap.last < above)}
+    there: set[int] = set()
+    if found:
+        for path in logs.files_of(folder):
+            with open(path, "rb") as lines:
+                there.update(ticket for line in lines if (ticket := logs.ticket_of(line, 0)) in found)
+    return [gap for ticket, gap in found.items() if ticket not in there]
+
+
+def _gaps_in(folder: Path) -> Iterator[Gap]:
     for path in logs.files_of(folder):
-        by_log.setdefault(logs.DAY.sub("", path.name), []).append(path)
-    return [gap for paths in by_log.values() for gap in _gaps_in(paths, above)]
-
-
-def _gaps_in(paths: Iterable[Path], above: int) -> Iterator[Gap]:
-    """Returns the gaps of one log, whose files are given by their days."""
-    begun: Gap | None = None
-    ticket = 0
-    for path in paths:
-        for place, line in _numbered(path):
-            gap = line.get("gap")
-            if gap == "removed" and line["ticket"] < above:
-                continue
-            if gap == "removed":
-                yield Gap(place, None, line["ticket"], f"{line['file']} was removed and not audited")
-            elif gap == "begins":
-                begun = Gap(place, None, ticket, line["why"])
-            elif gap == "ends":
-                before = begun or Gap(place, None, ticket, line.get("why", "the reason is not known"))
-                yield before._replace(lines=line["lines"])
-                begun = None
-            elif begun is not None:  # another process went on
-                yield begun
-                begun = None
-            ticket = line.get("ticket", ticket) if gap is None else ticket
-    if begun is not None:
-        yield begun
-
-
-def _numbered(path: Path) -> Iterator[tuple[str, dict[str, Any]]]:
-    """Returns the calls and the gaps of a file, of other lines only those that a gap stands beside."""
-    with open(path, "rb") as file:
-        for number, line in enumerate(file, 1):
-            if line.startswith(logs.GAP):
-                yield f"{path.name}:{number}", json.loads(line)
-            elif found := logs.TICKET.match(b"\n" + line[:40]):
-                yield f"{path.name}:{number}", {"ticket": int(found[1])}
+        with open(path, "rb") as lines:
+            for number, line in enumerate(lines, 1):
+                if line.startswith(logs.GAP):
+                    gap = json.loads(line)["gap"]
+                    yield Gap(path.name, number, gap["lines"], gap["from"], gap["until"], gap.get("file", ""))
 
 
 class Audit:
@@ -105,14 +91,9 @@ class Audit:
         return status
 
     def _tell(self, verdict: Verdict, gaps: list[Gap]) -> int:
-        said = verdict.said
-        for gap in gaps:
-            print(gap)
-        if gaps and verdict.is_one:
-            said = said.replace("audit one\n", f"audit with gaps {len(gaps)}\n", 1)
-        elif gaps and verdict.status == 1:
-            print("what follows may be wrong only because of a gap")
-        print(said, end="", flush=True)
+        """Prints what the program said and what the logs lack, and returns the status."""
+        said = verdict.said.replace("audit one\n", "audit gaps\n", 1) if gaps else verdict.said
+        print(said, *(f"gap {gap}\n" for gap in gaps), sep="", end="", flush=True)
         return verdict.status or int(bool(gaps))
 
     def _judged(self, options: Sequence[str], above: int, below: int) -> Verdict:
@@ -139,7 +120,7 @@ class Audit:
         first_day, files = logs.days_before(logs.utc_day(), days), logs.files_of(self.folder)
         old = [path for path in files if logs.day_of(path) < first_day]
         kept = [path for path in files if logs.day_of(path) >= first_day]
-        firsts = [call["ticket"] for path in kept for call in _first_call(path)]
+        firsts = [ticket for path in kept if (ticket := logs.first_ticket(path))]
         below = min(firsts, default=1 + max(map(logs.last_ticket, old), default=0))
         old = [path for path in old if logs.last_ticket(path) < below]
         if not old or below <= above:
@@ -152,10 +133,3 @@ class Audit:
         for path in [*old, *(path for ticket, path in self._states() if ticket < below)]:
             path.unlink()
         print(f"removed {len(old)} files of days before {first_day}")
-
-
-def _first_call(path: Path) -> Iterator[dict[str, Any]]:
-    """Returns the first call of a file, if it has one."""
-    for call in logs.calls_of(path):
-        yield call
-        return

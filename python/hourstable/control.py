@@ -553,7 +553,6 @@ def _numbers_of(followed: Followed, now: float) -> dict[str, float]:
         "tasks_alive": len(followed.alive(now)),
         "tasks_draining": len(followed.draining()),
         "rows": len(job.rows()),
-        "log_lines_lost": job.lines_lost(),
     }
     if job.is_held:
         granted = int(job.kept()["granted"])

@@ -12,6 +12,7 @@ import aiohttp
 from hourstable.answers import READING
 from hourstable.control import Plane
 from hourstable.jobs import Replaced
+from hourstable.loads import Piece
 from hourstable.metrics import word_of
 from hourstable.store import Conflict, NoSuchJob, StoreFailed
 from hourstable.table_calls import Call, Commit, Malformed, Propose, Renew, Take, term_of
@@ -37,7 +38,7 @@ class Desk(Protocol):
 
     async def jobs(self) -> list[str]: ...
     async def status(self, job: str) -> dict[str, Any]: ...
-    async def loads(self, job: str) -> list[list[Any]]: ...
+    async def loads(self, job: str) -> list[Piece]: ...
     async def assignment(self, job: str) -> bytes | None: ...
     async def take(self, job: str, assigner: int) -> Told: ...
     async def renew(self, job: str, term: int) -> Told: ...
@@ -64,9 +65,9 @@ class LocalDesk:
         except FAILURES as error:
             raise Unreachable(str(error)) from error
 
-    async def loads(self, job: str) -> list[list[Any]]:
-        now = self._plane.settings.system.monotonic()
-        return self._plane.jobs[job].loads.newest(now)
+    async def loads(self, job: str) -> list[Piece]:
+        reports = self._plane.jobs[job].loads.counting(self._plane.settings.system.monotonic())
+        return await asyncio.to_thread(reports.joined)
 
     async def assignment(self, job: str) -> bytes | None:
         return self._plane.jobs[job].job.view.assignment
@@ -167,9 +168,9 @@ class HttpDesk:
     async def status(self, job: str) -> dict[str, Any]:
         return await self._value("GET", f"/jobs/{job}")
 
-    async def loads(self, job: str) -> list[list[Any]]:
-        found: list[list[Any]] = (await self._value("GET", f"/jobs/{job}/loads"))["loads"]
-        return found
+    async def loads(self, job: str) -> list[Piece]:
+        found = (await self._value("GET", f"/jobs/{job}/loads"))["loads"]
+        return [(int(low), int(high), int(load)) for low, high, load in found]
 
     async def assignment(self, job: str) -> bytes | None:
         status = await self.status(job)

@@ -383,7 +383,7 @@ class Job:
         assert self._log is not None
         lacking = await asyncio.to_thread(self._log.lacking, row.lines)
         if lacking:
-            self._log.begin(*lacking)
+            self._log.append(*lacking)
         value = json.loads(stored.kept)["value"]
         last, granted, deadline = (int(value[name]) for name in ("last", "granted", "deadline"))
         generation = int(value["committed"]["generation"]) if value["committed"] else 0
@@ -393,7 +393,7 @@ class Job:
         )
         given = self.name, stored.version, stored.kept, Row(row.ahead, [line]).text()
         version = await self.ask("swap", self._store.swap, *given)
-        self._log.begin(line)
+        self._log.append(line)
         self.grace = deadline
         self._counters.restored(self.name)
         return version, line
@@ -516,8 +516,6 @@ class Job:
             refused = made.refusal.name if made.refusal else None
             self._counters.made(self.name, waiting.call.do, refused)
             waiting.tell(made if is_used else made._replace(at=None))
-        if self._log.can_begin():  # after a gap: who gets the next call restores the table, and logs that
-            self.drop()
 
     def _to_store(self, held: Held, at: int, is_done: bool) -> bytes | None:
         """Returns what to store of the table before answers leave; None if nothing. `is_done` says
@@ -580,14 +578,6 @@ class Job:
         assert self._held is not None
         value: dict[str, Any] = json.loads(self._held.saved)["value"]
         return value
-
-    def lines_lost(self) -> int:
-        """Returns how many lines the log lacks since the start of this process."""
-        return self._log.lost if self._log is not None else 0
-
-    def is_logged(self) -> bool:
-        """Whether the log takes lines."""
-        return self._log is None or not self._log.is_broken
 
     def close(self) -> None:
         """Closes the table and the log. Calls that still wait are not answered."""

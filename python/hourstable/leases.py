@@ -66,7 +66,7 @@ class Leases:
         self._slicelet = Slicelet.resume(job, task, last)
         opened = LoggedCall(ticket=tickets.draw(), call=CALLS["open"], task=task, life=last)
         if log.is_kept:
-            log.begin(log_line(job, opened))
+            log.append(log_line(job, opened))
 
     def close(self) -> None:
         """Destroys the slicelet. Nothing is released."""

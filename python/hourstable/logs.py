@@ -4,8 +4,10 @@ A log has the files NAME.YYYY-MM-DD.jsonl of a folder, which is that of the job.
 the job line. A line has left the process when `append` returns: a process that is killed later
 loses none.
 
-Lines that begin with `{"gap":` are no calls. They say which calls a log lacks, since its disk took none or its old
-files were removed; `hourstable-service audit` reads them, and `hourstable audit` refuses a log that has one.
+Space is allocated ahead of the lines, so a disk that is full tears no line and takes one that says
+what is missing. A line that begins with `{"gap":` is no call: it says which calls the log lacks, as
+the disk did not take them or their file was removed. `hourstable-service audit` reads it, and
+`hourstable audit` refuses a log that has one.
 """
 
 import datetime
@@ -16,12 +18,11 @@ import os
 import re
 import time
 from collections.abc import Callable, Iterator, Mapping, Sequence
-from dataclasses import dataclass
 from functools import partial
 from pathlib import Path
 from typing import Any
 
-from hourstable.segments import SPARE, GrowingFile
+from hourstable.segments import GrowingFile
 from hourstable.system import SYSTEM, System
 
 ASSIGNERS, TASKS = 8, 64  # the most that a job may have
@@ -107,16 +108,10 @@ class Log:
 
     A file whose last line was torn, as by a kill while it was written, is mended: the line is ended
     if it is a call, and else left out. With `keep`, files that are more than so many days old are
-    removed at the start and each day.
+    removed at the start and each day, and a line of the log says so.
 
-    A disk that takes no more stops the log and not its process. From then on there is a gap: `append`
-    loses its lines, and `lost` counts them. What the process has in memory is then not what its log
-    shows, so the log goes on only with `begin`, by which the process says that what follows stands
-    for itself: a task begins a new life, a plane restores its tables, a clerk forgets. `can_begin`
-    says when the disk takes lines again. Two lines of the log name the gap for an audit: one at the
-    end of what was written, and one where the log goes on.
-
-    Raises OSError if the file of today cannot be opened, and ValueError if it begins with another job line.
+    Raises OSError if the file of today cannot be opened, and ValueError if it begins with another
+    job line.
     """
 
     is_kept = True  # whether lines that are appended are of use to anybody
@@ -132,65 +127,28 @@ class Log:
         system: System = SYSTEM,
     ) -> None:
         self.folder, self.name, self.job = Path(folder), name, job
-        self.lost = 0  # lines, since the start
-        self.gaps = 0  # since the start, with one that lasts
         self._system, self._keep = system, keep
         self._today, self._day = today or partial(utc_day, system), ""
         self._file: GrowingFile | None = None
-        self._gap: _Gap | None = None
-        self._looked = 0.0
         self.folder.mkdir(mode=0o700, parents=True, exist_ok=True)
         self._turn_to(self._today())
 
-    @property
-    def is_broken(self) -> bool:
-        """Whether lines are being lost."""
-        return self._gap is not None
-
     def append(self, *lines: str) -> None:
-        """Writes lines, which the system has when this returns; in a gap they are lost."""
-        if self._gap is None:
-            try:
-                self._write(*lines)
-                return
-            except OSError as error:
-                self._break(error)
-        assert self._gap is not None
-        self._gap.lines += len(lines)
-        self.lost += len(lines)
-
-    def begin(self, *lines: str) -> None:
-        """Writes lines with which what the process logs begins anew; they end a gap, if the disk takes them."""
-        gap = self._gap
-        if gap is not None:
-            told = {} if gap.is_told else {"why": gap.why}
-            ends = COMPACT.encode({"gap": "ends", "lines": gap.lines, **told})
-            try:
-                self._write(ends, *lines)
-                self._gap = None
-                log.warning("%s: %s goes on, without %d lines", self.folder.name, self.name, gap.lines)
-                return
-            except OSError:
-                pass
-        self.append(*lines)
-
-    def can_begin(self) -> bool:
-        """Whether the log has a gap that `begin` would end, as the disk takes lines again. It is asked at most once a
-        second."""
-        now = self._system.monotonic()
-        if self._gap is None or now - self._looked < 1.0:
-            return False
-        self._looked = now
+        """Writes lines, which the system has when this returns. Raises OSError, as of a full disk;
+        the file then has none of them, and a line that they are missing, as far as there is room."""
         try:
-            self._opened().reserve(SPARE)
-            return True
+            day = self._today()
+            if day != self._day:
+                self._turn_to(day)
+            self._opened.append(_bytes_of(*lines))
         except OSError:
-            return False
+            self._tell_gap(lines)
+            raise
 
     def lacking(self, lines: Sequence[str]) -> list[str]:
         """Returns those of the lines that are not in the two newest files. The lines are of line_of
-        and were appended together, so if the first one is missing, all are. It reads the files, which may take a
-        while."""
+        and were appended together, so if the first one is missing, all are. It reads the files,
+        which may take a while."""
         files = self._files()[-2:]
         found = {line for path in files for line in _lines_from(path, lines[0].encode())}
         return [line for line in lines if line.encode() not in found]
@@ -201,30 +159,19 @@ class Log:
             self._file.close()
         self._file, self._day = None, ""
 
-    def _write(self, *lines: str) -> None:
-        self._opened().append("".join(f"{line}\n" for line in lines).encode())
-
+    @property
     def _opened(self) -> GrowingFile:
-        """Returns the file of today. Raises OSError."""
-        day = self._today()
-        if day != self._day or self._file is None:
-            self._turn_to(day)
-        assert self._file is not None
+        if self._file is None:
+            raise ValueError(f"the log {self.name} is closed")
         return self._file
 
-    def _break(self, error: OSError) -> None:
-        """Begins a gap, and says so in the log, for which there is room where space is allocated ahead."""
-        self._gap = _Gap(f"{type(error).__name__} {error.strerror or error}")
-        self._looked = self._system.monotonic()
-        self.gaps += 1
-        log.error("%s: %s stops, and what follows is not logged: %s", self.folder.name, self.name, error)
-        line = COMPACT.encode({"gap": "begins", "why": self._gap.why})
+    def _tell_gap(self, lines: Sequence[str]) -> None:
+        tickets = [ticket_of(line.encode(), 0) for line in lines]
         try:
             if self._file is not None:
-                self._file.append_spare(f"{line}\n".encode())
-                self._gap.is_told = True
+                self._file.append_spare(_bytes_of(gap_line(len(lines), tickets[0], tickets[-1])))
         except OSError:
-            pass  # it is told where the log goes on
+            pass  # who goes on with the log may tell it then
 
     def _turn_to(self, day: str) -> None:
         path = self.folder / f"{self.name}.{day}{ENDING}"
@@ -232,16 +179,16 @@ class Log:
         try:
             _mend(file)
             self._head(file, path)
+            if self._keep is not None:
+                self._remove_before(days_before(day, self._keep), file)
         except BaseException:
             file.close()
             raise
         self.close()
         self._file, self._day = file, day
-        if self._keep is not None:
-            self._remove_before(days_before(day, self._keep), file)
 
     def _head(self, file: GrowingFile, path: Path) -> None:
-        first = self.job.encode() + b"\n"
+        first = _bytes_of(self.job)
         found = file.read(0, len(first))
         if not found:
             file.append(first)
@@ -254,46 +201,37 @@ class Log:
     def _remove_before(self, day: str, file: GrowingFile) -> None:
         """Removes the files of days before this one, and says so in the file of today."""
         for path in self._files():
-            if day_of(path) < day:
-                try:
-                    ticket = last_ticket(path)
-                    if ticket:
-                        told = {"gap": "removed", "file": path.name, "ticket": ticket}
-                        file.append(f"{COMPACT.encode(told)}\n".encode())
-                    path.unlink()
-                except OSError as error:
-                    log.warning("%s was not removed: %s", path, error)
+            if day_of(path) >= day:
+                continue
+            try:
+                first, last = first_ticket(path), last_ticket(path)
+                if last:
+                    file.append(_bytes_of(gap_line(0, first, last, file=path.name)))
+                path.unlink()
+            except OSError as error:
+                log.warning("%s was not removed: %s", path, error)
 
 
 class NoLog:
-    """In place of a log that is left out: what is appended is lost, and there is no gap, as there is nothing to
-    audit."""
+    """In place of a log that is left out."""
 
-    is_kept = is_broken = False
-    lost = gaps = 0
+    is_kept = is_stopped = False
 
     def append(self, *lines: str) -> None:
         """Does nothing."""
-
-    begin = append
-
-    def can_begin(self) -> bool:
-        return False
-
-    def lacking(self, lines: Sequence[str]) -> list[str]:
-        return []
 
     def close(self) -> None:
         """Does nothing."""
 
 
-@dataclass
-class _Gap:
-    """Lines that are being lost, and why."""
+def gap_line(lines: int, first: int, last: int, **members: str) -> str:
+    """Returns the line of a log that says how many lines it lacks, and the tickets of the first and
+    the last of them. With the member `file` it is all of a file that was removed."""
+    return COMPACT.encode({"gap": {"lines": lines, "from": first, "until": last, **members}})
 
-    why: str
-    lines: int = 0
-    is_told: bool = False  # whether the log says where it begins
+
+def _bytes_of(*lines: str) -> bytes:
+    return "".join(f"{line}\n" for line in lines).encode()
 
 
 def _mend(file: GrowingFile) -> None:
@@ -330,6 +268,11 @@ def _lines_from(path: Path, line: bytes) -> list[bytes]:
                 return file.read().split(b"\n")
             overlap, end = piece[: len(wanted)], start
     return []
+
+
+def first_ticket(path: Path) -> int:
+    """Returns the ticket of the first call of a file, 0 if it has none."""
+    return next((int(call["ticket"]) for call in calls_of(path)), 0)
 
 
 def last_ticket(path: Path) -> int:

@@ -115,7 +115,6 @@ class Gauges:
         "tasks_draining": "Tasks that are being drained.",
         "rows": "Open rows of the table.",
         "grants_made": "Grants that count as made, of the numbers of the policy.",
-        "log_lines_lost": "Lines that the log of the job lacks since the start of this process.",
         "numbers_left_ratio": "The part of the numbers of grants that is left.",
     }
 

@@ -126,7 +126,6 @@ class Metrics:
         self.behind = self._counter("clock_behind", "Times that the clock stopped the task.")
         self.lives = self._counter("lives", "Lives that were begun.")
         self.unreachable = self._counter("control_unreachable", "Calls that no plane answered.")
-        self.lost_lines = self._gauge("log_lines_lost", "Lines that its log lacks.")
         self.left = self._gauge("calls_left", "Calls that the slicelet still accepts.")
         self.keys = self._gauge("served_share", "The part of all slice keys that it may serve.")
         self._denied = Counter(
@@ -457,9 +456,6 @@ class Task:
         """Does one thing, and returns for how many seconds nothing is to be done."""
         if self._leases is not None and self._leases.calls_left() < LAST_CALLS:
             await self._end_life()
-        if self._leases is not None and self._log is not None and self._log.can_begin():
-            self._leases.close()  # what it did in a gap of the log is not known: a new life begins
-            self._leases = None
         if self._leases is None:
             self._leases = await self._begin_life()
         leases, phase = self._leases, self._phase
@@ -542,7 +538,6 @@ class Task:
         self.metrics.heard(kind)
         self.renewed = Renewed(self.renewed.times + 1, self._system.monotonic())
         self.metrics.left.set(leases.calls_left())
-        self.metrics.lost_lines.set(0 if self._log is None else self._log.lost)
         at = leases.read()
         half = max(0, leases.held[kind].until - at) / 2
         self._renew_at = at + int(half * (1 + JITTER * (2 * self._random.random() - 1)))

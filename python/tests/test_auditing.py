@@ -1,7 +1,7 @@
 """`hourstable-service audit` over the logs of planes and tasks: what they lack, and what is removed after it."""
 
 import asyncio
-import json
+import subprocess
 import threading
 import time
 from collections.abc import Callable
@@ -130,50 +130,23 @@ async def test_blocks_are_thinned_as_a_whole(tmp_path: Path, capfd: Said, sample
     assert capfd.readouterr().out.startswith("audit one\n")
 
 
-async def test_a_task_whose_disk_is_full_serves_on(tmp_path: Path, capfd: Said) -> None:
-    """It begins a new life once the disk takes lines again, and the audit names what is missing."""
+async def test_a_plane_whose_disk_was_full_logs_what_its_store_has(tmp_path: Path, capfd: Said) -> None:
+    """A call that is stored and not logged is logged when the table is restored. So nothing is missing."""
     program, system = needed.program(), Earlier()
-    options = Options(f"sqlite:{tmp_path}/jobs", tmp_path / "logs", rules=Hysteresis(settle=0.1, rest=1.0))
-    async with ControlPlane(options) as plane:
-        url, given = f"http://127.0.0.1:{plane.port}", {"logs": tmp_path / "logs", "policy": POLICY}
-        async with Task(url, "shop", 1, system=system, **given) as task:  # type: ignore[arg-type]
-            await serve(task)
-            system.is_full = True
-            heard = task.renewed.times
-            await serve(task)
-            await until(lambda: task.renewed.times >= heard + 2)
-            await serve(task)
-            system.is_full = False
-            await until(lambda: any(call["do"] == "open" and call["life"] == 1 for call in calls(tmp_path)))
-            await serve(task)
-    (gap,) = gaps_of(tmp_path / "logs/shop")
-    assert gap.lines is not None and gap.lines > 10 and "no space left" in gap.why
-    assert Audit(tmp_path / "logs/shop", str(program)).run() == 1
-    said = capfd.readouterr().out.splitlines()
-    assert said[0] == str(gap) and "audit one" not in said
-    assert said[1] == "audit with gaps 1", said
-
-
-async def test_a_plane_whose_disk_is_full_answers_on(tmp_path: Path, capfd: Said) -> None:
-    """Leases are renewed, and it restores its tables once the disk takes lines again."""
-    program, system = needed.program(), Earlier()
-    options = Options(f"sqlite:{tmp_path}/jobs", tmp_path / "logs", rules=Hysteresis(settle=0.1, rest=1.0))
+    options = Options(f"sqlite:{tmp_path}/jobs", tmp_path / "logs", rules=Hysteresis(settle=0.1, rest=1.0), shared=True)
     async with ControlPlane(options, system=system) as plane:
         url, given = f"http://127.0.0.1:{plane.port}", {"logs": tmp_path / "logs", "policy": POLICY}
         async with Task(url, "shop", 1, **given) as task:  # type: ignore[arg-type]
             await serve(task)
             system.is_full = True
-            heard = task.renewed.times
-            await until(lambda: task.renewed.times >= heard + 3)
-            await serve(task)
-            assert plane.plane is not None and plane.plane.jobs["shop"].job.lines_lost() >= 3
+            await until(lambda: plane.plane is not None and not plane.plane.jobs["shop"].job.is_held)
             system.is_full = False
-            await until(lambda: any(call["do"] == "restore" for call in calls(tmp_path, "control")))
+            heard = task.renewed.times
+            await until(lambda: task.renewed.times >= heard + 2)
             await serve(task)
-    (gap,) = gaps_of(tmp_path / "logs/shop")
-    assert gap.place.startswith("control-0.") and gap.lines is not None and gap.lines >= 3
-    assert Audit(tmp_path / "logs/shop", str(program)).run() == 1
-    assert "audit one" not in capfd.readouterr().out
+    assert gaps_of(tmp_path / "logs/shop") == []
+    assert Audit(tmp_path / "logs/shop", str(program)).run() == 0
+    assert capfd.readouterr().out.startswith("audit one\n")
 
 
 async def test_what_a_plane_looks_for_in_old_logs_keeps_up_no_other_call(
@@ -241,10 +214,9 @@ async def test_a_wrong_log_is_not_removed(tmp_path: Path, capfd: Said) -> None:
     assert 'should be "continuous"' in capfd.readouterr().out
 
 
-def written(folder: Path, name: str, *lines: object) -> None:
+def written(folder: Path, name: str, *lines: str) -> None:
     folder.mkdir(parents=True, exist_ok=True)
-    texts = [logs.job_line(POLICY), *(it if isinstance(it, str) else json.dumps(it) for it in lines)]
-    (folder / name).write_text("".join(f"{it}\n" for it in texts))
+    (folder / name).write_text("".join(f"{it}\n" for it in (logs.job_line(POLICY), *lines)))
 
 
 def call(ticket: int) -> str:
@@ -252,37 +224,38 @@ def call(ticket: int) -> str:
 
 
 def test_gaps_of_logs(tmp_path: Path) -> None:
-    begins, ends = {"gap": "begins", "why": "full"}, {"gap": "ends", "lines": 4}
-    one = '{"gap":"begins","why":"full"}', '{"gap":"ends","lines":4}'
-    assert [logs.COMPACT.encode(it) for it in (begins, ends)] == list(one)
-    written(tmp_path, "a.2026-01-01.jsonl", call(5), *one, call(9))
-    written(tmp_path, "b.2026-01-01.jsonl", call(6), one[0])
-    written(tmp_path, "b.2026-01-02.jsonl", one[1], call(8))
-    written(tmp_path, "c.2026-01-01.jsonl", call(7), one[0], call(10))  # its process died
-    written(tmp_path, "d.2026-01-01.jsonl", '{"gap":"ends","lines":1,"why":"late"}', call(11), one[0])
-    written(tmp_path, "e.2026-01-05.jsonl", '{"gap":"removed","file":"e.2026-01-01.jsonl","ticket":3}')
+    def gap(lines: int, first: int, last: int, **members: str) -> str:
+        return logs.gap_line(lines, first, last, **members)
+
+    assert gap(4, 5, 8) == '{"gap":{"lines":4,"from":5,"until":8}}'
+    written(tmp_path, "a.2026-01-01.jsonl", call(5), gap(1, 6, 6), gap(4, 6, 9), call(10))  # the later one counts
+    written(tmp_path, "b.2026-01-01.jsonl", call(7), gap(2, 11, 12))
+    written(tmp_path, "c.2026-01-01.jsonl", gap(2, 13, 14), call(13), call(14))  # logged after all
+    written(tmp_path, "d.2026-01-01.jsonl", gap(1, 15, 15))
+    written(tmp_path, "e.2026-01-05.jsonl", call(15), gap(0, 2, 3, file="e.2026-01-01.jsonl"))
     assert [str(gap) for gap in gaps_of(tmp_path)] == [
-        "gap a.2026-01-01.jsonl:3: 4 lines after ticket 5 missing: full",
-        "gap b.2026-01-01.jsonl:3: 4 lines after ticket 6 missing: full",
-        "gap c.2026-01-01.jsonl:3: lines after ticket 7 missing: full",
-        "gap d.2026-01-01.jsonl:2: 1 line after ticket 0 missing: late",
-        "gap d.2026-01-01.jsonl:4: lines after ticket 11 missing: full",
-        "gap e.2026-01-05.jsonl:2: lines after ticket 3 missing: e.2026-01-01.jsonl was removed and not audited",
+        "a.2026-01-01.jsonl:4: 4 lines are missing, tickets 6 to 9",
+        "b.2026-01-01.jsonl:3: 2 lines are missing, tickets 11 to 12",
+        "e.2026-01-05.jsonl:3: e.2026-01-01.jsonl was removed and not audited, tickets 2 to 3",
     ]
-    assert len(gaps_of(tmp_path, 4)) == 5
+    assert len(gaps_of(tmp_path, 3)) == 3
+    assert len(gaps_of(tmp_path, 4)) == 2
 
 
 def test_an_audit_never_says_one_over_a_gap(tmp_path: Path, capfd: Said) -> None:
     program = needed.program()
-    lines = [call(1), '{"gap":"begins","why":"full"}', '{"gap":"ends","lines":4}', call(2)]
+    lines = [call(1), logs.gap_line(4, 2, 5), call(6)]
     written(tmp_path / "shop", "control-0.2026-01-01.jsonl", *lines)
     assert Audit(tmp_path / "shop", str(program)).run() == 1
-    said = capfd.readouterr().out.splitlines()
-    assert said[:2] == [
-        "gap control-0.2026-01-01.jsonl:3: 4 lines after ticket 1 missing: full", "audit with gaps 1"
-    ]
+    said = capfd.readouterr().out
+    assert said == (
+        "audit gaps\nsteps 2\ncalls table 2\ntimely yes\n"
+        "gap control-0.2026-01-01.jsonl:3: 4 lines are missing, tickets 2 to 5\n"
+    )
     assert main(["audit", "--keep", "1", str(tmp_path)]) == 1
     assert len(logs.files_of(tmp_path / "shop")) == 1
+    path = tmp_path / "shop/control-0.2026-01-01.jsonl"
+    assert subprocess.run([program, "audit", str(path)], capture_output=True).returncode == 2
 
 
 def test_words_of_audits_that_are_refused(tmp_path: Path) -> None:

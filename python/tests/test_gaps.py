@@ -1,6 +1,7 @@
-"""Logs on disks that are full, and logs that are left out or thinned."""
+"""Logs on disks that are full, logs that are removed, and lines that are looked for."""
 
 import errno
+import json
 import os
 import subprocess
 import sys
@@ -13,7 +14,7 @@ import needed
 needed.library()
 
 from hourstable import logs  # noqa: E402
-from hourstable.logs import Log, NoLog, line_of  # noqa: E402
+from hourstable.logs import Log, gap_line, line_of  # noqa: E402
 from hourstable.segments import SEGMENT, SPARE  # noqa: E402
 from hourstable.system import System  # noqa: E402
 
@@ -27,11 +28,8 @@ class SmallDisk(System):
     bytes a write takes at most, before it fails."""
 
     def __init__(self, room: int, allocates: bool = True) -> None:
-        self.room, self.allocates, self.now = room, allocates, 0.0
+        self.room, self.allocates = room, allocates
         self.takes: int | None = None
-
-    def monotonic(self) -> float:
-        return self.now
 
     def allocate(self, file: int, start: int, length: int) -> None:
         if not self.allocates:
@@ -74,62 +72,41 @@ def test_space_is_allocated_ahead_of_lines(tmp_path: Path) -> None:
     assert os.stat(tmp_path / f"task-1.{DAY}.jsonl").st_blocks * 512 < SEGMENT
 
 
-def test_a_full_disk_stops_the_log_and_not_its_process(tmp_path: Path) -> None:
+def test_a_full_disk_takes_a_line_of_what_is_missing(tmp_path: Path) -> None:
     system = SmallDisk(SEGMENT + 2 * SPARE)
     log, ticket = logged(tmp_path, system), 0
-    while not log.is_broken:
-        ticket += 1
-        log.append(line(ticket))
-        assert ticket < 100_000
-    log.append(line(ticket + 1), line(ticket + 2))
-    assert (log.lost, log.gaps) == (3, 1)
+    with pytest.raises(OSError, match="no space left"):
+        while True:
+            ticket += 2
+            log.append(line(ticket), line(ticket + 1))
+            assert ticket < 100_000
     found = text(tmp_path)
     assert found[-2] == line(ticket - 1)
-    assert found[-1] == '{"gap":"begins","why":"OSError no space left on device"}'
+    assert found[-1] == f'{{"gap":{{"lines":2,"from":{ticket},"until":{ticket + 1}}}}}'
+    system.room *= 2
+    log.append(line(ticket))  # who has the line still may write it
+    assert text(tmp_path)[-1] == line(ticket)
 
 
-def test_a_log_goes_on_where_something_begins_anew(tmp_path: Path) -> None:
-    system = SmallDisk(SEGMENT + 2 * SPARE)
-    log = logged(tmp_path, system)
-    system.room = 0
-    system.takes = 0
-    log.append(line(1))
-    log.append(line(2))
-    system.now += 2
-    assert not log.can_begin()
-    log.begin(line(3))
-    assert log.lost == 3 and log.is_broken
-    system.room, system.takes = 1 << 40, None
-    assert not log.can_begin()  # it was asked less than a second before
-    system.now += 2
-    assert log.can_begin()
-    log.append(line(4))  # nothing began anew
-    log.begin(line(5), line(6))
-    log.append(line(7))
-    assert (log.lost, log.gaps, log.is_broken) == (4, 1, False)
-    ends = '{"gap":"ends","lines":4,"why":"OSError input/output error"}'
-    assert text(tmp_path) == [JOB, ends, line(5), line(6), line(7)]
-
-
-@pytest.mark.parametrize("takes", [1, 10, len(line(1)), len(line(1)) + 1, len(line(1)) + 10])
+@pytest.mark.parametrize("takes", [0, 1, 10, len(line(1)), len(line(1)) + 1, len(line(1)) + 10])
 def test_a_write_that_fails_tears_no_line(tmp_path: Path, takes: int) -> None:
     system = SmallDisk(1 << 40)
     log = logged(tmp_path, system)
     system.takes = takes
-    log.append(line(1), line(2))
+    with pytest.raises(OSError, match="input/output error"):
+        log.append(line(1), line(2))
     assert text(tmp_path) == [JOB]
     system.takes = None
-    log.begin(line(3))
-    assert text(tmp_path)[1:] == ['{"gap":"ends","lines":2,"why":"OSError input/output error"}', line(3)]
-    assert log.lost == 2
+    log.append(line(3))
+    assert text(tmp_path) == [JOB, line(3)]
 
 
 def test_a_filesystem_that_allocates_nothing(tmp_path: Path) -> None:
     log = logged(tmp_path, SmallDisk(200, allocates=False))
-    for ticket in (1, 2, 3):
-        log.append(line(ticket))
-    assert log.lost > 0
-    assert text(tmp_path)[1:] == [line(ticket) for ticket in range(1, 4 - log.lost)]
+    log.append(line(1))
+    with pytest.raises(OSError, match="no space left"):
+        log.append(line(2))
+    assert text(tmp_path) == [JOB, line(1)]
 
 
 def test_a_real_disk_that_is_full(tmp_path: Path) -> None:
@@ -137,19 +114,18 @@ def test_a_real_disk_that_is_full(tmp_path: Path) -> None:
     disk = tmp_path / "disk"
     disk.mkdir()
     program = f"""
-import os, time
+import os
 from hourstable.logs import Log
 log = Log({str(disk)!r}, "task-1", {JOB!r}, today=lambda: {DAY!r})
 with open({str(disk / "other")!r}, "wb") as other:
     os.posix_fallocate(other.fileno(), 0, 1_500_000)
-while not log.lost:
-    log.append({line(1)!r})
+try:
+    while True:
+        log.append({line(1)!r})
+except OSError as error:
+    print(error.strerror)
 os.unlink({str(disk / "other")!r})
-end = time.monotonic() + 60
-while not log.can_begin():
-    assert time.monotonic() < end
-    time.sleep(0.05)
-log.begin({line(2)!r})
+log.append({line(2)!r})
 log.close()
 print(open({str(disk / f"task-1.{DAY}.jsonl")!r}).read(), end="")
 """
@@ -161,23 +137,36 @@ print(open({str(disk / f"task-1.{DAY}.jsonl")!r}).read(), end="")
         [*unshare, "sh", "-c", mount, program], check=True, timeout=120, capture_output=True, text=True
     )
     found = ran.stdout.splitlines()
-    assert found[0] == JOB and set(found[1:-3]) == {line(1)}
-    begins = '{"gap":"begins","why":"OSError No space left on device"}'
-    assert found[-3:] == [begins, '{"gap":"ends","lines":1}', line(2)]
+    assert found[:2] == ["No space left on device", JOB]
+    assert set(found[2:-2]) == {line(1)}
+    assert found[-2:] == ['{"gap":{"lines":1,"from":1,"until":1}}', line(2)]
 
 
 def test_calls_of_a_log_with_a_gap(tmp_path: Path) -> None:
-    system = SmallDisk(1 << 40)
-    log = logged(tmp_path, system)
+    log = logged(tmp_path, System())
     log.append(line(1))
-    system.takes = 0
-    log.append(line(2))
-    system.takes = None
-    log.begin(line(3))
+    log.append(gap_line(1, 2, 2))
+    log.append(line(3))
     log.close()
     assert [call["ticket"] for call in logs.merged(tmp_path)] == [1, 3]
     (laid,) = logs.lay_out(tmp_path, tmp_path / "laid")
     assert laid.read_text().splitlines() == [JOB, line(1), "", line(3)]
+
+
+def test_logs_between_two_tickets(tmp_path: Path) -> None:
+    log = logged(tmp_path, System())
+    for ticket in range(1, 6):
+        log.append(line(ticket))
+    log.append(json.dumps({"do": "lose", "ticket": 6, "reply": "lost 0"}))
+    log.close()
+    (laid,) = logs.lay_out(tmp_path, tmp_path / "laid", 3, 5)
+    assert laid.read_text().splitlines() == [JOB, "", "", line(3), line(4), "", ""]
+    path = logs.files_of(tmp_path)[0]
+    assert (logs.first_ticket(path), logs.last_ticket(path)) == (1, 5)
+    path.write_text(JOB + "\n" + json.dumps({"do": "lose", "ticket": 6, "reply": "lost 0"}) + "\n")
+    assert (logs.first_ticket(path), logs.last_ticket(path)) == (6, 6)
+    path.write_text(JOB + "\n")
+    assert (logs.first_ticket(path), logs.last_ticket(path)) == (0, 0)
 
 
 def test_files_are_kept_for_some_days(tmp_path: Path) -> None:
@@ -188,15 +177,8 @@ def test_files_are_kept_for_some_days(tmp_path: Path) -> None:
     log.close()
     names = [path.name for path in logs.files_of(tmp_path)]
     assert names == ["task-1.2026-11-03.jsonl", "task-1.2026-11-05.jsonl"]
-    removed = '{"gap":"removed","file":"task-1.2026-11-02.jsonl","ticket":1}'
+    removed = '{"gap":{"lines":0,"from":1,"until":1,"file":"task-1.2026-11-02.jsonl"}}'
     assert (tmp_path / names[1]).read_text().splitlines() == [JOB, removed, line(3)]
-
-
-def test_a_log_that_is_left_out() -> None:
-    log = NoLog()
-    log.append(line(1))
-    log.begin(line(2))
-    assert (log.lost, log.is_broken, log.can_begin(), log.lacking([line(1)])) == (0, False, False, [])
 
 
 def test_lines_that_are_far_from_the_end_are_found(tmp_path: Path) -> None:

@@ -161,13 +161,12 @@ def test_the_system_of_logs(tmp_path: Path) -> None:
     log = logs.Log(tmp_path, "task-1", logs.job_line(POLICY), system=system)
     log.append('{"ticket":1}')
     system.is_full = True
-    log.append('{"ticket":2}')
-    assert (log.lost, log.gaps, log.is_broken) == (1, 1, True)
+    with pytest.raises(OSError, match="no space left"):
+        log.append('{"ticket":2}')
     system.is_full = False
     system.real += 86_400_000_000_000
-    log.append('{"ticket":3}')  # a day later, but nothing began anew
-    log.begin('{"ticket":4}')
+    log.append('{"ticket":3}')
     log.close()
     names = ["task-1.2001-09-09.jsonl", "task-1.2001-09-10.jsonl"]
     assert [path.name for path in logs.files_of(tmp_path)] == names
-    assert [list(logs.calls_of(path)) for path in logs.files_of(tmp_path)] == [[{"ticket": 1}], [{"ticket": 4}]]
+    assert [list(logs.calls_of(path)) for path in logs.files_of(tmp_path)] == [[{"ticket": 1}], [{"ticket": 3}]]
