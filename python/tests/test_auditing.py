@@ -133,7 +133,9 @@ async def test_blocks_are_thinned_as_a_whole(tmp_path: Path, capfd: Said, sample
 async def test_a_plane_whose_disk_was_full_logs_what_its_store_has(tmp_path: Path, capfd: Said) -> None:
     """A call that is stored and not logged is logged when the table is restored. So nothing is missing."""
     program, system = needed.program(), Earlier()
-    options = Options(f"sqlite:{tmp_path}/jobs", tmp_path / "logs", rules=Hysteresis(settle=0.1, rest=1.0), shared=True)
+    options = Options(
+        f"sqlite:{tmp_path}/jobs", tmp_path / "logs", rules=Hysteresis(settle=0.1, rest=1.0), shared=True
+    )
     async with ControlPlane(options, system=system) as plane:
         url, given = f"http://127.0.0.1:{plane.port}", {"logs": tmp_path / "logs", "policy": POLICY}
         async with Task(url, "shop", 1, **given) as task:  # type: ignore[arg-type]
