@@ -9,6 +9,7 @@ call restores a table from what is stored, as after a restart.
 
 import asyncio
 import json
+import os
 from collections import OrderedDict, deque
 from collections.abc import Awaitable, Callable, Sequence
 from dataclasses import dataclass, field
@@ -18,8 +19,8 @@ from typing import Any, Generic, NamedTuple, TypeVar
 from hourstable import library, logs
 from hourstable.clock import JobClock
 from hourstable.library import Policy, Refused, Table
-from hourstable.store import Conflict, Life, NoSuchJob, Store, Stored, StoreFailed
-from hourstable.system import SYSTEM, System
+from hourstable.store import Conflict, Damaged, Life, NoSuchJob, Store, Stored, StoreFailed
+from hourstable.system import SYSTEM, System, make_folder
 from hourstable.table_calls import Call, Malformed, numbers_of, term_in, value_in
 from hourstable.tickets import Tickets, process_of
 
@@ -199,6 +200,17 @@ class Job:
         self.notes: OrderedDict[str, int] = OrderedDict()  # the answers to them
         self.committed_by: tuple[int, int] | None = None  # the last term, and its generation
 
+    def try_log(self) -> None:
+        """Raises OSError if the log of the job cannot be written."""
+        folder = make_folder(logs.folder_of(self.settings.logs, self.name))
+        path, system = folder / f".control-{self.settings.process}.tried", self.settings.system
+        file = system.open(path, os.O_WRONLY | os.O_CREAT | os.O_CLOEXEC, 0o600)
+        try:
+            system.write(file, b"\n")
+        finally:
+            system.close(file)
+            path.unlink(missing_ok=True)
+
     # Asking the store ------------------------------------------------------------------------
 
     async def ask(self, what: str, call: Callable[..., Awaitable[T]], *given: object) -> T:
@@ -228,20 +240,30 @@ class Job:
         if self._seen is None or self._seen[0] != stored.version:
             self._seen = stored.version, self._now()
         if self.policy is None:
-            self.policy, self.members = policy_of(json.loads(stored.policy))
-            job_line = logs.job_line(self.members)
+            policy, members = self._policy_in(stored)
             folder = logs.folder_of(self.settings.logs, self.name)
-            name, system = f"control-{self.settings.process}", self.settings.system
-            self._log = logs.Log(folder, name, job_line, system=system)
+            given = f"control-{self.settings.process}", logs.job_line(members)
+            self._log = logs.Log(folder, *given, system=self.settings.system)
+            self.policy, self.members = policy, members
         return stored
+
+    def _policy_in(self, stored: Stored) -> tuple[Policy, dict[str, Any]]:
+        try:
+            return policy_of(json.loads(stored.policy))
+        except (ValueError, Malformed) as error:
+            raise Damaged(f"the policy that is stored of {self.name} cannot be read: {error}") from error
 
     def _observe(self, stored: Stored) -> None:
         """Observes the ticket of the line that is stored: what is shown of it comes after the call
-        that stored it."""
+        that stored it. Raises Damaged."""
         if stored.line is None:
             return
         try:
-            self.tickets.observe(Row.read(stored.line).ticket())
+            ticket = Row.read(stored.line).ticket()
+        except (ValueError, KeyError, TypeError, IndexError) as error:
+            raise Damaged(f"the line that is stored of {self.name} cannot be read: {error!r}") from error
+        try:
+            self.tickets.observe(ticket)
         except ValueError as error:  # a host whose real time is a day ahead wrote it
             raise StoreFailed(f"the line that is stored of {self.name}: {error}") from error
 
@@ -284,7 +306,7 @@ class Job:
         try:
             return Table.restore(self.name, self.policy, stored.kept)
         except Refused as refusal:
-            raise StoreFailed(f"what is stored of {self.name} is refused: {refusal}") from refusal
+            raise Damaged(f"what is stored of {self.name} is refused: {refusal}") from refusal
 
     def _show_table(self, table: Table) -> None:
         phase = table.phase()

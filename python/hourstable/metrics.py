@@ -52,6 +52,10 @@ class Metrics(Counters):
         self.unauthorized = Counter(
             "hourstable_unauthorized", "Requests without a right secret.", registry=registry
         )
+        self.job_failures = Counter(
+            "hourstable_job_failures", "Times that a job failed: its log, what is stored of it, or a call.",
+            ["job"], registry=registry,
+        )
         self.internal_errors = Counter(
             "hourstable_internal_errors", "Exceptions that nobody expected, by what failed.",
             ["where"], registry=registry,
@@ -82,6 +86,10 @@ class Metrics(Counters):
         self.store_seconds.labels(what).observe(seconds)
         if failed:
             self.store_failures.labels(what).inc()
+
+    def job_failed(self, job: str) -> None:
+        """Counts a failure of a job."""
+        self.job_failures.labels(job).inc()
 
     def internal_error(self, where: str) -> None:
         """Counts an exception that nobody expected, as a supervisor caught it."""
@@ -115,6 +123,7 @@ class Gauges:
         "tasks_draining": "Tasks that are being drained.",
         "rows": "Open rows of the table.",
         "grants_made": "Grants that count as made, of the numbers of the policy.",
+        "job_failed": "1 if the job does not work on this control plane, else 0: /overview says why.",
         "numbers_left_ratio": "The part of the numbers of grants that is left.",
     }
 

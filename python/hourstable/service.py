@@ -20,8 +20,9 @@ from hourstable.desk import LocalDesk
 from hourstable.jobs import Settings
 from hourstable.limits import Limits
 from hourstable.plans import Hysteresis
+from hourstable.state import kept_in, state_folder
 from hourstable.store import DEADLINE, Store, open_store
-from hourstable.system import SYSTEM, System
+from hourstable.system import SYSTEM, System, make_folder
 from hourstable.task import FIRST_PROCESS as PROCESSES
 from hourstable.tickets import Tickets
 
@@ -44,6 +45,7 @@ class Options:
     rules: Hysteresis = field(default_factory=Hysteresis)
     poll: float = 1.0  # seconds between two looks at what other planes wrote
     store_deadline: float = DEADLINE  # seconds in which a call of the store returns or fails
+    state: Path | None = None  # the folder of its tickets; None: $STATE_DIRECTORY, or the one beside `logs`
 
 
 class ControlPlane:
@@ -85,8 +87,9 @@ class ControlPlane:
         process = process_number(chosen.process)
         store = await self._opens(chosen.store, chosen.store_deadline, system)
         ending.push_async_callback(store.close)
-        chosen.logs.mkdir(parents=True, exist_ok=True)
-        tickets = Tickets(process, chosen.logs / f"control-{process}.ticket", system=system)
+        make_folder(chosen.logs)
+        state = state_folder(chosen.state, chosen.logs)
+        tickets = Tickets(process, kept_in(state, f"control-{process}.ticket", chosen.logs), system=system)
         ending.callback(tickets.close)
         local = self._local_clock or local_clock_of(system=system)
         shared = store.several if chosen.shared is None else chosen.shared
