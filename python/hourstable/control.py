@@ -417,7 +417,7 @@ class Plane:
     async def _metrics(self, _: web.Request) -> web.Response:
         if self._runner is not None and self._runner.server is not None:
             self.metrics.connections.set(len(self._runner.server.connections))
-        text = self.metrics.text(self.shown())
+        text = self.metrics.text(self.shown(), self.tickets.left_out)
         return web.Response(body=text, headers={"Content-Type": CONTENT_TYPE})
 
     async def _get_jobs(self, _: web.Request) -> web.Response:

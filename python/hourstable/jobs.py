@@ -19,7 +19,7 @@ from typing import Any, Generic, NamedTuple, TypeVar
 from hourstable import library, logs
 from hourstable.clock import JobClock
 from hourstable.library import Policy, Refused, Table
-from hourstable.store import Conflict, Damaged, Life, NoSuchJob, Store, Stored, StoreFailed
+from hourstable.store import Conflict, Damaged, Life, NoSuchJob, Store, Stored
 from hourstable.system import SYSTEM, System, make_folder
 from hourstable.table_calls import Call, Malformed, numbers_of, term_in, value_in
 from hourstable.tickets import Tickets, process_of
@@ -259,13 +259,9 @@ class Job:
         if stored.line is None:
             return
         try:
-            ticket = Row.read(stored.line).ticket()
+            self.tickets.observe(Row.read(stored.line).ticket())
         except (ValueError, KeyError, TypeError, IndexError) as error:
             raise Damaged(f"the line that is stored of {self.name} cannot be read: {error!r}") from error
-        try:
-            self.tickets.observe(ticket)
-        except ValueError as error:  # a host whose real time is a day ahead wrote it
-            raise StoreFailed(f"the line that is stored of {self.name}: {error}") from error
 
     async def refresh(self) -> None:
         """Looks whether another plane has written, and reads the lives of tasks."""

@@ -60,9 +60,14 @@ class Metrics(Counters):
             "hourstable_internal_errors", "Exceptions that nobody expected, by what failed.",
             ["where"], registry=registry,
         )
+        self._tickets = Counter(
+            "hourstable_tickets_left_out", "Tickets and real times beyond the year 6429, which nothing follows.",
+            registry=registry,
+        )
         self.connections = Gauge(
             "hourstable_open_connections", "Open connections.", registry=registry
         )
+        self._left_out = 0
         self._gauges = Gauges(registry)
         build = Gauge(
             "hourstable_build_info", "1, with the version of the library.", ["version"],
@@ -95,8 +100,10 @@ class Metrics(Counters):
         """Counts an exception that nobody expected, as a supervisor caught it."""
         self.internal_errors.labels(where).inc()
 
-    def text(self, jobs: Iterable["Shown"]) -> bytes:
-        """Returns the text of all metrics."""
+    def text(self, jobs: Iterable["Shown"], left_out: int = 0) -> bytes:
+        """Returns the text of all metrics. `left_out` is how many tickets the process has left out."""
+        self._tickets.inc(max(0, left_out - self._left_out))
+        self._left_out = left_out
         for shown in jobs:
             self._gauges.show(shown)
         made: bytes = generate_latest(self.registry)

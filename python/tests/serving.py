@@ -93,7 +93,7 @@ async def running(
 ) -> AsyncIterator[tuple[Plane, Caller]]:
     """A plane that listens, and a caller of it."""
     state = make_folder(folder.parent / "state")
-    tickets = Tickets(process, state / f"control-{process}.ticket")
+    tickets = Tickets(process, state / f"control-{process}.ticket", system=system)
     settings = Settings(folder, process, shared, standby, *ahead, local=local_clock(), system=system)
     generous = Limits(grants=1e6, burst=1e6)
     plane = Plane(store, settings, tickets, limits or generous, secrets)
