@@ -362,8 +362,7 @@ class Plane:
                 self.tickets.observe_text(request.headers.get(ticketing.HEADER))
         except ValueError as error:
             return failure(400, str(error))
-        made = await self._answered(request, handler)
-        made.headers[ticketing.HEADER] = str(self.tickets.draw())
+        made = self._with_ticket(await self._answered(request, handler), is_public)
         if request.method != "GET":
             route = request.match_info.route.resource
             call = route.canonical.rpartition("/")[2] if route else "none"
@@ -378,11 +377,25 @@ class Plane:
         return any(equal)
 
     async def _answered(self, request: web.Request, handler: Handler) -> web.StreamResponse:
-        """Answers what a handler raises."""
+        """Answers what a handler raises. What nobody expected is counted, and aiohttp answers 500."""
         try:
             return await handler(request)
         except ANSWERED as error:
             return self._failure_of(request, error)
+        except Exception as error:
+            self._supervisor.caught("request", error)
+            raise
+
+    def _with_ticket(self, answer: web.StreamResponse, is_public: bool) -> web.StreamResponse:
+        """Returns an answer with its ticket. If none can be drawn, nothing is known of the call."""
+        try:
+            answer.headers[ticketing.HEADER] = str(self.tickets.draw())
+        except (OSError, OverflowError) as error:
+            if is_public:
+                return answer
+            log.warning("no ticket can be drawn: %s", error)
+            return failure(503, f"no ticket can be drawn: {error}", 1, refused="disk")
+        return answer
 
     def _failure_of(self, request: web.Request, error: Exception) -> web.Response:
         """Returns the answer to a request that raised one of ANSWERED."""

@@ -197,10 +197,16 @@ class _Kept:
         return int(self.fields.last)
 
     def keep(self, place: int, ahead: int) -> None:
-        """Keeps a place that is about to be drawn, and if need be a new one above it."""
-        if place >= self.fields.ceiling:
+        """Keeps a place that is about to be drawn, and if need be a new one above it. Raises OSError, and keeps
+        nothing, if that does not reach the disk."""
+        before = self.fields.ceiling
+        if place >= before:
             self.fields.ceiling = min(place + ahead + 1, PLACES)
-            self.system.flush(self.memory)
+            try:
+                self.system.flush(self.memory)
+            except BaseException:
+                self.fields.ceiling = before
+                raise
         self.fields.last = place
 
     def close(self) -> None:

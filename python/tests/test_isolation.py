@@ -2,6 +2,8 @@
 
 import asyncio
 import errno
+import json
+import mmap
 import os
 import sqlite3
 from base64 import b64encode
@@ -22,7 +24,7 @@ from hourstable.store import Damaged, Store  # noqa: E402
 from hourstable.store_etcd import EtcdStore  # noqa: E402
 from hourstable.system import System  # noqa: E402
 from hourstable.tickets import Tickets, real_milliseconds  # noqa: E402
-from serving import Caller, running  # noqa: E402
+from serving import Caller, lines_of, running  # noqa: E402
 from stores import opened  # noqa: E402
 from test_page import begun  # noqa: E402
 from test_service import options  # noqa: E402
@@ -217,6 +219,58 @@ async def test_a_policy_that_is_missing_in_etcd(running_etcd: str, job: str, tmp
 @pytest.fixture
 def running_etcd(running: Callable[[str], str]) -> str:
     return running("etcd")
+
+
+class Full(System):
+    """A system whose disk may be full: a write has no space, and a mapped page is not written back."""
+
+    def __init__(self) -> None:
+        self.is_full = self.is_broken = False
+
+    def write(self, file: int, data: bytes) -> int:
+        if self.is_full:
+            raise OSError(errno.ENOSPC, os.strerror(errno.ENOSPC))
+        return os.write(file, data)
+
+    def flush(self, memory: mmap.mmap) -> None:
+        if self.is_broken:
+            raise OSError(errno.EIO, os.strerror(errno.EIO))
+
+
+async def test_calls_on_a_full_disk(file: Store, tmp_path: Path) -> None:
+    """They are 503 with the seconds after which to ask again, what needs no disk is answered, and no line of the log
+    is missing afterwards."""
+    system = Full()
+    async with running(file, tmp_path / "logs", system=system) as (_, caller):
+        await begun(caller)
+        system.is_full = True
+        for told in (await caller.grant(1), await caller.grant(2), await caller.post("take", {"assigner": 2})):
+            assert (told.status, told.json["refused"], told.headers["Retry-After"]) == (503, "disk", "1")
+        assert (await caller.post("tasks/1/life")).json["life"] == 1
+        assert (await caller.get("/phase")).json["committed"] == 1
+        assert "No space left" in (await failed(caller))["shop"]["why"]
+        system.is_full = False
+        assert (await caller.grant(1)).status == 200
+        assert await failed(caller) == {}
+        assert await internal_errors(caller) == 0
+    stored = await file.load("shop")
+    assert stored is not None
+    numbers = [int(it["reply"].split()[1]) for it in lines_of(tmp_path / "logs") if it["do"] == "grant"]
+    assert numbers == list(range(1, len(numbers) + 1))
+    assert len(numbers) == int(json.loads(stored.kept)["value"]["granted"])
+
+
+async def test_a_disk_on_which_tickets_cannot_be_kept(file: Store, tmp_path: Path) -> None:
+    system = Full()
+    async with running(file, tmp_path / "logs", system=system) as (plane, caller):
+        await begun(caller)
+        system.is_broken = True
+        plane.tickets.observe(plane.tickets.draw() + (60_000 << 16))  # the next draw is to be kept
+        for told in (await caller.grant(1), await caller.get("/phase"), await caller.grant(1)):
+            assert (told.status, told.headers["Retry-After"]) == (503, "1")
+        assert (await caller.ask("GET", "/healthz")).status == 200
+        system.is_broken = False
+        assert (await caller.grant(1)).status == 200
 
 
 class Surprising:
