@@ -96,7 +96,7 @@ class Plane:
         self._secrets = [secret.encode() for secret in secrets or []]
         self._runner: web.AppRunner | None = None
         self._server: asyncio.Server | None = None
-        self._supervisor = Supervisor(
+        self.supervisor = Supervisor(
             f"plane {settings.process}", log, self.metrics.internal_error, settings.system.random().random
         )
         self._looking: set[str] = set()  # jobs at which it looks now
@@ -113,7 +113,7 @@ class Plane:
         self._server = await asyncio.get_running_loop().create_server(
             self._connected, host, port, ssl=tls, backlog=128, reuse_address=True
         )
-        self._supervisor.watch("poller", partial(self._poll, poll))
+        self.supervisor.watch("poller", partial(self._poll, poll))
         made: int = self._server.sockets[0].getsockname()[1]
         return made
 
@@ -122,7 +122,7 @@ class Plane:
         self.is_closing = True
         if self._server is not None:
             self._server.close()
-        await self._supervisor.close()
+        await self.supervisor.close()
         for followed in self.jobs.values():
             followed.job.wake()
         if self._runner is not None and self._runner.server is not None:
@@ -169,10 +169,12 @@ class Plane:
                     names.update(await self.store.jobs())
                 except StoreFailed as error:
                     log.warning("the store was not read: %s", error)
+                    for followed in self.jobs.values():
+                        followed.job.unsee()
                     continue
             for name in sorted(names - self._looking):  # a job whose row is locked keeps up no other
                 self._looking.add(name)
-                looking = self._supervisor.spawn("look_at", self._look_at(name))
+                looking = self.supervisor.spawn("look_at", self._look_at(name))
                 looking.add_done_callback(partial(self._looked, name))
 
     def _looked(self, name: str, _: "asyncio.Task[None]") -> None:
@@ -197,7 +199,7 @@ class Plane:
             return
         log.warning("%s failed: %s", name, failure.why)
         if not isinstance(error, EXPECTED):
-            self._supervisor.caught(f"job {what}", error)
+            self.supervisor.caught(f"job {what}", error)
 
     def _job(self, name: str) -> Job:
         return Job(name, self.store, self.settings, self.tickets, self.metrics)
@@ -383,7 +385,7 @@ class Plane:
         except ANSWERED as error:
             return self._failure_of(request, error)
         except Exception as error:
-            self._supervisor.caught("request", error)
+            self.supervisor.caught("request", error)
             raise
 
     def _with_ticket(self, answer: web.StreamResponse, is_public: bool) -> web.StreamResponse:

@@ -19,7 +19,8 @@ from typing import Any, Generic, NamedTuple, TypeVar
 from hourstable import library, logs
 from hourstable.clock import JobClock
 from hourstable.library import Policy, Refused, Table
-from hourstable.store import Conflict, Damaged, Life, NoSuchJob, Store, Stored
+from hourstable.standstill import Standstill
+from hourstable.store import Conflict, Damaged, Life, NoSuchJob, Store, Stored, StoreFailed
 from hourstable.system import SYSTEM, System, make_folder
 from hourstable.table_calls import Call, Malformed, numbers_of, term_in, value_in
 from hourstable.tickets import Tickets, process_of
@@ -186,7 +187,7 @@ class Job:
         self._working: asyncio.Task[None] | None = None  # while calls wait
         self._held: Held | None = None
         self._log: logs.Log | None = None
-        self._seen: tuple[int, float] | None = None  # a version, and since when it stands
+        self._seen = Standstill(self._now, settings.standby / 4)
         self._changed = asyncio.Event()
         self._rows: list[library.Row] = []
         self._owners: tuple[bytes | None, set[int]] = None, set()  # those of an assignment
@@ -220,11 +221,18 @@ class Job:
             made = await call(*given)
             failed = False
             return made
-        except (Conflict, NoSuchJob):
+        except (Conflict, NoSuchJob, Damaged):
             failed = False
+            raise
+        except StoreFailed:
+            self.unsee()
             raise
         finally:
             self._counters.stored(what, self._now() - begun, failed)
+
+    def unsee(self) -> None:
+        """Takes that the store did not answer: for how long the row stands still is not known."""
+        self._seen.forget()
 
     async def load(self) -> None:
         """Reads what is stored, for those who only ask. Raises NoSuchJob."""
@@ -233,12 +241,12 @@ class Job:
                 self._show(await self._loaded())
 
     async def _loaded(self) -> Stored:
+        begun = self._now()
         stored = await self.ask("load", self._store.load, self.name)
         if stored is None:
             raise NoSuchJob(self.name)
         self._observe(stored)
-        if self._seen is None or self._seen[0] != stored.version:
-            self._seen = stored.version, self._now()
+        self._seen.saw(stored.version, self._now() - begun)
         if self.policy is None:
             policy, members = self._policy_in(stored)
             folder = logs.folder_of(self.settings.logs, self.name)
@@ -264,19 +272,30 @@ class Job:
             raise Damaged(f"the line that is stored of {self.name} cannot be read: {error!r}") from error
 
     async def refresh(self) -> None:
-        """Looks whether another plane has written, and reads the lives of tasks."""
+        """Looks whether another plane has written, and reads the lives of tasks. Calls do not wait for it."""
+        self.lives = await self.ask("lives", self._store.lives, self.name)
+        if not await self._is_changed():
+            return
         async with self._lock:
-            self.lives = await self.ask("lives", self._store.lives, self.name)
-            version = await self.ask("version", self._store.version, self.name)
-            if version is None:
-                raise NoSuchJob(self.name)
-            if self._held is not None:
-                if self._held.version == version:
-                    return
+            if self._held is None:
+                self._show(await self._loaded())
+            elif await self._is_changed():  # no call was stored meanwhile
                 self.drop()
                 self._counters.replaced(self.name)
-            if self._seen is None or self._seen[0] != version:
                 self._show(await self._loaded())
+
+    async def _is_changed(self) -> bool:
+        """Returns whether the row has another version than the one that is held, or was seen last."""
+        begun = self._now()
+        version = await self.ask("version", self._store.version, self.name)
+        if version is None:
+            raise NoSuchJob(self.name)
+        if self._held is not None:
+            return self._held.version != version
+        if version != self._seen.version:
+            return True
+        self._seen.saw(version, self._now() - begun)
+        return False
 
     async def raise_life(self, task: int) -> int:
         """Returns a new life of a task, which no other call returns."""
@@ -356,7 +375,7 @@ class Job:
     def drop(self) -> None:
         """Drops the table: what the store has is the table from now on."""
         held, self._held = self._held, None
-        self._seen = None
+        self._seen.forget()
         self.notes.clear()
         self.committed_by = None
         if held is not None:
@@ -373,11 +392,11 @@ class Job:
 
     def _stand_by(self, stored: Stored) -> None:
         """Raises Replaced if another plane wrote last, and not long enough ago."""
-        if not self.settings.shared or stored.line is None or self._seen is None:
+        if not self.settings.shared or stored.line is None:
             return
         if process_of(Row.read(stored.line).ticket()) == self.settings.process:
             return
-        left = self._seen[1] + self.settings.standby - self._now()
+        left = self.settings.standby - self._seen.seconds()
         if left > 0:
             raise Replaced(left)
 
@@ -391,7 +410,7 @@ class Job:
         if row is not None:
             await clock.wait()
             version, line = await self._write_restore(stored, row)
-        self._seen = None
+        self._seen.forget()
         table = self._restored(stored)
         return Held(table, clock, version, stored.kept, last, last, last, line)
 
@@ -444,16 +463,21 @@ class Job:
         try:
             while self._waiting:
                 async with self._lock:
-                    await self._make(self._next_together())
+                    together = self._next_together()
+                    if together:
+                        await self._make(together)
         finally:
             self._working = None
 
     def _next_together(self) -> list[Waiting]:
         """Takes the calls that are made together: those that wait, up to one whose answer may
-        depend on whether the store has an earlier one of them."""
+        depend on whether the store has an earlier one of them. Those that were given up are left out."""
         taken: list[Waiting] = []
         known: set[str] = set()
         while self._waiting and len(taken) < MOST_TOGETHER:
+            if self._waiting[0].answer.done():
+                self._waiting.popleft()
+                continue
             key = self._waiting[0].call.key
             if key is not None:
                 if key in known:
@@ -465,6 +489,7 @@ class Job:
     async def _make(self, together: list[Waiting]) -> None:
         """Makes calls, stores and logs them, in this order, and answers each."""
         error: Exception
+        begun = self._now()
         try:
             held = await self._hold()
             at = await held.clock.wait()
@@ -481,6 +506,8 @@ class Job:
             return
         except Exception as why:
             error = why
+            if isinstance(why, StoreFailed) and self._now() - begun > self._store.deadline / 2:
+                together += self._all_waiting()  # it stands still, and would keep them up as long
         except BaseException:
             self.drop()
             for one in together:
@@ -489,6 +516,12 @@ class Job:
         self.drop()  # the table may have what the store has not
         for one in together:
             one.fail(error)
+
+    def _all_waiting(self) -> list[Waiting]:
+        """Takes all calls that wait."""
+        waiting = list(self._waiting)
+        self._waiting.clear()
+        return waiting
 
     def _play(self, held: Held, together: list[Waiting], at: int) -> list[Played]:
         """Plays calls on the table, and returns those that are to be stored. Those that repeat an

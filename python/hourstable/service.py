@@ -6,7 +6,6 @@
 It is what `hourstable-service control` runs. Several may run in one process, and each may be stopped and made anew.
 """
 
-import asyncio
 import ssl
 from collections.abc import Awaitable, Callable
 from contextlib import AsyncExitStack
@@ -98,8 +97,7 @@ class ControlPlane:
         ending.push_async_callback(plane.stop)
         port = await plane.start(chosen.host, chosen.port, chosen.tls, chosen.poll)
         if chosen.assigner:
-            jobs = AssignerOfJobs(chosen.assigner, LocalDesk(plane), local, chosen.rules)
-            ending.push_async_callback(_ended, asyncio.create_task(jobs.run()))
+            plane.supervisor.watch("assigner", lambda: _assigner(chosen, plane, local).run())
         return port
 
     async def stop(self) -> None:
@@ -115,9 +113,8 @@ class ControlPlane:
         await self.stop()
 
 
-async def _ended(running: "asyncio.Task[None]") -> None:
-    running.cancel()
-    await asyncio.gather(running, return_exceptions=True)
+def _assigner(chosen: Options, plane: Plane, local: Callable[[], int]) -> AssignerOfJobs:
+    return AssignerOfJobs(chosen.assigner, LocalDesk(plane), local, chosen.rules)
 
 
 def process_number(number: int) -> int:
