@@ -20,7 +20,7 @@ needed.library()
 
 from hourstable.service import ControlPlane  # noqa: E402
 from hourstable.state import state_folder  # noqa: E402
-from hourstable.store import Damaged, Store  # noqa: E402
+from hourstable.store import Damaged, Life, Store, StoreFailed  # noqa: E402
 from hourstable.store_etcd import EtcdStore  # noqa: E402
 from hourstable.system import System  # noqa: E402
 from hourstable.tickets import Tickets, real_milliseconds  # noqa: E402
@@ -271,6 +271,52 @@ async def test_a_disk_on_which_tickets_cannot_be_kept(file: Store, tmp_path: Pat
         assert (await caller.ask("GET", "/healthz")).status == 200
         system.is_broken = False
         assert (await caller.grant(1)).status == 200
+
+
+class Counting(System):
+    """A system that counts the files that are open."""
+
+    is_open = 0
+
+    def open(self, path: str | os.PathLike[str], flags: int, mode: int = 0o777) -> int:
+        self.is_open += 1
+        return os.open(path, flags, mode)
+
+    def close(self, file: int) -> None:
+        self.is_open -= 1
+        os.close(file)
+
+
+class WithoutLives:
+    """A store that tells no lives while `fails`."""
+
+    fails = True
+
+    def __init__(self, inner: Store) -> None:
+        self._inner = inner
+
+    def __getattr__(self, name: str) -> Any:
+        return getattr(self._inner, name)
+
+    async def lives(self, job: str) -> dict[int, Life]:
+        if self.fails:
+            raise StoreFailed("on purpose")
+        return await self._inner.lives(job)
+
+
+async def test_a_job_that_cannot_be_loaded_leaves_no_file_open(file: Store, tmp_path: Path) -> None:
+    async with running(file, tmp_path / "logs") as (_, caller):
+        await begun(caller)
+    store, system = WithoutLives(file), Counting()
+    given: Any = store
+    async with running(given, tmp_path / "logs", system=system) as (_, caller):
+        before = system.is_open
+        for _ in range(5):
+            assert (await caller.get()).status == 503
+        assert system.is_open == before
+        store.fails = False
+        assert (await caller.get()).status == 200
+        assert system.is_open == before + 1
 
 
 class Surprising:
