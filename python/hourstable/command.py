@@ -63,7 +63,10 @@ def _control_words(words: argparse.ArgumentParser) -> None:
                        help=f"in which a call of the store is answered, or fails ({DEADLINE:g})")
     words.add_argument("--listen", required=True, metavar="HOST:PORT")
     words.add_argument("--logs", required=True, metavar="FOLDER",
-                       help="for the logs of all jobs, and the ticket of this process")
+                       help="for the logs of all jobs")
+    words.add_argument("--state", metavar="FOLDER", type=Path,
+                       help="for the tickets of this process ($STATE_DIRECTORY, or else the one of the logs with"
+                       " .state behind its name)")
     words.add_argument("--process", type=int, default=0, metavar="N",
                        help="its number among all planes and assigners, 0 to 63 (0)")
     shared = words.add_mutually_exclusive_group()
@@ -193,7 +196,7 @@ def options_of(chosen: argparse.Namespace) -> Options:
         assigner=chosen.assigner,
         secrets=secrets_in(chosen.secret_file) if chosen.secret_file else [],
         tls=server_tls(chosen), limits=limits, rules=_rules_in(chosen),
-        store_deadline=chosen.store_deadline,
+        store_deadline=chosen.store_deadline, state=chosen.state,
     )
 
 

@@ -22,6 +22,7 @@ from hourstable.answers import (
     TASKS, answer_of, asker_in, failure, job_in, json_of, member, message_of, name_in, number_in, refused, told,
 )
 from hourstable.connections import Turned
+from hourstable.failures import Failures
 from hourstable.jobs import Job, Made, Replaced, Settings, policy_of
 from hourstable.keys import KeyTold
 from hourstable.lanes import Lanes
@@ -30,7 +31,8 @@ from hourstable.limits import Bucket, Limited
 from hourstable.limits import Limits as Limits
 from hourstable.loads import Denials, Loads
 from hourstable.metrics import CONTENT_TYPE, Metrics, Shown
-from hourstable.store import Conflict, LivesSpent, NoSuchJob, Store, StoreFailed
+from hourstable.store import Conflict, Damaged, LivesSpent, NoSuchJob, Store, StoreFailed
+from hourstable.supervisor import Supervisor
 from hourstable.table_calls import Call, Commit, Free, Grant, Malformed, Propose, Renew, Take, term_of
 from hourstable.tickets import Tickets
 
@@ -44,10 +46,9 @@ PUBLIC = {"/healthz", *page.FILES}  # what is answered without a secret
 log = logging.getLogger("hourstable.control")
 
 
-ANSWERED = (
-    Malformed, NoSuchJob, Conflict, LivesSpent, Limited, Replaced, StoreFailed, MemoryError,
-    web.HTTPException,
-)
+REFUSED = Malformed, NoSuchJob, Conflict, LivesSpent, Limited, Replaced  # which say nothing against a job
+EXPECTED = StoreFailed, OSError, MemoryError, Malformed, ValueError  # of a job that fails, or of its store
+ANSWERED = (*REFUSED, StoreFailed, OSError, MemoryError, web.HTTPException)
 
 
 @dataclass
@@ -90,12 +91,15 @@ class Plane:
         self.metrics = Metrics()
         self._now = settings.system.monotonic
         self.jobs: dict[str, Followed] = {}
+        self.failures = Failures()
         self.is_closing = False
         self._secrets = [secret.encode() for secret in secrets or []]
         self._runner: web.AppRunner | None = None
         self._server: asyncio.Server | None = None
-        self._poller: asyncio.Task[None] | None = None
-        self._looking: dict[str, asyncio.Task[None]] = {}  # jobs at which it looks now
+        self.supervisor = Supervisor(
+            f"plane {settings.process}", log, self.metrics.internal_error, settings.system.random().random
+        )
+        self._looking: set[str] = set()  # jobs at which it looks now
 
     # Starting and ending ---------------------------------------------------------------------
 
@@ -103,14 +107,13 @@ class Plane:
         self, host: str, port: int, tls: ssl.SSLContext | None = None, poll: float = 1.0
     ) -> int:
         """Listens, and returns the port."""
-        for name in await self.store.jobs():
-            await self._look_at(name)
+        await asyncio.gather(*map(self._look_at, await self.store.jobs()))
         self._runner = web.AppRunner(self.application(), access_log=None)
         await self._runner.setup()
         self._server = await asyncio.get_running_loop().create_server(
             self._connected, host, port, ssl=tls, backlog=128, reuse_address=True
         )
-        self._poller = asyncio.create_task(self._poll(poll))
+        self.supervisor.watch("poller", partial(self._poll, poll))
         made: int = self._server.sockets[0].getsockname()[1]
         return made
 
@@ -119,10 +122,7 @@ class Plane:
         self.is_closing = True
         if self._server is not None:
             self._server.close()
-        if self._poller is not None:
-            self._poller.cancel()
-            for looking in self._looking.values():
-                looking.cancel()
+        await self.supervisor.close()
         for followed in self.jobs.values():
             followed.job.wake()
         if self._runner is not None and self._runner.server is not None:
@@ -146,7 +146,7 @@ class Plane:
         try:
             await job.finish()
             await job.settle()
-        except (StoreFailed, Conflict) as error:
+        except (StoreFailed, Conflict, OSError) as error:
             log.warning("%s was not settled: %s", job.name, error)
 
     def _connected(self) -> asyncio.Protocol:
@@ -160,36 +160,61 @@ class Plane:
         return protocol
 
     async def _poll(self, every: float) -> None:
-        """Looks what other planes wrote, where several share the store."""
+        """Looks what other planes wrote, where several share the store, and again at jobs that failed."""
         while True:
             await asyncio.sleep(every)
-            try:
-                names = await self.store.jobs() if self.settings.shared else []
-            except StoreFailed as error:
-                log.warning("the store was not read: %s", error)
-                continue
-            for name in names:  # a job whose row is locked keeps up no other
-                if name not in self._looking:
-                    self._looking[name] = asyncio.create_task(self._look_at(name))
-                    self._looking[name].add_done_callback(partial(self._looked, name))
+            names = set(self.failures)
+            if self.settings.shared:
+                try:
+                    names.update(await self.store.jobs())
+                except StoreFailed as error:
+                    log.warning("the store was not read: %s", error)
+                    for followed in self.jobs.values():
+                        followed.job.unsee()
+                    continue
+            for name in sorted(names - self._looking):  # a job whose row is locked keeps up no other
+                self._looking.add(name)
+                looking = self.supervisor.spawn("look_at", self._look_at(name))
+                looking.add_done_callback(partial(self._looked, name))
 
     def _looked(self, name: str, _: "asyncio.Task[None]") -> None:
-        del self._looking[name]
+        self._looking.discard(name)
 
     async def _look_at(self, name: str) -> None:
-        """Reads what is stored of a job. One that is damaged keeps no other from being served."""
+        """Reads what is stored of a job. One that fails keeps no other from being served."""
         try:
             await (await self.followed(name)).job.refresh()
-        except (StoreFailed, NoSuchJob, Malformed, ValueError, OSError) as error:
-            log.warning("%s was not read: %s", name, error)
+        except NoSuchJob:
+            self.failures.forget(name)
+        except Exception as error:
+            self._fail(name, "read", error)
+        else:
+            self.failures.well(name, "read")
+
+    def _fail(self, name: str, what: str, error: Exception) -> None:
+        """Notes that a job failed: it is shown with why, and tried again."""
+        failure = self.failures.failed(name, what, error, self._now())
+        self.metrics.job_failed(name)
+        if failure.tries > 1:
+            return
+        log.warning("%s failed: %s", name, failure.why)
+        if not isinstance(error, EXPECTED):
+            self.supervisor.caught(f"job {what}", error)
+
+    def _job(self, name: str) -> Job:
+        return Job(name, self.store, self.settings, self.tickets, self.metrics)
 
     async def followed(self, name: str) -> Followed:
-        """Returns a job. Raises NoSuchJob."""
+        """Returns a job. Raises NoSuchJob, and what loading it raises."""
         found = self.jobs.get(name)
         if found is None:
-            job = Job(name, self.store, self.settings, self.tickets, self.metrics)
-            await job.load()
-            job.lives = await self.store.lives(name)
+            job = self._job(name)
+            try:
+                await job.load()
+                job.lives = await self.store.lives(name)
+            except BaseException:
+                job.close()
+                raise
             found = self.jobs.setdefault(name, Followed(job, Loads(), {}, {}))
             if found.job is not job:
                 job.close()
@@ -209,8 +234,15 @@ class Plane:
 
     def _saw(self, job: Job, call: Call[T], done: "asyncio.Future[Made[T]]") -> None:
         followed = self.jobs.get(job.name)
-        if followed is not None and not done.cancelled() and done.exception() is None:
-            followed.lanes.saw(job, call, done.result())
+        if done.cancelled():
+            return
+        error = done.exception()
+        if error is None:
+            self.failures.well(job.name, "call")
+            if followed is not None:
+                followed.lanes.saw(job, call, done.result())
+        elif isinstance(error, Exception) and not isinstance(error, REFUSED):
+            self._fail(job.name, "call", error)
 
     async def _in_time(self, answer: "asyncio.Future[Made[T]]") -> Made[T]:
         loop = asyncio.get_running_loop()
@@ -248,6 +280,7 @@ class Plane:
         if name not in names:
             if len(names) >= self.limits.jobs:
                 raise Limited("jobs", 60)
+            self._job(name).try_log()  # a job whose log cannot be opened is not stored
             try:
                 await self.store.create(name, text, kept)
                 await self.followed(name)
@@ -277,7 +310,11 @@ class Plane:
     def shown(self) -> list[Shown]:
         """Returns what the gauges show."""
         now = self._now()
-        return [Shown(name, _numbers_of(one, now)) for name, one in self.jobs.items()]
+        made = [Shown(name, _numbers_of(one, now)) for name, one in self.jobs.items()]
+        made += [Shown(name, {}) for name in self.failures if name not in self.jobs]
+        for one in made:
+            one.numbers["job_failed"] = 1 if one.job in self.failures else 0
+        return made
 
     # HTTP ------------------------------------------------------------------------------------
 
@@ -327,8 +364,7 @@ class Plane:
                 self.tickets.observe_text(request.headers.get(ticketing.HEADER))
         except ValueError as error:
             return failure(400, str(error))
-        made = await self._answered(request, handler)
-        made.headers[ticketing.HEADER] = str(self.tickets.draw())
+        made = self._with_ticket(await self._answered(request, handler), is_public)
         if request.method != "GET":
             route = request.match_info.route.resource
             call = route.canonical.rpartition("/")[2] if route else "none"
@@ -343,11 +379,25 @@ class Plane:
         return any(equal)
 
     async def _answered(self, request: web.Request, handler: Handler) -> web.StreamResponse:
-        """Answers what a handler raises."""
+        """Answers what a handler raises. What nobody expected is counted, and aiohttp answers 500."""
         try:
             return await handler(request)
         except ANSWERED as error:
             return self._failure_of(request, error)
+        except Exception as error:
+            self.supervisor.caught("request", error)
+            raise
+
+    def _with_ticket(self, answer: web.StreamResponse, is_public: bool) -> web.StreamResponse:
+        """Returns an answer with its ticket. If none can be drawn, nothing is known of the call."""
+        try:
+            answer.headers[ticketing.HEADER] = str(self.tickets.draw())
+        except (OSError, OverflowError) as error:
+            if is_public:
+                return answer
+            log.warning("no ticket can be drawn: %s", error)
+            return failure(503, f"no ticket can be drawn: {error}", 1, refused="disk")
+        return answer
 
     def _failure_of(self, request: web.Request, error: Exception) -> web.Response:
         """Returns the answer to a request that raised one of ANSWERED."""
@@ -369,6 +419,11 @@ class Plane:
             case Replaced():
                 return failure(503, str(error), error.after, refused="replaced")
         log.warning("%s %s: %s", request.method, request.path, error)
+        match error:
+            case Damaged():
+                return failure(503, str(error), 5, refused="damaged")
+            case OSError():
+                return failure(503, f"the plane cannot write: {error.strerror}", 1, refused="disk")
         return failure(503, "the store failed", 1, refused="store")
 
     async def _healthz(self, _: web.Request) -> web.Response:
@@ -377,7 +432,7 @@ class Plane:
     async def _metrics(self, _: web.Request) -> web.Response:
         if self._runner is not None and self._runner.server is not None:
             self.metrics.connections.set(len(self._runner.server.connections))
-        text = self.metrics.text(self.shown())
+        text = self.metrics.text(self.shown(), self.tickets.left_out)
         return web.Response(body=text, headers={"Content-Type": CONTENT_TYPE})
 
     async def _get_jobs(self, _: web.Request) -> web.Response:
@@ -391,8 +446,10 @@ class Plane:
         return answer_of(await self.status(job_in(request)))
 
     async def _get_overview(self, _: web.Request) -> web.Response:
-        now = self._now()
-        return answer_of({"jobs": [page.overview_of(it, now) for it in self.jobs.values()]})
+        now, failures = self._now(), self.failures
+        made = [page.overview_of(it, now, failures.of(it.job.name)) for it in self.jobs.values()]
+        made += [page.overview_of_failed(it, now, failures.of(it)) for it in failures if it not in self.jobs]
+        return answer_of({"jobs": sorted(made, key=lambda it: str(it["job"]))})
 
     async def _get_leases(self, request: web.Request) -> web.Response:
         followed = await self.followed(job_in(request))

@@ -9,6 +9,7 @@ call restores a table from what is stored, as after a restart.
 
 import asyncio
 import json
+import os
 from collections import OrderedDict, deque
 from collections.abc import Awaitable, Callable, Sequence
 from dataclasses import dataclass, field
@@ -18,8 +19,9 @@ from typing import Any, Generic, NamedTuple, TypeVar
 from hourstable import library, logs
 from hourstable.clock import JobClock
 from hourstable.library import Policy, Refused, Table
-from hourstable.store import Conflict, Life, NoSuchJob, Store, Stored, StoreFailed
-from hourstable.system import SYSTEM, System
+from hourstable.standstill import Standstill
+from hourstable.store import Conflict, Damaged, Life, NoSuchJob, Store, Stored, StoreFailed
+from hourstable.system import SYSTEM, System, make_folder
 from hourstable.table_calls import Call, Malformed, numbers_of, term_in, value_in
 from hourstable.tickets import Tickets, process_of
 
@@ -185,7 +187,7 @@ class Job:
         self._working: asyncio.Task[None] | None = None  # while calls wait
         self._held: Held | None = None
         self._log: logs.Log | None = None
-        self._seen: tuple[int, float] | None = None  # a version, and since when it stands
+        self._seen = Standstill(self._now, settings.standby / 4)
         self._changed = asyncio.Event()
         self._rows: list[library.Row] = []
         self._owners: tuple[bytes | None, set[int]] = None, set()  # those of an assignment
@@ -199,6 +201,17 @@ class Job:
         self.notes: OrderedDict[str, int] = OrderedDict()  # the answers to them
         self.committed_by: tuple[int, int] | None = None  # the last term, and its generation
 
+    def try_log(self) -> None:
+        """Raises OSError if the log of the job cannot be written."""
+        folder = make_folder(logs.folder_of(self.settings.logs, self.name))
+        path, system = folder / f".control-{self.settings.process}.tried", self.settings.system
+        file = system.open(path, os.O_WRONLY | os.O_CREAT | os.O_CLOEXEC, 0o600)
+        try:
+            system.write(file, b"\n")
+        finally:
+            system.close(file)
+            path.unlink(missing_ok=True)
+
     # Asking the store ------------------------------------------------------------------------
 
     async def ask(self, what: str, call: Callable[..., Awaitable[T]], *given: object) -> T:
@@ -208,11 +221,18 @@ class Job:
             made = await call(*given)
             failed = False
             return made
-        except (Conflict, NoSuchJob):
+        except (Conflict, NoSuchJob, Damaged):
             failed = False
+            raise
+        except StoreFailed:
+            self.unsee()
             raise
         finally:
             self._counters.stored(what, self._now() - begun, failed)
+
+    def unsee(self) -> None:
+        """Takes that the store did not answer: for how long the row stands still is not known."""
+        self._seen.forget()
 
     async def load(self) -> None:
         """Reads what is stored, for those who only ask. Raises NoSuchJob."""
@@ -221,44 +241,61 @@ class Job:
                 self._show(await self._loaded())
 
     async def _loaded(self) -> Stored:
+        begun = self._now()
         stored = await self.ask("load", self._store.load, self.name)
         if stored is None:
             raise NoSuchJob(self.name)
         self._observe(stored)
-        if self._seen is None or self._seen[0] != stored.version:
-            self._seen = stored.version, self._now()
+        self._seen.saw(stored.version, self._now() - begun)
         if self.policy is None:
-            self.policy, self.members = policy_of(json.loads(stored.policy))
-            job_line = logs.job_line(self.members)
+            policy, members = self._policy_in(stored)
             folder = logs.folder_of(self.settings.logs, self.name)
-            name, system = f"control-{self.settings.process}", self.settings.system
-            self._log = logs.Log(folder, name, job_line, system=system)
+            given = f"control-{self.settings.process}", logs.job_line(members)
+            self._log = logs.Log(folder, *given, system=self.settings.system)
+            self.policy, self.members = policy, members
         return stored
+
+    def _policy_in(self, stored: Stored) -> tuple[Policy, dict[str, Any]]:
+        try:
+            return policy_of(json.loads(stored.policy))
+        except (ValueError, Malformed) as error:
+            raise Damaged(f"the policy that is stored of {self.name} cannot be read: {error}") from error
 
     def _observe(self, stored: Stored) -> None:
         """Observes the ticket of the line that is stored: what is shown of it comes after the call
-        that stored it."""
+        that stored it. Raises Damaged."""
         if stored.line is None:
             return
         try:
             self.tickets.observe(Row.read(stored.line).ticket())
-        except ValueError as error:  # a host whose real time is a day ahead wrote it
-            raise StoreFailed(f"the line that is stored of {self.name}: {error}") from error
+        except (ValueError, KeyError, TypeError, IndexError) as error:
+            raise Damaged(f"the line that is stored of {self.name} cannot be read: {error!r}") from error
 
     async def refresh(self) -> None:
-        """Looks whether another plane has written, and reads the lives of tasks."""
+        """Looks whether another plane has written, and reads the lives of tasks. Calls do not wait for it."""
+        self.lives = await self.ask("lives", self._store.lives, self.name)
+        if not await self._is_changed():
+            return
         async with self._lock:
-            self.lives = await self.ask("lives", self._store.lives, self.name)
-            version = await self.ask("version", self._store.version, self.name)
-            if version is None:
-                raise NoSuchJob(self.name)
-            if self._held is not None:
-                if self._held.version == version:
-                    return
+            if self._held is None:
+                self._show(await self._loaded())
+            elif await self._is_changed():  # no call was stored meanwhile
                 self.drop()
                 self._counters.replaced(self.name)
-            if self._seen is None or self._seen[0] != version:
                 self._show(await self._loaded())
+
+    async def _is_changed(self) -> bool:
+        """Returns whether the row has another version than the one that is held, or was seen last."""
+        begun = self._now()
+        version = await self.ask("version", self._store.version, self.name)
+        if version is None:
+            raise NoSuchJob(self.name)
+        if self._held is not None:
+            return self._held.version != version
+        if version != self._seen.version:
+            return True
+        self._seen.saw(version, self._now() - begun)
+        return False
 
     async def raise_life(self, task: int) -> int:
         """Returns a new life of a task, which no other call returns."""
@@ -284,7 +321,7 @@ class Job:
         try:
             return Table.restore(self.name, self.policy, stored.kept)
         except Refused as refusal:
-            raise StoreFailed(f"what is stored of {self.name} is refused: {refusal}") from refusal
+            raise Damaged(f"what is stored of {self.name} is refused: {refusal}") from refusal
 
     def _show_table(self, table: Table) -> None:
         phase = table.phase()
@@ -338,7 +375,7 @@ class Job:
     def drop(self) -> None:
         """Drops the table: what the store has is the table from now on."""
         held, self._held = self._held, None
-        self._seen = None
+        self._seen.forget()
         self.notes.clear()
         self.committed_by = None
         if held is not None:
@@ -355,11 +392,11 @@ class Job:
 
     def _stand_by(self, stored: Stored) -> None:
         """Raises Replaced if another plane wrote last, and not long enough ago."""
-        if not self.settings.shared or stored.line is None or self._seen is None:
+        if not self.settings.shared or stored.line is None:
             return
         if process_of(Row.read(stored.line).ticket()) == self.settings.process:
             return
-        left = self._seen[1] + self.settings.standby - self._now()
+        left = self.settings.standby - self._seen.seconds()
         if left > 0:
             raise Replaced(left)
 
@@ -373,7 +410,7 @@ class Job:
         if row is not None:
             await clock.wait()
             version, line = await self._write_restore(stored, row)
-        self._seen = None
+        self._seen.forget()
         table = self._restored(stored)
         return Held(table, clock, version, stored.kept, last, last, last, line)
 
@@ -426,16 +463,21 @@ class Job:
         try:
             while self._waiting:
                 async with self._lock:
-                    await self._make(self._next_together())
+                    together = self._next_together()
+                    if together:
+                        await self._make(together)
         finally:
             self._working = None
 
     def _next_together(self) -> list[Waiting]:
         """Takes the calls that are made together: those that wait, up to one whose answer may
-        depend on whether the store has an earlier one of them."""
+        depend on whether the store has an earlier one of them. Those that were given up are left out."""
         taken: list[Waiting] = []
         known: set[str] = set()
         while self._waiting and len(taken) < MOST_TOGETHER:
+            if self._waiting[0].answer.done():
+                self._waiting.popleft()
+                continue
             key = self._waiting[0].call.key
             if key is not None:
                 if key in known:
@@ -447,6 +489,7 @@ class Job:
     async def _make(self, together: list[Waiting]) -> None:
         """Makes calls, stores and logs them, in this order, and answers each."""
         error: Exception
+        begun = self._now()
         try:
             held = await self._hold()
             at = await held.clock.wait()
@@ -463,6 +506,8 @@ class Job:
             return
         except Exception as why:
             error = why
+            if isinstance(why, StoreFailed) and self._now() - begun > self._store.deadline / 2:
+                together += self._all_waiting()  # it stands still, and would keep them up as long
         except BaseException:
             self.drop()
             for one in together:
@@ -471,6 +516,12 @@ class Job:
         self.drop()  # the table may have what the store has not
         for one in together:
             one.fail(error)
+
+    def _all_waiting(self) -> list[Waiting]:
+        """Takes all calls that wait."""
+        waiting = list(self._waiting)
+        self._waiting.clear()
+        return waiting
 
     def _play(self, held: Held, together: list[Waiting], at: int) -> list[Played]:
         """Plays calls on the table, and returns those that are to be stored. Those that repeat an

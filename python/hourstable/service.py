@@ -6,7 +6,6 @@
 It is what `hourstable-service control` runs. Several may run in one process, and each may be stopped and made anew.
 """
 
-import asyncio
 import ssl
 from collections.abc import Awaitable, Callable
 from contextlib import AsyncExitStack
@@ -20,8 +19,9 @@ from hourstable.desk import LocalDesk
 from hourstable.jobs import Settings
 from hourstable.limits import Limits
 from hourstable.plans import Hysteresis
+from hourstable.state import kept_in, state_folder
 from hourstable.store import DEADLINE, Store, open_store
-from hourstable.system import SYSTEM, System
+from hourstable.system import SYSTEM, System, make_folder
 from hourstable.task import FIRST_PROCESS as PROCESSES
 from hourstable.tickets import Tickets
 
@@ -44,6 +44,7 @@ class Options:
     rules: Hysteresis = field(default_factory=Hysteresis)
     poll: float = 1.0  # seconds between two looks at what other planes wrote
     store_deadline: float = DEADLINE  # seconds in which a call of the store returns or fails
+    state: Path | None = None  # the folder of its tickets; None: $STATE_DIRECTORY, or the one beside `logs`
 
 
 class ControlPlane:
@@ -85,8 +86,9 @@ class ControlPlane:
         process = process_number(chosen.process)
         store = await self._opens(chosen.store, chosen.store_deadline, system)
         ending.push_async_callback(store.close)
-        chosen.logs.mkdir(parents=True, exist_ok=True)
-        tickets = Tickets(process, chosen.logs / f"control-{process}.ticket", system=system)
+        make_folder(chosen.logs)
+        state = state_folder(chosen.state, chosen.logs)
+        tickets = Tickets(process, kept_in(state, f"control-{process}.ticket", chosen.logs), system=system)
         ending.callback(tickets.close)
         local = self._local_clock or local_clock_of(system=system)
         shared = store.several if chosen.shared is None else chosen.shared
@@ -95,8 +97,7 @@ class ControlPlane:
         ending.push_async_callback(plane.stop)
         port = await plane.start(chosen.host, chosen.port, chosen.tls, chosen.poll)
         if chosen.assigner:
-            jobs = AssignerOfJobs(chosen.assigner, LocalDesk(plane), local, chosen.rules)
-            ending.push_async_callback(_ended, asyncio.create_task(jobs.run()))
+            plane.supervisor.watch("assigner", lambda: _assigner(chosen, plane, local).run())
         return port
 
     async def stop(self) -> None:
@@ -112,9 +113,8 @@ class ControlPlane:
         await self.stop()
 
 
-async def _ended(running: "asyncio.Task[None]") -> None:
-    running.cancel()
-    await asyncio.gather(running, return_exceptions=True)
+def _assigner(chosen: Options, plane: Plane, local: Callable[[], int]) -> AssignerOfJobs:
+    return AssignerOfJobs(chosen.assigner, LocalDesk(plane), local, chosen.rules)
 
 
 def process_number(number: int) -> int:

@@ -35,6 +35,10 @@ class StoreFailed(Exception):
     done is not known: it may even be done later."""
 
 
+class Damaged(StoreFailed):
+    """What the store has of a job cannot be read. Other jobs are not concerned."""
+
+
 class NoSuchJob(Exception):
     """The store has no row of the job."""
 
@@ -115,8 +119,8 @@ class Store(ABC):
         """Closes all connections. Nothing is asked later."""
 
     async def lives(self, job: str) -> dict[int, Life]:
-        """Returns the lives of the tasks that have had one. Raises NoSuchJob."""
-        return _lives_of((await self.read_lives(job))[0])
+        """Returns the lives of the tasks that have had one. Raises NoSuchJob and Damaged."""
+        return _lives_of(job, (await self.read_lives(job))[0])
 
     async def raise_life(self, job: str, task: int) -> int:
         """Returns a life of a task that is given out once: one more than the last. Raises NoSuchJob
@@ -140,7 +144,7 @@ class Store(ABC):
         async with self._changing.setdefault(job, asyncio.Lock()):
             for _ in range(TRIES):
                 text, compared = await self.read_lives(job)
-                lives = _lives_of(text)
+                lives = _lives_of(job, text)
                 life = lives[task] = change(lives.get(task, Life(0, 0)))
                 written = json.dumps({str(number): list(lives[number]) for number in sorted(lives)})
                 if written == text or await self.swap_lives(job, compared, written):
@@ -157,8 +161,12 @@ class Store(ABC):
             raise StoreFailed(f"{self.name}: no answer in {self.deadline} s") from error
 
 
-def _lives_of(text: str) -> dict[int, Life]:
-    return {int(task): Life(*life) for task, life in json.loads(text).items()}
+def _lives_of(job: str, text: str) -> dict[int, Life]:
+    try:
+        lives = {int(task): Life(*map(int, life)) for task, life in json.loads(text).items()}
+    except (ValueError, TypeError, AttributeError) as error:
+        raise Damaged(f"the lives that are stored of {job} cannot be read: {error}") from error
+    return lives
 
 
 def stored_in(rows: list[Any]) -> Stored | None:

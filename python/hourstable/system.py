@@ -16,6 +16,16 @@ KEEP_SIZE = 1  # of fallocate(2): what is allocated beyond the end of a file doe
 BOOT_ID = Path("/proc/sys/kernel/random/boot_id")
 
 
+def make_folder(path: str | os.PathLike[str]) -> Path:
+    """Makes a folder and those above it, for the user of the process alone, where they are not there. Returns it.
+    Raises OSError."""
+    made = Path(path)
+    missing = [it for it in (made, *made.parents) if not it.is_dir()]
+    for folder in reversed(missing):
+        folder.mkdir(mode=0o700, exist_ok=True)
+    return made
+
+
 class System:
     """The operating system of this process."""
 

