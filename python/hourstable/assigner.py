@@ -10,10 +10,12 @@ from collections.abc import Callable
 from typing import Any
 
 from hourstable import library
+from hourstable.context import about
 from hourstable.desk import Desk, Told, Unreachable
 from hourstable.library import JobTerm, Phase, Refused
 from hourstable.plans import Hysteresis, Planner
 
+ALL = "all jobs"
 THINK = 2.0  # seconds after which loads are looked at again, if nothing else changed
 log = logging.getLogger("hourstable.assigner")
 
@@ -162,6 +164,12 @@ class AssignerOfJobs:
         self._number, self._desk, self._local = number, desk, local
         self._rules = rules or Hysteresis()
         self._running: dict[str, asyncio.Task[None]] = {}
+        self._due: dict[str, int] = {}  # by the local clock, when the next step of a job is
+
+    def late(self, seconds: float) -> list[str]:
+        """Returns the jobs of which a step is due for so long."""
+        before = self._local() - int(seconds * 1000)
+        return sorted(job for job, due in self._due.items() if due < before)
 
     async def run(self) -> None:
         """Runs until it is cancelled."""
@@ -173,6 +181,7 @@ class AssignerOfJobs:
                             self._running[job] = asyncio.create_task(self._follow(job))
                 except Unreachable as error:
                     log.warning("%s", error)
+                self._due[ALL] = self._local() + 500
                 await asyncio.sleep(0.5)
         finally:
             for task in self._running.values():
@@ -180,6 +189,10 @@ class AssignerOfJobs:
             await asyncio.gather(*self._running.values(), return_exceptions=True)
 
     async def _follow(self, job: str) -> None:
+        with about(job=job, caller=f"assigner {self._number}"):
+            await self._assign(job)
+
+    async def _assign(self, job: str) -> None:
         assigner = JobAssigner(job, self._number, self._desk, self._local, self._rules)
         try:
             while True:
@@ -192,6 +205,7 @@ class AssignerOfJobs:
                     log.exception("%s: the assigner begins anew", job)
                     assigner.close()
                     after = 1.0
+                self._due[job] = self._local() + int(after * 1000)
                 await asyncio.sleep(after)
         finally:
             assigner.close()

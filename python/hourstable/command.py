@@ -10,7 +10,7 @@ import sys
 from collections.abc import Sequence
 from pathlib import Path
 
-from hourstable import installed, logs
+from hourstable import context, installed, logs
 from hourstable.assigner import AssignerOfJobs
 from hourstable.auditing import Audit
 from hourstable.clock import local_clock
@@ -30,7 +30,7 @@ def main(words: list[str] | None = None) -> int:
     demo found a fault, 2 if the words or the input are refused, 3 if something failed."""
     chosen = parser().parse_args(words)
     level = logging.DEBUG if chosen.verbose else logging.INFO
-    logging.basicConfig(level=level, format="%(asctime)s %(name)s: %(message)s")
+    context.show(level)
     logging.getLogger("psycopg.pool").setLevel(logging.ERROR)  # what fails is told by the plane
     try:
         status: int = chosen.run(chosen)

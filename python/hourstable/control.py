@@ -22,6 +22,7 @@ from hourstable.answers import (
     TASKS, answer_of, asker_in, failure, job_in, json_of, member, message_of, name_in, number_in, refused, told,
 )
 from hourstable.connections import Turned
+from hourstable.context import note
 from hourstable.failures import Failures
 from hourstable.jobs import Job, Made, Replaced, Settings, policy_of
 from hourstable.keys import KeyTold
@@ -31,6 +32,9 @@ from hourstable.limits import Bucket, Limited
 from hourstable.limits import Limits as Limits
 from hourstable.loads import Denials, Loads
 from hourstable.metrics import CONTENT_TYPE, Metrics, Shown
+from hourstable.readiness import Readiness
+from hourstable.record import Record
+from hourstable.request_ids import traced
 from hourstable.store import Conflict, Damaged, LivesSpent, NoSuchJob, Store, StoreFailed
 from hourstable.supervisor import Supervisor
 from hourstable.table_calls import Call, Commit, Free, Grant, Malformed, Propose, Renew, Take, term_of
@@ -41,7 +45,8 @@ Handler = Callable[[web.Request], Awaitable[web.StreamResponse]]
 LONGEST_WAIT = 30.0  # seconds of a waiting GET
 MOST_KEY = 4096  # characters of a key that is asked about
 MOST_GRANTS = 1024  # of one request
-PUBLIC = {"/healthz", *page.FILES}  # what is answered without a secret
+LEAST_GUARD = 100  # milliseconds of a new job: who takes them for seconds is told
+PUBLIC = {"/healthz", "/readyz", *page.FILES}  # what is answered without a secret
 
 log = logging.getLogger("hourstable.control")
 
@@ -92,6 +97,8 @@ class Plane:
         self._now = settings.system.monotonic
         self.jobs: dict[str, Followed] = {}
         self.failures = Failures()
+        self.readiness = Readiness(store, settings.system)
+        self.record = Record(None, settings.system)
         self.is_closing = False
         self._secrets = [secret.encode() for secret in secrets or []]
         self._runner: web.AppRunner | None = None
@@ -162,6 +169,7 @@ class Plane:
     async def _poll(self, every: float) -> None:
         """Looks what other planes wrote, where several share the store, and again at jobs that failed."""
         while True:
+            self.readiness.beat()
             await asyncio.sleep(every)
             names = set(self.failures)
             if self.settings.shared:
@@ -241,8 +249,20 @@ class Plane:
             self.failures.well(job.name, "call")
             if followed is not None:
                 followed.lanes.saw(job, call, done.result())
+                if isinstance(call, Propose) and done.result().at is not None:
+                    self._record_evicted(followed, call)
         elif isinstance(error, Exception) and not isinstance(error, REFUSED):
             self._fail(job.name, "call", error)
+
+    def _record_evicted(self, followed: Followed, call: Propose) -> None:
+        """Records who takes all keys from tasks, once the change is committed, and why."""
+        job, alive, draining = followed.job, followed.alive(self._now()), followed.draining()
+        if job.view.proposed != call.value["generation"]:
+            return  # it was refused
+        left = {owner for _, owners in call.value["slices"] for owner in owners}
+        for task in sorted(job.owners() - left):
+            why = "drained" if task in draining else "moved" if task in alive else "silent"
+            self.record.add("evict", job.name, task=task, why=why, generation=call.value["generation"])
 
     async def _in_time(self, answer: "asyncio.Future[Made[T]]") -> Made[T]:
         loop = asyncio.get_running_loop()
@@ -280,9 +300,13 @@ class Plane:
         if name not in names:
             if len(names) >= self.limits.jobs:
                 raise Limited("jobs", 60)
+            if policy.guard < LEAST_GUARD:
+                raise Malformed(f"guard is {policy.guard}: terms are in milliseconds, and a guard term is at least"
+                                f" {LEAST_GUARD} and usually 10000")
             self._job(name).try_log()  # a job whose log cannot be opened is not stored
             try:
                 await self.store.create(name, text, kept)
+                self.record.add("create", name, policy=members)
                 await self.followed(name)
                 return True
             except Conflict:
@@ -320,7 +344,7 @@ class Plane:
 
     def application(self) -> web.Application:
         made = web.Application(
-            client_max_size=self.limits.body + 1, middlewares=[self._around]
+            client_max_size=self.limits.body + 1, middlewares=[traced, self._around]
         )
         made.add_routes([  # they are looked at in this order: the calls of tasks come first
             web.post("/jobs/{job}/grant", self._post_grant),
@@ -340,6 +364,8 @@ class Plane:
             web.put("/jobs/{job}", self._put_job),
             web.get("/jobs", self._get_jobs),
             web.get("/healthz", self._healthz),
+            web.get("/readyz", self._readyz),
+            web.get("/record", self._get_record),
             web.get("/metrics", self._metrics),
             web.get("/overview", self._get_overview),
             web.get("/jobs/{job}/leases", self._get_leases),
@@ -429,6 +455,17 @@ class Plane:
     async def _healthz(self, _: web.Request) -> web.Response:
         return web.Response(text="ok\n")
 
+    async def _readyz(self, request: web.Request) -> web.Response:
+        """Says of each part whether it does its work, and why not to those who have the secret."""
+        checks, knows = await self.readiness.checks(), self._knows(request)
+        is_ready = not self.is_closing and all(check.is_well for check in checks)
+        shown: dict[str, object] = {"ready": is_ready}
+        shown |= {check.name: check.found if check.is_well or knows else "fails" for check in checks}
+        return answer_of(shown, 200 if is_ready else 503)
+
+    async def _get_record(self, request: web.Request) -> web.Response:
+        return answer_of({"record": self.record.newest(request.query.get("job"))})
+
     async def _metrics(self, _: web.Request) -> web.Response:
         if self._runner is not None and self._runner.server is not None:
             self.metrics.connections.set(len(self._runner.server.connections))
@@ -498,6 +535,7 @@ class Plane:
     async def _post_loads(self, request: web.Request) -> web.Response:
         followed, given = await self.followed(job_in(request)), await json_of(request)
         task = member(given, "task", TASKS)
+        note(task=task)
         try:
             denials = Denials.read(given)
             followed.loads.report(task, given.get("loads"), self._now())
@@ -508,7 +546,10 @@ class Plane:
 
     async def _post_drain(self, request: web.Request) -> web.Response:
         followed, given = await self.followed(job_in(request)), await json_of(request)
-        await followed.job.drain(member(given, "task", TASKS))
+        task = member(given, "task", TASKS)
+        note(task=task)
+        await followed.job.drain(task)
+        self.record.add("drain", followed.job.name, task=task, life=followed.job.lives[task].life)
         return web.Response(status=204)
 
     async def _post_life(self, request: web.Request) -> web.Response:
@@ -517,10 +558,12 @@ class Plane:
         if not (text.isascii() and text.isdigit() and len(text) <= 2 and int(text) in TASKS):
             raise Malformed("a task is 1 to 64")
         life = await followed.job.raise_life(int(text))
+        self.record.add("begin", followed.job.name, task=int(text), life=life)
         return answer_of({"life": life, "last": life - 1})
 
     async def _post_grant(self, request: web.Request) -> web.Response:
         name, (task, life) = job_in(request), asker_in(await json_of(request))
+        note(task=task)
         made = await self._in_time(await self.begin_grant(name, task, life))
         return told(made, message_of)
 

@@ -19,6 +19,7 @@ from hourstable.desk import LocalDesk
 from hourstable.jobs import Settings
 from hourstable.limits import Limits
 from hourstable.plans import Hysteresis
+from hourstable.record import Record
 from hourstable.state import kept_in, state_folder
 from hourstable.store import DEADLINE, Store, open_store
 from hourstable.system import SYSTEM, System, make_folder
@@ -94,6 +95,8 @@ class ControlPlane:
         shared = store.several if chosen.shared is None else chosen.shared
         settings = Settings(chosen.logs, process, shared, chosen.standby, local=local, system=system)
         plane = self.plane = Plane(store, settings, tickets, chosen.limits, chosen.secrets)
+        plane.readiness.folders = [chosen.logs, state]
+        plane.record = Record(state / f"record-{process}.jsonl", system)
         ending.push_async_callback(plane.stop)
         port = await plane.start(chosen.host, chosen.port, chosen.tls, chosen.poll)
         if chosen.assigner:
@@ -114,7 +117,8 @@ class ControlPlane:
 
 
 def _assigner(chosen: Options, plane: Plane, local: Callable[[], int]) -> AssignerOfJobs:
-    return AssignerOfJobs(chosen.assigner, LocalDesk(plane), local, chosen.rules)
+    made = plane.readiness.assigner = AssignerOfJobs(chosen.assigner, LocalDesk(plane), local, chosen.rules)
+    return made
 
 
 def process_number(number: int) -> int:
