@@ -19,7 +19,7 @@ from hourstable.limits import Limits
 from hourstable.plans import Hysteresis, slices_in
 from hourstable.service import ControlPlane, Options, process_number
 from hourstable.store import DEADLINE, StoreFailed
-from hourstable.tickets import Tickets
+from hourstable.tickets import NoTickets, Tickets
 
 DEMO_SECONDS = 34
 OTHER_FILES = 256  # logs, connections of the store, and so on
@@ -50,6 +50,7 @@ def parser() -> argparse.ArgumentParser:
     _control_words(subcommands.add_parser("control", help="run a control plane"))
     _assigner_words(subcommands.add_parser("assigner", help="run an assigner beside the planes"))
     _drain_words(subcommands.add_parser("drain", help="let a task own no more keys"))
+    _doctor_words(subcommands.add_parser("doctor", help="say what ails a control plane, and what to do"))
     _audit_words(subcommands.add_parser("audit", help="audit the logs of a job"))
     _demo_words(subcommands.add_parser("demo", help="run a cache, break it, and audit it"))
     return made
@@ -107,6 +108,10 @@ def _rules_in(chosen: argparse.Namespace) -> Hysteresis:
 def _caller_words(words: argparse.ArgumentParser) -> None:
     words.add_argument("--control", required=True, action="append", metavar="URL",
                        help="a control plane; again for each other one")
+    _identity_words(words)
+
+
+def _identity_words(words: argparse.ArgumentParser) -> None:
     words.add_argument("--secret-file", metavar="FILE", help="the first line is the secret")
     words.add_argument("--tls-ca", metavar="FILE", help="the authority of the planes")
     words.add_argument("--tls-cert", metavar="FILE", help="the certificate to show")
@@ -131,6 +136,22 @@ def _drain_words(words: argparse.ArgumentParser) -> None:
                        help="wait so long until it owns no keys (0: do not wait)")
     words.add_argument("job")
     words.add_argument("task", type=int)
+
+
+def _doctor_words(words: argparse.ArgumentParser) -> None:
+    words.set_defaults(run=_doctor)
+    words.description = (
+        "Asks a control plane for all that shows whether it does its work, and changes nothing. The status is 1 if"
+        " something is to be mended; what that is stands in lines that begin with MEND."
+    )
+    _identity_words(words)
+    words.add_argument("url", metavar="URL", help="of the plane, as http://10.0.0.1:8070")
+
+
+def _doctor(chosen: argparse.Namespace) -> int:
+    from hourstable import doctor
+
+    return doctor.run(chosen.url, secret_of(chosen), client_tls(chosen))
 
 
 def _audit_words(words: argparse.ArgumentParser) -> None:
@@ -272,8 +293,11 @@ def client_tls(chosen: argparse.Namespace) -> ssl.SSLContext | None:
 
 
 def desk_of(chosen: argparse.Namespace, tickets: Tickets) -> HttpDesk:
-    secret = secrets_in(chosen.secret_file)[0] if chosen.secret_file else None
-    return HttpDesk(chosen.control, tickets, secret, client_tls(chosen))
+    return HttpDesk(chosen.control, tickets, secret_of(chosen), client_tls(chosen))
+
+
+def secret_of(chosen: argparse.Namespace) -> str | None:
+    return secrets_in(chosen.secret_file)[0] if chosen.secret_file else None
 
 
 def _assigner(chosen: argparse.Namespace) -> int:
@@ -301,7 +325,7 @@ def _drain(chosen: argparse.Namespace) -> int:
 
 async def _run_drain(chosen: argparse.Namespace) -> int:
     """Drains a task, and waits until it owns no key, if that is asked for."""
-    desk = desk_of(chosen, Tickets(255, None))
+    desk = desk_of(chosen, NoTickets())
     loop = asyncio.get_running_loop()
     end = loop.time() + chosen.wait
     try:

@@ -144,6 +144,19 @@ class Tickets:
                 file.close()
 
 
+class NoTickets(Tickets):
+    """The tickets of a process that logs nothing, and so has no number of its own: 0, which moves nobody's."""
+
+    def __init__(self) -> None:
+        super().__init__(0, None)
+
+    def draw(self) -> int:
+        return 0
+
+    def observe(self, ticket: int) -> None:
+        """Does nothing."""
+
+
 class _Fields(ctypes.Structure):
     """What the file has."""
 
