@@ -70,7 +70,7 @@ async def test_a_secret_that_is_missing_or_wrong(tmp_path: Path, capfd: Said) ->
     wrong.write_text("another-secret-of-others")
     async with plane_of(tmp_path, secrets=[SECRET]) as (_, caller):
         assert (await examined(caller.url, capfd, "--secret-file", str(right)))[0] == 0
-        for words in ([], ["--secret-file", str(wrong)]):
+        for words in (list[str](), ["--secret-file", str(wrong)]):
             status, lines = await examined(caller.url, capfd, *words)
             told = "MEND secret: 401 to /overview: name the file of a right secret: --secret-file"
             assert status == 1 and told in lines
