@@ -37,10 +37,10 @@ from hourstable.supervisor import Supervisor
 from hourstable.table_calls import Call, Commit, Free, Grant, Malformed, Propose, Renew, Take, term_of
 from hourstable.tickets import Tickets
 from hourstable.waiting import within
+from hourstable.waits import Waits
 
 T = TypeVar("T")
 Handler = Callable[[web.Request], Awaitable[web.StreamResponse]]
-LONGEST_WAIT = 30.0  # seconds of a waiting GET
 MOST_KEY = 4096  # characters of a key that is asked about
 MOST_GRANTS = 1024  # of one request
 LINGERING = 1.0  # seconds for which what is left of a body is read after the answer
@@ -98,7 +98,7 @@ class Plane:
         self._now = settings.system.monotonic
         self.jobs: dict[str, Followed] = {}
         self.failures = Failures()
-        self.is_closing = False
+        self.waits = Waits(tickets, self._now)
         self._secrets = [secret.encode() for secret in secrets or []]
         self._runner: web.AppRunner | None = None
         self._server: asyncio.Server | None = None
@@ -131,7 +131,7 @@ class Plane:
 
     async def stop(self) -> None:
         """Answers what was asked, and closes all but the store."""
-        self.is_closing = True
+        self.waits.is_closing = True
         if self._server is not None:
             self._server.close()
         if self.connections is not None:
@@ -415,11 +415,13 @@ class Plane:
         if level and request.method == "GET":
             route = request.match_info.route.resource
             name = route.canonical if route is not None else ""
-            if name in PAGES or (level > 1 and waits(request, name)):
+            if name in PAGES or (level > 1 and may_wait(request, name)):
                 raise Limited("load", 1)
 
     def _with_ticket(self, answer: web.StreamResponse, is_public: bool) -> web.StreamResponse:
         """Returns an answer with its ticket. If none can be drawn, nothing is known of the call."""
+        if answer.prepared:
+            return answer  # it had a ticket of its own
         try:
             answer.headers[ticketing.HEADER] = str(self.tickets.draw())
         except (OSError, OverflowError) as error:
@@ -504,29 +506,26 @@ class Plane:
         told = KeyTold(followed.job, followed.lanes, alive, followed.draining(), key)
         return answer_of(told.value())
 
-    async def _get_assignment(self, request: web.Request) -> web.Response:
-        job = (await self.followed(job_in(request))).job
-        after, until = number_in(request, "after", 0), self._now() + LONGEST_WAIT
-        while job.view.committed <= after:
-            left = until - self._now()
-            if left <= 0 or self.is_closing:
-                return web.Response(status=204)
-            await job.changed(left)
-        assert job.view.assignment is not None
-        return message_of(job.view.assignment)
+    async def _get_assignment(self, request: web.Request) -> web.StreamResponse:
+        job, after = (await self.followed(job_in(request))).job, number_in(request, "after", 0)
 
-    async def _get_phase(self, request: web.Request) -> web.Response:
-        job, until = (await self.followed(job_in(request))).job, self._now() + LONGEST_WAIT
-        is_waiting = waits(request, "/jobs/{job}/phase")
+        def answer() -> web.Response:
+            assignment = job.view.assignment if job.view.committed > after else None
+            return web.Response(status=204) if assignment is None else message_of(assignment)
+
+        return await self.waits.get(request, job, lambda: job.view.committed > after, answer)
+
+    async def _get_phase(self, request: web.Request) -> web.StreamResponse:
+        job = (await self.followed(job_in(request))).job
+        is_waiting = may_wait(request, "/jobs/{job}/phase")
         known = number_in(request, "committed", 0), number_in(request, "pending", 0)
-        while is_waiting and job.view[:2] == known and not self.is_closing:
-            left = until - self._now()
-            if left <= 0:
-                break
-            await job.changed(left)
-        committed, proposed, _ = job.view
-        phase = "proposed" if proposed else "idle"
-        return answer_of({"phase": phase, "committed": committed, "pending": proposed or None})
+
+        def answer() -> web.Response:
+            committed, proposed, _ = job.view
+            phase = "proposed" if proposed else "idle"
+            return answer_of({"phase": phase, "committed": committed, "pending": proposed or None})
+
+        return await self.waits.get(request, job, lambda: not is_waiting or job.view[:2] != known, answer)
 
     async def _get_loads(self, request: web.Request) -> web.Response:
         followed = await self.followed(job_in(request))
@@ -630,7 +629,7 @@ class Plane:
         return told(made, lambda committed: answer_of({"generation": committed}))
 
 
-def waits(request: web.Request, route: str) -> bool:
+def may_wait(request: web.Request, route: str) -> bool:
     """Returns whether a GET may wait."""
     asks_phase = route == "/jobs/{job}/phase" and {"committed", "pending"} <= set(request.query)
     return asks_phase or route == "/jobs/{job}/assignment"
