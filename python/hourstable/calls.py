@@ -9,6 +9,7 @@ from urllib.parse import quote
 
 import aiohttp
 
+from . import beats
 from .tickets import HEADER, Tickets
 from .transport import Fetched, Http, Transport
 from .waiting import within
@@ -77,7 +78,7 @@ class Control:
             raise ValueError("there is no control plane")
         self.job, self.tickets, self.local_clock = job, tickets, local_clock
         self.timeout = timeout
-        self._headers = {"Content-Type": "application/json"}
+        self._headers = {"Content-Type": "application/json", beats.HEADER: beats.TAKES}
         if secret is not None:
             self._headers["Authorization"] = f"Bearer {secret}"
         self._own = Http(tls)

@@ -88,6 +88,8 @@ def _control_words(words: argparse.ArgumentParser) -> None:
     limits = Limits()
     words.add_argument("--most-jobs", type=int, default=limits.jobs, metavar="N")
     words.add_argument("--most-connections", type=int, default=limits.connections, metavar="N")
+    words.add_argument("--most-connections-of-peer", type=int, default=limits.peer, metavar="N",
+                       help="of one address (half of --most-connections)")
     words.add_argument("--grants", type=float, default=limits.grants, metavar="RATE",
                        help="grants a second of a task")
     _rule_words(words)
@@ -208,8 +210,8 @@ def options_of(chosen: argparse.Namespace) -> Options:
     if not chosen.store_deadline > 0:
         raise ValueError("--store-deadline is above 0")
     limits = Limits(
-        jobs=chosen.most_jobs, connections=chosen.most_connections, grants=chosen.grants,
-        burst=2 * chosen.grants,
+        jobs=chosen.most_jobs, connections=chosen.most_connections, peer=chosen.most_connections_of_peer,
+        grants=chosen.grants, burst=2 * chosen.grants,
     )
     return Options(
         chosen.store, Path(chosen.logs), host.strip("[]"), int(port),

@@ -21,7 +21,7 @@ from hourstable import tickets as ticketing
 from hourstable.answers import (
     TASKS, answer_of, asker_in, failure, job_in, json_of, member, message_of, name_in, number_in, refused, told,
 )
-from hourstable.connections import Turned
+from hourstable.connections import BACKLOG, Connections
 from hourstable.context import note
 from hourstable.failures import Failures
 from hourstable.jobs import Job, Made, Replaced, Settings, policy_of
@@ -32,21 +32,27 @@ from hourstable.limits import Bucket, Limited
 from hourstable.limits import Limits as Limits
 from hourstable.loads import Denials, Loads
 from hourstable.metrics import CONTENT_TYPE, Metrics, Shown
+from hourstable.overload import Overload
 from hourstable.readiness import Readiness
 from hourstable.record import Record
-from hourstable.request_ids import traced
+from hourstable.request_ids import name_answer, traced
 from hourstable.store import Conflict, Damaged, LivesSpent, NoSuchJob, Store, StoreFailed
 from hourstable.supervisor import Supervisor
 from hourstable.table_calls import Call, Commit, Free, Grant, Malformed, Propose, Renew, Take, term_of
 from hourstable.tickets import Tickets
+from hourstable.waiting import within
+from hourstable.waits import Waits
 
 T = TypeVar("T")
 Handler = Callable[[web.Request], Awaitable[web.StreamResponse]]
-LONGEST_WAIT = 30.0  # seconds of a waiting GET
 MOST_KEY = 4096  # characters of a key that is asked about
 MOST_GRANTS = 1024  # of one request
 LEAST_GUARD = 100  # milliseconds of a new job: who takes them for seconds is told
+LINGERING = 1.0  # seconds for which what is left of a body is read after the answer
 PUBLIC = {"/healthz", "/readyz", *page.FILES}  # what is answered without a secret
+PAGES = {  # what people look at
+    *page.FILES, "/overview", "/jobs/{job}/leases", "/jobs/{job}/slices", "/jobs/{job}/key",
+}
 
 log = logging.getLogger("hourstable.control")
 
@@ -99,10 +105,12 @@ class Plane:
         self.failures = Failures()
         self.readiness = Readiness(store, settings.system)
         self.record = Record(None, settings.system)
-        self.is_closing = False
+        self.waits = Waits(tickets, self._now)
         self._secrets = [secret.encode() for secret in secrets or []]
         self._runner: web.AppRunner | None = None
         self._server: asyncio.Server | None = None
+        self.connections: Connections | None = None
+        self.overload = Overload(self._now)
         self.supervisor = Supervisor(
             f"plane {settings.process}", log, self.metrics.internal_error, settings.system.random().random
         )
@@ -115,20 +123,26 @@ class Plane:
     ) -> int:
         """Listens, and returns the port."""
         await asyncio.gather(*map(self._look_at, await self.store.jobs()))
-        self._runner = web.AppRunner(self.application(), access_log=None)
+        self._runner = web.AppRunner(self.application(), access_log=None, lingering_time=LINGERING)
         await self._runner.setup()
+        server, turned = self._runner.server, self.metrics.turned
+        assert server is not None
+        self.connections = Connections(self.limits, server, self._now, turned, tls)
         self._server = await asyncio.get_running_loop().create_server(
-            self._connected, host, port, ssl=tls, backlog=128, reuse_address=True
+            self.connections.door, host, port, backlog=BACKLOG, reuse_address=True
         )
+        self.supervisor.watch("overload", self.overload.watch)
         self.supervisor.watch("poller", partial(self._poll, poll))
         made: int = self._server.sockets[0].getsockname()[1]
         return made
 
     async def stop(self) -> None:
         """Answers what was asked, and closes all but the store."""
-        self.is_closing = True
+        self.waits.is_closing = True
         if self._server is not None:
             self._server.close()
+        if self.connections is not None:
+            self.connections.close()
         await self.supervisor.close()
         for followed in self.jobs.values():
             followed.job.wake()
@@ -155,16 +169,6 @@ class Plane:
             await job.settle()
         except (StoreFailed, Conflict, OSError) as error:
             log.warning("%s was not settled: %s", job.name, error)
-
-    def _connected(self) -> asyncio.Protocol:
-        """Returns the protocol of a new connection; beyond the limit one that only says so."""
-        assert self._runner is not None and self._runner.server is not None
-        server = self._runner.server
-        if len(server.connections) >= self.limits.connections:
-            self.metrics.limited.labels("connections").inc()
-            return Turned()
-        protocol: asyncio.Protocol = server()
-        return protocol
 
     async def _poll(self, every: float) -> None:
         """Looks what other planes wrote, where several share the store, and again at jobs that failed."""
@@ -250,19 +254,9 @@ class Plane:
             if followed is not None:
                 followed.lanes.saw(job, call, done.result())
                 if isinstance(call, Propose) and done.result().at is not None:
-                    self._record_evicted(followed, call)
+                    self.record.evicted(job, call, followed.alive(self._now()), followed.draining())
         elif isinstance(error, Exception) and not isinstance(error, REFUSED):
             self._fail(job.name, "call", error)
-
-    def _record_evicted(self, followed: Followed, call: Propose) -> None:
-        """Records who takes all keys from tasks, once the change is committed, and why."""
-        job, alive, draining = followed.job, followed.alive(self._now()), followed.draining()
-        if job.view.proposed != call.value["generation"]:
-            return  # it was refused
-        left = {owner for _, owners in call.value["slices"] for owner in owners}
-        for task in sorted(job.owners() - left):
-            why = "drained" if task in draining else "moved" if task in alive else "silent"
-            self.record.add("evict", job.name, task=task, why=why, generation=call.value["generation"])
 
     async def _in_time(self, answer: "asyncio.Future[Made[T]]") -> Made[T]:
         loop = asyncio.get_running_loop()
@@ -346,6 +340,7 @@ class Plane:
         made = web.Application(
             client_max_size=self.limits.body + 1, middlewares=[traced, self._around]
         )
+        made.on_response_prepare.append(name_answer)
         made.add_routes([  # they are looked at in this order: the calls of tasks come first
             web.post("/jobs/{job}/grant", self._post_grant),
             web.get("/jobs/{job}/phase", self._get_phase),
@@ -384,6 +379,7 @@ class Plane:
             self.metrics.unauthorized.inc()
             answer = failure(401, "the secret is missing or wrong")
             answer.headers["WWW-Authenticate"] = "Bearer"
+            answer.force_close()
             return answer
         try:
             if not is_public:
@@ -407,6 +403,8 @@ class Plane:
     async def _answered(self, request: web.Request, handler: Handler) -> web.StreamResponse:
         """Answers what a handler raises. What nobody expected is counted, and aiohttp answers 500."""
         try:
+            await self._take_whole(request)
+            self._leave_out(request)
             return await handler(request)
         except ANSWERED as error:
             return self._failure_of(request, error)
@@ -414,8 +412,33 @@ class Plane:
             self.supervisor.caught("request", error)
             raise
 
+    async def _take_whole(self, request: web.Request) -> None:
+        """Waits for the body, but not for long. Raises HTTPException."""
+        if not request.content.is_eof():
+            try:
+                await within(self.limits.first, request.read())
+            except TimeoutError:
+                raise web.HTTPRequestTimeout from None
+            except (web.RequestPayloadError, ConnectionError):
+                raise web.HTTPBadRequest from None
+        if self.connections is not None:
+            self.connections.heard(request.protocol, request.path not in PUBLIC)
+
+    def _leave_out(self, request: web.Request) -> None:
+        """Raises Limited for a request that is left out under overload: pages first, then calls that wait."""
+        level = self.overload.level()
+        if self.connections is not None:
+            level = max(level, self.connections.crowding())
+        if level and request.method == "GET":
+            route = request.match_info.route.resource
+            name = route.canonical if route is not None else ""
+            if name in PAGES or (level > 1 and may_wait(request, name)):
+                raise Limited("load", 1)
+
     def _with_ticket(self, answer: web.StreamResponse, is_public: bool) -> web.StreamResponse:
         """Returns an answer with its ticket. If none can be drawn, nothing is known of the call."""
+        if answer.prepared:
+            return answer  # it had a ticket of its own
         try:
             answer.headers[ticketing.HEADER] = str(self.tickets.draw())
         except (OSError, OverflowError) as error:
@@ -436,10 +459,17 @@ class Plane:
                 return failure(409, str(error))
             case Limited():
                 self.metrics.limited.labels(error.limit).inc()
-                return failure(429, str(error), error.after, limit=error.limit)
+                made = failure(429, str(error), error.after, limit=error.limit)
+                if error.limit == "load":
+                    made.force_close()  # for those that are not left out
+                return made
             case web.HTTPRequestEntityTooLarge():
                 self.metrics.limited.labels("body").inc()
                 return failure(413, f"a body has at most {self.limits.body} bytes", limit="body")
+            case web.HTTPRequestTimeout() | web.HTTPBadRequest():
+                made = failure(error.status, "the body did not come, or not as it was announced")
+                made.force_close()
+                return made
             case web.HTTPException():
                 return failure(error.status, error.reason)
             case Replaced():
@@ -456,19 +486,16 @@ class Plane:
         return web.Response(text="ok\n")
 
     async def _readyz(self, request: web.Request) -> web.Response:
-        """Says of each part whether it does its work, and why not to those who have the secret."""
-        checks, knows = await self.readiness.checks(), self._knows(request)
-        is_ready = not self.is_closing and all(check.is_well for check in checks)
-        shown: dict[str, object] = {"ready": is_ready}
-        shown |= {check.name: check.found if check.is_well or knows else "fails" for check in checks}
+        is_ready, shown = await self.readiness.shown(self._knows(request))
+        is_ready = shown["ready"] = is_ready and not self.waits.is_closing
         return answer_of(shown, 200 if is_ready else 503)
 
     async def _get_record(self, request: web.Request) -> web.Response:
         return answer_of({"record": self.record.newest(request.query.get("job"))})
 
     async def _metrics(self, _: web.Request) -> web.Response:
-        if self._runner is not None and self._runner.server is not None:
-            self.metrics.connections.set(len(self._runner.server.connections))
+        if self.connections is not None:
+            self.metrics.connections.set(len(self.connections))
         text = self.metrics.text(self.shown(), self.tickets.left_out)
         return web.Response(body=text, headers={"Content-Type": CONTENT_TYPE})
 
@@ -504,29 +531,26 @@ class Plane:
         told = KeyTold(followed.job, followed.lanes, alive, followed.draining(), key)
         return answer_of(told.value())
 
-    async def _get_assignment(self, request: web.Request) -> web.Response:
-        job = (await self.followed(job_in(request))).job
-        after, until = number_in(request, "after", 0), self._now() + LONGEST_WAIT
-        while job.view.committed <= after:
-            left = until - self._now()
-            if left <= 0 or self.is_closing:
-                return web.Response(status=204)
-            await job.changed(left)
-        assert job.view.assignment is not None
-        return message_of(job.view.assignment)
+    async def _get_assignment(self, request: web.Request) -> web.StreamResponse:
+        job, after = (await self.followed(job_in(request))).job, number_in(request, "after", 0)
 
-    async def _get_phase(self, request: web.Request) -> web.Response:
-        job, until = (await self.followed(job_in(request))).job, self._now() + LONGEST_WAIT
-        waits = {"committed", "pending"} <= set(request.query)
+        def answer() -> web.Response:
+            assignment = job.view.assignment if job.view.committed > after else None
+            return web.Response(status=204) if assignment is None else message_of(assignment)
+
+        return await self.waits.get(request, job, lambda: job.view.committed > after, answer)
+
+    async def _get_phase(self, request: web.Request) -> web.StreamResponse:
+        job = (await self.followed(job_in(request))).job
+        is_waiting = may_wait(request, "/jobs/{job}/phase")
         known = number_in(request, "committed", 0), number_in(request, "pending", 0)
-        while waits and job.view[:2] == known and not self.is_closing:
-            left = until - self._now()
-            if left <= 0:
-                break
-            await job.changed(left)
-        committed, proposed, _ = job.view
-        phase = "proposed" if proposed else "idle"
-        return answer_of({"phase": phase, "committed": committed, "pending": proposed or None})
+
+        def answer() -> web.Response:
+            committed, proposed, _ = job.view
+            phase = "proposed" if proposed else "idle"
+            return answer_of({"phase": phase, "committed": committed, "pending": proposed or None})
+
+        return await self.waits.get(request, job, lambda: not is_waiting or job.view[:2] != known, answer)
 
     async def _get_loads(self, request: web.Request) -> web.Response:
         followed = await self.followed(job_in(request))
@@ -634,6 +658,12 @@ class Plane:
             generation = member(given, "generation", range(1, 1 << 64))
         made = await self.call(job, Commit(member(given, "term", range(1 << 64)), generation))
         return told(made, lambda committed: answer_of({"generation": committed}))
+
+
+def may_wait(request: web.Request, route: str) -> bool:
+    """Returns whether a GET may wait."""
+    asks_phase = route == "/jobs/{job}/phase" and {"committed", "pending"} <= set(request.query)
+    return asks_phase or route == "/jobs/{job}/assignment"
 
 
 def _give_up(answer: "asyncio.Future[Any]") -> None:

@@ -188,7 +188,7 @@ class Job:
         self._held: Held | None = None
         self._log: logs.Log | None = None
         self._seen = Standstill(self._now, settings.standby / 4)
-        self._changed = asyncio.Event()
+        self._wakes: set[asyncio.Future[None]] = set()  # those who wait for another view
         self._rows: list[library.Row] = []
         self._owners: tuple[bytes | None, set[int]] = None, set()  # those of an assignment
         self.policy: Policy | None = None
@@ -337,16 +337,20 @@ class Job:
 
     def wake(self) -> None:
         """Wakes all who wait for another view."""
-        self._changed.set()
-        self._changed = asyncio.Event()
+        for waking in list(self._wakes):
+            _wake(waking)
 
     async def changed(self, seconds: float) -> None:
         """Returns when the view is another one, or after these seconds."""
-        waiting = asyncio.create_task(self._changed.wait())
+        loop = asyncio.get_running_loop()
+        waking = loop.create_future()
+        timer = loop.call_later(seconds, _wake, waking)
+        self._wakes.add(waking)
         try:
-            await asyncio.wait([waiting], timeout=seconds)
+            await waking
         finally:
-            waiting.cancel()
+            timer.cancel()
+            self._wakes.discard(waking)
 
     @property
     def is_held(self) -> bool:
@@ -637,3 +641,8 @@ class Job:
         self.drop()
         if self._log is not None:
             self._log.close()
+
+
+def _wake(waking: "asyncio.Future[None]") -> None:
+    if not waking.done():
+        waking.set_result(None)

@@ -12,9 +12,16 @@ class Limits:
     body: int = MIB
     jobs: int = 64
     connections: int = 1024
+    peer: int = 0  # connections of one address; 0: half of all, but at least 16
+    first: float = 5.0  # seconds in which a connection makes its first whole request, and a body comes
     grants: float = 20.0  # a second, of each task of each job
     burst: float = 40.0  # grants of a task that may come at once
     patience: float = 10.0  # seconds in which a call is answered
+
+    @property
+    def of_peer(self) -> int:
+        """How many connections an address may have."""
+        return self.peer or max(16, self.connections // 2)
 
 
 class Limited(Exception):

@@ -92,6 +92,10 @@ class Metrics(Counters):
         if failed:
             self.store_failures.labels(what).inc()
 
+    def turned(self, limit: str) -> None:
+        """Counts a connection that was turned away."""
+        self.limited.labels(limit).inc()
+
     def job_failed(self, job: str) -> None:
         """Counts a failure of a job."""
         self.job_failures.labels(job).inc()

@@ -13,7 +13,9 @@ from pathlib import Path
 from typing import Any
 
 from hourstable.context import noted
+from hourstable.jobs import Job
 from hourstable.system import System
+from hourstable.table_calls import Propose
 
 SHOWN = 1000  # entries that a plane shows
 MOST = 10_000_000  # bytes of a file, after which it becomes NAME.1
@@ -46,6 +48,16 @@ class Record:
             self._write(self._path, f"{json.dumps(entry)}\n".encode())
         except OSError as error:
             log.error("%s was not written: %s", entry, error)
+
+    def evicted(self, job: Job, call: Propose, alive: list[int], draining: list[int]) -> None:
+        """Records from which tasks a proposal takes all keys, and why."""
+        generation = call.value["generation"]
+        if job.view.proposed != generation:
+            return  # it was refused
+        left = {owner for _, owners in call.value["slices"] for owner in owners}
+        for task in sorted(job.owners() - left):
+            why = "drained" if task in draining else "moved" if task in alive else "silent"
+            self.add("evict", job.name, task=task, why=why, generation=generation)
 
     def newest(self, job: str | None = None) -> list[dict[str, Any]]:
         """Returns the last entries, of one job if it is named, the newest last."""

@@ -19,13 +19,17 @@ _numbers = itertools.count(1)
 
 @web.middleware
 async def traced(request: web.Request, handler: Handler) -> web.StreamResponse:
-    """Names the request in its answer, and in all lines of the log about it."""
+    """Names the request in all lines of the log about it, and for its answer."""
     given = {name: request.match_info[name] for name in ("job", "task") if name in request.match_info}
-    name = id_of(request)
+    name = request[HEADER] = id_of(request)
     with about(caller=caller_of(request), request=name, **given):
-        answer = await handler(request)
-    answer.headers[HEADER] = name
-    return answer
+        return await handler(request)
+
+
+async def name_answer(request: web.Request, answer: web.StreamResponse) -> None:
+    """Gives an answer the id of its request, before its headers leave."""
+    if HEADER in request:
+        answer.headers[HEADER] = request[HEADER]
 
 
 def id_of(request: web.Request) -> str:

@@ -137,6 +137,7 @@ class World:
         self.seed, self.rng = seed, Random(f"{seed} world")
         self.now, self.events, self.digest = 0, 0, seed
         self.second = 0  # ns after midnight at which it begins
+        self.beat = 1.0  # seconds between two beats of a call that waits
         self.current: Process | None = None
         self.grave: list[object] = []  # what dead processes had, so that nothing of it is collected
         self.died: list[Death] = []

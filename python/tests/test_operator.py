@@ -91,7 +91,7 @@ async def test_a_store_that_fails_or_stands_still(tmp_path: Path, monkeypatch: p
         monkeypatch.setattr(stores[0], "jobs", real)
         assert (await caller.ask("GET", "/readyz")).status == 200
         assert running.plane is not None
-        running.plane.is_closing = True
+        running.plane.waits.is_closing = True
         assert (await caller.ask("GET", "/readyz")).status == 503
 
 
