@@ -149,21 +149,3 @@ def _seconds(text: str | None) -> float:
         return min(max(float(text or "0"), 0.0), 60.0)
     except ValueError:
         return 0.0
-
-
-class Backoff:
-    """How long to wait after failures: longer at each, up to `most` seconds, and at random, so that
-    many that failed at once do not try again at once."""
-
-    def __init__(self, random: Callable[[], float], least: float = 0.05, most: float = 2.0) -> None:
-        self._random, self._least, self._most = random, least, most
-        self._next = least
-
-    def reset(self) -> None:
-        """Forgets the failures."""
-        self._next = self._least
-
-    def seconds(self, at_least: float = 0.0) -> float:
-        """Returns how long to wait after another failure."""
-        limit, self._next = self._next, min(2 * self._next, self._most)
-        return max(at_least, limit * (0.5 + 0.5 * self._random()))

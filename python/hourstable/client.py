@@ -15,14 +15,14 @@ from collections import Counter as Counts
 from collections.abc import Awaitable, Callable, Sequence
 from typing import Any, TypeVar
 
-from .calls import TIMEOUT, WAIT, Backoff, Control, Unreachable
+from .calls import TIMEOUT, WAIT, Control, Unreachable
 from .clock import local_clock as local_clock_of
 from .library import CALLS, Clerk, Found, LoggedCall, Refused, log_line, owners_of, slice_key
 from .logs import Log, folder_of, job_line
 from .system import SYSTEM, System
 from .tickets import Tickets, follow
 from .transport import Transport
-from .waiting import pause
+from .waiting import Backoff, pause
 
 FIRST_PROCESS = 128  # of clients
 Made = TypeVar("Made")

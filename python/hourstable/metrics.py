@@ -52,6 +52,10 @@ class Metrics(Counters):
         self.unauthorized = Counter(
             "hourstable_unauthorized", "Requests without a right secret.", registry=registry
         )
+        self.internal_errors = Counter(
+            "hourstable_internal_errors", "Exceptions that nobody expected, by what failed.",
+            ["where"], registry=registry,
+        )
         self.connections = Gauge(
             "hourstable_open_connections", "Open connections.", registry=registry
         )
@@ -78,6 +82,10 @@ class Metrics(Counters):
         self.store_seconds.labels(what).observe(seconds)
         if failed:
             self.store_failures.labels(what).inc()
+
+    def internal_error(self, where: str) -> None:
+        """Counts an exception that nobody expected, as a supervisor caught it."""
+        self.internal_errors.labels(where).inc()
 
     def text(self, jobs: Iterable["Shown"]) -> bytes:
         """Returns the text of all metrics."""

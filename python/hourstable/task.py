@@ -22,7 +22,7 @@ from typing import Any, NamedTuple
 
 from prometheus_client import CollectorRegistry, Counter, Gauge, generate_latest
 
-from .calls import TIMEOUT, WAIT, Answer, Backoff, Control, Rejected, Unreachable
+from .calls import TIMEOUT, WAIT, Answer, Control, Rejected, Unreachable
 from .clock import local_clock as local_clock_of
 from .leases import KINDS, ClockBehind, Leases, policy_of
 from .library import KeyHandle, Phase, Policy, Refused, TaskClock, slice_key
@@ -31,7 +31,7 @@ from .ranges import KEYS, Ranges, holds, minus
 from .system import SYSTEM, System
 from .tickets import Tickets, follow
 from .transport import Transport
-from .waiting import pause, within
+from .waiting import Backoff, pause, within
 
 GRAIN = 2
 FIRST_PROCESS = 64  # of tasks: task 1 draws the tickets of process 64

@@ -9,10 +9,11 @@ import pytest
 from aiohttp import web
 
 from hourstable import logs
-from hourstable.calls import Backoff, Control, Rejected, Unreachable
+from hourstable.calls import Control, Rejected, Unreachable
 from hourstable.client import Again, NoOwner, Router
 from hourstable.library import Found
 from hourstable.tickets import HEADER, Tickets
+from hourstable.waiting import Backoff
 from planes import JOB, Plane
 
 HALF = 1 << 62
