@@ -69,12 +69,12 @@ MUTANTS = (
         "            return self.clock.read(self.local_clock()) - 1500",
     ),), seeds="2"),
     Mutant("clock-stops-asleep", "clock.py", ((
-        "    ticks = boottime_ticks if system is SYSTEM else system.ticks",
+        "    ticks = steady_ticks if system is SYSTEM else system.ticks",
         "    ticks = lambda: int(system.monotonic() * 1000)",
     ),), seeds="41"),
     Mutant("sent-is-late", "calls.py", ((
-        "        return _taken(status, headers, found, sent)",
-        "        return _taken(status, headers, found, self.local_clock())",
+        "        return _taken(url, status, headers, found, sent)",
+        "        return _taken(url, status, headers, found, self.local_clock())",
     ),), seeds="6"),
     Mutant("life-twice", "store.py", ((
         "            return Life(life.life + 1, life.drained)",
