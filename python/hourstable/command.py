@@ -18,6 +18,7 @@ from hourstable.assigner import AssignerOfJobs
 from hourstable.clock import local_clock
 from hourstable.control import Limits
 from hourstable.desk import HttpDesk, Unreachable
+from hourstable.kept_log import gaps_in
 from hourstable.plans import Hysteresis, slices_in
 from hourstable.service import ControlPlane, Options, process_number
 from hourstable.store import DEADLINE, StoreFailed
@@ -280,12 +281,17 @@ async def _run_assigner(chosen: argparse.Namespace) -> int:
     ended, tickets = signalled(), Tickets(process_number(chosen.process), chosen.ticket)
     desk = desk_of(chosen, tickets)
     jobs = AssignerOfJobs(chosen.assigner, desk, local_clock(), _rules_in(chosen))
-    running = asyncio.create_task(jobs.run())
-    await ended.wait()
-    running.cancel()
-    await asyncio.gather(running, return_exceptions=True)
-    await desk.close()
-    tickets.close()
+    running, told = asyncio.create_task(jobs.run()), asyncio.create_task(ended.wait())
+    try:
+        await asyncio.wait({running, told}, return_when=asyncio.FIRST_COMPLETED)
+        if running.done():
+            running.result()
+    finally:
+        for one in (running, told):
+            one.cancel()
+        await asyncio.gather(running, told, return_exceptions=True)
+        await desk.close()
+        tickets.close()
     return 0
 
 
@@ -345,13 +351,20 @@ def _audit_options(chosen: argparse.Namespace) -> list[str]:
 
 
 def audit(folder: Path, program: str, options: Sequence[str], tell: bool) -> int:
-    """Hands the logs of a job to the program, with its options, and returns its status."""
+    """Hands the logs of a job to the program, with its options, and returns its status. Logs with gaps are not one
+    run, whatever the rest is: the status is then 1 at least."""
     with tempfile.TemporaryDirectory(prefix="hourstable-audit.") as laid:
         paths = logs.lay_out(folder, laid)
         if tell:
             print(f"{folder.name}:", flush=True)
-        names = [path.name for path in paths]
-        return subprocess.run([os.path.abspath(program), "audit", *options, *names], cwd=laid).returncode
+        words = [os.path.abspath(program), "audit", *options, *(path.name for path in paths)]
+        gaps = gaps_in(folder)
+        if not gaps:
+            return subprocess.run(words, cwd=laid).returncode
+        ran = subprocess.run(words, cwd=laid, stdout=subprocess.PIPE, text=True)
+        print(ran.stdout.replace("audit one\n", "audit gaps\n", 1), end="")
+        print(*(f"gap {gap}" for gap in gaps), sep="\n", flush=True)
+        return ran.returncode or 1
 
 
 if __name__ == "__main__":

@@ -23,6 +23,7 @@ CLERKS = 128  # as many as have a ticket process of their own
 ENDING = ".jsonl"
 COMPACT = json.JSONEncoder(separators=(",", ":"))
 NAME = re.compile(r"[A-Za-z0-9_-][A-Za-z0-9._-]{0,63}")
+GAP = b'{"gap":'  # how a line begins that says what is missing
 
 
 def job_line(policy: Mapping[str, object]) -> str:
@@ -192,7 +193,7 @@ def lay_out(folder: str | os.PathLike[str], into: str | os.PathLike[str]) -> lis
 
     Each file keeps its name, and each line its number. Only the first file keeps its job line. A
     line that another one repeats exactly is blank: two control planes may both append the line of a
-    call that the store has. Raises ValueError if two job lines differ.
+    call that the store has. So is the line of a gap. Raises ValueError if two job lines differ.
     """
     made = []
     job: bytes | None = None
@@ -209,7 +210,7 @@ def lay_out(folder: str | os.PathLike[str], into: str | os.PathLike[str]) -> lis
                     job = line.strip()
                     continue
                 mark = hashlib.blake2b(line.strip(), digest_size=16).digest()
-                out.write(b"\n" if mark in known else line)
+                out.write(b"\n" if mark in known or line.startswith(GAP) else line)
                 known.add(mark)
         made.append(copy)
     return made
@@ -220,7 +221,7 @@ def calls_of(path: Path) -> Iterator[dict[str, Any]]:
     line."""
     with open(path, "rb") as lines:
         for line in lines:
-            if not line.strip():
+            if not line.strip() or line.startswith(GAP):
                 continue
             try:
                 call = json.loads(line)
