@@ -7,12 +7,15 @@ the job lease chooses which of them acts.
 import asyncio
 import logging
 from collections.abc import Callable
+from functools import partial
 from typing import Any
 
 from hourstable import library
 from hourstable.desk import Desk, Told, Unreachable
 from hourstable.library import JobTerm, Phase, Refused
 from hourstable.plans import Hysteresis, Planner
+from hourstable.supervisor import Supervisor
+from hourstable.system import SYSTEM, System
 
 log = logging.getLogger("hourstable.assigner")
 
@@ -141,30 +144,33 @@ class JobAssigner:
 
 
 class AssignerOfJobs:
-    """The assigners of all jobs of a desk."""
+    """The assigners of all jobs of a desk. `count(where)` is told of what nobody expected."""
 
     def __init__(
-        self, number: int, desk: Desk, local: Callable[[], int], rules: Hysteresis | None = None
+        self, number: int, desk: Desk, local: Callable[[], int], rules: Hysteresis | None = None,
+        count: Callable[[str], object] | None = None, system: System = SYSTEM,
     ) -> None:
         self._number, self._desk, self._local = number, desk, local
         self._rules = rules or Hysteresis()
+        self._supervisor = Supervisor(f"assigner {number}", log, count, system.random().random)
         self._running: dict[str, asyncio.Task[None]] = {}
 
     async def run(self) -> None:
         """Runs until it is cancelled."""
         try:
-            while True:
-                try:
-                    for job in await self._desk.jobs():
-                        if job not in self._running:
-                            self._running[job] = asyncio.create_task(self._follow(job))
-                except Unreachable as error:
-                    log.warning("%s", error)
-                await asyncio.sleep(0.5)
+            await self._supervisor.watch("jobs of the assigner", self._follow_jobs)
         finally:
-            for task in self._running.values():
-                task.cancel()
-            await asyncio.gather(*self._running.values(), return_exceptions=True)
+            await self._supervisor.close()
+
+    async def _follow_jobs(self) -> None:
+        while True:
+            try:
+                for job in await self._desk.jobs():
+                    if job not in self._running:
+                        self._running[job] = self._supervisor.watch("assigner", partial(self._follow, job))
+            except Unreachable as error:
+                log.warning("%s", error)
+            await asyncio.sleep(0.5)
 
     async def _follow(self, job: str) -> None:
         assigner = JobAssigner(job, self._number, self._desk, self._local, self._rules)
@@ -175,8 +181,8 @@ class AssignerOfJobs:
                 except Unreachable as error:
                     log.info("%s: %s", job, error)
                     after = 0.5
-                except Exception:
-                    log.exception("%s: the assigner begins anew", job)
+                except Exception as error:
+                    self._supervisor.caught("assigner", error, f"it begins anew for {job}")
                     assigner.close()
                     after = 1.0
                 await asyncio.sleep(after)

@@ -94,7 +94,8 @@ class ControlPlane:
         ending.push_async_callback(plane.stop)
         port = await plane.start(chosen.host, chosen.port, chosen.tls, chosen.poll)
         if chosen.assigner:
-            jobs = AssignerOfJobs(chosen.assigner, LocalDesk(plane), local, chosen.rules)
+            count = plane.metrics.internal_error
+            jobs = AssignerOfJobs(chosen.assigner, LocalDesk(plane), local, chosen.rules, count, system)
             ending.push_async_callback(_ended, asyncio.create_task(jobs.run()))
         return port
 
