@@ -168,9 +168,11 @@ class AssignerOfJobs:
                 for job in await self._desk.jobs():
                     if job not in self._running:
                         self._running[job] = self._supervisor.watch("assigner", partial(self._follow, job))
+                after = 0.5
             except Unreachable as error:
                 log.warning("%s", error)
-            await asyncio.sleep(0.5)
+                after = max(0.5, error.least)
+            await asyncio.sleep(after)
 
     async def _follow(self, job: str) -> None:
         assigner = JobAssigner(job, self._number, self._desk, self._local, self._rules)
@@ -180,7 +182,7 @@ class AssignerOfJobs:
                     after = await assigner.step()
                 except Unreachable as error:
                     log.info("%s: %s", job, error)
-                    after = 0.5
+                    after = max(0.5, error.least)
                 except Exception as error:
                     self._supervisor.caught("assigner", error, f"it begins anew for {job}")
                     assigner.close()

@@ -213,9 +213,13 @@ class Router:
         policy = await self._control.read(partial(replies.policy_in, self.job), "GET")
         folder, name = folder_of(logs, self.job), f"clerk-{self.clerk}"
         opens = partial(Log, folder, name, job_line(policy), system=self._system)
-        self._log = KeptLog(
-            opens, f"clerk {self.clerk}", logger, self.metrics.log_missing.inc, self._system.monotonic
-        )
+        try:
+            self._log = KeptLog(
+                opens, f"clerk {self.clerk}", logger, self.metrics.log_missing.inc, self._system.monotonic
+            )
+        except ValueError as why:
+            logger.error("clerk %d: nothing is logged: %s", self.clerk, why)
+            self._logs = None
         self._tell("forget")  # what an earlier process of this clerk had learnt
 
     async def _learn(self) -> None:

@@ -26,7 +26,11 @@ log = logging.getLogger("hourstable.desk")
 
 
 class Unreachable(Exception):
-    """No control plane did the call. It may be made again."""
+    """No control plane did the call. It may be made again, after `least` seconds at the earliest."""
+
+    def __init__(self, why: str, least: float = 0.0) -> None:
+        super().__init__(why)
+        self.least = least
 
 
 class Told(NamedTuple):
@@ -139,8 +143,7 @@ class HttpDesk:
     ) -> T:
         """Returns what `reads` makes of the answer of the first plane that does a call. `reads` raises ValueError,
         LookupError or TypeError at an answer that is none of a plane. Raises Unreachable."""
-        failed: Exception = Unreachable("there is no control plane")
-        planes = self._planes_of(job)
+        failed, planes = NoAnswer("there is no control plane"), self._planes_of(job)
         for at in planes.tries():
             try:
                 made = await self._read_at(planes.urls[at], reads, method, path, body)
@@ -150,7 +153,7 @@ class HttpDesk:
             else:
                 planes.answered(at)
                 return made
-        raise Unreachable(str(failed)) from failed
+        raise Unreachable(str(failed), failed.least) from failed
 
     async def _read_at(
         self, url: str, reads: Callable[[Reply], T], method: str, path: str, body: bytes | None
@@ -189,13 +192,14 @@ class HttpDesk:
 
     async def status(self, job: str) -> dict[str, Any]:
         """Returns what is known of a job: by the plane that holds it, if one that answers does."""
-        planes, found, failed = self._planes_of(job), dict[str, Any](), "there is no control plane"
+        planes, found = self._planes_of(job), dict[str, Any]()
+        failed = NoAnswer("there is no control plane")
         for at in planes.tries():
             try:
                 told = await self._read_at(planes.urls[at], _status_in, "GET", f"/jobs/{job}", None)
             except NoAnswer as why:
                 planes.failed(at, is_silent=not why.status)
-                failed = str(why)
+                failed = why
                 continue
             if told["holder"]:
                 planes.answered(at)
@@ -203,7 +207,7 @@ class HttpDesk:
             planes.failed(at, is_silent=False)  # it stands by
             found = found or told
         if not found:
-            raise Unreachable(failed)
+            raise Unreachable(str(failed), failed.least)
         return found
 
     async def loads(self, job: str) -> list[list[Any]]:

@@ -184,6 +184,7 @@ class Task:
         self._patience, self._report_every = patience, report
         self._policy: Policy | None = None
         self._most = TIMEOUT  # seconds of a call, and between two that fail while a lease is held
+        self._longest = 5 * TIMEOUT  # seconds between two calls that fail
         self._log: KeptLog | None = None
         self._leases: Leases | None = None
         self._dropped: list[int] = []  # lives whose leases are to be freed
@@ -215,6 +216,7 @@ class Task:
         self._policy = policy_of(members)
         # A lease that is renewed at half of it leaves time for two calls that are lost.
         self._most = min(TIMEOUT, self._policy.guard / 5000)
+        self._longest = max(self._most, self._policy.guard / 1000)
         self._control.limit(self._most)
         opens = partial(Log, self._folder, f"task-{self.task}", job_line(members), system=self._system)
         self._log = KeptLog(
@@ -408,12 +410,11 @@ class Task:
                 await self._pause(seconds)
 
     def _wait_after(self, why: Unreachable, backoff: Backoff) -> float:
-        """Notes a call that no plane did, and returns for how many seconds to wait before it is made again: while a
-        lease is held for at most a fifth of the guard term, and never for less than planes at a limit need."""
+        """Notes a call that no plane did, and returns for how many seconds to wait before it is made again: for at
+        most a guard term, or a fifth of it while a lease is held, and for no less than planes at a limit need."""
         self._note_unreachable(why)
-        seconds = backoff.seconds(why.again)
-        if self._served:
-            seconds = min(seconds, self._most)
+        most = self._most if self._served else self._longest
+        seconds = min(backoff.seconds(why.again), most)
         return max(seconds, why.least * (1 + JITTER * self._random.random()))
 
     async def _pause(self, seconds: float) -> None:

@@ -15,7 +15,7 @@ from hourstable.library import boottime_ticks
 from hourstable.ranges import Ranges
 from hourstable.task import ClockBroken, Drift, LeaseLost, Task
 from planes import JOB, Plane
-from waits import HALF, LOWER, counted, ground, until
+from waits import HALF, LOWER, UPPER, counted, ground, until
 
 ERRORS = "hourstable_internal_errors_total"
 
@@ -111,10 +111,9 @@ async def test_nobody_waits_beyond_the_end_of_a_lease(tmp_path: Path) -> None:
         await until(lambda: task.served() == LOWER)
         with pytest.raises(LeaseLost):
             async with task.serving("hello"):
-                plane.propose(2, [(HALF, 1), (0, 2)][::-1])
-                await until(lambda: plane.table.phase().proposed == 2 and task.served() != LOWER)
+                plane.propose(2, [(0, 2), (HALF, 1)])
                 await plane.commit_soon()
-        await until(lambda: task.served() != [])
+                await until(lambda: task.served() == UPPER)  # while the block is still open
     await plane.stop()
 
 

@@ -14,6 +14,7 @@ from aiohttp import web
 
 from hourstable.calls import Control, Rejected, Unreachable
 from hourstable.client import Router
+from hourstable.logs import Log, job_line
 from hourstable.task import Task
 from hourstable.tickets import HEADER, Tickets
 from hourstable.waiting import within
@@ -230,3 +231,17 @@ async def test_a_call_says_what_answered(plane: Plane) -> None:
         with pytest.raises(Unreachable) as raised:
             await control.read(number, "GET")
         assert raised.value.again == 0.0
+
+
+async def test_a_log_of_another_job_ends_no_router(plane: Plane, tmp_path: Path) -> None:
+    """A task says so at its start, and a router goes on without a log."""
+    Log(tmp_path / JOB, "clerk-3", job_line({**POLICY, "guard": 7})).close()
+    async with Router(plane.url, JOB, logs=tmp_path, clerk=3) as router:
+        await until(lambda: router.generation == 1)
+        assert router.pick("hello") == 1
+        assert counted(router.metrics.text(), "hourstable_internal_errors_total") == 0
+    Log(tmp_path / JOB, "task-1", job_line({**POLICY, "guard": 7})).close()
+    task = Task(plane.url, JOB, 1, logs=tmp_path, policy=POLICY)
+    with pytest.raises(ValueError, match="another job line"):
+        await within(20.0, task.start())
+    await task.stop()
